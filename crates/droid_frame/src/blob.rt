@@ -1,6 +1,7 @@
 //! Bytes with an owner.
 
 ghost use Rattle.std.specs.Prelude.{◌≡◌, ◌↔◌, [], IfOk, IsTrue, length};
+ghost use Rattle.droid_frame.specs.Fields.{IsBytes};
 
 use std::alloc::{AllocError, Global};
 use std::marker::Model;
@@ -17,6 +18,10 @@ impl Model for Blob {
     ghost Value = { List ℕ };
 
     ghost view = { λ blob. blob.bytes.items };
+
+    ghost use Rattle.droid_frame.specs.Fields.{IsBytes};
+
+    ghost invariant = { λ blob. IsBytes blob.bytes.items };
 }
 
 impl Blob {
@@ -38,7 +43,8 @@ impl Blob {
 
     /// The bytes.
     pub fn as_slice(&self) -> &[u8]
-        ensures { result.now ≡ self.now }
+        ensures value { result.now ≡ self.now }
+        ensures bytes { IsBytes self.now }
     {
         self.bytes.as_slice()
     }

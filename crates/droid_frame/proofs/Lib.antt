@@ -1,0 +1,3 @@
+pub mod FieldLaws
+pub mod RequestLaws
+pub mod Utf8
