@@ -1,0 +1,5 @@
+pub mod Folders
+pub mod Handling
+pub mod Measures
+pub mod Places
+pub mod Verdicts

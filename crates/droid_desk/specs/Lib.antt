@@ -1,0 +1,7 @@
+pub mod Histories
+pub mod Judging
+pub mod Replies
+pub mod Rows
+pub mod Standing
+pub mod Wants
+pub mod World

@@ -1,0 +1,108 @@
+//! The service: what it keeps, and how it answers.
+
+ghost use Rattle.std.specs.Prelude.{◌≡◌, ◌==◌, ◌&&◌, ◌≤◌, [], length, IfOk, OnOk, OnErr};
+ghost use Rattle.std.specs.List.{find};
+ghost use Rattle.std.specs.Option.{option_copied, option_map};
+ghost use Rattle.droid_desk.specs.Histories.{History};
+ghost use Rattle.droid_desk.specs.Judging.{judge};
+ghost use Rattle.droid_desk.specs.Replies.{answer_again};
+ghost use Rattle.droid_desk.specs.Rows.{world_in};
+ghost use Rattle.droid_desk.specs.Standing.{StandsFor, Handles, limits_of, Comes, AreMeasured};
+
+use droid_frame::{Frame, Limit, Refusal, Reply, Request, mark, request_of};
+use std::alloc::{AllocError, Global};
+
+mod commands;
+mod folders;
+mod limits;
+mod names;
+mod rows;
+
+pub use limits::Limits;
+pub use rows::{FolderRow, KeptReply, ProfileRow, Stamp};
+
+/// The submission service: it judges requests, changes by the accepted ones, and keeps their replies
+/// for good.
+#[derive(Drop)]
+pub struct Service {
+    alloc: Global,
+    limits: Limits,
+    profiles: Vec<ProfileRow>,
+    replies: Vec<KeptReply>,
+}
+
+impl Service {
+    /// A service with nothing in it. Only want of memory for the places of its profiles refuses it.
+    pub fn new(alloc: Global, limits: Limits) -> Result<Service, AllocError>
+        requires profiles { limits.profiles ≤ 64 }
+        requires nodes { limits.nodes ≤ 100000 }
+        requires unfinished { limits.unfinished ≤ 64 }
+        ensures empty { IfOk result (λ service. StandsFor service []) }
+        ensures limits { IfOk result (λ service. limits_of service ≡ limits) }
+    {
+        Ok(Service {
+            alloc,
+            limits,
+            profiles: Vec::with_capacity(alloc, limits.profiles as usize)?,
+            replies: Vec::new(alloc),
+        })
+    }
+
+    /// Handles one request, and gives its one reply.
+    pub fn handle(&mut self, frame: Frame) -> Reply
+        ensures handles { (history : History) → StandsFor self.old history →
+            Handles (limits_of self.old) history frame result self.new }
+        ensures limits { limits_of self.new ≡ limits_of self.old }
+    {
+        let stamp = Stamp {
+            client: frame.client,
+            number: frame.number,
+            mark: mark(frame.kind, frame.body.as_slice()),
+        };
+        let Ok(request) = request_of(frame) else {
+            return Reply::Refused(Refusal::Malformed);
+        };
+        match self.kept_answer(stamp) {
+            Some(reply) => reply,
+            None => self.judge(stamp, request),
+        }
+    }
+
+    /// What a request under a kept number is answered, or `None` where the number is new.
+    fn kept_answer(&self, stamp: Stamp) -> Option<Reply>
+        ensures { result ≡ option_map (answer_again stamp.mark)
+            (find (λ row. (row.stamp.client == stamp.client) && (row.stamp.number == stamp.number)) self.now.replies.items) }
+    {
+        let kept = self.kept(stamp.client, stamp.number)?;
+        Some(kept.answer_again(stamp.mark))
+    }
+
+    fn kept(&self, client: u32, number: u64) -> Option<&KeptReply>
+        ensures { option_copied result ≡
+            find (λ row. (row.stamp.client == client) && (row.stamp.number == number)) self.now.replies.items }
+    {
+        self.replies
+            .iter()
+            .find(|row| row.stamp.client == client && row.stamp.number == number)
+    }
+
+    /// Judges a command under a new number, and changes by it where it is accepted.
+    fn judge(&mut self, stamp: Stamp, request: Request) -> Reply
+        ensures limits { self.new.limits ≡ self.old.limits }
+        ensures comes { AreMeasured self.old.profiles.items →
+            Comes self.old self.new stamp (judge self.old.limits (world_in self.old.profiles.items) request) result }
+    {
+        match request {
+            Request::CreateProfile {
+                scan_limit,
+                match_all,
+            } => self.create_profile(stamp, scan_limit, match_all),
+            Request::AddFolder {
+                profile,
+                parent,
+                modified,
+                name,
+            } => self.add_folder(stamp, profile, parent, modified, name),
+        }
+    }
+}
