@@ -1,6 +1,6 @@
 -- What the rows of folders say of their nodes.
-use Rattle.std.proofs.Common.{◌≡◌, ℕ, zero, suc, ◌+◌, ◌<◌, ◌≤◌, ◌==◌, ◌&&◌, ◌||◌, Bool, true, false, List, [], ◌∷◌, ◌++◌, length, map, Option, Some, None, refl, sym, ap, ◌∙◌, arith}
-use Rattle.std.specs.List.{slice_get, list_any}
+use Rattle.std.proofs.Common.{◌≡◌, ℕ, zero, suc, ◌||◌, Bool, false, List, [], ◌∷◌, length, map, Option, Some, None, refl, sym, ap, ◌∙◌}
+use Rattle.std.specs.List.{list_any}
 use Rattle.std.specs.Option.{option_map}
 use Rattle.std.specs.Prelude.{unwrap_or}
 use Rattle.std.proofs.lemmas.Option.{slice_get-map}
@@ -8,7 +8,7 @@ use Rattle.std.proofs.lemmas.List.{length-map}
 use Rattle.droid_desk.specs.declared.service.rows.FolderRow.{FolderRow}
 use Rattle.droid_desk.specs.Judging.{is_file}
 use Rattle.droid_desk.specs.Rows.{node_in, nodes_in, IsMeasured}
-use Rattle.droid_desk.specs.World.{Node, numbered, node_at, unless_abandoned, path_among, paths, path}
+use Rattle.droid_desk.specs.World.{Node, numbered, node_at, unless_abandoned, paths, path}
 
 not_a_file : (row : Option FolderRow) → is_file (unless_abandoned (option_map node_in row)) ≡ false
 unfolding is_file
@@ -32,9 +32,9 @@ pub path_length : (rows : List FolderRow) (id : ℕ) → IsMeasured rows → len
 path_length rows id measured =
     length_or_none (numbered (paths (nodes_in rows)) id)
     ∙ ap (λ lengths. unwrap_or lengths 0)
-      (sym (numbered-map length (paths (nodes_in rows)) id)
-      ∙ (ap (λ (lengths : List ℕ). numbered lengths id) (sym measured)
-      ∙ numbered-map (λ (row : FolderRow). row.path_length) rows id))
+    (sym (numbered-map length (paths (nodes_in rows)) id)
+    ∙ (ap (λ (lengths : List ℕ). numbered lengths id) (sym measured)
+    ∙ numbered-map (λ (row : FolderRow). row.path_length) rows id))
 
 pub node_count : (rows : List FolderRow) → length (nodes_in rows) ≡ length rows
 node_count rows = length-map rows node_in

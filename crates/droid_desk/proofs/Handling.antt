@@ -17,11 +17,11 @@ use Rattle.droid_desk.specs.declared.service.Service.{Service}
 use Rattle.droid_desk.specs.declared.service.limits.Limits.{Limits}
 use Rattle.droid_desk.specs.declared.service.rows.KeptReply.{KeptReply}
 use Rattle.droid_desk.specs.declared.service.rows.Stamp.{Stamp}
-use Rattle.droid_desk.specs.Histories.{Entry, History, GoesOn, IsNext, command, frame_mark, is_under, kept, kept_answer, world_of, world_asked, world_after, answer, answer_to, next, next_new, next_judged, entry_of, verdict_reply}
+use Rattle.droid_desk.specs.Histories.{Entry, History, GoesOn, IsNext, command, frame_mark, is_under, kept, world_of, world_asked, world_after, answer, answer_to, next, next_new, next_judged, entry_of, verdict_reply}
 use Rattle.droid_desk.specs.Judging.{Verdict, Accepted, Refuses, judge}
 use Rattle.droid_desk.specs.Replies.{answer_again}
 use Rattle.droid_desk.specs.Rows.{world_in}
-use Rattle.droid_desk.specs.Standing.{StandsFor, Handles, limits_of, row_of, AreMeasured, IsSame, TakesOne, Leaves, Comes}
+use Rattle.droid_desk.specs.Standing.{StandsFor, Handles, limits_of, row_of, IsSame, TakesOne, Leaves, Comes}
 use Rattle.droid_desk.specs.Wants.{is_want}
 use Rattle.droid_desk.specs.World.{World}
 
@@ -96,9 +96,9 @@ handles_kept service history frame request row asked stands found =
     let there = entry_of_row (kept history frame.client frame.number) row (sym (find_kept history frame.client frame.number) ∙ (ap (find (is_row_under frame.client frame.number)) (sym stands.replies) ∙ found)) in
     let reply = answer_again (frame_mark frame) row in
     let same : reply ≡ answer limits history frame =
-      ap (answer_again (frame_mark frame)) (sym there.2)
-      ∙ (sym (ap (λ (o : Option Entry). answer_to limits history o (frame_mark frame) request) there.1)
-      ∙ sym (answer_asked_for limits history frame request asked)) in
+    ap (answer_again (frame_mark frame)) (sym there.2)
+    ∙ (sym (ap (λ (o : Option Entry). answer_to limits history o (frame_mark frame) request) there.1)
+    ∙ sym (answer_asked_for limits history frame request asked)) in
     let again : next limits history frame ≡ history = next_asked_for limits history frame request asked ∙ ap (λ (o : Option Entry). next_new limits history frame o request) there.1 in
     either (is_want reply) (some_is_some frame request asked, stands) (same, subst (StandsFor service) (sym again) stands)
 
@@ -108,11 +108,11 @@ stamp_of frame = record { client = frame.client; number = frame.number; mark = f
 
 same_stands : (old new : Service) (history : History) → IsSame old new → StandsFor old history → StandsFor new history
 same_stands old new history same stands = record {
-    legal = rw same.limits stands.legal;
-    replies = same.replies ∙ stands.replies;
-    rows = same.rows ∙ (stands.rows ∙ ap (λ (limits : Limits). world_of limits history) (sym same.limits));
-    measured = same.measured stands.measured;
-  }
+  legal = rw same.limits stands.legal;
+  replies = same.replies ∙ stands.replies;
+  rows = same.rows ∙ (stands.rows ∙ ap (λ (limits : Limits). world_of limits history) (sym same.limits));
+  measured = same.measured stands.measured;
+}
 
 -- one entry more, with the world that its verdict leaves
 taken_stands : (old new : Service) (history : History) (frame : Frame) (request : Request) (reply : Reply) (after : World) → command frame ≡ Some request → kept history frame.client frame.number ≡ None

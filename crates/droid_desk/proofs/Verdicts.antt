@@ -1,18 +1,17 @@
 -- What judging a command comes to, from the outcome of its checks.
-use Rattle.std.proofs.Common.{◌≡◌, ℕ, ℤ, ◌+◌, ◌-◌, ◌≤◌, ◌<◌, Bool, true, false, cond, not, List, [], ◌∷◌, ◌++◌, length, Option, Some, None, refl, sym, ap, subst, ◌∙◌}
+use Rattle.std.proofs.Common.{◌≡◌, ℕ, ℤ, ◌+◌, ◌-◌, ◌≤◌, Bool, true, false, cond, List, [], ◌∷◌, ◌++◌, length, Option, Some, None, refl}
 use Rattle.std.specs.Prelude.{nat_le, slice_set, MatchBool, ⊤}
 use Rattle.std.proofs.lemmas.Bool.{ltb-false}
 use Rattle.droid_frame.specs.declared.refusal.Limit.TheVariants as reached
 use Rattle.droid_frame.specs.declared.refusal.Refusal.{Refusal}
 use Rattle.droid_frame.specs.declared.refusal.Refusal.TheVariants.{NoSuchProfile, NoSuchNode, NotAFolder, BadName, PathTooLong, BadOption, LimitReached}
-use Rattle.droid_frame.specs.declared.reply.Reply.{Reply}
 use Rattle.droid_frame.specs.declared.reply.Reply.TheVariants as replies
 use Rattle.droid_frame.specs.declared.request.Request.TheVariants.{CreateProfile, AddFolder}
 use Rattle.droid_desk.specs.declared.service.Service.{Service}
 use Rattle.droid_desk.specs.declared.service.limits.Limits.{Limits}
 use Rattle.droid_desk.specs.declared.service.rows.Stamp.{Stamp}
 use Rattle.droid_desk.specs.Histories.{verdict_reply}
-use Rattle.droid_desk.specs.Judging.{Verdict, Accepted, Refuses, refusal_of, is_scan_limit, is_missing, is_file, is_bad_name, is_too_deep, create_checks, folder_checks, with_node, judge}
+use Rattle.droid_desk.specs.Judging.{Verdict, Accepted, Refuses, refusal_of, is_scan_limit, is_missing, is_file, is_bad_name, is_too_deep, folder_checks, with_node, judge}
 use Rattle.droid_desk.specs.Standing.{IsSame, Leaves, Comes}
 use Rattle.droid_desk.specs.Wants.{is_want_of}
 use Rattle.droid_desk.specs.World.{Node, Folder, Profile, World, numbered, node_at, path}

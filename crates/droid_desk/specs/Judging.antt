@@ -100,5 +100,5 @@ judge limits world (CreateProfile scan_limit match_all) =
     (Accepted (replies.Made (length world + 1)) (world ++ record { scan_limit = scan_limit; match_all = match_all; nodes = [] } ∷ []))
 judge limits world (AddFolder number parent modified name) =
     in_profile (numbered world number) (λ profile.
-      unless_refused (refusal_of (folder_checks limits profile.nodes parent modified name))
-      (Accepted (replies.Node (length profile.nodes + 1)) (slice_set world (number - 1) (with_node profile (Folder parent modified name)))))
+    unless_refused (refusal_of (folder_checks limits profile.nodes parent modified name))
+    (Accepted (replies.Node (length profile.nodes + 1)) (slice_set world (number - 1) (with_node profile (Folder parent modified name)))))

@@ -21,9 +21,9 @@ limits_of service = service.limits
 -- what is kept of an entry: its body isn't
 abbrev pub row_of : Entry → KeptReply
 row_of entry = record {
-    stamp = record { client = entry.frame.client; number = entry.frame.number; mark = entry.mark };
-    reply = entry.reply;
-  }
+  stamp = record { client = entry.frame.client; number = entry.frame.number; mark = entry.mark };
+  reply = entry.reply;
+}
 
 -- in each profile the rows have the lengths of their nodes' paths
 abbrev pub AreMeasured : List ProfileRow → Type 0

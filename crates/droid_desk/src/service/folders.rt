@@ -28,7 +28,13 @@ impl ProfileRow {
         ensures refused { IfErr result (λ refusal. IsRefusedFor self.old limits parent modified name refusal) }
         ensures same { OnErr result (IsSameProfile self.old self.new) }
     {
-        if let Some(refusal) = folder_refusal(limits, &self.nodes, parent, modified, name.as_str()) {
+        if let Some(refusal) = folder_refusal(
+            limits,
+            &self.nodes,
+            parent,
+            modified,
+            name.as_str(),
+        ) {
             return Err(refusal);
         }
         let path_length = path_length_below(&self.nodes, parent, name.as_str());

@@ -1,12 +1,13 @@
 //! The service: what it keeps, and how it answers.
 
-ghost use Rattle.std.specs.Prelude.{◌≡◌, ◌==◌, ◌&&◌, ◌≤◌, [], length, IfOk, OnOk, OnErr};
+ghost use Rattle.std.specs.Prelude.{◌≡◌, ◌==◌, ◌&&◌, ◌≤◌, [], length, IfOk, OnErr, vec_len};
 ghost use Rattle.std.specs.List.{find};
 ghost use Rattle.std.specs.Option.{option_copied, option_map};
 ghost use Rattle.droid_desk.specs.Histories.{History};
 ghost use Rattle.droid_desk.specs.Judging.{judge};
 ghost use Rattle.droid_desk.specs.Replies.{answer_again};
 ghost use Rattle.droid_desk.specs.Rows.{world_in};
+ghost use Rattle.droid_desk.specs.Running.{Runs};
 ghost use Rattle.droid_desk.specs.Standing.{StandsFor, Handles, limits_of, Comes, AreMeasured};
 
 use droid_frame::{Frame, Limit, Refusal, Reply, Request, mark, request_of};
@@ -68,6 +69,23 @@ impl Service {
         }
     }
 
+    /// Handles requests in order, and gives a reply for each. Want of memory for the list of replies is
+    /// found before the first request is handled.
+    pub fn run(&mut self, frames: Vec<Frame>) -> Result<Vec<Reply>, AllocError>
+        ensures runs { IfOk result (λ replies. (history : History) → StandsFor self.old history →
+            Runs (limits_of self.old) history frames.items replies.items self.new) }
+        ensures count { IfOk result (λ replies. vec_len replies ≡ vec_len frames) }
+        ensures unchanged { OnErr result (self.new ≡ self.old) }
+        ensures limits { limits_of self.new ≡ limits_of self.old }
+    {
+        let mut replies = Vec::with_capacity(self.alloc, frames.len())?;
+        for frame in frames {
+            let reply = self.handle(frame);
+            replies.push(reply).unwrap();
+        }
+        Ok(replies)
+    }
+
     /// What a request under a kept number is answered, or `None` where the number is new.
     fn kept_answer(&self, stamp: Stamp) -> Option<Reply>
         ensures { result ≡ option_map (answer_again stamp.mark)
@@ -81,9 +99,7 @@ impl Service {
         ensures { option_copied result ≡
             find (λ row. (row.stamp.client == client) && (row.stamp.number == number)) self.now.replies.items }
     {
-        self.replies
-            .iter()
-            .find(|row| row.stamp.client == client && row.stamp.number == number)
+        self.replies.iter().find(|row| row.stamp.client == client && row.stamp.number == number)
     }
 
     /// Judges a command under a new number, and changes by it where it is accepted.

@@ -1,11 +1,10 @@
-use Rattle.std.proofs.Common.{◌≡◌, ◌++◌, ◌∷◌, [], ◌≤◌, ◌+◌, ◌-◌, ◌<◌, List, length, refl, arith, ap, sym, ◌∙◌, None, Some}
+use Rattle.std.proofs.Common.{◌≡◌, ◌++◌, ◌∷◌, [], ◌+◌, ◌-◌, length, refl, arith, ap, sym, None}
 use Rattle.std.specs.Int.{w64}
 use Rattle.std.proofs.lemmas.Grind.{common_steps}
 use Rattle.std.proofs.lemmas.Int.{to_z-of_z}
 use Rattle.std.proofs.lemmas.List.{length-map}
 use Rattle.droid_frame.specs.declared.reply.Reply.TheVariants.{Node}
 use Rattle.droid_desk.specs.declared.service.rows.KeptReply.{KeptReply}
-use Rattle.droid_desk.specs.Judging.{Refuses, refusal_of, folder_checks, judge}
 use Rattle.droid_desk.specs.Rows.{node_in, nodes_in, profile_in, world_in}
 use Rattle.droid_desk.specs.World.{numbered}
 use Rattle.droid_desk.proofs.Measures.{AreMeasured-set}
@@ -18,10 +17,10 @@ pub returns-then-place-eq0-clause-comes : goal.returns-then-place-eq0-clause-com
 returns-then-place-eq0-clause-comes c = λ measured.
     let rows = c.args.self.now.profiles.items in
     let nowhere : numbered (world_in rows) c.args.number ≡ None =
-      elim c.then-place-eq0.branch [
-        | then-place-eq0-via-then-place-eq0 w ↦ numbered_none (world_in rows) c.args.number w.if-place-eq0.true
-        | then-place-eq0-via-else-place-eq0+then-len-place w ↦ numbered_past rows c.args.number (omega arith) (omega (arith, c.args.self.now.profiles.ok.0))
-      ] in
+    elim c.then-place-eq0.branch [
+      | then-place-eq0-via-then-place-eq0 w ↦ numbered_none (world_in rows) c.args.number w.if-place-eq0.true
+      | then-place-eq0-via-else-place-eq0+then-len-place w ↦ numbered_past rows c.args.number (omega arith) (omega (arith, c.args.self.now.profiles.ok.0))
+    ] in
     rw (folder_nowhere c.args.self.now.limits (world_in rows) c.args.number c.args.parent c.args.modified c.args.name nowhere)
     (refl, record { limits = refl; replies = refl; rows = refl; measured = λ same. same })
 
@@ -51,10 +50,12 @@ returns-in-Ok-clause-comes c = λ measured.
     let count : length (nodes_in row.nodes.items) + 1 ≡ c.in-Ok.id = omega (arith, adds.number, length-map row.nodes.items node_in) in
     let kept : KeptReply = record { stamp = c.args.stamp; reply = Node c.in-Ok.id } in
     let replies : c.push.new.self.items ≡ old.replies.items ++ kept ∷ [] = grind (arith, common_steps) in
-    rw (folder_good old.limits (world_in rows) c.args.number c.args.parent c.args.modified c.args.name (profile_in row) (numbered_row rows c.args.number row at) (adds.allowed row_is_measured))
-    (ap (λ n. Node n) (sym count), record {
-      limits = refl;
-      replies = rw count replies;
-      rows = world-set rows (c.args.number - 1) c.add_folder.new.self _ adds.profile;
-      measured = AreMeasured-set rows (c.args.number - 1) c.add_folder.new.self measured (adds.measured row_is_measured);
-    })
+    rw (folder_good old.limits (world_in rows) c.args.number c.args.parent c.args.modified c.args.name (profile_in row) (numbered_row rows c.args.number row at) (adds.allowed row_is_measured)) (
+      ap (λ n. Node n) (sym count),
+      record {
+        limits = refl;
+        replies = rw count replies;
+        rows = world-set rows (c.args.number - 1) c.add_folder.new.self _ adds.profile;
+        measured = AreMeasured-set rows (c.args.number - 1) c.add_folder.new.self measured (adds.measured row_is_measured);
+      },
+    )

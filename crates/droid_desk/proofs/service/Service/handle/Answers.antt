@@ -1,7 +1,6 @@
-use Rattle.std.proofs.Common.{◌≡◌, None, Some, sym, ap, ◌∙◌}
+use Rattle.std.proofs.Common.{None, Some, ap, ◌∙◌}
 use Rattle.droid_frame.specs.Frames.{mark_of}
 use Rattle.droid_frame.specs.Values.{request_in}
-use Rattle.droid_desk.specs.Histories.{command, frame_mark}
 use Rattle.droid_desk.proofs.Handling.{command_is, none_from_fault, some_from_request, handles_malformed, handles_again, handles_anew}
 use Rattle.droid_desk.proofs.service.Service.handle.Goals as goal
 

@@ -1,4 +1,4 @@
-use Rattle.std.proofs.Common.{refl, ap}
+use Rattle.std.proofs.Common.{ap}
 use Rattle.droid_desk.specs.Histories.{world_of}
 use Rattle.droid_desk.specs.Rows.{world_in}
 use Rattle.droid_desk.proofs.service.Service.new.Goals as goal
@@ -6,8 +6,8 @@ use Rattle.droid_desk.proofs.service.Service.new.Goals as goal
 pub returns-clause-empty : goal.returns-clause-empty
 unfolding world_of
 returns-clause-empty c = record {
-    legal = tt;
-    replies = c.new.ensures.items;
-    rows = ap world_in c.in_ok-with_capacity.ensures.items;
-    measured = rw c.in_ok-with_capacity.ensures.items tt;
-  }
+  legal = tt;
+  replies = c.new.ensures.items;
+  rows = ap world_in c.in_ok-with_capacity.ensures.items;
+  measured = rw c.in_ok-with_capacity.ensures.items tt;
+}

@@ -1,5 +1,4 @@
-use Rattle.std.proofs.Common.{◌≡◌, ◌++◌, ◌∷◌, [], ◌+◌, List, length, Option, Some, None, refl, rules, arith, ap, sym, ◌∙◌}
-use Rattle.std.specs.Prelude.{IfSome}
+use Rattle.std.proofs.Common.{◌≡◌, ◌++◌, ◌∷◌, [], List, None, arith, ap, sym, ◌∙◌}
 use Rattle.std.proofs.lemmas.Grind.{common_steps}
 use Rattle.std.proofs.lemmas.Int.{to_z-of_z}
 use Rattle.std.proofs.lemmas.List.{map_push}
@@ -18,13 +17,13 @@ returns-clause-added c =
     let row : FolderRow = record { parent = c.args.parent; modified = c.args.modified; name = c.args.name; path_length = c.path_length_below-path_length.result } in
     let items : c.push.new.self.items ≡ old.nodes.items ++ row ∷ [] = grind (arith, common_steps) in
     let allowed : IsMeasured old.nodes.items → refusal_of (folder_checks c.args.limits (nodes_in old.nodes.items) c.args.parent c.args.modified c.args.name) ≡ None =
-      λ measured. sym ((rw (c.deref.ensures.value, c.as_str.ensures.value, to_z-of_z w64 c.args.modified c.ranges.modified) at c.in_default.ensures.first) measured) in
+    λ measured. sym ((rw (c.deref.ensures.value, c.as_str.ensures.value, to_z-of_z w64 c.args.modified c.ranges.modified) at c.in_default.ensures.first) measured) in
     record {
       number = grind (arith, common_steps);
       profile = ap (λ (nodes : List Node). record { scan_limit = old.scan_limit; match_all = old.match_all; nodes = nodes }) (ap nodes_in items ∙ map_push node_in old.nodes.items row);
       allowed = allowed;
       measured = λ measured.
-        let short = allowed_short c.args.limits (nodes_in old.nodes.items) c.args.parent c.args.modified c.args.name (allowed measured) in
-        let size = (rw (c.deref-2.ensures.value, c.as_str-2.ensures.value) at c.path_length_below-path_length.ensures) measured in
-        rw items (IsMeasured-push old.nodes.items row measured (omega (arith, short, size)));
+          let short = allowed_short c.args.limits (nodes_in old.nodes.items) c.args.parent c.args.modified c.args.name (allowed measured) in
+          let size = (rw (c.deref-2.ensures.value, c.as_str-2.ensures.value) at c.path_length_below-path_length.ensures) measured in
+          rw items (IsMeasured-push old.nodes.items row measured (omega (arith, short, size)));
     }
