@@ -25,3 +25,6 @@ pub use request::Request;
 pub use text::Text;
 pub use texts::Texts;
 pub use writing::request_frame;
+
+#[cfg(test)]
+mod tests;

@@ -122,3 +122,6 @@ impl Service {
         }
     }
 }
+
+#[cfg(test)]
+mod tests;

@@ -1,0 +1,33 @@
+#!/bin/sh
+# Runs tests of the service again and again, each time with another of their allocations refused. A test
+# sends a request again where memory was wanting, so it passes whichever allocation is refused.
+set -u
+top=$(cd "$(dirname "$0")/../.." && pwd)
+tests=${1:-$top/crates/droid_desk/out/droid_desk_tests}
+work=$(mktemp -d) || exit 1
+trap 'rm -rf "$work"' EXIT
+${CC:-cc} -shared -fPIC -o "$work/refuse.so" "$top/tests/memory/refuse.c" -ldl || exit 1
+
+passed=0
+failed=0
+for name in service::tests::one_after_the_other service::tests::in_one_run; do
+    ALLOCATIONS=$work/count LD_PRELOAD=$work/refuse.so "$tests" "$name" >"$work/said" 2>&1 || cat "$work/said"
+    count=$(cat "$work/count" 2>/dev/null || echo 0)
+    if [ "$count" -lt 10 ]; then
+        echo "$name: only $count allocations were seen"
+        failed=$((failed + 1))
+    fi
+    number=1
+    while [ "$number" -le "$count" ]; do
+        if REFUSE=$number LD_PRELOAD=$work/refuse.so "$tests" "$name" >"$work/said" 2>&1; then
+            passed=$((passed + 1))
+        else
+            failed=$((failed + 1))
+            echo "$name: with allocation $number of $count refused:"
+            cat "$work/said"
+        fi
+        number=$((number + 1))
+    done
+done
+echo "$passed passed, $failed failed"
+[ "$failed" -eq 0 ]
