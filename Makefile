@@ -17,6 +17,7 @@ test: need_rt
 	$(RT) ci
 	@$(MAKE) --no-print-directory build
 	sh tests/program/run.sh $(CURDIR)/$(PROGRAM)
+	cd crates/droid_assembly && $(RT) test
 	cd crates/droid_desk && $(RT) test
 	sh tests/memory/run.sh
 

@@ -1,19 +1,22 @@
 #!/bin/sh
-# Runs tests of the service again and again, each time with another of their allocations refused. A test
-# sends a request again where memory was wanting, so it passes whichever allocation is refused.
+# Runs tests of the crates again and again, each time with another of their allocations refused. A test
+# asks again where memory was wanting, so it passes whichever allocation is refused.
 set -u
 top=$(cd "$(dirname "$0")/../.." && pwd)
-tests=${1:-$top/crates/droid_desk/out/droid_desk_tests}
 work=$(mktemp -d) || exit 1
 trap 'rm -rf "$work"' EXIT
 ${CC:-cc} -shared -fPIC -o "$work/refuse.so" "$top/tests/memory/refuse.c" -ldl || exit 1
 
 passed=0
 failed=0
-for name in service::tests::one_after_the_other service::tests::in_one_run; do
+for test in droid_desk:service::tests::one_after_the_other droid_desk:service::tests::in_one_run \
+    droid_assembly:tests::each_growth_refused; do
+    crate=${test%%:*}
+    name=${test#*:}
+    tests=$top/crates/$crate/out/${crate}_tests
     ALLOCATIONS=$work/count LD_PRELOAD=$work/refuse.so "$tests" "$name" >"$work/said" 2>&1 || cat "$work/said"
     count=$(cat "$work/count" 2>/dev/null || echo 0)
-    if [ "$count" -lt 10 ]; then
+    if [ "$count" -lt 4 ]; then
         echo "$name: only $count allocations were seen"
         failed=$((failed + 1))
     fi

@@ -1,6 +1,12 @@
 pub mod Folders
 pub mod Handling
+pub mod LineCuts
+pub mod LineNumbers
+pub mod LineWords
 pub mod Measures
 pub mod Places
 pub mod Running
+pub mod ScriptEndings
+pub mod ScriptRuns
+pub mod ScriptWrites
 pub mod Verdicts

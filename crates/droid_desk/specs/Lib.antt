@@ -1,8 +1,12 @@
+pub mod Endings
 pub mod Histories
 pub mod Judging
+pub mod Lines
+pub mod Printed
 pub mod Replies
 pub mod Rows
 pub mod Running
+pub mod Scripts
 pub mod Standing
 pub mod Wants
 pub mod World

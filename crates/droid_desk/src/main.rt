@@ -1,11 +1,12 @@
 //! The desk: a service for DROID profiles, and its program.
 #![tactic(auto)]
 
+mod program;
+mod script;
 mod service;
 
-use std::io;
+use std::process::ExitCode;
 
-fn main(rt: HostRuntime) -> io::Result<()> {
-    let limits = service::Limits::LARGEST;
-    println!(rt; "{}", limits.profiles)
+fn main(rt: HostRuntime) -> ExitCode {
+    program::run(&rt)
 }

@@ -1,0 +1,5 @@
+pub mod Kept
+pub mod Lending
+pub mod Parts
+pub mod Pieces
+pub mod State

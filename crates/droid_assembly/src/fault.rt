@@ -1,0 +1,25 @@
+//! What an assembly refuses.
+
+use droid_frame::Blob;
+use thiserror::Error;
+
+/// Why a piece was not taken. Each hands the bytes of the piece back.
+#[derive(Debug, Drop, Error)]
+pub enum PutFault {
+    /// The file has no piece of this index, or the piece there has another length.
+    #[error("no piece of this index and length belongs to the file")]
+    BadPiece { bytes: Blob },
+    /// The piece of this index was taken before.
+    #[error("the piece was taken before")]
+    PieceHeld { bytes: Blob },
+    /// The index lies 16 or more past the first missing one, which is `missing`.
+    #[error("the piece lies too far past piece {missing}, which is missing")]
+    TooFarAhead { missing: u32, bytes: Blob },
+}
+
+/// A piece is missing: this is the smallest such index.
+#[derive(Clone, Copy, Debug, PartialEq, Eq, Error)]
+#[error("piece {missing} is missing")]
+pub struct Incomplete {
+    pub missing: u32,
+}

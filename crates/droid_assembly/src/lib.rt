@@ -1,0 +1,17 @@
+//! The pieces of one unfinished file, put together whatever order they come in.
+#![tactic(auto)]
+
+mod assembly;
+mod fault;
+mod places;
+mod sealed;
+mod spent;
+#[cfg(test)]
+mod tests;
+mod windows;
+
+pub use assembly::Assembly;
+pub use fault::{Incomplete, PutFault};
+pub use sealed::Sealed;
+pub use spent::Spent;
+pub use windows::Windows;

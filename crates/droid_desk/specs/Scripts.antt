@@ -1,0 +1,117 @@
+-- Runs of a script: which lines were handled, what they printed, and the history that they left.
+use Rattle.std.specs.Prelude.{◌≡◌, ℕ, Bool, List, [], ◌∷◌, ◌++◌, length, Option, Some, None, is_none, IsSome, MatchBool}
+use Rattle.std.specs.List.{flat_map, count_by}
+use Rattle.std.specs.Io.KnownBytes.{Appends}
+use Rattle.droid_frame.specs.declared.frame.Frame.{Frame}
+use Rattle.droid_frame.specs.declared.reply.Reply.{Reply}
+use Rattle.droid_frame.specs.Bodies.{request_kind, request_body}
+use Rattle.droid_desk.specs.declared.script.fault.ScriptFault.{ScriptFault}
+use Rattle.droid_desk.specs.declared.script.fault.ScriptFault.TheVariants.{TooLong, Read, Memory, Write}
+use Rattle.droid_desk.specs.declared.script.parse.Line.{Line}
+use Rattle.droid_desk.specs.declared.script.tally.Tally.{Tally}
+use Rattle.droid_desk.specs.declared.service.Service.{Service}
+use Rattle.droid_desk.specs.declared.service.limits.Limits.{Limits}
+use Rattle.droid_desk.specs.Histories.{History, command, answer, next}
+use Rattle.droid_desk.specs.Lines.{line_value}
+use Rattle.droid_desk.specs.Printed.{answer_line}
+use Rattle.droid_desk.specs.Standing.{StandsFor}
+use Rattle.droid_desk.specs.Wants.{is_want}
+
+-- the frame of version 1 that a line sends
+abbrev pub frame_of : Line → Frame
+frame_of line = record {
+  version = 1;
+  kind = request_kind line.request;
+  client = line.client;
+  number = line.number;
+  body = request_body line.request;
+}
+
+-- after the history the request is answered so, and the history goes on so: by its answer; or for want
+-- of memory, which is never said of a malformed request, and the history stays
+abbrev pub Answers : Limits → History → Frame → Reply → History → Type 0
+Answers limits history frame reply after =
+    MatchBool (is_want reply)
+    (IsSome (command frame) × (after ≡ history))
+    ((reply ≡ answer limits history frame) × (after ≡ next limits history frame))
+
+-- a bad line sends nothing, and has no reply
+abbrev pub LineRun : Limits → History → Option Line → Option Reply → History → Type 0
+LineRun limits history None None after = after ≡ history
+LineRun limits history None (Some reply) after = ⊥
+LineRun limits history (Some line) None after = ⊥
+LineRun limits history (Some line) (Some reply) after = Answers limits history (frame_of line) reply after
+
+-- the lines were taken one after the other, with these replies, and the history went on to the last
+abbrev pub ScriptRun : Limits → History → List (List ℕ) → List (Option Reply) → History → Type 0
+ScriptRun limits history [] [] after = after ≡ history
+ScriptRun limits history [] (reply ∷ replies) after = ⊥
+ScriptRun limits history (line ∷ lines) [] after = ⊥
+ScriptRun limits history (line ∷ lines) (reply ∷ replies) after =
+    (middle : History) × LineRun limits history (line_value line) reply middle × ScriptRun limits middle lines replies after
+
+-- what the replies print
+abbrev pub script_text : List (Option Reply) → List ℕ
+script_text replies = flat_map answer_line replies
+
+-- the lines ran, the service stands for the last history, and a writer's bytes grew by all that they print
+pub record RunsAll (limits : Limits) (history : History) (lines : List (List ℕ)) (service : Service) (old new : Option (List ℕ)) : Type 0 where
+  pub replies : List (Option Reply)
+  pub after : History
+  pub run : ScriptRun limits history lines replies after
+  pub stands : StandsFor service after
+  pub writes : Appends old new (script_text replies)
+
+-- a line got this answer, and the service stands for the history after it
+pub record LineAnswered (limits : Limits) (history : History) (line : Option Line) (answer : Option Reply) (service : Service) : Type 0 where
+  pub after : History
+  pub run : LineRun limits history line answer after
+  pub stands : StandsFor service after
+
+-- a writer's bytes grew by the first bytes of the text
+pub record WritesFront (old new : Option (List ℕ)) (text : List ℕ) : Type 0 where
+  pub written : List ℕ
+  pub unwritten : List ℕ
+  pub cut : text ≡ written ++ unwritten
+  pub writes : Appends old new written
+
+-- the first of the lines ran, the service stands for the history after them, and a writer's bytes grew by
+-- the first bytes of what they print
+pub record RunsFront (limits : Limits) (history : History) (lines : List (List ℕ)) (service : Service) (old new : Option (List ℕ)) : Type 0 where
+  pub front : List (List ℕ)
+  pub rest : List (List ℕ)
+  pub cut : lines ≡ front ++ rest
+  pub replies : List (Option Reply)
+  pub after : History
+  pub run : ScriptRun limits history front replies after
+  pub stands : StandsFor service after
+  pub written : List ℕ
+  pub unwritten : List ℕ
+  pub text : script_text replies ≡ written ++ unwritten
+  pub writes : Appends old new written
+
+abbrev pub StandsForSome : Service → Type 0
+StandsForSome service = (history : History) × StandsFor service history
+
+-- a line that asks for nothing
+abbrev pub is_bad : List ℕ → Bool
+is_bad line = is_none (line_value line)
+
+-- the lines, and the bad ones among them
+pub record Counts (tally : Tally) (script : List (List ℕ)) : Type 0 where
+  pub lines : tally.lines ≡ length script
+  pub bad : tally.bad ≡ count_by is_bad script
+
+-- the faults that come before any line is handled
+abbrev pub IsOfReading : ScriptFault → Type 0
+IsOfReading TooLong = Unit {0}
+IsOfReading Read = Unit {0}
+IsOfReading Memory = ⊥
+IsOfReading Write = ⊥
+
+-- the faults that may come between lines
+abbrev pub IsOfHandling : ScriptFault → Type 0
+IsOfHandling TooLong = ⊥
+IsOfHandling Read = ⊥
+IsOfHandling Memory = Unit {0}
+IsOfHandling Write = Unit {0}

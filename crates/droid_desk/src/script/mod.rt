@@ -1,0 +1,58 @@
+//! Scripts: requests as lines of text, and their replies as lines of text.
+
+ghost use Rattle.std.specs.Prelude.{◌≡◌, ◌<◌, ◌≤◌, length, ◌≢◌, IfOk, IfSome, IfErr, OnOk, IsErrOf, IsErrAnd};
+ghost use Rattle.droid_desk.specs.Histories.{History};
+ghost use Rattle.droid_desk.specs.Lines.{lines_of};
+ghost use Rattle.droid_desk.specs.Scripts.{RunsAll, RunsFront, Counts, IsOfHandling, IsOfReading, StandsForSome};
+ghost use Rattle.droid_desk.specs.Standing.{StandsFor, limits_of};
+
+mod fault;
+mod input;
+mod output;
+mod parse;
+mod print;
+mod run;
+mod tally;
+mod words;
+
+use crate::service::Service;
+pub use fault::ScriptFault;
+pub use input::INPUT_LIMIT;
+use input::read_input;
+use run::run_lines;
+use std::alloc::Global;
+use std::io::{Read, Write};
+pub use tally::Tally;
+
+/// Reads a script to its end, hands the request of each line to the service, and writes what each line
+/// prints: its reply, or `bad line`.
+pub fn script<R: Read, W: Write>(
+    alloc: Global,
+    service: &mut Service,
+    reader: &mut R,
+    writer: &mut W,
+) -> Result<Tally, ScriptFault>
+    // All lines ran, and all that they print was written.
+    ensures all { (history : History) → StandsFor service.old history → OnOk result (IfSome (R.remaining reader.old) (λ input.
+        RunsAll (limits_of service.old) history (lines_of input) service.new (W.contents writer.old) (W.contents writer.new))) }
+    ensures tally { IfOk result (λ tally. IfSome (R.remaining reader.old) (λ input. Counts tally (lines_of input))) }
+    // After want of memory, or a write that failed, the first lines ran, and the first bytes of what they
+    // print were written.
+    ensures front { (history : History) → StandsFor service.old history → IfErr result (λ fault. IsOfHandling fault → IfSome (R.remaining reader.old) (λ input.
+        RunsFront (limits_of service.old) history (lines_of input) service.new (W.contents writer.old) (W.contents writer.new))) }
+    // The two others come before any line is handled.
+    ensures before { IfErr result (λ fault. IsOfReading fault → (service.new ≡ service.old) × (writer.new ≡ writer.old)) }
+    // A script that is too long is refused so, unless it could not be read or kept; no other is.
+    ensures too_long { IsErrOf result ScriptFault.TooLong → IfSome (R.remaining reader.old) (λ input. INPUT_LIMIT < length input) }
+    ensures long { IfSome (R.remaining reader.old) (λ input. INPUT_LIMIT < length input →
+        IsErrAnd result (λ fault. (fault ≢ ScriptFault.Write) × (service.new ≡ service.old) × (writer.new ≡ writer.old))) }
+    // Whatever comes, the service stands for some history.
+    ensures stands { StandsForSome service.old → StandsForSome service.new }
+    ensures limits { limits_of service.new ≡ limits_of service.old }
+{
+    let input = read_input(alloc, reader)?;
+    run_lines(alloc, service, input.as_slice(), writer)
+}
+
+#[cfg(test)]
+mod tests;

@@ -1,0 +1,87 @@
+//! The lines of a script, one after the other.
+
+ghost use Rattle.std.specs.Prelude.{◌≡◌, ◌∷◌, [], IfOk, IfErr, OnOk, OnErr, is_none};
+ghost use Rattle.droid_desk.specs.Histories.{History};
+ghost use Rattle.droid_desk.specs.Lines.{lines_of, line_value};
+ghost use Rattle.droid_desk.specs.Scripts.{RunsAll, RunsFront, LineAnswered, Counts, IsOfHandling, is_bad};
+ghost use Rattle.droid_desk.specs.Standing.{StandsFor, limits_of};
+
+use super::fault::ScriptFault;
+use super::input::next_line;
+use super::output::write_text;
+use super::parse::parse_line;
+use super::print::print_answer;
+use super::tally::Tally;
+use crate::service::Service;
+use droid_frame::{Reply, request_frame};
+use std::alloc::{AllocError, Global};
+use std::io::Write;
+
+/// Handles the lines of the input, and writes what each prints.
+pub fn run_lines<W: Write>(
+    alloc: Global,
+    service: &mut Service,
+    input: &[u8],
+    writer: &mut W,
+) -> Result<Tally, ScriptFault>
+    ensures all { (history : History) → StandsFor service.old history →
+        OnOk result (RunsAll (limits_of service.old) history (lines_of input.now) service.new (W.contents writer.old) (W.contents writer.new)) }
+    ensures front { (history : History) → StandsFor service.old history →
+        OnErr result (RunsFront (limits_of service.old) history (lines_of input.now) service.new (W.contents writer.old) (W.contents writer.new)) }
+    ensures tally { IfOk result (λ tally. Counts tally (lines_of input.now)) }
+    ensures limits { limits_of service.new ≡ limits_of service.old }
+    ensures handling { IfErr result IsOfHandling }
+{
+    let mut tally = Tally { lines: 0, bad: 0 };
+    let mut rest = input;
+    while let Some((line, after)) = next_line(rest) {
+        let is_bad = run_line(alloc, service, line, writer)?;
+        tally.lines += 1;
+        if is_bad {
+            tally.bad += 1;
+        }
+        rest = after;
+    }
+    Ok(tally)
+}
+
+/// Handles one line, and writes what it prints. The answer is whether the line is bad.
+fn run_line<W: Write>(
+    alloc: Global,
+    service: &mut Service,
+    line: &[u8],
+    writer: &mut W,
+) -> Result<bool, ScriptFault>
+    ensures all { (history : History) → StandsFor service.old history →
+        OnOk result (RunsAll (limits_of service.old) history (line.now ∷ []) service.new (W.contents writer.old) (W.contents writer.new)) }
+    ensures front { (history : History) → StandsFor service.old history →
+        OnErr result (RunsFront (limits_of service.old) history (line.now ∷ []) service.new (W.contents writer.old) (W.contents writer.new)) }
+    ensures bad { IfOk result (λ bad. bad ≡ is_bad line.now) }
+    ensures limits { limits_of service.new ≡ limits_of service.old }
+    ensures handling { IfErr result IsOfHandling }
+{
+    let answer = answer_line(alloc, service, line)?;
+    let mut text = String::new(alloc);
+    print_answer(&mut text, answer)?;
+    write_text(writer, text.as_str().as_bytes())?;
+    Ok(answer.is_none())
+}
+
+/// The reply to the request of a line, or `None` where the line is bad. On an error nothing was handled.
+fn answer_line(
+    alloc: Global,
+    service: &mut Service,
+    line: &[u8],
+) -> Result<Option<Reply>, AllocError>
+    ensures ok { (history : History) → StandsFor service.old history →
+        IfOk result (λ answer. LineAnswered (limits_of service.old) history (line_value line.now) answer service.new) }
+    ensures err { OnErr result (service.new ≡ service.old) }
+    ensures bad { IfOk result (λ answer. is_none answer ≡ is_bad line.now) }
+    ensures limits { limits_of service.new ≡ limits_of service.old }
+{
+    let Some(line) = parse_line(alloc, line)? else {
+        return Ok(None);
+    };
+    let frame = request_frame(alloc, line.client, line.number, &line.request)?;
+    Ok(Some(service.handle(frame)))
+}
