@@ -1,0 +1,71 @@
+-- A registry file, record by record.
+use Rattle.std.proofs.Common.{Bor, ◌≢◌, ◌≡◌, ◌∙◌, ◌+◌, ◌<◌, ◌≤◌, ℕ, true, false, List, [], ◌∷◌, length, Option, Some, None, Result, Ok, Err, refl, sym, ap}
+use Rattle.csv.specs.Machine.{Read, next_record}
+use Rattle.csv.specs.Reading.{ReadRecord, Reached, source_of, default_config}
+use Rattle.csv.specs.declared.reader.Reader.{Reader}
+use Rattle.csv.specs.declared.parser.State.{State}
+use Rattle.csv.proofs.ReadFacts.{rows-more, rows-end}
+use Rattle.droid_pronom.specs.Registry.{Contents}
+use Rattle.droid_pronom.specs.RegistryRecords.{Step, Tells}
+use Rattle.droid_pronom.specs.RegistryFile.{Outcome, taken, faulty, end, fault_at, refusal_at, taken_count, TellsRead, File, too_long}
+use Rattle.droid_pronom.specs.declared.registry.draft.Draft.{Draft}
+use Rattle.droid_pronom.specs.declared.registry.fault.Fault.{Fault}
+use Rattle.droid_pronom.specs.declared.registry.fault.Refusal.{Refusal}
+use Rattle.droid_pronom.specs.declared.registry.fault.Refusal.TheVariants as refusals
+use Rattle.droid_pronom.specs.declared.registry.fault.RegistryFault.{RegistryFault}
+use Rattle.droid_pronom.specs.declared.registry.fault.RegistryFault.TheVariants as registry_faults
+
+-- the bytes of a slice that is read from
+abbrev pub rest_of : Bor (List ℕ) → Option (List ℕ)
+rest_of s = Some s.now
+
+-- a read that found a record: which one it is, and what is left
+pub record IsNext (a b : Reader (Bor (List ℕ))) (y : List ℕ) (texts : List (List ℕ)) : Type 0 where
+  pub rest : List ℕ
+  pub source : source_of rest_of b ≡ Some rest
+  pub read : Read
+  pub is : next_record default_config a.state [] [] y ≡ Some read
+  pub fields : texts ≡ read.0
+  pub state : read.1 ≡ b.state
+  pub left : read.2 ≡ rest
+
+pub next_read : (a b : Reader (Bor (List ℕ))) (y : List ℕ) (fields : List (List ℕ)) → a.config ≡ default_config → source_of rest_of a ≡ Some y → ReadRecord rest_of a b true fields → IsNext a b y fields
+unfolding Reached
+next_read a b y fields config source reads =
+    let m = rows-more rest_of a b fields default_config a.state y y [] config source (refl, refl) reads in
+    record { rest = m.0; source = m.1; read = m.2.0; is = m.2.1; fields = m.2.2; state = m.2.3.0; left = m.2.3.1 }
+
+-- a record that was taken
+pub outcome_taken : (a b : Reader (Bor (List ℕ))) (y : List ℕ) (fields : List (List ℕ)) (n : IsNext a b y fields) (draft next : Draft) → Step draft fields (Ok next)
+    → (r : Result Contents RegistryFault) → Outcome next b.state n.rest r → Outcome draft a.state y r
+outcome_taken a b y fields n draft next step r o = taken {next = next} n.is (rw (← n.fields) step) (rw (n.state, n.left) o)
+
+-- a record at fault
+pub outcome_faulty : (a b : Reader (Bor (List ℕ))) (y : List ℕ) (fields : List (List ℕ)) (n : IsNext a b y fields) (draft : Draft) (fault : Fault) → Step draft fields (Err fault)
+    → Outcome draft a.state y (Err (fault_at fault (taken_count draft + 1)))
+outcome_faulty a b y fields n draft fault step = faulty n.is (rw (← n.fields) step)
+
+-- the same, from what the call says of the record
+pub outcome_refused : (a b : Reader (Bor (List ℕ))) (y : List ℕ) (fields : List (List ℕ)) (n : IsNext a b y fields) (draft new : Draft) (refusal : Refusal)
+    → Tells {X = Unit {0}} (Err refusal) new (Step draft fields) → ◌≢◌ {A = Result Contents RegistryFault} (Err (refusal_at refusal (taken_count draft + 1))) (Err registry_faults.Memory)
+    → Outcome draft a.state y (Err (refusal_at refusal (taken_count draft + 1)))
+outcome_refused a b y fields n draft new refusals.Memory tells some = absurd (some refl)
+outcome_refused a b y fields n draft new (refusals.Fault fault) tells some = outcome_faulty a b y fields n draft fault tells
+
+-- no record is left
+pub outcome_end : (a b : Reader (Bor (List ℕ))) (y : List ℕ) (fields : List (List ℕ)) (draft : Draft) → a.config ≡ default_config → source_of rest_of a ≡ Some y → ReadRecord rest_of a b false fields
+    → Outcome draft a.state y (Ok draft.registry)
+outcome_end a b y fields draft config source reads = end (rows-end rest_of a b fields default_config y config source reads)
+
+-- a fault of reading, which is neither want of memory nor the reader's
+pub read_refused : (fault : RegistryFault) (known : Option (List ℕ)) (bytes : List ℕ) → TellsRead fault known → known ≡ Some bytes
+    → ◌≢◌ {A = Result Contents RegistryFault} (Err fault) (Err registry_faults.Memory) → ◌≢◌ {A = Result Contents RegistryFault} (Err fault) (Err registry_faults.Read) → File bytes (Err fault)
+read_refused registry_faults.TooLong known bytes tells is memory failed = too_long (rw is at tells)
+read_refused registry_faults.Read known bytes tells is memory failed = absurd (failed refl)
+read_refused registry_faults.Memory known bytes tells is memory failed = absurd (memory refl)
+read_refused (registry_faults.NotUtf8 at) known bytes tells is memory failed = absurd tells
+read_refused (registry_faults.BadRecord at) known bytes tells is memory failed = absurd tells
+read_refused (registry_faults.BadPattern at) known bytes tells is memory failed = absurd tells
+read_refused (registry_faults.UnknownPuid at) known bytes tells is memory failed = absurd tells
+read_refused (registry_faults.DuplicatePuid at) known bytes tells is memory failed = absurd tells
+read_refused (registry_faults.TooMany at) known bytes tells is memory failed = absurd tells

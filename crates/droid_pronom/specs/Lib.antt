@@ -1,0 +1,12 @@
+pub mod Found
+pub mod FoundWindows
+pub mod PatternParts
+pub mod PatternPlaces
+pub mod PatternReading
+pub mod PatternText
+pub mod Patterns
+pub mod Registry
+pub mod RegistryFields
+pub mod RegistryFile
+pub mod RegistryKept
+pub mod RegistryRecords
