@@ -1,7 +1,7 @@
 RT = rt
 PROGRAM = crates/droid_desk/out/droid_desk
 
-.PHONY: run build test need_rt
+.PHONY: run build test bench need_rt
 
 # Builds the program and runs a short script on it.
 run: build
@@ -12,14 +12,16 @@ build: need_rt
 	@mkdir -p crates/droid_desk/out
 	@cd crates/droid_desk && $(RT) run -- --help > out/build.log 2>&1 || { cat out/build.log; exit 1; }
 
-# The gate: every proof from nothing, wrong bodies, tests, and then the built program.
+# The gate: every proof from nothing, wrong bodies, tests, and then the built program. `rt ci` leaves the
+# program and the tests that it built in each crate's out/, and the last two lines run those.
 test: need_rt
 	$(RT) ci
-	@$(MAKE) --no-print-directory build
 	sh tests/program/run.sh $(CURDIR)/$(PROGRAM)
-	cd crates/droid_assembly && $(RT) test
-	cd crates/droid_desk && $(RT) test
 	sh tests/memory/run.sh
+
+# How long a large registry takes to be read, and a file to be identified by it.
+bench: need_rt
+	@cd crates/droid_bench && $(RT) run -- times
 
 need_rt:
 	@command -v $(RT) > /dev/null 2>&1 || { \

@@ -1,6 +1,7 @@
 #!/bin/sh
 # Runs tests of the crates again and again, each time with another of their allocations refused. A test
-# asks again where memory was wanting, so it passes whichever allocation is refused.
+# asks again where memory was wanting, so it passes whichever allocation is refused. The tests are those
+# that `rt ci` or `rt test` left in the crates' out/.
 set -u
 top=$(cd "$(dirname "$0")/../.." && pwd)
 work=$(mktemp -d) || exit 1
@@ -10,10 +11,17 @@ ${CC:-cc} -shared -fPIC -o "$work/refuse.so" "$top/tests/memory/refuse.c" -ldl |
 passed=0
 failed=0
 for test in droid_desk:service::tests::one_after_the_other droid_desk:service::tests::in_one_run \
-    droid_assembly:tests::each_growth_refused; do
+    droid_assembly:tests::each_growth_refused pronom_tests:memory::each_growth_of_a_registry \
+    pronom_tests:memory::each_growth_of_a_search frame_tests:memory::each_growth_of_a_request \
+    frame_tests:memory::each_growth_of_a_reply frame_tests:streams::growths_refused; do
     crate=${test%%:*}
     name=${test#*:}
     tests=$top/crates/$crate/out/${crate}_tests
+    if [ ! -x "$tests" ]; then
+        echo "$name: $tests is not built: run rt ci, or rt test in the crate's folder"
+        failed=$((failed + 1))
+        continue
+    fi
     ALLOCATIONS=$work/count LD_PRELOAD=$work/refuse.so "$tests" "$name" >"$work/said" 2>&1 || cat "$work/said"
     count=$(cat "$work/count" 2>/dev/null || echo 0)
     if [ "$count" -lt 4 ]; then

@@ -1,18 +1,15 @@
 -- How a service that stands for a history stands for the next one.
 use Rattle.std.proofs.Common.{◌≡◌, ℕ, ◌==◌, ◌&&◌, Bool, true, false, cond, List, [], ◌∷◌, ◌++◌, map, Option, Some, None, refl, sym, ap, subst, ◌∙◌, append_assoc, append-nil}
-use Rattle.std.specs.Prelude.{MatchBool, IsSome, Ok, Err, ok_or}
+use Rattle.std.specs.Prelude.{MatchBool, IsSome, ⊤}
 use Rattle.std.specs.List.{find}
 use Rattle.std.specs.Option.{option_map}
 use Rattle.std.proofs.lemmas.List.{map_push}
 use Rattle.std.proofs.lemmas.List.Sums.{fold-append}
 use Rattle.droid_frame.specs.declared.frame.Frame.{Frame}
-use Rattle.droid_frame.specs.declared.reading.BodyFault.{BodyFault}
-use Rattle.droid_frame.specs.declared.reading.BodyFault.TheVariants as body_faults
 use Rattle.droid_frame.specs.declared.refusal.Refusal.TheVariants.{Malformed}
 use Rattle.droid_frame.specs.declared.reply.Reply.{Reply}
 use Rattle.droid_frame.specs.declared.reply.Reply.TheVariants.{Refused}
 use Rattle.droid_frame.specs.declared.request.Request.{Request}
-use Rattle.droid_frame.specs.Values.{request_in}
 use Rattle.droid_desk.specs.declared.service.Service.{Service}
 use Rattle.droid_desk.specs.declared.service.limits.Limits.{Limits}
 use Rattle.droid_desk.specs.declared.service.rows.KeptReply.{KeptReply}
@@ -77,11 +74,6 @@ no_entry (Some entry) e = absurd cc
 
 -- ---- three ways to handle a request
 
--- where both outcomes hold, the reply chooses either
-either : (b : Bool) {P Q R T : Type 0} → P × Q → R × T → MatchBool b (P × Q) (R × T)
-either true wanting answered = wanting
-either false wanting answered = answered
-
 some_is_some : (frame : Frame) (request : Request) → command frame ≡ Some request → IsSome (command frame)
 some_is_some frame request asked = rw asked refl
 
@@ -89,18 +81,18 @@ pub handles_malformed : (service : Service) (history : History) (frame : Frame) 
 handles_malformed service history frame malformed stands =
     (sym (answer_malformed (limits_of service) history frame malformed), subst (StandsFor service) (sym (next_malformed (limits_of service) history frame malformed)) stands)
 
-handles_kept : (service : Service) (history : History) (frame : Frame) (request : Request) (row : KeptReply) → command frame ≡ Some request → StandsFor service history
-    → find (is_row_under frame.client frame.number) service.replies.items ≡ Some row → Handles (limits_of service) history frame (answer_again (frame_mark frame) row) service
-handles_kept service history frame request row asked stands found =
+-- what a kept row answers is the answer, and the history stays
+kept_answers : (service : Service) (history : History) (frame : Frame) (request : Request) (row : KeptReply) → command frame ≡ Some request → StandsFor service history
+    → find (is_row_under frame.client frame.number) service.replies.items ≡ Some row
+    → (answer_again (frame_mark frame) row ≡ answer (limits_of service) history frame) × (next (limits_of service) history frame ≡ history)
+kept_answers service history frame request row asked stands found =
     let limits = limits_of service in
-    let there = entry_of_row (kept history frame.client frame.number) row (sym (find_kept history frame.client frame.number) ∙ (ap (find (is_row_under frame.client frame.number)) (sym stands.replies) ∙ found)) in
-    let reply = answer_again (frame_mark frame) row in
-    let same : reply ≡ answer limits history frame =
-    ap (answer_again (frame_mark frame)) (sym there.2)
-    ∙ (sym (ap (λ (o : Option Entry). answer_to limits history o (frame_mark frame) request) there.1)
-    ∙ sym (answer_asked_for limits history frame request asked)) in
-    let again : next limits history frame ≡ history = next_asked_for limits history frame request asked ∙ ap (λ (o : Option Entry). next_new limits history frame o request) there.1 in
-    either (is_want reply) (some_is_some frame request asked, stands) (same, subst (StandsFor service) (sym again) stands)
+    let there = entry_of_row (kept history frame.client frame.number) row (sym (find_kept history frame.client frame.number) ∙ (ap (find (is_row_under frame.client frame.number)) (sym stands.replies) ∙ found)) in (
+      ap (answer_again (frame_mark frame)) (sym there.2)
+          ∙ (sym (ap (λ (o : Option Entry). answer_to limits history o (frame_mark frame) request) there.1)
+          ∙ sym (answer_asked_for limits history frame request asked)),
+      next_asked_for limits history frame request asked ∙ ap (λ (o : Option Entry). next_new limits history frame o request) there.1,
+    )
 
 -- what a stamp of the frame holds
 abbrev stamp_of : Frame → Stamp
@@ -154,38 +146,23 @@ handles_judged old new history frame request reply asked stands absent comes =
 
 -- ---- the same, as the code finds them
 
-pub command_is : (frame : Frame) (value : Option Request) → request_in frame ≡ value → command frame ≡ value
-unfolding command
-command_is frame value is = is
+-- want of memory, or else what follows from an answer
+unless_wanting : (b : Bool) {P Q R : Type 0} → MatchBool b ⊤ P → Q → (P → R) → MatchBool b Q R
+unless_wanting true is wanting answered = wanting
+unless_wanting false is wanting answered = answered is
 
-pub none_from_fault : (value : Option Request) (fault : BodyFault) → Err fault ≡ ok_or value body_faults.Malformed → value ≡ None
-none_from_fault None fault e = refl
-none_from_fault (Some request) fault e = absurd cc
-
-pub some_from_request : (value : Option Request) (request : Request) → Ok request ≡ ok_or value body_faults.Malformed → value ≡ Some request
-some_from_request None request e = absurd cc
-some_from_request (Some other) request e = cc
-
-mapped_some : {A B : Type 0} (f : A → B) (o : Option A) (y : B) → Some y ≡ option_map f o → (x : A) × (o ≡ Some x) × (f x ≡ y)
-mapped_some f None y e = absurd cc
-mapped_some f (Some x) y e = (x, refl, cc)
-
-mapped_none : {A B : Type 0} (f : A → B) (o : Option A) → None ≡ option_map f o → o ≡ None
-mapped_none f None e = refl
-mapped_none f (Some x) e = absurd cc
-
-pub handles_again : (service : Service) (history : History) (frame : Frame) (request : Request) (mark : List ℕ) (reply : Reply) → command frame ≡ Some request → mark ≡ frame_mark frame
-    → Some reply ≡ option_map (answer_again mark) (find (is_row_under frame.client frame.number) service.replies.items) → StandsFor service history → Handles (limits_of service) history frame reply service
-handles_again service history frame request mark reply asked marked found stands =
-    let rows = service.replies.items in
-    let there = mapped_some (answer_again mark) (find (is_row_under frame.client frame.number) rows) reply found in
-    let same : answer_again (frame_mark frame) there.0 ≡ reply = ap (λ (m : List ℕ). answer_again m there.0) (sym marked) ∙ there.2 in
-    subst (λ (r : Reply). Handles (limits_of service) history frame r service) same (handles_kept service history frame request there.0 asked stands there.1)
+pub handles_again : (service : Service) (history : History) (frame : Frame) (request : Request) (row : KeptReply) (mark : List ℕ) (reply : Reply) → command frame ≡ Some request → mark ≡ frame_mark frame
+    → find (is_row_under frame.client frame.number) service.replies.items ≡ Some row → MatchBool (is_want reply) ⊤ (reply ≡ answer_again mark row) → StandsFor service history
+    → Handles (limits_of service) history frame reply service
+handles_again service history frame request row mark reply asked marked found is stands =
+    let answers = kept_answers service history frame request row asked stands found in
+    unless_wanting (is_want reply) is (some_is_some frame request asked, stands)
+    (λ same. (same ∙ (ap (λ (m : List ℕ). answer_again m row) marked ∙ answers.0), subst (StandsFor service) (sym answers.1) stands))
 
 pub handles_anew : (old new : Service) (history : History) (frame : Frame) (request : Request) (mark : List ℕ) (reply : Reply) → command frame ≡ Some request → mark ≡ frame_mark frame
-    → None ≡ option_map (answer_again mark) (find (is_row_under frame.client frame.number) old.replies.items) → StandsFor old history
+    → find (is_row_under frame.client frame.number) old.replies.items ≡ None → StandsFor old history
     → Comes old new (record { client = frame.client; number = frame.number; mark = mark }) (judge old.limits (world_in old.profiles.items) request) reply → Handles (limits_of old) history frame reply new
 handles_anew old new history frame request mark reply asked marked absent stands comes =
     let verdict = judge old.limits (world_in old.profiles.items) request in
     let came = subst (λ (m : List ℕ). Comes old new (record { client = frame.client; number = frame.number; mark = m }) verdict reply) marked comes in
-    handles_judged old new history frame request reply asked stands (mapped_none (answer_again mark) (find (is_row_under frame.client frame.number) old.replies.items) absent) came
+    handles_judged old new history frame request reply asked stands absent came

@@ -9,4 +9,5 @@ pub mod Running
 pub mod ScriptEndings
 pub mod ScriptRuns
 pub mod ScriptWrites
+pub mod Served
 pub mod Verdicts

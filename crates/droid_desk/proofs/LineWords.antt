@@ -1,10 +1,15 @@
 -- What `split_once` at a space gives.
-use Rattle.std.proofs.Common.{◌≡◌, ℕ, ◌<◌, List, length, Option, Some, None, refl, MatchOption, Bor, arith, Bool, cond, true, false}
+use Rattle.std.proofs.Common.{◌≡◌, ℕ, ◌<◌, ◌≤◌, inl, inr, List, length, Option, Some, None, refl, MatchOption, Bor, arith, Bool, cond, true, false}
 use Rattle.std.proofs.lemmas.Bool.{lt-ltb, le-ltb}
+use Rattle.std.proofs.lemmas.Bool.Decides.{leb_tells}
 use Rattle.std.specs.List.{position_or_len, before_first, after_first}
 use Rattle.std.specs.Option.{option_map}
-use Rattle.droid_desk.specs.Lines.{is_space, word_at, line_value, text_line}
-use Rattle.droid_frame.specs.Values.{◌>>=◌, text_at}
+use Rattle.droid_desk.specs.Lines.{is_space, word_at, line_value, text_line, where_fitting, head_at, request_words}
+use Rattle.droid_frame.specs.Bodies.{request_body}
+use Rattle.droid_frame.specs.declared.frame.TheConstants.{BODY_LIMIT}
+use Rattle.droid_frame.specs.declared.request.Request.{Request}
+use Rattle.std.specs.Prelude.{nat_le}
+use Rattle.droid_frame.specs.Reading.{◌>>=◌, text_at}
 use Rattle.std.specs.Str.{IsUtf8, is_utf8}
 use Rattle.std.proofs.lemmas.Str.{IsUtf8-from_is_utf8, is_utf8-from_IsUtf8}
 
@@ -27,3 +32,16 @@ not_utf8 false bytes is not = refl
 pub line_of_other : (bytes : List ℕ) → (IsUtf8 bytes → ⊥) → line_value bytes ≡ None
 unfolding line_value text_at
 line_of_other bytes not = not_utf8 (is_utf8 bytes) bytes (IsUtf8-from_is_utf8 bytes) not
+
+pub not_at_most : (a b : ℕ) → (a ≤ b → ⊥) → nat_le a b ≡ false
+not_at_most a b not =
+    elim (leb_tells a b) [
+      | inl it ↦ absurd (not it.1)
+      | inr it ↦ it.0
+    ]
+
+-- a line whose request doesn't fit asks for nothing
+pub line_too_long : (text : List ℕ) (client number : ℕ) (kind rest : List ℕ) (request : Request) → Some (client, number, kind, rest) ≡ head_at text → Some request ≡ request_words kind rest
+    → nat_le (length (request_body request)) BODY_LIMIT ≡ false → None ≡ text_line text
+unfolding text_line where_fitting
+line_too_long text client number kind rest request head words long = rw (← head, ← words, long) refl

@@ -1,6 +1,6 @@
 -- Histories: the accepted requests in order of first acceptance, the world that they make, and what a
 -- request is answered after them (this project's own).
-use Rattle.std.specs.Prelude.{◌≡◌, ℕ, ◌==◌, ◌&&◌, if◌then◌else◌, Bool, List, [], ◌∷◌, ◌++◌, fold, Option, Some, None}
+use Rattle.std.specs.Prelude.{◌≡◌, ℕ, ◌==◌, ◌&&◌, ◌||◌, if◌then◌else◌, Bool, List, [], ◌∷◌, ◌++◌, fold, Option, Some, None}
 use Rattle.std.specs.List.{find}
 use Rattle.std.specs.Str.{bytes_eq}
 use Rattle.droid_frame.specs.declared.frame.Frame.{Frame}
@@ -24,9 +24,13 @@ pub record Entry : Type 0 where
 abbrev pub History : Type 0
 History = List Entry
 
+-- the kinds that are served: 1, a profile, and 2, a folder
+abbrev pub is_served : ℕ → Bool
+is_served kind = (kind == 1) || (kind == 2)
+
 -- what the request asks, where its kind and body spell something that is served
 unfoldable pub command : Frame → Option Request
-command frame = request_in frame
+command frame = if is_served frame.kind then request_in frame else None
 
 abbrev pub frame_mark : Frame → List ℕ
 frame_mark frame = mark_of frame.kind frame.body

@@ -6,7 +6,7 @@ use Rattle.std.specs.List.{list_any}
 use Rattle.std.specs.Str.{bytes_eq}
 use Rattle.droid_frame.specs.declared.refusal.Limit.TheVariants as reached
 use Rattle.droid_frame.specs.declared.refusal.Refusal.{Refusal}
-use Rattle.droid_frame.specs.declared.refusal.Refusal.TheVariants.{NoSuchProfile, NoSuchNode, NotAFolder, BadName, PathTooLong, NameTaken, BadOption, LimitReached}
+use Rattle.droid_frame.specs.declared.refusal.Refusal.TheVariants.{Malformed, NoSuchProfile, NoSuchNode, NotAFolder, BadName, PathTooLong, NameTaken, BadOption, LimitReached}
 use Rattle.droid_frame.specs.declared.reply.Reply.{Reply}
 use Rattle.droid_frame.specs.declared.reply.Reply.TheVariants as replies
 use Rattle.droid_frame.specs.declared.request.Request.{Request}
@@ -93,7 +93,7 @@ in_profile (Some profile) judge_there = judge_there profile
 abbrev pub with_node : Profile → Node → Profile
 with_node profile node = record profile { nodes = profile.nodes ++ node ∷ [] }
 
--- profiles and nodes are numbered from 1, in order of acceptance
+-- profiles and nodes are numbered from 1, in order of acceptance; what is not served is malformed
 unfoldable pub judge : Limits → World → Request → Verdict
 judge limits world (CreateProfile scan_limit match_all) =
     unless_refused (refusal_of (create_checks limits world scan_limit))
@@ -102,3 +102,4 @@ judge limits world (AddFolder number parent modified name) =
     in_profile (numbered world number) (λ profile.
     unless_refused (refusal_of (folder_checks limits profile.nodes parent modified name))
     (Accepted (replies.Node (length profile.nodes + 1)) (slice_set world (number - 1) (with_node profile (Folder parent modified name)))))
+judge limits world _ = Refuses Malformed

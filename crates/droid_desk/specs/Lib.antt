@@ -6,6 +6,7 @@ pub mod Printed
 pub mod Replies
 pub mod Rows
 pub mod Running
+pub mod Sample
 pub mod Scripts
 pub mod Standing
 pub mod Wants

@@ -8,7 +8,7 @@ use Rattle.droid_frame.specs.declared.frame.TheConstants.{BODY_LIMIT}
 use Rattle.droid_frame.specs.declared.request.Request.{Request}
 use Rattle.droid_frame.specs.declared.request.Request.TheVariants.{CreateProfile, AddFolder}
 use Rattle.droid_frame.specs.Bodies.{request_body}
-use Rattle.droid_frame.specs.Values.{◌>>=◌, text_at}
+use Rattle.droid_frame.specs.Reading.{◌>>=◌, text_at}
 use Rattle.droid_desk.specs.declared.script.parse.Line.{Line}
 
 -- ---- lines

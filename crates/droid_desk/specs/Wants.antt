@@ -31,3 +31,4 @@ abbrev pub is_want : Reply → Bool
 is_want (Made profile) = false
 is_want (Node id) = false
 is_want (Refused refusal) = is_want_of refusal
+is_want _ = false

@@ -2,6 +2,7 @@
 #![tactic(auto)]
 
 mod program;
+mod sample;
 mod script;
 mod service;
 

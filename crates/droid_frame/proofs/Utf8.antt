@@ -2,7 +2,7 @@
 use Rattle.std.proofs.Common.{◌≡◌, ℕ, Bool, true, false, cond, List, Some, None, refl}
 use Rattle.std.specs.Str.{IsUtf8, is_utf8}
 use Rattle.std.proofs.lemmas.Str.{IsUtf8-from_is_utf8, is_utf8-from_IsUtf8}
-use Rattle.droid_frame.specs.Values.{text_at}
+use Rattle.droid_frame.specs.Reading.{text_at}
 
 pub text_at-utf8 : (bytes : List ℕ) → IsUtf8 bytes → text_at bytes ≡ Some bytes
 unfolding text_at

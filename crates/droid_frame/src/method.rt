@@ -1,5 +1,8 @@
 //! How a file was identified.
 
+ghost use Rattle.std.specs.Prelude.{◌≡◌};
+ghost use Rattle.droid_frame.specs.Fields.{method_number};
+
 /// What a file's formats were found by.
 #[derive(Clone, Copy, Debug, PartialEq, Eq)]
 pub enum Method {
@@ -9,4 +12,17 @@ pub enum Method {
     Signature,
     /// By the extension of the file's name.
     Extension,
+}
+
+impl Method {
+    /// The number of the method in a body.
+    pub(crate) fn number(self) -> u8
+        ensures { result ≡ method_number self }
+    {
+        match self {
+            Method::Unidentified => 0,
+            Method::Signature => 1,
+            Method::Extension => 2,
+        }
+    }
 }

@@ -1,16 +1,18 @@
 //! Requests from frames.
 
-ghost use Rattle.std.specs.Prelude.{◌≡◌, ◌<◌, ◌^◌, ◌≤◌, drop, length, IfOk, IfErr, IfSome, ok_or, Ok, vec_len};
-ghost use Rattle.std.specs.Option.{option_map};
-ghost use Rattle.std.specs.Int.{w32, w64};
+ghost use Rattle.std.specs.Prelude.{◌≡◌, ◌↔◌, ◌<◌, ◌^◌, IfOk, IsSome, ok_or, Ok, Err};
 ghost use Rattle.droid_frame.specs.Bodies.{SpellsRequest};
-ghost use Rattle.droid_frame.specs.Fields.{IsEnd};
-ghost use Rattle.droid_frame.specs.Values.{number_at, signed_at, truth_at, text_at, create_profile_value, add_folder_value, request_value, request_in};
+ghost use Rattle.droid_frame.specs.Fields.{IsBytes};
+ghost use Rattle.droid_frame.specs.Outcomes.{IsAnswer};
+ghost use Rattle.droid_frame.specs.Values.{export_value, request_value, request_in};
 
 use crate::blob::Blob;
+use crate::fields::{u32_at, u64_at};
+use crate::filter_reading::filter_of;
 use crate::frame::Frame;
+use crate::listless::listless_value;
 use crate::request::Request;
-use crate::text::Text;
+use std::alloc::{AllocError, Global};
 
 /// The numbers of requests are below this.
 pub const NUMBER_LIMIT: u64 = 1 << 63;
@@ -24,132 +26,66 @@ pub enum BodyFault {
     Memory,
 }
 
-/// The request of a frame, whose body it uses up: a name is the body's own buffer. It takes no memory.
+impl From<AllocError> for BodyFault {
+    ghost use Rattle.droid_frame.specs.declared.reading.BodyFault.{BodyFault};
+
+    ghost from_gives = { λ error fault. fault ≡ BodyFault.Memory };
+
+    fn from(_: AllocError) -> BodyFault {
+        BodyFault::Memory
+    }
+}
+
+/// The request of a frame, whose body it uses up: a name and a piece's bytes are the body's own buffer.
+/// Only a filter takes memory, and none is taken before the whole body is found to be in the grammar.
+///
+/// `Malformed`: the kind is unknown, the body is outside the kind's grammar, or the number is
+/// [`NUMBER_LIMIT`] or more. `Memory`: the memory of a filter was refused.
 #[tactic(auto, unfolding(crate::specs::Values::request_in))]
-pub fn request_of(frame: Frame) -> Result<Request, BodyFault>
+pub fn request_of(alloc: Global, frame: Frame) -> Result<Request, BodyFault>
     // What is read is spelled so, all of the body.
     ensures found { IfOk result (λ request. (frame.number < 2 ^ 63) × SpellsRequest frame.kind frame.body request) }
-    // What is spelled so, under a number below the limit, is read.
-    ensures accepted { (request : Request) → frame.number < 2 ^ 63 → SpellsRequest frame.kind frame.body request → result ≡ Ok request }
-    // So this comes exactly where no request is spelled or the number is too large.
-    ensures malformed { IfErr result (λ fault. fault ≡ BodyFault.Malformed) }
-    // The same in one equation.
-    ensures exact { result ≡ ok_or (request_in frame) BodyFault.Malformed }
+    // What is spelled so, under a number below the limit, is read, unless memory is refused.
+    ensures accepted { (request : Request) → frame.number < 2 ^ 63 → SpellsRequest frame.kind frame.body request →
+        ¬ (result ≡ Err BodyFault.Memory) → result ≡ Ok request }
+    // This comes exactly where no request is spelled or the number is too large.
+    ensures malformed { (result ≡ Err BodyFault.Malformed) ↔ (request_in frame ≡ None) }
+    // And this only where a request for a part of the export is spelled.
+    ensures memory { result ≡ Err BodyFault.Memory → (frame.kind ≡ 8) × IsSome (request_in frame) }
+    // The others in one equation.
+    ensures exact { ¬ (frame.kind ≡ 8) → result ≡ ok_or (request_in frame) BodyFault.Malformed }
 {
     if frame.number >= NUMBER_LIMIT {
         return Err(BodyFault::Malformed);
     }
-    value_of(frame.kind, frame.body).ok_or(BodyFault::Malformed)
+    value_of(alloc, frame.kind, frame.body)
 }
 
 #[tactic(auto, unfolding(crate::specs::Values::request_value))]
-fn value_of(kind: u8, body: Blob) -> Option<Request>
-    ensures value { result ≡ request_value kind body }
-    ensures found { IfSome result (SpellsRequest kind body) }
+fn value_of(alloc: Global, kind: u8, body: Blob) -> Result<Request, BodyFault>
+    ensures answer { IsAnswer result (request_value kind body) }
+    ensures exact { ¬ (kind ≡ 8) → result ≡ ok_or (request_value kind body) BodyFault.Malformed }
+    ensures bytes { IsBytes body }
 {
     let bytes = body.as_slice();
     match kind {
-        1 => create_profile(bytes),
-        2 => add_folder(body),
-        _ => None,
+        8 => export(alloc, bytes),
+        _ => listless_value(kind, body).ok_or(BodyFault::Malformed),
     }
 }
 
-#[tactic(auto, unfolding(crate::specs::Values::create_profile_value, crate::specs::Values::whole))]
-fn create_profile(body: &[u8]) -> Option<Request>
-    ensures { result ≡ create_profile_value body.now }
+#[tactic(auto, unfolding(crate::specs::Values::export_value))]
+fn export(alloc: Global, body: &[u8]) -> Result<Request, BodyFault>
+    ensures { IsAnswer result (export_value body.now) }
 {
-    let (scan_limit, rest) = u32_at(body)?;
-    let (match_all, rest) = bool_at(rest)?;
-    if !rest.is_empty() {
-        return None;
-    }
-    Some(Request::CreateProfile {
-        scan_limit,
-        match_all,
-    })
-}
-
-#[tactic(auto, unfolding(crate::specs::Values::add_folder_value))]
-fn add_folder(body: Blob) -> Option<Request>
-    ensures { result ≡ add_folder_value body }
-{
-    let (profile, rest) = u32_at(body.as_slice())?;
-    let (parent, rest) = u32_at(rest)?;
-    let (modified, rest) = i64_at(rest)?;
-    let used = body.len() - rest.len();
-    let name = text_after(body, used)?;
-    Some(Request::AddFolder {
+    let (profile, rest) = u32_at(body).ok_or(BodyFault::Malformed)?;
+    let (from, rest) = u64_at(rest).ok_or(BodyFault::Malformed)?;
+    let (max, rest) = u32_at(rest).ok_or(BodyFault::Malformed)?;
+    let filter = filter_of(alloc, rest)?;
+    Ok(Request::Export {
         profile,
-        parent,
-        modified,
-        name,
+        from,
+        max,
+        filter,
     })
-}
-
-/// The text from this place to the end, in the body's own buffer.
-fn text_after(body: Blob, place: usize) -> Option<Text>
-    requires { place ≤ length body }
-    ensures { result ≡ text_at (drop place body) }
-{
-    let mut bytes = body.into_vec();
-    remove_front(&mut bytes, place);
-    text_of(bytes)
-}
-
-/// Removes the first bytes in place.
-fn remove_front(bytes: &mut Vec<u8>, count: usize)
-    requires { count ≤ vec_len bytes.old }
-    ensures { bytes.new.items ≡ drop count bytes.old.items }
-{
-    bytes.drain(..count);
-}
-
-fn text_of(bytes: Vec<u8>) -> Option<Text>
-    ensures { result ≡ text_at bytes.items }
-{
-    match String::from_utf8(bytes) {
-        Ok(text) => Some(Text::from(text)),
-        Err(_) => None,
-    }
-}
-
-fn u32_at(bytes: &[u8]) -> Option<(u32, &[u8])>
-    ensures value { option_map (λ x. (x.0, x.1.now)) result ≡ number_at w32 bytes.now }
-    ensures rest { IfSome result (λ x. IsEnd bytes.now x.1.now) }
-{
-    let (front, rest) = bytes.split_at_checked(4)?;
-    let number = u32::from_be_bytes([front[0], front[1], front[2], front[3]]);
-    Some((number, rest))
-}
-
-fn u64_at(bytes: &[u8]) -> Option<(u64, &[u8])>
-    ensures value { option_map (λ x. (x.0, x.1.now)) result ≡ number_at w64 bytes.now }
-    ensures rest { IfSome result (λ x. IsEnd bytes.now x.1.now) }
-{
-    let (front, rest) = bytes.split_at_checked(8)?;
-    let number = u64::from_be_bytes([
-        front[0], front[1], front[2], front[3], front[4], front[5], front[6], front[7],
-    ]);
-    Some((number, rest))
-}
-
-#[tactic(auto, unfolding(crate::specs::Values::signed_at))]
-fn i64_at(bytes: &[u8]) -> Option<(i64, &[u8])>
-    ensures value { option_map (λ x. (x.0, x.1.now)) result ≡ signed_at bytes.now }
-    ensures rest { IfSome result (λ x. IsEnd bytes.now x.1.now) }
-{
-    let (number, rest) = u64_at(bytes)?;
-    Some((number.cast_signed(), rest))
-}
-
-#[tactic(auto, unfolding(crate::specs::Values::truth_at))]
-fn bool_at(bytes: &[u8]) -> Option<(bool, &[u8])>
-    ensures { option_map (λ x. (x.0, x.1.now)) result ≡ truth_at bytes.now }
-{
-    match bytes {
-        [0, rest @ ..] => Some((false, rest)),
-        [1, rest @ ..] => Some((true, rest)),
-        _ => None,
-    }
 }

@@ -1,9 +1,7 @@
 //! What a client asks.
 
-ghost use Rattle.std.specs.Prelude.{◌↔◌, IsTrue};
-ghost use Rattle.droid_frame.specs.Bodies.{Fits};
-
-use crate::frame::BODY_LIMIT;
+use crate::blob::Blob;
+use crate::filter::Filter;
 use crate::text::Text;
 
 /// One request, as a frame's kind and body spell it.
@@ -27,16 +25,62 @@ pub enum Request {
         /// The folder's own name, without its path.
         name: Text,
     },
-}
-
-impl Request {
-    /// Whether the request's body is at most [`BODY_LIMIT`] bytes long. It takes no memory.
-    pub fn fits(&self) -> bool
-        ensures { IsTrue result ↔ Fits self.now }
-    {
-        match self {
-            Request::CreateProfile { .. } => true,
-            Request::AddFolder { name, .. } => name.len() <= BODY_LIMIT - 16,
-        }
-    }
+    /// Add a file to a profile, whose bytes then come in pieces.
+    AddFile {
+        /// The number of the profile.
+        profile: u32,
+        /// The number of the folder that it lies in, or 0 at the top.
+        parent: u32,
+        /// Seconds since 1970-01-01T00:00:00 in UTC, negative before.
+        modified: i64,
+        /// How many bytes the file has.
+        size: u64,
+        /// How many bytes each piece but the last has: 1 to 1,048,576.
+        piece_size: u32,
+        /// The file's own name, without its path.
+        name: Text,
+    },
+    /// Send one piece of a file.
+    Piece {
+        /// The number of the profile.
+        profile: u32,
+        /// The number of the file.
+        file: u32,
+        /// Which piece it is, counted from 0.
+        index: u32,
+        /// The bytes of the piece.
+        bytes: Blob,
+    },
+    /// Finish a file whose pieces are all there.
+    Finish {
+        /// The number of the profile.
+        profile: u32,
+        /// The number of the file.
+        file: u32,
+    },
+    /// Give up an unfinished file.
+    Abandon {
+        /// The number of the profile.
+        profile: u32,
+        /// The number of the file.
+        file: u32,
+    },
+    /// Ask how many pieces of a file are there.
+    Status {
+        /// The number of the profile.
+        profile: u32,
+        /// The number of the file.
+        file: u32,
+    },
+    /// Ask for a part of a profile's export.
+    Export {
+        /// The number of the profile.
+        profile: u32,
+        /// The first byte of the text that is asked for, counted from 0.
+        from: u64,
+        /// How many bytes are asked for at most: 1 to 1,048,576.
+        max: u32,
+        /// Which records are shown.
+        filter: Filter,
+    },
 }

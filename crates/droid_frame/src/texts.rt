@@ -48,6 +48,13 @@ impl Texts {
         self.items.get(place)
     }
 
+    /// The texts.
+    pub(crate) fn as_slice(&self) -> &[Text]
+        ensures { result.now ≡ self.now }
+    {
+        self.items.as_slice()
+    }
+
     /// How many texts there are.
     pub fn len(&self) -> usize
         ensures { result ≡ length self.now }

@@ -1,12 +1,17 @@
 //! Requests as frames.
 
 ghost use Rattle.std.specs.Prelude.{◌≡◌, ◌++◌, IfOk, OnOk};
-ghost use Rattle.droid_frame.specs.Bodies.{Fits, SpellsRequest, request_kind, request_body};
+ghost use Rattle.std.specs.Str.{IsUtf8};
+ghost use Rattle.droid_frame.specs.Bodies.{Fits, HasSpelling, ListsFit, SpellsRequest, request_kind, request_body};
+ghost use Rattle.droid_frame.specs.Fields.{IsBytes, u32_bytes, u64_bytes, i64_bytes, IsU32, IsU64, IsI64};
 ghost use Rattle.droid_frame.specs.Frames.{frame_bytes, spelling};
 
 use crate::blob::Blob;
+use crate::filter_writing::append_filter;
 use crate::frame::{Frame, VERSION};
+use crate::lengths::body_len;
 use crate::request::Request;
+use crate::text::Text;
 use std::alloc::{AllocError, Global};
 
 /// The frame of a request: the one spelling that it has. Only want of memory refuses it.
@@ -37,21 +42,39 @@ fn kind_of(request: &Request) -> u8
     match request {
         Request::CreateProfile { .. } => 1,
         Request::AddFolder { .. } => 2,
+        Request::AddFile { .. } => 3,
+        Request::Piece { .. } => 4,
+        Request::Finish { .. } => 5,
+        Request::Abandon { .. } => 6,
+        Request::Status { .. } => 7,
+        Request::Export { .. } => 8,
     }
 }
 
+/// The body, in a buffer of exactly its length.
 fn body_of(alloc: Global, request: &Request) -> Result<Blob, AllocError>
+    requires { Fits request.now }
     ensures { IfOk result (λ body. SpellsRequest (request_kind request.now) body request.now) }
 {
-    let mut body = Vec::new(alloc);
+    let len = body_len(request).unwrap();
+    let mut body = Vec::with_capacity(alloc, len)?;
+    append_body(&mut body, request)?;
+    Ok(Blob::from(body))
+}
+
+/// Adds the request's fields at the end, one after the other.
+fn append_body(out: &mut Vec<u8>, request: &Request) -> Result<(), AllocError>
+    requires { ListsFit request.now }
+    ensures added { OnOk result (out.new.items ≡ out.old.items ++ request_body request.now) }
+    ensures spelled { OnOk result (HasSpelling request.now) }
+{
     match request {
         Request::CreateProfile {
             scan_limit,
             match_all,
         } => {
-            body.reserve_exact(5)?;
-            body.extend_from_slice(&scan_limit.to_be_bytes())?;
-            body.push(u8::from(*match_all))?;
+            append_u32(out, *scan_limit)?;
+            out.push(u8::from(*match_all))?;
         }
         Request::AddFolder {
             profile,
@@ -59,12 +82,92 @@ fn body_of(alloc: Global, request: &Request) -> Result<Blob, AllocError>
             modified,
             name,
         } => {
-            let name = name.as_str().as_bytes();
-            body.extend_from_slice(&profile.to_be_bytes())?;
-            body.extend_from_slice(&parent.to_be_bytes())?;
-            body.extend_from_slice(&modified.to_be_bytes())?;
-            body.extend_from_slice(name)?;
+            append_pair(out, *profile, *parent)?;
+            append_i64(out, modified)?;
+            append_name(out, name)?;
+        }
+        Request::AddFile {
+            profile,
+            parent,
+            modified,
+            size,
+            piece_size,
+            name,
+        } => {
+            append_pair(out, *profile, *parent)?;
+            append_i64(out, modified)?;
+            append_u64(out, *size)?;
+            append_u32(out, *piece_size)?;
+            append_name(out, name)?;
+        }
+        Request::Piece {
+            profile,
+            file,
+            index,
+            bytes,
+        } => {
+            append_pair(out, *profile, *file)?;
+            append_u32(out, *index)?;
+            append_bytes(out, bytes)?;
+        }
+        Request::Finish { profile, file } => append_pair(out, *profile, *file)?,
+        Request::Abandon { profile, file } => append_pair(out, *profile, *file)?,
+        Request::Status { profile, file } => append_pair(out, *profile, *file)?,
+        Request::Export {
+            profile,
+            from,
+            max,
+            filter,
+        } => {
+            append_u32(out, *profile)?;
+            append_u64(out, *from)?;
+            append_u32(out, *max)?;
+            append_filter(out, filter)?;
         }
     }
-    Ok(Blob::from(body))
+    Ok(())
+}
+
+fn append_u32(out: &mut Vec<u8>, number: u32) -> Result<(), AllocError>
+    ensures added { OnOk result (out.new.items ≡ out.old.items ++ u32_bytes number) }
+    ensures spelled { IsU32 number }
+{
+    out.extend_from_slice(&number.to_be_bytes())
+}
+
+fn append_u64(out: &mut Vec<u8>, wide: u64) -> Result<(), AllocError>
+    ensures added { OnOk result (out.new.items ≡ out.old.items ++ u64_bytes wide) }
+    ensures spelled { IsU64 wide }
+{
+    out.extend_from_slice(&wide.to_be_bytes())
+}
+
+fn append_i64(out: &mut Vec<u8>, signed: &i64) -> Result<(), AllocError>
+    ensures added { OnOk result (out.new.items ≡ out.old.items ++ i64_bytes signed.now) }
+    ensures spelled { IsI64 signed.now }
+{
+    let signed = *signed;
+    out.extend_from_slice(&signed.to_be_bytes())
+}
+
+fn append_name(out: &mut Vec<u8>, name: &Text) -> Result<(), AllocError>
+    ensures added { OnOk result (out.new.items ≡ out.old.items ++ name.now) }
+    ensures utf8 { IsUtf8 name.now }
+{
+    let name = name.as_str();
+    out.extend_from_slice(name.as_bytes())
+}
+
+fn append_bytes(out: &mut Vec<u8>, bytes: &Blob) -> Result<(), AllocError>
+    ensures added { OnOk result (out.new.items ≡ out.old.items ++ bytes.now) }
+    ensures are_bytes { IsBytes bytes.now }
+{
+    out.extend_from_slice(bytes.as_slice())
+}
+
+fn append_pair(out: &mut Vec<u8>, first: u32, second: u32) -> Result<(), AllocError>
+    ensures { OnOk result (out.new.items ≡ out.old.items ++ (u32_bytes first ++ u32_bytes second)) }
+{
+    append_u32(out, first)?;
+    append_u32(out, second)
 }

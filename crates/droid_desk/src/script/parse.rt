@@ -2,7 +2,7 @@
 
 ghost use Rattle.std.specs.Prelude.{◌≡◌, IfOk, IfSome, codes};
 ghost use Rattle.std.specs.Option.{option_map};
-ghost use Rattle.droid_frame.specs.Bodies.{Fits};
+ghost use Rattle.droid_frame.specs.Bodies.{Fits, ListsFit};
 ghost use Rattle.droid_desk.specs.Lines.{create_words, folder_place, folder_words, request_words, head_at, text_line, line_value};
 
 use super::words::{i64_word, truth_in, u32_word, u64_word, word};
@@ -68,7 +68,8 @@ fn head(text: &str) -> Option<(u32, u64, &str, &str)>
 
 #[tactic(auto, unfolding(crate::specs::Lines::request_words))]
 fn parse_request(alloc: Global, kind: &str, text: &str) -> Result<Option<Request>, AllocError>
-    ensures { IfOk result (λ request. request ≡ request_words kind.now text.now) }
+    ensures value { IfOk result (λ request. request ≡ request_words kind.now text.now) }
+    ensures lists { IfOk result (λ request. IfSome request ListsFit) }
 {
     if kind == "create" {
         Ok(parse_create(text))
@@ -82,7 +83,8 @@ fn parse_request(alloc: Global, kind: &str, text: &str) -> Result<Option<Request
 /// `LIMIT ALL`.
 #[tactic(auto, unfolding(crate::specs::Lines::create_words))]
 fn parse_create(text: &str) -> Option<Request>
-    ensures { result ≡ create_words text.now }
+    ensures value { result ≡ create_words text.now }
+    ensures lists { IfSome result ListsFit }
 {
     let (scan_limit, rest) = u32_word(text)?;
     let match_all = truth_in(rest)?;
@@ -95,7 +97,8 @@ fn parse_create(text: &str) -> Option<Request>
 /// `PROFILE PARENT MODIFIED NAME`.
 #[tactic(auto, unfolding(crate::specs::Lines::folder_words))]
 fn parse_folder(alloc: Global, text: &str) -> Result<Option<Request>, AllocError>
-    ensures { IfOk result (λ request. request ≡ folder_words text.now) }
+    ensures value { IfOk result (λ request. request ≡ folder_words text.now) }
+    ensures lists { IfOk result (λ request. IfSome request ListsFit) }
 {
     let Some((profile, parent, modified, name)) = folder_place(text) else {
         return Ok(None);

@@ -62,7 +62,7 @@ fn run_line<W: Write>(
 {
     let answer = answer_line(alloc, service, line)?;
     let mut text = String::new(alloc);
-    print_answer(&mut text, answer)?;
+    print_answer(&mut text, &answer)?;
     write_text(writer, text.as_str().as_bytes())?;
     Ok(answer.is_none())
 }

@@ -28,9 +28,7 @@ impl Service {
         if self.replies.reserve(1).is_err() || self.profiles.reserve(1).is_err() {
             return Reply::Refused(Refusal::Memory);
         }
-        let reply = Reply::Made {
-            profile: count as u32 + 1,
-        };
+        let profile = count as u32 + 1;
         let nodes = Vec::new(self.alloc);
         self.profiles
             .push(ProfileRow {
@@ -39,8 +37,13 @@ impl Service {
                 nodes,
             })
             .unwrap();
-        self.replies.push(KeptReply { stamp, reply }).unwrap();
-        reply
+        self.replies
+            .push(KeptReply {
+                stamp,
+                reply: Reply::Made { profile },
+            })
+            .unwrap();
+        Reply::Made { profile }
     }
 
     /// Adds a folder to a profile.
@@ -69,9 +72,13 @@ impl Service {
         match profile.add_folder(limits, parent, modified, name) {
             Err(refusal) => Reply::Refused(refusal),
             Ok(id) => {
-                let reply = Reply::Node { id };
-                self.replies.push(KeptReply { stamp, reply }).unwrap();
-                reply
+                self.replies
+                    .push(KeptReply {
+                        stamp,
+                        reply: Reply::Node { id },
+                    })
+                    .unwrap();
+                Reply::Node { id }
             }
         }
     }

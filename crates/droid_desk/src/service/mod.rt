@@ -2,16 +2,20 @@
 
 ghost use Rattle.std.specs.Prelude.{◌≡◌, ◌==◌, ◌&&◌, ◌≤◌, [], length, IfOk, OnErr, vec_len};
 ghost use Rattle.std.specs.List.{find};
-ghost use Rattle.std.specs.Option.{option_copied, option_map};
-ghost use Rattle.droid_desk.specs.Histories.{History};
+ghost use Rattle.std.specs.Option.{option_copied};
+ghost use Rattle.droid_desk.specs.Histories.{History, command, is_served};
 ghost use Rattle.droid_desk.specs.Judging.{judge};
-ghost use Rattle.droid_desk.specs.Replies.{answer_again};
 ghost use Rattle.droid_desk.specs.Rows.{world_in};
 ghost use Rattle.droid_desk.specs.Running.{Runs};
 ghost use Rattle.droid_desk.specs.Standing.{StandsFor, Handles, limits_of, Comes, AreMeasured};
 
 use droid_frame::{Frame, Limit, Refusal, Reply, Request, mark, request_of};
 use std::alloc::{AllocError, Global};
+
+// The kinds of requests that are served.
+const CREATE_PROFILE: u8 = 1;
+
+const ADD_FOLDER: u8 = 2;
 
 mod commands;
 mod folders;
@@ -60,11 +64,11 @@ impl Service {
             number: frame.number,
             mark: mark(frame.kind, frame.body.as_slice()),
         };
-        let Ok(request) = request_of(frame) else {
+        let Some(request) = served(self.alloc, frame) else {
             return Reply::Refused(Refusal::Malformed);
         };
-        match self.kept_answer(stamp) {
-            Some(reply) => reply,
+        match self.kept(stamp.client, stamp.number) {
+            Some(kept) => kept.answer_again(self.alloc, stamp.mark),
             None => self.judge(stamp, request),
         }
     }
@@ -86,15 +90,7 @@ impl Service {
         Ok(replies)
     }
 
-    /// What a request under a kept number is answered, or `None` where the number is new.
-    fn kept_answer(&self, stamp: Stamp) -> Option<Reply>
-        ensures { result ≡ option_map (answer_again stamp.mark)
-            (find (λ row. (row.stamp.client == stamp.client) && (row.stamp.number == stamp.number)) self.now.replies.items) }
-    {
-        let kept = self.kept(stamp.client, stamp.number)?;
-        Some(kept.answer_again(stamp.mark))
-    }
-
+    /// The kept reply under this number, or `None` where the number is new.
     fn kept(&self, client: u32, number: u64) -> Option<&KeptReply>
         ensures { option_copied result ≡
             find (λ row. (row.stamp.client == client) && (row.stamp.number == number)) self.now.replies.items }
@@ -119,8 +115,25 @@ impl Service {
                 modified,
                 name,
             } => self.add_folder(stamp, profile, parent, modified, name),
+            _ => Reply::Refused(Refusal::Malformed),
         }
     }
+}
+
+/// The request of the frame, where its kind is one that is served.
+fn served(alloc: Global, frame: Frame) -> Option<Request>
+    ensures { result ≡ command frame }
+{
+    if !is_served(frame.kind) {
+        return None;
+    }
+    request_of(alloc, frame).ok()
+}
+
+fn is_served(kind: u8) -> bool
+    ensures { result ≡ is_served kind }
+{
+    kind == CREATE_PROFILE || kind == ADD_FOLDER
 }
 
 #[cfg(test)]

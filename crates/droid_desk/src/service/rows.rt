@@ -1,11 +1,13 @@
 //! The rows that the service keeps.
 
-ghost use Rattle.std.specs.Prelude.{◌≡◌};
+ghost use Rattle.std.specs.Prelude.{◌≡◌, MatchBool, ⊤};
 ghost use Rattle.droid_desk.specs.Rows.{node_in};
 ghost use Rattle.droid_desk.specs.Replies.{answer_again};
+ghost use Rattle.droid_desk.specs.Wants.{is_want};
 ghost use Rattle.droid_desk.specs.World.{is_called};
 
 use droid_frame::{Refusal, Reply, Text};
+use std::alloc::Global;
 
 /// A folder of a profile.
 #[derive(Debug, Drop)]
@@ -61,14 +63,17 @@ pub struct KeptReply {
 }
 
 impl KeptReply {
-    /// What a request with this mark is answered: the kept reply where the marks are equal.
-    pub fn answer_again(&self, mark: [u8; 16]) -> Reply
-        ensures { result ≡ answer_again mark self.now }
+    /// What a request with this mark is answered: a copy of the kept reply where the marks are equal, or
+    /// that memory was refused for it.
+    pub fn answer_again(&self, alloc: Global, mark: [u8; 16]) -> Reply
+        ensures { MatchBool (is_want result) ⊤ (result ≡ answer_again mark self.now) }
     {
-        if self.stamp.mark.as_slice() == mark.as_slice() {
-            self.reply
-        } else {
-            Reply::Refused(Refusal::NumberReused)
+        if self.stamp.mark.as_slice() != mark.as_slice() {
+            return Reply::Refused(Refusal::NumberReused);
+        }
+        match self.reply.try_clone(alloc) {
+            Ok(reply) => reply,
+            Err(_) => Reply::Refused(Refusal::Memory),
         }
     }
 }

@@ -7,5 +7,3 @@ pub mod found;
 mod hits;
 mod left;
 mod named;
-#[cfg(test)]
-mod tests;

@@ -136,6 +136,3 @@ impl Pattern {
         Ok(!places.is_empty())
     }
 }
-
-#[cfg(test)]
-mod tests;

@@ -199,6 +199,3 @@ impl Registry {
         Ok(())
     }
 }
-
-#[cfg(test)]
-mod tests;

@@ -1,0 +1,55 @@
+-- The frames of a stream, and how a stream ends (this project's own).
+use Rattle.std.specs.Prelude.{◌≡◌, ℕ, ◌<◌, ◌≤◌, ◌^◌, ◌==◌, nat_lt, if◌then◌else◌, List, ◌++◌, length, take, drop, slice_index, Result, Ok, Err}
+use Rattle.std.specs.Int.{w32, from_be_bytes}
+use Rattle.std.specs.List.{AllByRecursion, flat_map}
+use Rattle.droid_frame.specs.declared.frame.Frame.{Frame}
+use Rattle.droid_frame.specs.declared.frame.TheConstants.{BODY_LIMIT}
+use Rattle.droid_frame.specs.declared.stream.arrival.Arrival.{Arrival}
+use Rattle.droid_frame.specs.declared.stream.arrival.Arrival.TheVariants.{End}
+use Rattle.droid_frame.specs.declared.stream.fault.FrameFault.{FrameFault}
+use Rattle.droid_frame.specs.declared.stream.fault.FrameFault.TheVariants.{Truncated, BadVersion, TooLong}
+use Rattle.droid_frame.specs.Fields.{IsBytes, IsU32}
+use Rattle.droid_frame.specs.Frames.{frame_bytes}
+
+-- each field is in its range, and the body is no longer than a frame's may be
+pub record IsFrame (frame : Frame) : Type 0 where
+  pub version_fits : frame.version < 2 ^ 8
+  pub kind_fits : frame.kind < 2 ^ 8
+  pub client_fits : IsU32 frame.client
+  pub number_fits : frame.number < 2 ^ 64
+  pub body_fits : length frame.body ≤ BODY_LIMIT
+  pub body_is_bytes : IsBytes frame.body
+
+-- a frame that a stream may hold
+pub record IsReadable (frame : Frame) : Type 0 where
+  pub is_frame : IsFrame frame
+  pub version_is : frame.version ≡ 1
+
+-- no frame's spelling is at the front
+abbrev pub BeginsNoFrame : List ℕ → Type 0
+BeginsNoFrame bytes = (frame : Frame) (rest : List ℕ) → IsReadable frame → bytes ≡ frame_bytes frame ++ rest → ⊥
+
+-- the stream is the spellings of these frames, one after the other, and then a rest that begins with none
+pub record Frames (stream : List ℕ) (frames : List Frame) (rest : List ℕ) : Type 0 where
+  pub readable : AllByRecursion IsReadable frames
+  pub joined : stream ≡ flat_map frame_bytes frames ++ rest
+  pub none_more : BeginsNoFrame rest
+
+-- a header has 18 bytes: the version is its first, the length of the body its last four
+abbrev pub header_size : ℕ
+header_size = 18
+
+abbrev pub version_in : List ℕ → ℕ
+version_in bytes = slice_index bytes 0
+
+abbrev pub length_in : List ℕ → ℕ
+length_in bytes = from_be_bytes w32 (take 4 (drop 14 bytes))
+
+-- why no frame comes of a rest that begins with none: it is empty, which is the end; or less than a header;
+-- or the header has another version; or it names a body that is too long; or the body is cut short
+unfoldable pub why : List ℕ → Result Arrival FrameFault
+why rest =
+    if length rest == 0 then Ok End
+    else if nat_lt (length rest) header_size then Err Truncated
+    else if version_in rest == 1 then (if nat_lt BODY_LIMIT (length_in rest) then Err TooLong else Err Truncated)
+    else Err BadVersion

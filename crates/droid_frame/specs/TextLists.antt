@@ -1,0 +1,40 @@
+-- A text after its length, and texts one after the other (this project's own).
+use Rattle.std.specs.Prelude.{◌≤◌, ℕ, nat_lt, if◌then◌else◌, List, [], ◌∷◌, length, take, drop, Option, Some, None}
+use Rattle.std.specs.List.{flat_map}
+use Rattle.std.specs.Str.{IsUtf8}
+use Rattle.droid_frame.specs.Reading.{◌>>=◌, text_at}
+use Rattle.droid_frame.specs.Sequences.{sequence_at}
+
+-- the length in one byte, and then the bytes
+abbrev pub sized_bytes : List ℕ → List ℕ
+sized_bytes text = length text ∷ text
+
+-- each text so, one after the other
+abbrev pub texts_bytes : List (List ℕ) → List ℕ
+texts_bytes texts = flat_map sized_bytes texts
+
+-- UTF-8, of so many bytes at least and at most
+pub record IsSizedText (least most : ℕ) (text : List ℕ) : Type 0 where
+  pub utf8 : IsUtf8 text
+  pub at_least : least ≤ length text
+  pub at_most : length text ≤ most
+
+-- a length within the bounds and so many bytes at the front, and the bytes after them
+unfoldable pub sized_at : ℕ → ℕ → List ℕ → Option (List ℕ × List ℕ)
+sized_at least most [] = None
+sized_at least most (size ∷ rest) =
+    if nat_lt size least then None
+    else if nat_lt most size then None
+    else if nat_lt (length rest) size then None
+    else Some (take size rest, drop size rest)
+
+-- the same where the bytes are UTF-8
+unfoldable pub sized_text_at : ℕ → ℕ → List ℕ → Option (List ℕ × List ℕ)
+sized_text_at least most bytes = do
+  sized ← sized_at least most bytes
+  text ← text_at sized.0
+  Some (text, sized.1)
+
+-- so many texts, each after its length, and the bytes after them
+abbrev pub texts_at : ℕ → ℕ → ℕ → List ℕ → Option (List (List ℕ) × List ℕ)
+texts_at count least most bytes = sequence_at (sized_text_at least most) count bytes

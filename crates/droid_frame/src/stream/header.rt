@@ -1,0 +1,86 @@
+//! The header of a frame: all of it but the body.
+
+ghost use Rattle.std.specs.Prelude.{◌≡◌};
+ghost use Rattle.droid_frame.specs.Headers.{header_bytes};
+
+/// How many bytes a header has.
+pub(crate) const HEADER_LENGTH: usize = 18;
+
+/// The fields of a header, in the order in which they stand on a stream.
+#[derive(Clone, Copy)]
+pub(crate) struct Header {
+    /// The version of the frame's form.
+    pub(crate) version: u8,
+    /// Which request or reply the body spells.
+    pub(crate) kind: u8,
+    /// The client that sent the request.
+    pub(crate) client: u32,
+    /// The number that the client gave it.
+    pub(crate) number: u64,
+    /// How many bytes the body has.
+    pub(crate) length: u32,
+}
+
+impl Header {
+    /// The bytes of the header.
+    pub(crate) fn to_bytes(&self) -> [u8; HEADER_LENGTH]
+        ensures { result ≡ header_bytes self.now }
+    {
+        let [c0, c1, c2, c3] = self.client.to_be_bytes();
+        let [n0, n1, n2, n3, n4, n5, n6, n7] = self.number.to_be_bytes();
+        let [l0, l1, l2, l3] = self.length.to_be_bytes();
+        [
+            self.version,
+            self.kind,
+            c0,
+            c1,
+            c2,
+            c3,
+            n0,
+            n1,
+            n2,
+            n3,
+            n4,
+            n5,
+            n6,
+            n7,
+            l0,
+            l1,
+            l2,
+            l3,
+        ]
+    }
+
+    /// The header that these bytes spell.
+    pub(crate) fn from_bytes(bytes: &[u8; HEADER_LENGTH]) -> Header
+        ensures { header_bytes result ≡ bytes.now }
+    {
+        let [
+            version,
+            kind,
+            c0,
+            c1,
+            c2,
+            c3,
+            n0,
+            n1,
+            n2,
+            n3,
+            n4,
+            n5,
+            n6,
+            n7,
+            l0,
+            l1,
+            l2,
+            l3,
+        ] = *bytes;
+        Header {
+            version,
+            kind,
+            client: u32::from_be_bytes([c0, c1, c2, c3]),
+            number: u64::from_be_bytes([n0, n1, n2, n3, n4, n5, n6, n7]),
+            length: u32::from_be_bytes([l0, l1, l2, l3]),
+        }
+    }
+}

@@ -1,0 +1,87 @@
+//! Writing replies.
+
+ghost use Rattle.std.specs.Prelude.{◌≡◌, ◌+◌, ◌<◌, ◌^◌, OnOk, IfErr, length};
+ghost use Rattle.std.specs.Io.KnownBytes.{Appends};
+ghost use Rattle.std.specs.List.{AllByRecursion};
+ghost use Rattle.droid_frame.specs.Replies.{HasReplySpelling, IsPuidText};
+ghost use Rattle.droid_frame.specs.ReplyParts.{reply_frame, reply_rest};
+ghost use Rattle.droid_frame.specs.StreamWrites.{Stops, StopsWithin};
+ghost use Rattle.droid_frame.specs.TextLists.{texts_bytes};
+
+use super::fault::WriteFault;
+use super::header::Header;
+use super::write_all::{Progress, write_all};
+use crate::frame::VERSION;
+use crate::reply::Reply;
+use crate::reply_parts::{front_of, sized_puid};
+use crate::reply_writing::body_length;
+use crate::texts::Texts;
+use std::io::Write;
+
+/// Writes a reply's frame, to the client and under the number of the request that it answers. It takes no
+/// memory. An interrupted write is tried again, 64 times over all of the frame.
+///
+/// A reply with more identifiers, a longer one or a longer part than a reply may have has no spelling, so
+/// the caller sees to that.
+pub fn write_reply<W: Write>(
+    client: u32,
+    number: u64,
+    reply: &Reply,
+    writer: &mut W,
+) -> Result<(), WriteFault>
+    requires { HasReplySpelling reply.now }
+    // All of the frame's one spelling was written, and nothing else.
+    ensures ok { OnOk result (Appends (W.contents writer.old) (W.contents writer.new) (reply_frame client number reply.now)) }
+    // Exactly the first `written` bytes of it were written, and that isn't all.
+    ensures err { IfErr result (λ fault. Stops (W.contents writer.old) (W.contents writer.new) (reply_frame client number reply.now) fault.written) }
+{
+    let header = Header {
+        version: VERSION,
+        kind: reply.kind(),
+        client,
+        number,
+        length: body_length(reply) as u32,
+    };
+    let mut progress = Progress {
+        written: 0,
+        interruptions: 0,
+    };
+    write_all(writer, &header.to_bytes(), &mut progress)?;
+    write_all(writer, front_of(reply).as_slice(), &mut progress)?;
+    write_rest(writer, reply, &mut progress)
+}
+
+/// Writes the list or the bytes of a reply.
+fn write_rest<W: Write>(
+    writer: &mut W,
+    reply: &Reply,
+    progress: &mut Progress,
+) -> Result<(), WriteFault>
+    requires spelling { HasReplySpelling reply.now }
+    requires room { progress.old.written + length (reply_rest reply.now) < 2 ^ 64 }
+    ensures ok { OnOk result (Appends (W.contents writer.old) (W.contents writer.new) (reply_rest reply.now)) }
+    ensures err { IfErr result (λ fault. StopsWithin (W.contents writer.old) (W.contents writer.new) (reply_rest reply.now) progress.old.written fault.written) }
+{
+    match reply {
+        Reply::Finished { puids, .. } => write_puids(writer, puids, progress),
+        Reply::Part { bytes, .. } => write_all(writer, bytes.as_slice(), progress),
+        _ => Ok(()),
+    }
+}
+
+/// Writes the identifiers, each after its length.
+fn write_puids<W: Write>(
+    writer: &mut W,
+    puids: &Texts,
+    progress: &mut Progress,
+) -> Result<(), WriteFault>
+    requires each { AllByRecursion IsPuidText puids.now }
+    requires room { progress.old.written + length (texts_bytes puids.now) < 2 ^ 64 }
+    ensures ok { OnOk result (Appends (W.contents writer.old) (W.contents writer.new) (texts_bytes puids.now)) }
+    ensures err { IfErr result (λ fault. StopsWithin (W.contents writer.old) (W.contents writer.new) (texts_bytes puids.now) progress.old.written fault.written) }
+{
+    for puid in puids.as_slice() {
+        write_all(writer, sized_puid(puid).as_slice(), progress)?;
+    }
+    Ok(())
+}

@@ -1,0 +1,15 @@
+//! Tests of the registry, of patterns and of identification, through public calls.
+#![tactic(auto)]
+
+#[cfg(test)]
+mod identification;
+#[cfg(test)]
+mod memory;
+#[cfg(test)]
+mod offsets;
+#[cfg(test)]
+mod patterns;
+#[cfg(test)]
+mod registry_files;
+#[cfg(test)]
+mod samples;
