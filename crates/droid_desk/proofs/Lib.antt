@@ -10,4 +10,5 @@ pub mod ScriptEndings
 pub mod ScriptRuns
 pub mod ScriptWrites
 pub mod Served
+pub mod SteadyWriters
 pub mod Verdicts

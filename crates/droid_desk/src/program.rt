@@ -1,16 +1,17 @@
 //! The program: its command line, its streams and how it ends.
 
-ghost use Rattle.std.specs.Prelude.{◌≡◌, IfSome};
+ghost use Rattle.std.specs.Prelude.{◌≡◌, ◌≢◌, IfSome};
+ghost use Rattle.droid_frame.specs.SteadyStreams.{IsSteady};
 ghost use Rattle.droid_desk.specs.Endings.{status_of, ending_of, EndsAs};
 
 use crate::script::{ScriptFault, Tally, script};
 use crate::service::{Limits, Service};
 use clap::{Command, Error};
+use droid_frame::{SteadyRead, SteadyWrite, Unsteady};
 use std::alloc::{AllocError, Global};
-use std::env;
-use std::io::{self, Read, Write};
 use std::process::ExitCode;
 use std::rt::Env;
+use std::{env, io};
 
 const ABOUT: &str =
     "A submission service for DROID profiles: clients make profiles and add folders to them, \
@@ -106,7 +107,15 @@ fn run_command<R: Env + Input + Print + Eprint + AllocGlobal>(rt: &R) -> Ending 
         return Ending::NoService;
     };
     match check_words(alloc, words.as_slice()) {
-        Ok(()) => run_script(alloc, &mut rt.reader(), &mut io::writer(rt)),
+        Ok(()) => {
+            let mut input = Unsteady {
+                stream: rt.reader(),
+            };
+            let mut output = Unsteady {
+                stream: io::writer(rt),
+            };
+            run_script(alloc, &mut input, &mut output)
+        }
         Err(error) if error.use_stderr() => Ending::CommandLine(error),
         Err(error) => Ending::Help(error),
     }
@@ -134,9 +143,16 @@ fn command<'a>(alloc: Global) -> Result<Command<'a>, AllocError> {
 }
 
 /// Runs a script over a fresh service.
-fn run_script<R: Read, W: Write>(alloc: Global, reader: &mut R, writer: &mut W) -> Ending
-    ensures { IfSome (R.remaining reader.old) (λ input.
+fn run_script<R: SteadyRead, W: SteadyWrite>(
+    alloc: Global,
+    reader: &mut R,
+    writer: &mut W,
+) -> Ending
+    ensures ends { IfSome (R.remaining reader.old) (λ input.
         EndsAs Limits.LARGEST result input (W.contents writer.old) (W.contents writer.new)) }
+    // A stream that doesn't fail is never said to.
+    ensures steady_reader { IsSteady (R.interruptions reader.old) → result ≢ Ending.Script ScriptFault.Read }
+    ensures steady_writer { IsSteady (W.interruptions writer.old) → W.is_endless writer.old → result ≢ Ending.Script ScriptFault.Write }
 {
     let Ok(mut service) = Service::new(alloc, Limits::LARGEST) else {
         return Ending::NoService;

@@ -20,6 +20,7 @@ pub mod SequenceLoops
 pub mod StreamArrivals
 pub mod StreamFrames
 pub mod StreamReadings
+pub mod SteadyStreams
 pub mod StreamReads
 pub mod StreamWrites
 pub mod TextListLaws

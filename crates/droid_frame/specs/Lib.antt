@@ -12,6 +12,7 @@ pub mod Replies
 pub mod ReplyParts
 pub mod ReplyValues
 pub mod Sequences
+pub mod SteadyStreams
 pub mod StreamLaws
 pub mod StreamReads
 pub mod StreamWrites

@@ -51,7 +51,10 @@ pub use reply_laws::{reply_frames_are_readable, spells_one_reply};
 pub use reply_reading::reply_of;
 pub use reply_writing::reply_body;
 pub use request::Request;
-pub use stream::{Arrival, FrameFault, WriteFault, read_frame, write_frame, write_reply};
+pub use stream::{
+    Arrival, FrameFault, SteadyRead, SteadyWrite, Unsteady, WriteFault, read_frame, write_frame,
+    write_reply,
+};
 pub use text::Text;
 pub use texts::Texts;
 pub use writing::request_frame;

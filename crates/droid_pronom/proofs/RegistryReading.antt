@@ -1,5 +1,5 @@
 -- A registry file, record by record.
-use Rattle.std.proofs.Common.{Bor, ◌≢◌, ◌≡◌, ◌∙◌, ◌+◌, ◌<◌, ◌≤◌, ℕ, true, false, List, [], ◌∷◌, length, Option, Some, None, Result, Ok, Err, refl, sym, ap}
+use Rattle.std.proofs.Common.{Bor, ◌≢◌, ◌≡◌, ◌∙◌, ◌+◌, ◌<◌, ◌≤◌, ℕ, true, false, List, [], ◌∷◌, length, Option, Some, None, Result, Ok, Err, refl, sym, ap, rules}
 use Rattle.csv.specs.Machine.{Read, next_record}
 use Rattle.csv.specs.Reading.{ReadRecord, Reached, source_of, default_config}
 use Rattle.csv.specs.declared.reader.Reader.{Reader}
@@ -7,9 +7,10 @@ use Rattle.csv.specs.declared.parser.State.{State}
 use Rattle.csv.proofs.ReadFacts.{rows-more, rows-end}
 use Rattle.droid_pronom.specs.Registry.{Contents}
 use Rattle.droid_pronom.specs.RegistryRecords.{Step, Tells}
-use Rattle.droid_pronom.specs.RegistryFile.{Outcome, taken, faulty, end, fault_at, refusal_at, taken_count, TellsRead, File, too_long}
+use Rattle.droid_pronom.specs.RegistryFile.{Outcome, taken, faulty, end, fault_at, refusal_at, taken_count, TellsRead, File, too_long, read}
 use Rattle.droid_pronom.specs.declared.registry.draft.Draft.{Draft}
 use Rattle.droid_pronom.specs.declared.registry.fault.Fault.{Fault}
+use Rattle.droid_pronom.specs.declared.registry.fault.Fault.TheVariants as faults
 use Rattle.droid_pronom.specs.declared.registry.fault.Refusal.{Refusal}
 use Rattle.droid_pronom.specs.declared.registry.fault.Refusal.TheVariants as refusals
 use Rattle.droid_pronom.specs.declared.registry.fault.RegistryFault.{RegistryFault}
@@ -69,3 +70,22 @@ read_refused (registry_faults.BadPattern at) known bytes tells is memory failed 
 read_refused (registry_faults.UnknownPuid at) known bytes tells is memory failed = absurd tells
 read_refused (registry_faults.DuplicatePuid at) known bytes tells is memory failed = absurd tells
 read_refused (registry_faults.TooMany at) known bytes tells is memory failed = absurd tells
+
+-- ---- no record's fault is the reader's
+
+fault_other : (fault : Fault) (at : ℕ) → ◌≢◌ (fault_at fault at) registry_faults.Read
+fault_other faults.NotUtf8 at = search rules
+fault_other faults.BadRecord at = search rules
+fault_other faults.BadPattern at = search rules
+fault_other faults.UnknownPuid at = search rules
+fault_other faults.DuplicatePuid at = search rules
+fault_other faults.TooMany at = search rules
+
+outcome_other : {draft : Draft} {state : State} {bytes : List ℕ} {outcome : Result Contents RegistryFault} → Outcome draft state bytes outcome → outcome ≢ Err registry_faults.Read
+outcome_other (end none) = search rules
+outcome_other (taken next step rest) = outcome_other rest
+outcome_other (faulty {draft = draft} {fault = fault} next step) = search (rules, fault_other fault (taken_count draft + 1))
+
+pub file_other : {bytes : List ℕ} {outcome : Result Contents RegistryFault} → File bytes outcome → outcome ≢ Err registry_faults.Read
+file_other (too_long more) = search rules
+file_other (read within outcome) = outcome_other outcome

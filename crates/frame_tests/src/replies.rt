@@ -2,8 +2,8 @@
 
 use crate::shaky::{BYTE_BY_BYTE, STEADY, ShakyWriter};
 use droid_frame::{
-    Arrival, Blob, Frame, Limit, Method, NodeKind, Record, Refusal, Reply, Text, Texts, WriteFault,
-    read_frame, reply_body, reply_of, write_reply,
+    Arrival, Blob, Frame, Limit, Method, NodeKind, Record, Refusal, Reply, Text, Texts, Unsteady,
+    WriteFault, read_frame, reply_body, reply_of, write_reply,
 };
 use std::alloc::Global;
 use std::process::Abort;
@@ -75,9 +75,11 @@ fn read_and_written(
             let copy = reply.try_clone(alloc)?;
             let body = reply_body(alloc, &copy)?;
             assert_eq!(rt; Some(body.as_slice()), bytes.get(HEADER..), "{kind}");
-            let mut written = Vec::new(alloc);
+            let mut written = Unsteady {
+                stream: Vec::new(alloc),
+            };
             assert_eq!(rt; write_reply(client, number, &reply, &mut written), Ok(()));
-            assert_eq!(rt; written.as_slice(), bytes, "{kind}");
+            assert_eq!(rt; written.stream.as_slice(), bytes, "{kind}");
             Ok(copy)
         }
         Err(fault) => panic!(rt; "{kind}: {fault:?}"),
@@ -215,7 +217,7 @@ fn written(
     rt: &impl Abort,
     alloc: Global,
     bytes: &[u8],
-    writer: &mut ShakyWriter,
+    writer: &mut Unsteady<ShakyWriter>,
 ) -> Result<Result<(), WriteFault>, Fail> {
     let mut input = bytes;
     match read_frame(alloc, &mut input) {
@@ -237,7 +239,9 @@ fn writes_cut_short(rt: HostRuntime) -> Result<(), Fail> {
     for bytes in [MADE.as_slice(), &FINISHED, &NODES_REACHED] {
         for manner in [STEADY, BYTE_BY_BYTE] {
             for room in 0..=bytes.len() {
-                let mut writer = ShakyWriter::new(Vec::new(alloc), room, manner);
+                let mut writer = Unsteady {
+                    stream: ShakyWriter::new(Vec::new(alloc), room, manner),
+                };
                 let answer = written(&rt, alloc, bytes, &mut writer)?;
                 let want = if room < bytes.len() {
                     Err(WriteFault { written: room })
@@ -245,7 +249,7 @@ fn writes_cut_short(rt: HostRuntime) -> Result<(), Fail> {
                     Ok(())
                 };
                 assert_eq!(rt; answer, want, "{room}");
-                assert_eq!(rt; Some(writer.taken()), bytes.get(..room), "{room}");
+                assert_eq!(rt; Some(writer.stream.taken()), bytes.get(..room), "{room}");
             }
         }
     }

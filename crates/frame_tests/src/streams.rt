@@ -3,10 +3,10 @@
 
 use crate::shaky::{BYTE_BY_BYTE, Manner, STEADY, ShakyReader, ShakyWriter};
 use droid_frame::{
-    Arrival, BODY_LIMIT, Blob, Frame, FrameFault, WriteFault, read_frame, write_frame,
+    Arrival, BODY_LIMIT, Blob, Frame, FrameFault, SteadyRead, Unsteady, WriteFault, read_frame,
+    write_frame,
 };
 use std::alloc::Global;
-use std::io::Read;
 use std::process::Abort;
 use std::test::Fail;
 
@@ -107,18 +107,25 @@ const VECTORS: [Vector; 11] = [
 /// How many bytes a header has.
 const HEADER: usize = 18;
 
+/// A reader that ends behind the bytes.
+fn reader_of(bytes: &[u8], manner: Manner) -> Unsteady<ShakyReader<'_>> {
+    Unsteady {
+        stream: ShakyReader::new(bytes, manner),
+    }
+}
+
 /// The fault of the next frame, or `None` where a frame or the end comes.
-fn fault_of<R: Read>(alloc: Global, reader: &mut R) -> Option<FrameFault> {
+fn fault_of<R: SteadyRead>(alloc: Global, reader: &mut R) -> Option<FrameFault> {
     read_frame(alloc, reader).err()
 }
 
 /// Whether the end comes.
-fn is_end<R: Read>(alloc: Global, reader: &mut R) -> bool {
+fn is_end<R: SteadyRead>(alloc: Global, reader: &mut R) -> bool {
     matches!(read_frame(alloc, reader), Ok(Arrival::End))
 }
 
 /// Reads the frame of a vector, and says whether it is that frame.
-fn comes<R: Read>(alloc: Global, reader: &mut R, vector: &Vector) -> bool {
+fn comes<R: SteadyRead>(alloc: Global, reader: &mut R, vector: &Vector) -> bool {
     match read_frame(alloc, reader) {
         Ok(Arrival::Frame(frame)) => {
             (frame.version, frame.kind, frame.client, frame.number)
@@ -142,12 +149,12 @@ fn read_whole_and_cut(rt: HostRuntime) -> Result<(), Fail> {
     for vector in &VECTORS {
         let bytes = vector.bytes;
         for manner in [STEADY, BYTE_BY_BYTE] {
-            let mut reader = ShakyReader::new(bytes, manner);
+            let mut reader = reader_of(bytes, manner);
             assert!(rt; comes(alloc, &mut reader, vector), "{}", vector.kind);
             assert!(rt; is_end(alloc, &mut reader));
-            assert!(rt; is_end(alloc, &mut ShakyReader::new(&[], manner)));
+            assert!(rt; is_end(alloc, &mut reader_of(&[], manner)));
             for cut in 1..bytes.len() {
-                let mut reader = ShakyReader::new(&bytes[..cut], manner);
+                let mut reader = reader_of(&bytes[..cut], manner);
                 let fault = fault_of(alloc, &mut reader);
                 assert_eq!(rt;
                     fault,
@@ -155,7 +162,7 @@ fn read_whole_and_cut(rt: HostRuntime) -> Result<(), Fail> {
                     "{} at {cut}",
                     vector.kind
                 );
-                assert_eq!(rt; reader.left(), 0);
+                assert_eq!(rt; reader.stream.left(), 0);
             }
         }
     }
@@ -171,7 +178,7 @@ fn read_in_turn(rt: HostRuntime) -> Result<(), Fail> {
         stream.extend_from_slice(vector.bytes)?;
     }
     for manner in [STEADY, BYTE_BY_BYTE] {
-        let mut reader = ShakyReader::new(stream.as_slice(), manner);
+        let mut reader = reader_of(stream.as_slice(), manner);
         for vector in &VECTORS {
             assert!(rt; comes(alloc, &mut reader, vector), "{}", vector.kind);
         }
@@ -196,14 +203,14 @@ fn headers_refused(rt: HostRuntime) -> Result<(), Fail> {
     ] {
         let bytes = header(version, length);
         for manner in [STEADY, BYTE_BY_BYTE] {
-            let mut reader = ShakyReader::new(&bytes, manner);
+            let mut reader = reader_of(&bytes, manner);
             assert_eq!(rt;
                 fault_of(alloc, &mut reader),
                 Some(fault),
                 "{version} {length}"
             );
             for cut in 1..bytes.len() {
-                let fault = fault_of(alloc, &mut ShakyReader::new(&bytes[..cut], manner));
+                let fault = fault_of(alloc, &mut reader_of(&bytes[..cut], manner));
                 assert_eq!(rt;
                     fault,
                     Some(FrameFault::Truncated),
@@ -222,9 +229,9 @@ fn read_no_further(rt: HostRuntime) -> Result<(), Fail> {
     for (version, length) in [(2, 4), (1, 1_048_641)] {
         let mut bytes = Vec::from_slice(alloc, &header(version, length))?;
         bytes.extend_from_slice(&[7; 40])?;
-        let mut reader = ShakyReader::new(bytes.as_slice(), STEADY);
+        let mut reader = reader_of(bytes.as_slice(), STEADY);
         assert!(rt; fault_of(alloc, &mut reader).is_some());
-        assert_eq!(rt; reader.left(), 40);
+        assert_eq!(rt; reader.stream.left(), 40);
     }
     Ok(())
 }
@@ -243,11 +250,11 @@ fn reads_interrupted(rt: HostRuntime) -> Result<(), Fail> {
             each_time,
             interruptions,
         };
-        let mut reader = ShakyReader::new(twice.as_slice(), often(64));
+        let mut reader = reader_of(twice.as_slice(), often(64));
         assert!(rt; comes(alloc, &mut reader, vector));
-        reader.begin_anew();
+        reader.stream.begin_anew();
         assert!(rt; comes(alloc, &mut reader, vector));
-        let mut reader = ShakyReader::new(twice.as_slice(), often(65));
+        let mut reader = reader_of(twice.as_slice(), often(65));
         assert_eq!(rt; fault_of(alloc, &mut reader), Some(FrameFault::Read));
     }
     Ok(())
@@ -263,12 +270,16 @@ fn readers_that_fail(rt: HostRuntime) -> Result<(), Fail> {
         for manner in [STEADY, BYTE_BY_BYTE] {
             for cut in 0..bytes.len() {
                 let (front, behind) = bytes.split_at(cut);
-                let mut reader = ShakyReader::broken(front, behind, manner);
+                let mut reader = Unsteady {
+                    stream: ShakyReader::broken(front, behind, manner),
+                };
                 let fault = fault_of(alloc, &mut reader);
                 assert_eq!(rt; fault, Some(FrameFault::Read), "{} at {cut}", vector.kind);
-                assert_eq!(rt; reader.left(), behind.len());
+                assert_eq!(rt; reader.stream.left(), behind.len());
             }
-            let mut reader = ShakyReader::broken(bytes, bytes, manner);
+            let mut reader = Unsteady {
+                stream: ShakyReader::broken(bytes, bytes, manner),
+            };
             assert!(rt; comes(alloc, &mut reader, vector));
             assert_eq!(rt; fault_of(alloc, &mut reader), Some(FrameFault::Read));
             assert!(rt; comes(alloc, &mut reader, vector));
@@ -283,17 +294,35 @@ fn readers_that_fail(rt: HostRuntime) -> Result<(), Fail> {
 fn growths_refused(rt: HostRuntime) -> Result<(), Fail> {
     let alloc = rt.alloc();
     for vector in &VECTORS {
-        let mut reader = ShakyReader::new(vector.bytes, STEADY);
+        let mut reader = reader_of(vector.bytes, STEADY);
         match read_frame(alloc, &mut reader) {
             Err(FrameFault::Memory) => {
-                assert_eq!(rt; Some(reader.left()), vector.bytes.len().checked_sub(HEADER));
-                assert!(rt; comes(alloc, &mut ShakyReader::new(vector.bytes, STEADY), vector));
+                assert_eq!(rt;
+                    Some(reader.stream.left()),
+                    vector.bytes.len().checked_sub(HEADER)
+                );
+                assert!(rt; comes(alloc, &mut reader_of(vector.bytes, STEADY), vector));
             }
             Ok(Arrival::Frame(frame)) => assert_eq!(rt; frame.kind, vector.kind),
             other => panic!(rt; "{other:?}"),
         }
     }
     Ok(())
+}
+
+/// The frame of a vector.
+fn frame_of(alloc: Global, vector: &Vector) -> Result<Frame, Fail> {
+    let body = match vector.bytes.get(HEADER..) {
+        Some(body) => Blob::copy_of(alloc, body)?,
+        None => Blob::from(Vec::new(alloc)),
+    };
+    Ok(Frame {
+        version: 1,
+        kind: vector.kind,
+        client: 1,
+        number: vector.number,
+        body,
+    })
 }
 
 /// Writes the frame of a vector to a writer that fails behind so many bytes; the answer, and whether exactly the bytes
@@ -305,25 +334,17 @@ fn written(
     room: usize,
     manner: Manner,
 ) -> Result<(Result<(), WriteFault>, bool), Fail> {
-    let body = match vector.bytes.get(HEADER..) {
-        Some(body) => Blob::copy_of(alloc, body)?,
-        None => Blob::from(Vec::new(alloc)),
+    let frame = frame_of(alloc, vector)?;
+    assert!(rt; frame.body.len() <= BODY_LIMIT);
+    let mut writer = Unsteady {
+        stream: ShakyWriter::new(Vec::new(alloc), room, manner),
     };
-    assert!(rt; body.len() <= BODY_LIMIT);
-    let frame = Frame {
-        version: 1,
-        kind: vector.kind,
-        client: 1,
-        number: vector.number,
-        body,
-    };
-    let mut writer = ShakyWriter::new(Vec::new(alloc), room, manner);
     let answer = write_frame(&frame, &mut writer);
     let count = match answer {
         Ok(()) => vector.bytes.len(),
         Err(fault) => fault.written,
     };
-    let is_front = vector.bytes.get(..count) == Some(writer.taken());
+    let is_front = vector.bytes.get(..count) == Some(writer.stream.taken());
     Ok((answer, is_front))
 }
 
@@ -349,11 +370,39 @@ fn write_whole_and_cut(rt: HostRuntime) -> Result<(), Fail> {
     Ok(())
 }
 
+// A slice with room for the frame takes all of it; one that is a byte shorter is filled.
+#[test]
+fn write_to_slices(rt: HostRuntime) -> Result<(), Fail> {
+    let alloc = rt.alloc();
+    for vector in &VECTORS {
+        let frame = frame_of(alloc, vector)?;
+        assert!(rt; frame.body.len() <= BODY_LIMIT);
+        let all = vector.bytes.len();
+        let mut taken = vec![in alloc; 0u8; all]?;
+        let answer = write_frame(&frame, &mut taken.as_mut_slice());
+        assert_eq!(rt; answer, Ok(()), "{}", vector.kind);
+        assert_eq!(rt; taken.as_slice(), vector.bytes);
+        let room = all.saturating_sub(1);
+        let mut taken = vec![in alloc; 0u8; room]?;
+        let answer = write_frame(&frame, &mut taken.as_mut_slice());
+        assert_eq!(rt;
+            answer,
+            Err(WriteFault { written: room }),
+            "{}",
+            vector.kind
+        );
+        assert_eq!(rt; Some(taken.as_slice()), vector.bytes.get(..room));
+    }
+    Ok(())
+}
+
 // A writer that takes no byte has failed.
 #[test]
 fn writer_that_takes_none(rt: HostRuntime) -> Result<(), Fail> {
     let none = Manner { width: 0, ..STEADY };
-    let mut writer = ShakyWriter::new(Vec::new(rt.alloc()), usize::MAX, none);
+    let mut writer = Unsteady {
+        stream: ShakyWriter::new(Vec::new(rt.alloc()), usize::MAX, none),
+    };
     let frame = Frame {
         version: 1,
         kind: 133,
@@ -365,7 +414,7 @@ fn writer_that_takes_none(rt: HostRuntime) -> Result<(), Fail> {
         write_frame(&frame, &mut writer),
         Err(WriteFault { written: 0 })
     );
-    assert!(rt; writer.taken().is_empty());
+    assert!(rt; writer.stream.taken().is_empty());
     Ok(())
 }
 

@@ -1,6 +1,7 @@
 //! Registry files: what they come to, and their limits.
 
 use crate::samples::SAMPLE;
+use droid_frame::Unsteady;
 use droid_pronom::{Registry, RegistryFault};
 use std::alloc::{AllocError, Global};
 use std::io;
@@ -237,10 +238,12 @@ fn readers(rt: HostRuntime) -> Result<(), Fail> {
         (65, false, "Read"),
         (0, true, "Read"),
     ] {
-        let mut reader = Halting {
-            bytes: SAMPLE.as_bytes(),
-            interruptions,
-            fails,
+        let mut reader = Unsteady {
+            stream: Halting {
+                bytes: SAMPLE.as_bytes(),
+                interruptions,
+                fails,
+            },
         };
         let text = match Registry::read(alloc, &mut reader) {
             Ok(registry) => {

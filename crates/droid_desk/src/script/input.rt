@@ -2,12 +2,14 @@
 
 ghost use Rattle.std.specs.Prelude.{◌≡◌, ◌≢◌, ◌<◌, ◌≤◌, ◌∷◌, [], length, IfOk, IfErr, IfSome, OnOk, IsErrOf, MatchOption};
 ghost use Rattle.std.specs.Io.KnownBytes.{Consumes, IsAtEnd};
+ghost use Rattle.droid_frame.specs.SteadyStreams.{IsSteady};
 ghost use Rattle.droid_desk.specs.Lines.{is_line_feed, lines_of};
 ghost use Rattle.std.specs.List.{position_from};
 
 use super::fault::ScriptFault;
+use droid_frame::SteadyRead;
 use std::alloc::Global;
-use std::io::{ErrorKind, Read};
+use std::io::ErrorKind;
 
 /// How many bytes a script has at most.
 pub const INPUT_LIMIT: usize = 67_108_864;
@@ -18,17 +20,18 @@ pub const RETRY_LIMIT: u32 = 64;
 const CHUNK: usize = 8_192;
 
 /// Reads a script to its end.
-pub fn read_input<R: Read>(alloc: Global, reader: &mut R) -> Result<Vec<u8>, ScriptFault>
+pub fn read_input<R: SteadyRead>(alloc: Global, reader: &mut R) -> Result<Vec<u8>, ScriptFault>
     ensures whole { IfOk result (λ input. IfSome (R.remaining reader.old) (λ bytes. input.items ≡ bytes)) }
     ensures short { IfOk result (λ input. length input.items ≤ INPUT_LIMIT) }
     ensures too_long { IsErrOf result ScriptFault.TooLong → IfSome (R.remaining reader.old) (λ bytes. INPUT_LIMIT < length bytes) }
+    ensures steady { IsSteady (R.interruptions reader.old) → IsErrOf result ScriptFault.Read → ⊥ }
     ensures reading { IfErr result (λ fault. fault ≢ ScriptFault.Write) }
 {
     let mut input = Vec::new(alloc);
     let mut chunk = [0u8; CHUNK];
     let mut interruptions = 0u32;
     loop {
-        match reader.read(&mut chunk) {
+        match reader.read_on(&mut chunk) {
             Ok(0) => return Ok(input),
             Ok(count) if INPUT_LIMIT - input.len() < count => return Err(ScriptFault::TooLong),
             Ok(count) => input.extend_from_slice(&chunk[..count])?,

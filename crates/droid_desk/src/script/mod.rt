@@ -1,6 +1,7 @@
 //! Scripts: requests as lines of text, and their replies as lines of text.
 
 ghost use Rattle.std.specs.Prelude.{◌≡◌, ◌<◌, ◌≤◌, length, ◌≢◌, IfOk, IfSome, IfErr, OnOk, IsErrOf, IsErrAnd};
+ghost use Rattle.droid_frame.specs.SteadyStreams.{IsSteady};
 ghost use Rattle.droid_desk.specs.Histories.{History};
 ghost use Rattle.droid_desk.specs.Lines.{lines_of};
 ghost use Rattle.droid_desk.specs.Scripts.{RunsAll, RunsFront, Counts, IsOfHandling, IsOfReading, StandsForSome};
@@ -16,17 +17,17 @@ mod tally;
 mod words;
 
 use crate::service::Service;
+use droid_frame::{SteadyRead, SteadyWrite};
 pub use fault::ScriptFault;
 pub use input::INPUT_LIMIT;
 use input::read_input;
 use run::run_lines;
 use std::alloc::Global;
-use std::io::{Read, Write};
 pub use tally::Tally;
 
 /// Reads a script to its end, hands the request of each line to the service, and writes what each line
 /// prints: its reply, or `bad line`.
-pub fn script<R: Read, W: Write>(
+pub fn script<R: SteadyRead, W: SteadyWrite>(
     alloc: Global,
     service: &mut Service,
     reader: &mut R,
@@ -46,6 +47,9 @@ pub fn script<R: Read, W: Write>(
     ensures too_long { IsErrOf result ScriptFault.TooLong → IfSome (R.remaining reader.old) (λ input. INPUT_LIMIT < length input) }
     ensures long { IfSome (R.remaining reader.old) (λ input. INPUT_LIMIT < length input →
         IsErrAnd result (λ fault. (fault ≢ ScriptFault.Write) × (service.new ≡ service.old) × (writer.new ≡ writer.old))) }
+    // A stream that doesn't fail is never said to.
+    ensures steady_reader { IsSteady (R.interruptions reader.old) → IsErrOf result ScriptFault.Read → ⊥ }
+    ensures steady_writer { IsSteady (W.interruptions writer.old) → W.is_endless writer.old → IsErrOf result ScriptFault.Write → ⊥ }
     // Whatever comes, the service stands for some history.
     ensures stands { StandsForSome service.old → StandsForSome service.new }
     ensures limits { limits_of service.new ≡ limits_of service.old }

@@ -1,6 +1,7 @@
 //! The lines of a script, one after the other.
 
-ghost use Rattle.std.specs.Prelude.{◌≡◌, ◌∷◌, [], IfOk, IfErr, OnOk, OnErr, is_none};
+ghost use Rattle.std.specs.Prelude.{◌≡◌, ◌∷◌, [], IfOk, IfErr, IsErrOf, OnOk, OnErr, is_none};
+ghost use Rattle.droid_frame.specs.SteadyStreams.{IsSteady};
 ghost use Rattle.droid_desk.specs.Histories.{History};
 ghost use Rattle.droid_desk.specs.Lines.{lines_of, line_value};
 ghost use Rattle.droid_desk.specs.Scripts.{RunsAll, RunsFront, LineAnswered, Counts, IsOfHandling, is_bad};
@@ -13,12 +14,11 @@ use super::parse::parse_line;
 use super::print::print_answer;
 use super::tally::Tally;
 use crate::service::Service;
-use droid_frame::{Reply, request_frame};
+use droid_frame::{Reply, SteadyWrite, request_frame};
 use std::alloc::{AllocError, Global};
-use std::io::Write;
 
 /// Handles the lines of the input, and writes what each prints.
-pub fn run_lines<W: Write>(
+pub fn run_lines<W: SteadyWrite>(
     alloc: Global,
     service: &mut Service,
     input: &[u8],
@@ -30,6 +30,8 @@ pub fn run_lines<W: Write>(
         OnErr result (RunsFront (limits_of service.old) history (lines_of input.now) service.new (W.contents writer.old) (W.contents writer.new)) }
     ensures tally { IfOk result (λ tally. Counts tally (lines_of input.now)) }
     ensures limits { limits_of service.new ≡ limits_of service.old }
+    ensures steady { IsSteady (W.interruptions writer.old) → W.is_endless writer.old →
+        (IsErrOf result ScriptFault.Write → ⊥) × IsSteady (W.interruptions writer.new) × W.is_endless writer.new }
     ensures handling { IfErr result IsOfHandling }
 {
     let mut tally = Tally { lines: 0, bad: 0 };
@@ -46,7 +48,7 @@ pub fn run_lines<W: Write>(
 }
 
 /// Handles one line, and writes what it prints. The answer is whether the line is bad.
-fn run_line<W: Write>(
+fn run_line<W: SteadyWrite>(
     alloc: Global,
     service: &mut Service,
     line: &[u8],
@@ -58,6 +60,8 @@ fn run_line<W: Write>(
         OnErr result (RunsFront (limits_of service.old) history (line.now ∷ []) service.new (W.contents writer.old) (W.contents writer.new)) }
     ensures bad { IfOk result (λ bad. bad ≡ is_bad line.now) }
     ensures limits { limits_of service.new ≡ limits_of service.old }
+    ensures steady { IsSteady (W.interruptions writer.old) → W.is_endless writer.old →
+        (IsErrOf result ScriptFault.Write → ⊥) × IsSteady (W.interruptions writer.new) × W.is_endless writer.new }
     ensures handling { IfErr result IsOfHandling }
 {
     let answer = answer_line(alloc, service, line)?;

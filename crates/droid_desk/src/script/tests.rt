@@ -2,6 +2,7 @@
 
 use super::{INPUT_LIMIT, ScriptFault, Tally, script};
 use crate::service::{Limits, Service};
+use droid_frame::Unsteady;
 use std::alloc::Global;
 use std::io::{self, ErrorKind, Read, Write};
 use std::process::Abort;
@@ -81,10 +82,12 @@ fn printed(
     text: &[u8],
 ) -> Result<(Vec<u8>, Tally), Fail> {
     let mut service = service(rt, alloc, profiles, nodes)?;
-    let mut output = Vec::new(alloc);
+    let mut output = Unsteady {
+        stream: Vec::new(alloc),
+    };
     let mut input = text;
     let tally = script(alloc, &mut service, &mut input, &mut output)?;
-    Ok((output, tally))
+    Ok((output.stream, tally))
 }
 
 #[test]
@@ -285,15 +288,18 @@ fn readers_that_fail(rt: HostRuntime) -> Result<(), Fail> {
         ),
     ] {
         let mut service = service(&rt, rt.alloc(), 64, 100_000)?;
-        let mut reader = Shaky {
+        let shaky = Shaky {
             bytes: bytes.as_bytes(),
             interruptions,
             is_broken,
         };
-        let mut output = Vec::new(rt.alloc());
+        let mut reader = Unsteady { stream: shaky };
+        let mut output = Unsteady {
+            stream: Vec::new(rt.alloc()),
+        };
         let result = script(rt.alloc(), &mut service, &mut reader, &mut output);
         assert_eq!(rt; fault_name(rt.alloc(), result)?.as_deref(), fault, "{name}");
-        assert_eq!(rt; output.as_slice(), replies.as_bytes(), "{name}");
+        assert_eq!(rt; output.stream.as_slice(), replies.as_bytes(), "{name}");
     }
     Ok(())
 }
@@ -302,15 +308,21 @@ fn readers_that_fail(rt: HostRuntime) -> Result<(), Fail> {
 fn the_longest_script(rt: HostRuntime) -> Result<(), Fail> {
     let limit = INPUT_LIMIT as u64;
     let mut service = service(&rt, rt.alloc(), 64, 100_000)?;
-    let mut output = Vec::new(rt.alloc());
-    let mut longest = io::repeat(b'x').take(limit);
+    let mut output = Unsteady {
+        stream: Vec::new(rt.alloc()),
+    };
+    let mut longest = Unsteady {
+        stream: io::repeat(b'x').take(limit),
+    };
     let result = script(rt.alloc(), &mut service, &mut longest, &mut output);
     assert_eq!(rt; fault_name(rt.alloc(), result)?.as_deref(), None);
-    assert_eq!(rt; output.as_slice(), b"bad line\n".as_slice());
-    let mut longer = io::repeat(b'x').take(limit + 1);
+    assert_eq!(rt; output.stream.as_slice(), b"bad line\n".as_slice());
+    let mut longer = Unsteady {
+        stream: io::repeat(b'x').take(limit + 1),
+    };
     let result = script(rt.alloc(), &mut service, &mut longer, &mut output);
     assert_eq!(rt; fault_name(rt.alloc(), result)?.as_deref(), Some("TooLong"));
-    assert_eq!(rt; output.as_slice(), b"bad line\n".as_slice());
+    assert_eq!(rt; output.stream.as_slice(), b"bad line\n".as_slice());
     Ok(())
 }
 
@@ -326,17 +338,18 @@ fn writers_that_fail(rt: HostRuntime) -> Result<(), Fail> {
         ("broken behind the last line", 100, 31, 0, 31, None),
     ] {
         let mut service = service(&rt, rt.alloc(), 64, 100_000)?;
-        let mut writer = Narrow {
+        let narrow = Narrow {
             taken: Vec::new(rt.alloc()),
             width,
             room,
             interruptions,
         };
+        let mut writer = Unsteady { stream: narrow };
         let mut reader = FIRST_RUN.as_bytes();
         let result = script(rt.alloc(), &mut service, &mut reader, &mut writer);
         assert_eq!(rt; fault_name(rt.alloc(), result)?.as_deref(), fault, "{name}");
         assert_eq!(rt;
-            Some(writer.taken.as_slice()),
+            Some(writer.stream.taken.as_slice()),
             FIRST_REPLIES.as_bytes().get(..written),
             "{name}"
         );
@@ -347,19 +360,22 @@ fn writers_that_fail(rt: HostRuntime) -> Result<(), Fail> {
 #[test]
 fn lines_before_a_write_fault_stay_handled(rt: HostRuntime) -> Result<(), Fail> {
     let mut service = service(&rt, rt.alloc(), 64, 100_000)?;
-    let mut writer = Narrow {
+    let narrow = Narrow {
         taken: Vec::new(rt.alloc()),
         width: 100,
         room: 7,
         interruptions: 0,
     };
+    let mut writer = Unsteady { stream: narrow };
     let mut reader = FIRST_RUN.as_bytes();
     let result = script(rt.alloc(), &mut service, &mut reader, &mut writer);
     assert_eq!(rt; fault_name(rt.alloc(), result)?.as_deref(), Some("Write"));
-    let mut output = Vec::new(rt.alloc());
+    let mut output = Unsteady {
+        stream: Vec::new(rt.alloc()),
+    };
     let mut reader = "1 2 folder 1 0 0 in\n1 3 folder 1 0 0 in\n".as_bytes();
     script(rt.alloc(), &mut service, &mut reader, &mut output)?;
-    assert_eq!(rt; output.as_slice(), b"node 1\nrefused 9\n".as_slice());
+    assert_eq!(rt; output.stream.as_slice(), b"node 1\nrefused 9\n".as_slice());
     Ok(())
 }
 

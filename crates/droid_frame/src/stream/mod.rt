@@ -6,6 +6,7 @@ mod filling;
 mod header;
 mod reading;
 mod replies;
+mod steady;
 mod write_all;
 mod writing;
 
@@ -13,6 +14,7 @@ pub use arrival::Arrival;
 pub use fault::{FrameFault, WriteFault};
 pub use reading::read_frame;
 pub use replies::write_reply;
+pub use steady::{SteadyRead, SteadyWrite, Unsteady};
 pub use writing::write_frame;
 
 /// How many times an interrupted read or write is tried again while one frame is read or written.

@@ -3,20 +3,21 @@
 ghost use Rattle.std.specs.Prelude.{◌≡◌, ◌++◌, ℕ, List, Some, Err, IfOk, IfErr, OnErr, IfSome, IsErrOf};
 ghost use Rattle.droid_frame.specs.Frames.{frame_bytes};
 ghost use Rattle.droid_frame.specs.Streams.{IsReadable, BeginsNoFrame, why};
+ghost use Rattle.droid_frame.specs.SteadyStreams.{IsSteady, Lasts};
 ghost use Rattle.droid_frame.specs.StreamReads.{Arrives, BodyCame, Brings, HeaderCame, ReadsGoodHeader, ReadsNoFrame, Tells, UnlessRefused, judged};
 
 use super::arrival::Arrival;
 use super::fault::FrameFault;
 use super::filling::fill;
 use super::header::{HEADER_LENGTH, Header};
+use super::steady::SteadyRead;
 use crate::blob::Blob;
 use crate::frame::{BODY_LIMIT, Frame, VERSION};
 use std::alloc::Global;
-use std::io::Read;
 
 /// Reads the next frame. The header is read whole before any of it is judged, and memory is taken once, for
 /// the body, after that. An interrupted read is tried again, 64 times over all of the frame.
-pub fn read_frame<R: Read>(alloc: Global, reader: &mut R) -> Result<Arrival, FrameFault>
+pub fn read_frame<R: SteadyRead>(alloc: Global, reader: &mut R) -> Result<Arrival, FrameFault>
     // A frame comes with exactly its spelling read, and the end where nothing is left.
     ensures brought { IfOk result (Brings (R.remaining reader.old) (R.remaining reader.new)) }
     // What the input begins with comes, and leaves the rest of the input.
@@ -30,17 +31,22 @@ pub fn read_frame<R: Read>(alloc: Global, reader: &mut R) -> Result<Arrival, Fra
     // that it names. Want of memory has read a good header, and the body isn't empty.
     ensures fault { OnErr result (ReadsNoFrame (R.remaining reader.old) (R.remaining reader.new)) }
     ensures memory { IsErrOf result FrameFault.Memory → ReadsGoodHeader (R.remaining reader.old) (R.remaining reader.new) }
+    // A reader that doesn't fail is never said to.
+    ensures steady { IsSteady (R.interruptions reader.old) →
+        (IsErrOf result FrameFault.Read → ⊥) × IsSteady (R.interruptions reader.new) }
 {
     let mut interruptions = 0;
     next_arrival(alloc, reader, &mut interruptions)
 }
 
-fn next_arrival<R: Read>(
+fn next_arrival<R: SteadyRead>(
     alloc: Global,
     reader: &mut R,
     interruptions: &mut u32,
 ) -> Result<Arrival, FrameFault>
-    ensures { Arrives (R.remaining reader.old) (R.remaining reader.new) result }
+    ensures came { Arrives (R.remaining reader.old) (R.remaining reader.new) result }
+    ensures steady { Lasts (R.interruptions reader.old) interruptions.old →
+        (IsErrOf result FrameFault.Read → ⊥) × Lasts (R.interruptions reader.new) interruptions.new }
 {
     let Some(header) = read_header(reader, interruptions)? else {
         return Ok(Arrival::End);
@@ -57,11 +63,13 @@ fn next_arrival<R: Read>(
 }
 
 /// Reads a header, or nothing at the end of the input.
-fn read_header<R: Read>(
+fn read_header<R: SteadyRead>(
     reader: &mut R,
     interruptions: &mut u32,
 ) -> Result<Option<Header>, FrameFault>
-    ensures { HeaderCame (R.remaining reader.old) (R.remaining reader.new) result }
+    ensures came { HeaderCame (R.remaining reader.old) (R.remaining reader.new) result }
+    ensures steady { Lasts (R.interruptions reader.old) interruptions.old →
+        (IsErrOf result FrameFault.Read → ⊥) × Lasts (R.interruptions reader.new) interruptions.new }
 {
     let mut bytes = [0u8; HEADER_LENGTH];
     match fill(reader, &mut bytes, interruptions)? {
@@ -74,7 +82,8 @@ fn read_header<R: Read>(
 /// How long the body is that the header names.
 #[tactic(auto, unfolding(crate::specs::StreamReads::judged))]
 fn body_length(header: Header) -> Result<usize, FrameFault>
-    ensures { result ≡ judged header }
+    ensures judged { result ≡ judged header }
+    ensures fault { IsErrOf result FrameFault.Read → ⊥ }
 {
     if header.version != VERSION {
         return Err(FrameFault::BadVersion);
@@ -87,13 +96,15 @@ fn body_length(header: Header) -> Result<usize, FrameFault>
 }
 
 /// Reads a body of this length, into a buffer that is taken once; an empty body takes no memory.
-fn read_body<R: Read>(
+fn read_body<R: SteadyRead>(
     alloc: Global,
     reader: &mut R,
     length: usize,
     interruptions: &mut u32,
 ) -> Result<Blob, FrameFault>
-    ensures { BodyCame (R.remaining reader.old) (R.remaining reader.new) length result }
+    ensures came { BodyCame (R.remaining reader.old) (R.remaining reader.new) length result }
+    ensures steady { Lasts (R.interruptions reader.old) interruptions.old →
+        (IsErrOf result FrameFault.Read → ⊥) × Lasts (R.interruptions reader.new) interruptions.new }
 {
     if length == 0 {
         return Ok(Blob::from(Vec::new(alloc)));

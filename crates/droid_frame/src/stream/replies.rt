@@ -1,29 +1,30 @@
 //! Writing replies.
 
-ghost use Rattle.std.specs.Prelude.{◌≡◌, ◌+◌, ◌<◌, ◌^◌, OnOk, IfErr, length};
+ghost use Rattle.std.specs.Prelude.{◌≡◌, ◌+◌, ◌<◌, ◌≤◌, ◌^◌, IsOk, OnOk, IfErr, length};
 ghost use Rattle.std.specs.Io.KnownBytes.{Appends};
 ghost use Rattle.std.specs.List.{AllByRecursion};
 ghost use Rattle.droid_frame.specs.Replies.{HasReplySpelling, IsPuidText};
 ghost use Rattle.droid_frame.specs.ReplyParts.{reply_frame, reply_rest};
+ghost use Rattle.droid_frame.specs.SteadyStreams.{IsSteady, Lasts, TookAll};
 ghost use Rattle.droid_frame.specs.StreamWrites.{Stops, StopsWithin};
 ghost use Rattle.droid_frame.specs.TextLists.{texts_bytes};
 
 use super::fault::WriteFault;
 use super::header::Header;
+use super::steady::SteadyWrite;
 use super::write_all::{Progress, write_all};
 use crate::frame::VERSION;
 use crate::reply::Reply;
 use crate::reply_parts::{front_of, sized_puid};
 use crate::reply_writing::body_length;
 use crate::texts::Texts;
-use std::io::Write;
 
 /// Writes a reply's frame, to the client and under the number of the request that it answers. It takes no
 /// memory. An interrupted write is tried again, 64 times over all of the frame.
 ///
 /// A reply with more identifiers, a longer one or a longer part than a reply may have has no spelling, so
 /// the caller sees to that.
-pub fn write_reply<W: Write>(
+pub fn write_reply<W: SteadyWrite>(
     client: u32,
     number: u64,
     reply: &Reply,
@@ -34,6 +35,9 @@ pub fn write_reply<W: Write>(
     ensures ok { OnOk result (Appends (W.contents writer.old) (W.contents writer.new) (reply_frame client number reply.now)) }
     // Exactly the first `written` bytes of it were written, and that isn't all.
     ensures err { IfErr result (λ fault. Stops (W.contents writer.old) (W.contents writer.new) (reply_frame client number reply.now) fault.written) }
+    // A writer that doesn't fail, and has room, takes all.
+    ensures steady { IsSteady (W.interruptions writer.old) → length (reply_frame client number reply.now) ≤ W.room writer.old →
+        IsOk result × TookAll (W.interruptions writer.new) 0 (W.room writer.old) (W.room writer.new) (length (reply_frame client number reply.now)) }
 {
     let header = Header {
         version: VERSION,
@@ -52,7 +56,7 @@ pub fn write_reply<W: Write>(
 }
 
 /// Writes the list or the bytes of a reply.
-fn write_rest<W: Write>(
+fn write_rest<W: SteadyWrite>(
     writer: &mut W,
     reply: &Reply,
     progress: &mut Progress,
@@ -61,6 +65,8 @@ fn write_rest<W: Write>(
     requires room { progress.old.written + length (reply_rest reply.now) < 2 ^ 64 }
     ensures ok { OnOk result (Appends (W.contents writer.old) (W.contents writer.new) (reply_rest reply.now)) }
     ensures err { IfErr result (λ fault. StopsWithin (W.contents writer.old) (W.contents writer.new) (reply_rest reply.now) progress.old.written fault.written) }
+    ensures steady { Lasts (W.interruptions writer.old) progress.old.interruptions → length (reply_rest reply.now) ≤ W.room writer.old →
+        IsOk result × TookAll (W.interruptions writer.new) progress.new.interruptions (W.room writer.old) (W.room writer.new) (length (reply_rest reply.now)) }
 {
     match reply {
         Reply::Finished { puids, .. } => write_puids(writer, puids, progress),
@@ -70,7 +76,7 @@ fn write_rest<W: Write>(
 }
 
 /// Writes the identifiers, each after its length.
-fn write_puids<W: Write>(
+fn write_puids<W: SteadyWrite>(
     writer: &mut W,
     puids: &Texts,
     progress: &mut Progress,
@@ -79,6 +85,8 @@ fn write_puids<W: Write>(
     requires room { progress.old.written + length (texts_bytes puids.now) < 2 ^ 64 }
     ensures ok { OnOk result (Appends (W.contents writer.old) (W.contents writer.new) (texts_bytes puids.now)) }
     ensures err { IfErr result (λ fault. StopsWithin (W.contents writer.old) (W.contents writer.new) (texts_bytes puids.now) progress.old.written fault.written) }
+    ensures steady { Lasts (W.interruptions writer.old) progress.old.interruptions → length (texts_bytes puids.now) ≤ W.room writer.old →
+        IsOk result × TookAll (W.interruptions writer.new) progress.new.interruptions (W.room writer.old) (W.room writer.new) (length (texts_bytes puids.now)) }
 {
     for puid in puids.as_slice() {
         write_all(writer, sized_puid(puid).as_slice(), progress)?;

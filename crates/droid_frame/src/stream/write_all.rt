@@ -1,12 +1,14 @@
 //! Writing one part of a frame.
 
-ghost use Rattle.std.specs.Prelude.{◌≡◌, ◌+◌, ◌<◌, ◌^◌, OnOk, IfErr, length};
+ghost use Rattle.std.specs.Prelude.{◌≡◌, ◌+◌, ◌<◌, ◌≤◌, ◌^◌, IsOk, OnOk, IfErr, length};
 ghost use Rattle.std.specs.Io.KnownBytes.{Appends};
+ghost use Rattle.droid_frame.specs.SteadyStreams.{Lasts, TookAll};
 ghost use Rattle.droid_frame.specs.StreamWrites.{StopsWithin};
 
 use super::RETRY_LIMIT;
 use super::fault::WriteFault;
-use std::io::{ErrorKind, Write};
+use super::steady::SteadyWrite;
+use std::io::ErrorKind;
 
 /// How far a frame has been written, over all of its parts.
 #[derive(Drop)]
@@ -30,7 +32,7 @@ impl Progress {
 
 /// Writes all of one part of a frame. It takes no memory. After a fault, the first bytes of the part went
 /// out, but not all; the fault counts them after the bytes of the parts before.
-pub(crate) fn write_all<W: Write>(
+pub(crate) fn write_all<W: SteadyWrite>(
     writer: &mut W,
     part: &[u8],
     progress: &mut Progress,
@@ -39,10 +41,13 @@ pub(crate) fn write_all<W: Write>(
     ensures ok { OnOk result (Appends (W.contents writer.old) (W.contents writer.new) part.now) }
     ensures counted { OnOk result (progress.new.written ≡ progress.old.written + length part.now) }
     ensures err { IfErr result (λ fault. StopsWithin (W.contents writer.old) (W.contents writer.new) part.now progress.old.written fault.written) }
+    // A writer that doesn't fail, and has room, takes all.
+    ensures steady { Lasts (W.interruptions writer.old) progress.old.interruptions → length part.now ≤ W.room writer.old →
+        IsOk result × TookAll (W.interruptions writer.new) progress.new.interruptions (W.room writer.old) (W.room writer.new) (length part.now) }
 {
     let mut rest = part;
     while !rest.is_empty() {
-        match writer.write(rest) {
+        match writer.write_on(rest) {
             Ok(0) => return Err(progress.stopped()),
             Ok(count) => {
                 progress.written += count;

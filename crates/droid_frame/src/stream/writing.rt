@@ -1,25 +1,29 @@
 //! Writing a frame.
 
-ghost use Rattle.std.specs.Prelude.{◌≤◌, OnOk, IfErr, length};
+ghost use Rattle.std.specs.Prelude.{◌≤◌, IsOk, OnOk, IfErr, length};
 ghost use Rattle.std.specs.Io.KnownBytes.{Appends};
 ghost use Rattle.droid_frame.specs.Frames.{frame_bytes};
+ghost use Rattle.droid_frame.specs.SteadyStreams.{IsSteady, TookAll};
 ghost use Rattle.droid_frame.specs.StreamWrites.{Stops};
 
 use super::fault::WriteFault;
 use super::header::Header;
+use super::steady::SteadyWrite;
 use super::write_all::{Progress, write_all};
 use crate::frame::{BODY_LIMIT, Frame};
-use std::io::Write;
 
 /// Writes a frame. It takes no memory. An interrupted write is tried again, 64 times over all of the frame.
 ///
 /// A frame whose body is longer than a frame's may be has no spelling, so the caller sees to that.
-pub fn write_frame<W: Write>(frame: &Frame, writer: &mut W) -> Result<(), WriteFault>
+pub fn write_frame<W: SteadyWrite>(frame: &Frame, writer: &mut W) -> Result<(), WriteFault>
     requires { length frame.now.body ≤ BODY_LIMIT }
     // All of the frame's one spelling was written, and nothing else.
     ensures ok { OnOk result (Appends (W.contents writer.old) (W.contents writer.new) (frame_bytes frame.now)) }
     // Exactly the first `written` bytes of it were written, and that isn't all.
     ensures err { IfErr result (λ fault. Stops (W.contents writer.old) (W.contents writer.new) (frame_bytes frame.now) fault.written) }
+    // A writer that doesn't fail, and has room, takes all.
+    ensures steady { IsSteady (W.interruptions writer.old) → length (frame_bytes frame.now) ≤ W.room writer.old →
+        IsOk result × TookAll (W.interruptions writer.new) 0 (W.room writer.old) (W.room writer.new) (length (frame_bytes frame.now)) }
 {
     let header = Header {
         version: frame.version,

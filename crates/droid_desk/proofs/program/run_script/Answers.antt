@@ -7,8 +7,8 @@ use Rattle.droid_desk.specs.Standing.{limits_of}
 use Rattle.droid_desk.proofs.ScriptEndings.{ends, keeps_same, if_err_then}
 use Rattle.droid_desk.proofs.program.run_script.Goals as goal
 
-pub returns : goal.returns
-returns g c =
+pub returns-clause-ends : goal.returns-clause-ends
+returns-clause-ends g c =
     let old = g.W.Write.contents c.args.writer.now in
     let new = g.W.Write.contents c.script-outcome.new.writer in
     let before : IfErr c.script-outcome.result (λ fault. IsOfReading fault → Keeps old new) =
