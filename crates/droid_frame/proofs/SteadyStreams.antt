@@ -1,6 +1,8 @@
 -- Streams of which it is known that they don't fail.
-use Rattle.std.proofs.Common.{ℕ, ◌+◌, ◌-◌, ◌≤◌, Option, Some, None, Ok, Err, arith}
+use Rattle.std.proofs.Common.{◌≡◌, ℕ, ◌+◌, ◌-◌, ◌<◌, ◌≤◌, Option, Some, None, Ok, Err, arith}
+use Rattle.std.specs.IoError.{error_kind}
 use Rattle.std.specs.declared.io.Error.{Error}
+use Rattle.std.specs.declared.io.ErrorKind.TheVariants.{Interrupted}
 use Rattle.droid_frame.specs.SteadyStreams.{ReadsSteadily, WritesSteadily, Lasts}
 
 -- a read leaves a reader that lasts
@@ -9,16 +11,11 @@ lasts_on None new count so_far read lasts = absurd lasts
 lasts_on (Some before) None count so_far read lasts = absurd read
 lasts_on (Some before) (Some after) count so_far read lasts = omega (arith, read, lasts)
 
--- and so does an interruption, which is counted
-pub lasts_interrupted : (old new : Option ℕ) (error : Error) (so_far : ℕ) → ReadsSteadily old new (Err error) → Lasts old so_far → Lasts new (so_far + 1)
-lasts_interrupted None new error so_far read lasts = absurd lasts
-lasts_interrupted (Some before) None error so_far read lasts = absurd read
-lasts_interrupted (Some before) (Some after) error so_far read lasts = omega (arith, read.1, lasts)
-
--- what lasts after some interruptions lasts for another frame
-pub lasts_again : (now : Option ℕ) (so_far : ℕ) → Lasts now so_far → Lasts now 0
-lasts_again None so_far lasts = absurd lasts
-lasts_again (Some interruptions) so_far lasts = omega (arith, lasts)
+-- a read only answers interruptions, and not more of them than are tried again
+pub interrupted : (old new : Option ℕ) (error : Error) (so_far : ℕ) → ReadsSteadily old new (Err error) → Lasts old so_far → (error_kind error ≡ Interrupted) × (so_far < 64)
+interrupted None new error so_far read lasts = absurd lasts
+interrupted (Some before) None error so_far read lasts = absurd read
+interrupted (Some before) (Some after) error so_far read lasts = (read.0, omega (arith, read.1, lasts))
 
 -- ---- writers
 
