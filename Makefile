@@ -1,7 +1,7 @@
 RT = rt
 PROGRAM = crates/droid_desk/out/droid_desk
 
-.PHONY: run build test bench need_rt
+.PHONY: run build quick test bench need_rt
 
 # Builds the program and runs a short script on it.
 run: build
@@ -9,8 +9,12 @@ run: build
 
 # Proves and builds the program, which is then at $(PROGRAM).
 build: need_rt
-	@mkdir -p crates/droid_desk/out
-	@cd crates/droid_desk && $(RT) run -- --help > out/build.log 2>&1 || { cat out/build.log; exit 1; }
+	@RT=$(RT) sh tools/build.sh droid_desk
+
+# Before a commit: the crates that changed are laid out and proved, and every wrong body still applies and compiles.
+# BASE names the commit to compare with, the last one unless it is given.
+quick: need_rt
+	@python3 tools/quick.py $(BASE)
 
 # The gate: every proof from nothing, wrong bodies, tests, and then the built program. `rt ci` leaves the
 # program and the tests that it built in each crate's out/, and the last two lines run those.
@@ -19,7 +23,7 @@ test: need_rt
 	sh tests/program/run.sh $(CURDIR)/$(PROGRAM)
 	sh tests/memory/run.sh
 
-# How long a large registry takes to be read, and a file to be identified by it.
+# What the costly calls cost: a large registry read, files identified by it.
 bench: need_rt
 	@cd crates/droid_bench && $(RT) run -- times
 
