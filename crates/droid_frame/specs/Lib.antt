@@ -14,9 +14,10 @@ pub use Rattle.droid_body.specs.filters.Values as FilterValues
 pub use Rattle.droid_body.specs.replies.Values as ReplyValues
 pub use Rattle.droid_body.specs.requests.Values
 pub use Rattle.droid_body.specs.declared.body_fault
+pub use Rattle.droid_stream.specs.Seen
+pub use Rattle.droid_stream.specs.Writes
 pub mod Headers
 pub mod ReplyParts
-pub mod SteadyStreams
 pub mod StreamLaws
 pub mod StreamReads
 pub mod StreamWrites
