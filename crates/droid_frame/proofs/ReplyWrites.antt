@@ -5,11 +5,12 @@ use Rattle.std.proofs.KnownBytes.{Appends-trans}
 use Rattle.std.proofs.Math.Seq.{drop-cons}
 use Rattle.std.proofs.lemmas.Grind.{flat_map-append}
 use Rattle.std.proofs.lemmas.List.{append-nil, length-append, take-append-drop}
-use Rattle.droid_value.specs.declared.frame.TheConstants.{BODY_LIMIT}
+use Rattle.droid_value.specs.Limits.{body_limit}
 use Rattle.droid_value.specs.declared.reply.Reply.{Reply}
 use Rattle.droid_frame.specs.Headers.{header_bytes}
 use Rattle.droid_value.specs.Replies.{reply_bytes, reply_kind}
-use Rattle.droid_frame.specs.ReplyParts.{reply_frame, reply_front, reply_rest}
+use Rattle.droid_frame.specs.ReplyFrames.{reply_frame}
+use Rattle.droid_frame.specs.ReplyParts.{reply_front, reply_rest}
 use Rattle.droid_frame.specs.StreamWrites.{Stops}
 use Rattle.droid_stream.specs.Writes.{StopsWithin}
 use Rattle.droid_value.specs.TextLists.{sized_bytes, texts_bytes}
@@ -68,7 +69,7 @@ pub frame_size : (frame header front rest : List ℕ) (before after : ℕ) → I
 frame_size frame header front rest before after is sent both =
     omega (arith, ap (λ (bytes : List ℕ). length bytes) is.parts, sent, both, length-append header (front ++ rest), length-append front rest)
 
-pub rest_room : (client number : ℕ) (reply : Reply) (header front : List ℕ) (written : ℕ) → IsFrameOf (reply_frame client number reply) header front (reply_rest reply) → length (reply_bytes reply) ≤ BODY_LIMIT → front ≡ reply_front reply → written ≡ length (header ++ front) → written + length (reply_rest reply) < 2 ^ 64
+pub rest_room : (client number : ℕ) (reply : Reply) (header front : List ℕ) (written : ℕ) → IsFrameOf (reply_frame client number reply) header front (reply_rest reply) → length (reply_bytes reply) ≤ body_limit → front ≡ reply_front reply → written ≡ length (header ++ front) → written + length (reply_rest reply) < 2 ^ 64
 rest_room client number reply header front written frame short front_is counted =
     let body : length (reply_front reply ++ reply_rest reply) ≡ length (reply_bytes reply) = ap (λ (bytes : List ℕ). length bytes) (front_and_rest reply) in
     let size : length front ≡ length (reply_front reply) = ap (λ (bytes : List ℕ). length bytes) front_is in

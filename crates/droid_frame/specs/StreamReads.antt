@@ -1,7 +1,7 @@
 -- What a reader has left after the reads of one frame, and what then is known of its bytes.
 use Rattle.std.specs.Prelude.{◌≡◌, ℕ, ◌+◌, ◌<◌, ◌≤◌, ◌^◌, ◌==◌, nat_lt, if◌then◌else◌, ◌⊎◌, List, [], Option, Some, None, IfSome, Result, Ok, Err, length}
 use Rattle.std.specs.Io.KnownBytes.{Consumes, IsAtEnd}
-use Rattle.droid_value.specs.declared.frame.TheConstants.{BODY_LIMIT}
+use Rattle.droid_value.specs.Limits.{body_limit}
 use Rattle.droid_frame.specs.declared.stream.arrival.Arrival.{Arrival}
 use Rattle.droid_frame.specs.declared.stream.arrival.Arrival.TheVariants as arrivals
 use Rattle.droid_frame.specs.declared.stream.fault.FrameFault.{FrameFault}
@@ -27,7 +27,7 @@ pub record ConsumesShort (old new : Option (List ℕ)) (least wanted : ℕ) : Ty
 pub record IsGoodHeader (bytes : List ℕ) : Type 0 where
   pub whole : header_size ≤ length bytes
   pub version_is : version_in bytes ≡ 1
-  pub length_fits : length_in bytes ≤ BODY_LIMIT
+  pub length_fits : length_in bytes ≤ body_limit
 
 -- and the body that it names isn't empty
 pub record NamesSomeBody (bytes : List ℕ) : Type 0 where
@@ -123,7 +123,7 @@ ReadsOn start seen count (Err fault) = FaultCounts start seen count fault
 -- what a header is refused for: its version first, then its length
 unfoldable pub judged : Header → Result ℕ FrameFault
 judged header =
-    if header.version == 1 then (if nat_lt BODY_LIMIT header.length then Err TooLong else Ok header.length)
+    if header.version == 1 then (if nat_lt body_limit header.length then Err TooLong else Ok header.length)
     else Err BadVersion
 
 -- all that one call leaves

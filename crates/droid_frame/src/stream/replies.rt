@@ -4,7 +4,8 @@ ghost use Rattle.std.specs.Prelude.{◌≡◌, ◌+◌, ◌<◌, ◌≤◌, ◌^
 ghost use Rattle.std.specs.Io.KnownBytes.{Appends};
 ghost use Rattle.std.specs.List.{AllByRecursion};
 ghost use Rattle.droid_value.specs.Replies.{HasReplySpelling, IsPuidText};
-ghost use Rattle.droid_frame.specs.ReplyParts.{reply_frame, reply_rest};
+ghost use Rattle.droid_frame.specs.ReplyFrames.{reply_frame};
+ghost use Rattle.droid_frame.specs.ReplyParts.{reply_rest};
 ghost use Rattle.droid_frame.specs.StreamWrites.{Stops};
 ghost use Rattle.droid_stream.specs.Seen.{Counts, IsSound};
 ghost use Rattle.droid_stream.specs.Writes.{StopsWithin, Takes, TellsWrite, WritesOn};

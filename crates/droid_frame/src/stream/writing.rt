@@ -3,19 +3,20 @@
 ghost use Rattle.std.specs.Prelude.{◌≤◌, IsErr, OnOk, IfErr, length};
 ghost use Rattle.std.specs.Io.KnownBytes.{Appends};
 ghost use Rattle.droid_value.specs.Frames.{frame_bytes};
+ghost use Rattle.droid_value.specs.Limits.{body_limit};
 ghost use Rattle.droid_stream.specs.Seen.{IsSound};
 ghost use Rattle.droid_stream.specs.Writes.{Takes, TellsWrite};
 ghost use Rattle.droid_frame.specs.StreamWrites.{Stops};
 
 use super::header::Header;
 use droid_stream::{Progress, SteadyWrite, WriteFault, write_all};
-use droid_value::{BODY_LIMIT, Frame};
+use droid_value::Frame;
 
 /// Writes a frame. It takes no memory. An interrupted write is tried again, 64 times over all of the frame.
 ///
 /// A frame whose body is longer than a frame's may be has no spelling, so the caller sees to that.
 pub fn write_frame<W: SteadyWrite>(frame: &Frame, writer: &mut W) -> Result<(), WriteFault>
-    requires { length frame.now.body ≤ BODY_LIMIT }
+    requires { length frame.now.body ≤ body_limit }
     // All of the frame's one spelling was written, and nothing else.
     ensures ok { OnOk result (Appends (W.contents writer.old) (W.contents writer.new) (frame_bytes frame.now)) }
     // Exactly the first `written` bytes of it were written, and that isn't all.

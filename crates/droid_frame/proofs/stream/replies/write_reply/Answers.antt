@@ -1,9 +1,10 @@
 use Rattle.std.proofs.Common.{◌≡◌, ◌≤◌, ◌+◌, ◌++◌, [], length, refl, ◌∙◌, arith}
 use Rattle.std.specs.Io.KnownBytes.{Appends}
 use Rattle.droid_stream.specs.declared.fault.WriteFault.{WriteFault}
-use Rattle.droid_value.specs.declared.frame.TheConstants.{BODY_LIMIT}
+use Rattle.droid_value.specs.Limits.{body_limit}
 use Rattle.droid_value.specs.Replies.{reply_bytes}
-use Rattle.droid_frame.specs.ReplyParts.{reply_frame, reply_front, reply_rest}
+use Rattle.droid_frame.specs.ReplyFrames.{reply_frame}
+use Rattle.droid_frame.specs.ReplyParts.{reply_front, reply_rest}
 use Rattle.droid_frame.specs.StreamWrites.{Stops}
 use Rattle.droid_stream.specs.Writes.{StopsWithin}
 use Rattle.droid_stream.specs.Writes.{Takes}
@@ -88,7 +89,7 @@ write_rest-requires-clause-room g c =
     let is = frame_is c.args.client c.args.number c.kind.result c.body_length.result reply header front c.kind.ensures c.body_length.ensures.length c.to_bytes.ensures front_is in
     let sent : Sent old mid header before = sent_more old old mid [] header c.new-progress.result.written before (sent_nothing old _ c.new-progress.ensures.written) c.in_ok-write_all.ensures.ok c.in_ok-write_all.ensures.counted in
     let both : Sent old next (header ++ front) after = sent_more old mid next header front before after sent c.in_ok-write_all-2.ensures.ok c.in_ok-write_all-2.ensures.counted in
-    let short : length (reply_bytes reply) ≤ BODY_LIMIT = omega (arith, c.body_length.ensures.length, c.body_length.ensures.bound) in
+    let short : length (reply_bytes reply) ≤ body_limit = omega (arith, c.body_length.ensures.length, c.body_length.ensures.bound) in
     rest_room c.args.client c.args.number reply header front after is short front_is both.counted
 
 pub returns-clause-ok : goal.returns-clause-ok
