@@ -1,0 +1,3 @@
+pub mod CivilDays
+pub mod Escapes
+pub mod Places
