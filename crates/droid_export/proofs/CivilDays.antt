@@ -110,8 +110,8 @@ forward zero y m d h e = at_epoch y m d h e
 forward (suc n) y m d h e = elim (cases_order 1 d) [
   | inr (inl more) ↦
       let before : days_after n ≡ date_at y m (d - 1) = forward n y m (d - 1)
-          (record { first_month = h.first_month; last_month = h.last_month; first_day = omega arith; last_day = omega (arith, h.last_day) })
-          (omega (arith, signed_arith, days_from_civil-day (pos y) m d (d - 1) h.first_day (omega arith))) in
+      (record { first_month = h.first_month; last_month = h.last_month; first_day = omega arith; last_day = omega (arith, h.last_day) })
+      (omega (arith, signed_arith, days_from_civil-day (pos y) m d (d - 1) h.first_day (omega arith))) in
       rw before (after_within y m d more h.last_day)
   | inr (inr less) ↦ absurd (omega (arith, h.first_day))
   | inl one ↦ elim (cases_order 1 m) [
@@ -119,21 +119,21 @@ forward (suc n) y m d h e = elim (cases_order 1 d) [
         let back : m - 1 + 1 ≡ m = omega arith in
         let length = days_in_month_bounds (pos y) (m - 1) in
         let number : days_from_civil (pos y) m 1 ≡ days_from_civil (pos y) (m - 1) (days_in_month (pos y) (m - 1)) +ℤ pos 1 =
-            rw back at (days_from_civil-next_month (pos y) (m - 1) (days_in_month (pos y) (m - 1)) (omega arith) refl) in
+        rw back at (days_from_civil-next_month (pos y) (m - 1) (days_in_month (pos y) (m - 1)) (omega arith) refl) in
         let here : days_from_civil (pos y) m 1 ≡ pos (suc n) = rw (← one) at e in
         let before : days_after n ≡ date_at y (m - 1) (days_in_month (pos y) (m - 1)) = forward n y (m - 1) (days_in_month (pos y) (m - 1))
-            (record { first_month = omega arith; last_month = omega (arith, h.last_month); first_day = omega arith; last_day = omega arith })
-            (omega (arith, signed_arith)) in
+        (record { first_month = omega arith; last_month = omega (arith, h.last_month); first_day = omega arith; last_day = omega arith })
+        (omega (arith, signed_arith)) in
         rw (← one, before) (after_month y m more h.last_month)
     | inr (inr less) ↦ absurd (omega (arith, h.first_month))
     | inl first ↦
         let here : days_from_civil (pos y) 1 1 ≡ pos (suc n) = rw (← one, ← first) at e in
         let late : 1970 ≤ y = not_earlier y m d (suc n) h e in
         let number : days_from_civil (pos y) 1 1 ≡ days_from_civil (pos (y - 1)) 12 31 +ℤ pos 1 =
-            days_from_civil-next_year (pos (y - 1)) (pos y) (omega (arith, signed_arith)) (omega (arith, signed_arith)) in
+        days_from_civil-next_year (pos (y - 1)) (pos y) (omega (arith, signed_arith)) (omega (arith, signed_arith)) in
         let before : days_after n ≡ date_at (y - 1) 12 31 = forward n (y - 1) 12 31
-            (record { first_month = omega arith; last_month = omega arith; first_day = omega arith; last_day = omega arith })
-            (omega (arith, signed_arith)) in
+        (record { first_month = omega arith; last_month = omega arith; first_day = omega arith; last_day = omega arith })
+        (omega (arith, signed_arith)) in
         rw (← one, ← first, before) (after_year y (omega arith))
   ]
 ]
@@ -145,26 +145,26 @@ backward zero y m d h e = at_epoch y m d h e
 backward (suc n) y m d h e = elim (cases_order d (days_in_month (pos y) m)) [
   | inr (inl less) ↦
       let after : days_before n ≡ date_at y m (d + 1) = backward n y m (d + 1)
-          (record { first_month = h.first_month; last_month = h.last_month; first_day = omega arith; last_day = omega arith })
-          (omega (arith, signed_arith, days_from_civil-day (pos y) m d (d + 1) h.first_day (omega arith))) in
+      (record { first_month = h.first_month; last_month = h.last_month; first_day = omega arith; last_day = omega arith })
+      (omega (arith, signed_arith, days_from_civil-day (pos y) m d (d + 1) h.first_day (omega arith))) in
       rw after (before_within y m d h.first_day)
   | inr (inr more) ↦ absurd (omega (arith, h.last_day))
   | inl last ↦ elim (cases_order m 12) [
     | inr (inl less) ↦
         let number = days_from_civil-next_month (pos y) m d h.first_month last in
         let after : days_before n ≡ date_at y (m + 1) 1 = backward n y (m + 1) 1
-            (record { first_month = omega arith; last_month = omega arith; first_day = omega arith; last_day = omega (arith, days_in_month_bounds (pos y) (m + 1)) })
-            (omega (arith, signed_arith)) in
+        (record { first_month = omega arith; last_month = omega arith; first_day = omega arith; last_day = omega (arith, days_in_month_bounds (pos y) (m + 1)) })
+        (omega (arith, signed_arith)) in
         rw (after, last) (before_month y m h.first_month)
     | inr (inr more) ↦ absurd (omega (arith, h.last_month))
     | inl december ↦
         let end : d ≡ 31 = rw december at last in
         let here : days_from_civil (pos y) 12 31 ≡ neg_ℤ (pos (suc n)) = rw (december, end) at e in
         let number : days_from_civil (pos (y + 1)) 1 1 ≡ days_from_civil (pos y) 12 31 +ℤ pos 1 =
-            days_from_civil-next_year (pos y) (pos (y + 1)) (omega (arith, signed_arith)) (omega (arith, signed_arith)) in
+        days_from_civil-next_year (pos y) (pos (y + 1)) (omega (arith, signed_arith)) (omega (arith, signed_arith)) in
         let after : days_before n ≡ date_at (y + 1) 1 1 = backward n (y + 1) 1 1
-            (record { first_month = omega arith; last_month = omega arith; first_day = omega arith; last_day = omega (arith, days_in_month_bounds (pos (y + 1)) 1) })
-            (omega (arith, signed_arith)) in
+        (record { first_month = omega arith; last_month = omega arith; first_day = omega arith; last_day = omega (arith, days_in_month_bounds (pos (y + 1)) 1) })
+        (omega (arith, signed_arith)) in
         rw (december, end, after) (before_year y)
   ]
 ]

@@ -1,3 +1,5 @@
 pub mod CivilDays
+pub mod CsvText
 pub mod Escapes
+pub mod Growing
 pub mod Places

@@ -5,3 +5,4 @@ pub mod Moments
 pub mod Rows
 pub mod Text
 pub mod Uris
+pub mod Writing

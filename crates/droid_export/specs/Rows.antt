@@ -5,6 +5,7 @@ use Rattle.std.specs.Fmt.{decimal}
 use Rattle.hex.specs.Hex.{encode_lower}
 use Rattle.droid_frame.specs.declared.method.Method.{Method}
 use Rattle.droid_frame.specs.declared.method.Method.TheVariants.{Unidentified, Signature, Extension}
+use Rattle.droid_frame.specs.declared.node_kind.NodeKind.{NodeKind}
 use Rattle.droid_frame.specs.declared.record.Record.{Record}
 use Rattle.droid_pronom.specs.Registry.{Contents, place_of}
 use Rattle.droid_pronom.specs.declared.registry.format.Format.{Format}
@@ -43,11 +44,25 @@ fields row =
 -- the names of the columns
 abbrev pub header : Row
 header = record {
-  id = codes "ID"; parent_id = codes "PARENT_ID"; uri = codes "URI"; file_path = codes "FILE_PATH"; name = codes "NAME";
-  method = codes "METHOD"; status = codes "STATUS"; size = codes "SIZE"; kind = codes "TYPE"; ext = codes "EXT";
-  last_modified = codes "LAST_MODIFIED"; extension_mismatch = codes "EXTENSION_MISMATCH"; md5_hash = codes "MD5_HASH";
-  format_count = codes "FORMAT_COUNT"; puid = codes "PUID"; mime_type = codes "MIME_TYPE"; format_name = codes "FORMAT_NAME";
-  format_version = codes "FORMAT_VERSION" }
+  id = codes "ID";
+  parent_id = codes "PARENT_ID";
+  uri = codes "URI";
+  file_path = codes "FILE_PATH";
+  name = codes "NAME";
+  method = codes "METHOD";
+  status = codes "STATUS";
+  size = codes "SIZE";
+  kind = codes "TYPE";
+  ext = codes "EXT";
+  last_modified = codes "LAST_MODIFIED";
+  extension_mismatch = codes "EXTENSION_MISMATCH";
+  md5_hash = codes "MD5_HASH";
+  format_count = codes "FORMAT_COUNT";
+  puid = codes "PUID";
+  mime_type = codes "MIME_TYPE";
+  format_name = codes "FORMAT_NAME";
+  format_version = codes "FORMAT_VERSION";
+}
 
 -- what the four columns of a format show
 pub record Shown : Type 0 where
@@ -64,10 +79,19 @@ no_format = record { puid = []; mime_type = []; name = []; version = [] }
 unfoldable pub format_of : Contents → List ℕ → Option Format
 format_of registry puid = option_and_then (λ place. slice_get registry.formats place) (place_of puid registry.formats)
 
--- what a PUID shows: of a PUID that the registry lacks only itself
+-- a part of a format, and nothing where there is none
+abbrev pub of_format : Option Format → (Format → List ℕ) → List ℕ
+of_format (Some format) part = part format
+of_format None part = []
+
+-- what a PUID shows: of one that the registry lacks only itself
 abbrev pub shown_by : List ℕ → Option Format → Shown
-shown_by puid (Some format) = record { puid = puid; mime_type = format.mime; name = format.name; version = format.version }
-shown_by puid None = record { puid = puid; mime_type = []; name = []; version = [] }
+shown_by puid format = record {
+  puid = puid;
+  mime_type = of_format format (λ it. it.mime);
+  name = of_format format (λ it. it.name);
+  version = of_format format (λ it. it.version);
+}
 
 abbrev pub shown : Contents → List ℕ → Shown
 shown registry puid = shown_by puid (format_of registry puid)
@@ -86,6 +110,10 @@ truth b = if b then codes "true" else codes "false"
 abbrev pub parent_text : ℕ → List ℕ
 parent_text n = if n == 0 then [] else decimal n
 
+-- the name of a kind of node
+abbrev pub kind_name : NodeKind → List ℕ
+kind_name kind = if is_file kind then codes "File" else codes "Folder"
+
 -- what a column shows of files, and nothing for folders
 abbrev pub of_file : Record → List ℕ → List ℕ
 of_file node text = if is_file node.kind then text else []
@@ -101,7 +129,7 @@ row node format = record {
   method = method_name node.method;
   status = codes "Done";
   size = of_file node (decimal node.size);
-  kind = if is_file node.kind then codes "File" else codes "Folder";
+  kind = kind_name node.kind;
   ext = extension node;
   last_modified = moment_text node.modified;
   extension_mismatch = truth (mismatch node);
@@ -110,7 +138,8 @@ row node format = record {
   puid = format.puid;
   mime_type = format.mime_type;
   format_name = format.name;
-  format_version = format.version }
+  format_version = format.version;
+}
 
 -- the rows of a record: one for each format, in order, or one without a format
 abbrev pub rows_by : Contents → Record → List (List ℕ) → List Row

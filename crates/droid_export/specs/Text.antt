@@ -13,9 +13,13 @@ use Rattle.droid_export.specs.Rows.{Row, fields, header, rows}
 abbrev pub row_text : Row → List ℕ
 row_text row = line (fields row)
 
--- the rows that an export shows: the header, and those of each record that meets the filter
+-- the rows of each record that meets the filter
+abbrev pub chosen_rows : Contents → Filter → List Record → List Row
+chosen_rows registry criteria records = flat_map (rows registry) (filter (meets criteria) records)
+
+-- the rows that an export shows
 abbrev pub shown_rows : Contents → Filter → List Record → List Row
-shown_rows registry criteria records = header ∷ flat_map (rows registry) (filter (meets criteria) records)
+shown_rows registry criteria records = header ∷ chosen_rows registry criteria records
 
 -- the text of an export
 unfoldable pub text : Contents → Filter → List Record → List ℕ

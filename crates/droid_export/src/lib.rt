@@ -1,11 +1,16 @@
 //! The export: the records of a profile as CSV, after DROID's.
 #![tactic(auto)]
 
+mod common;
 mod extension;
 mod filter;
 mod moment;
 mod node_uri;
+mod rows;
+mod table;
+mod text;
 
 pub use filter::meets;
 pub use moment::moment_text;
 pub use node_uri::uri;
+pub use text::export_text;

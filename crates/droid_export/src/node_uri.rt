@@ -9,7 +9,12 @@ use std::alloc::{AllocError, Global};
 
 /// The ASCII bytes of a path that are escaped. So is every other byte that isn't ASCII.
 const ESCAPED: AsciiSet = ascii_set!(
-    NON_ALPHANUMERIC.remove(b'-').remove(b'.').remove(b'_').remove(b'~').remove(b'/')
+    NON_ALPHANUMERIC
+        .remove(b'-')
+        .remove(b'.')
+        .remove(b'_')
+        .remove(b'~')
+        .remove(b'/')
 );
 
 /// The URI of a node with this path: `file:` and the path, with each byte as `%` and two upper-case digits
