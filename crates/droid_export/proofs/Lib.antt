@@ -3,3 +3,4 @@ pub mod CsvText
 pub mod Escapes
 pub mod Growing
 pub mod Places
+pub mod Stopping

@@ -1,5 +1,6 @@
 pub mod Civil
 pub mod Csv
+pub mod Exporting
 pub mod Filters
 pub mod Moments
 pub mod Rows

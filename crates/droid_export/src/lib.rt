@@ -3,14 +3,18 @@
 
 mod common;
 mod extension;
+mod fault;
 mod filter;
 mod moment;
 mod node_uri;
 mod rows;
 mod table;
 mod text;
+mod writing;
 
+pub use fault::ExportFault;
 pub use filter::meets;
 pub use moment::moment_text;
 pub use node_uri::uri;
 pub use text::export_text;
+pub use writing::export;
