@@ -5,6 +5,7 @@ mod common;
 mod extension;
 mod fault;
 mod filter;
+mod laws;
 mod moment;
 mod node_uri;
 mod rows;
@@ -14,6 +15,7 @@ mod writing;
 
 pub use fault::ExportFault;
 pub use filter::meets;
+pub use laws::text_is_read_back;
 pub use moment::moment_text;
 pub use node_uri::uri;
 pub use text::export_text;
