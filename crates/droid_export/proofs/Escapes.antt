@@ -1,8 +1,8 @@
 -- The bytes that are escaped in a URI.
-use Rattle.std.proofs.Common.{◌≡◌, ℕ, zero, suc, ◌+◌, ◌/◌, ◌%◌, ◌<◌, Bool, true, false, not, refl, ap, sym, ◌∙◌, List, [], ◌∷◌, ◌++◌, length, get_or, arith}
+use Rattle.std.proofs.Common.{◌≡◌, ℕ, suc, ◌/◌, ◌%◌, ◌<◌, Bool, true, false, not, refl, List, [], ◌∷◌, get_or, arith}
 use Rattle.std.specs.List.{flat_map}
-use Rattle.std.proofs.lemmas.Bool.{agree_below, agree_below_at, cases_Bool}
-use Rattle.percent_encoding.specs.AsciiSet.{contains, should_percent_encode}
+use Rattle.std.proofs.lemmas.Bool.{agree_below, agree_below_at}
+use Rattle.percent_encoding.specs.AsciiSet.{should_percent_encode}
 use Rattle.percent_encoding.specs.Percent.{encode_byte, percent_encode_byte, percent_encode}
 use Rattle.droid_export.specs.declared.node_uri.TheConstants.{ESCAPED}
 use Rattle.droid_export.specs.Uris.{stands_for_itself, escaped_byte, hex_digit}

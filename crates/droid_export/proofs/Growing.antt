@@ -1,14 +1,14 @@
 -- A text that grows by what each item of a list gives.
-use Rattle.std.proofs.Common.{◌≡◌, ℕ, ◌+◌, ◌<◌, ◌≤◌, Bool, true, false, cond, List, [], ◌∷◌, ◌++◌, Option, Some, None, length, take, map, get_or, refl, ap, sym, ◌∙◌, append_assoc, arith}
+use Rattle.std.proofs.Common.{◌≡◌, ℕ, ◌+◌, ◌<◌, true, false, List, [], ◌∷◌, ◌++◌, Some, length, take, map, get_or, refl, ap, sym, ◌∙◌}
 use Rattle.std.specs.Prelude.{filter}
 use Rattle.std.specs.List.{flat_map, slice_get}
 use Rattle.droid_frame.specs.declared.filter.Filter.{Filter}
 use Rattle.droid_frame.specs.declared.record.Record.{Record}
 use Rattle.droid_pronom.specs.Registry.{Contents}
 use Rattle.droid_export.specs.Filters.{meets}
-use Rattle.droid_export.specs.Rows.{Row, no_format, row, rows, rows_by, shown}
+use Rattle.droid_export.specs.Rows.{no_format, row, rows, rows_by, shown}
 use Rattle.droid_export.specs.Text.{chosen_rows, row_text}
-use Rattle.std.proofs.lemmas.List.{append-nil, flat_map_more, take_more, take_all}
+use Rattle.std.proofs.lemmas.List.{append-nil, flat_map_more, take_more}
 use Rattle.std.proofs.lemmas.List.Elements.{filter_more}
 use Rattle.std.proofs.lemmas.Grind.{flat_map-append}
 use Rattle.std.proofs.lemmas.Option.{slice_get_within, get_or_from_slice_get}

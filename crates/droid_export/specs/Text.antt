@@ -1,5 +1,5 @@
 -- The text of an export.
-use Rattle.std.specs.Prelude.{ℕ, List, [], ◌∷◌, ◌++◌, filter}
+use Rattle.std.specs.Prelude.{ℕ, List, ◌∷◌, filter}
 use Rattle.std.specs.List.{flat_map, AllByRecursion}
 use Rattle.droid_frame.specs.declared.filter.Filter.{Filter}
 use Rattle.droid_frame.specs.declared.record.Record.{Record}

@@ -1,5 +1,5 @@
 -- What the private calls on the way to the text keep: for proofs alone.
-use Rattle.std.specs.Prelude.{◌≡◌, ℕ, false, List, [], ◌∷◌, length, Some, string_bytes}
+use Rattle.std.specs.Prelude.{◌≡◌, ℕ, false, List, length, Some, string_bytes}
 use Rattle.std.specs.Fmt.{decimal}
 use Rattle.std.specs.declared.vec.Vec.{Vec}
 use Rattle.std.specs.declared.alloc.Global.{Global}

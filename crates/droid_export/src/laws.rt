@@ -14,5 +14,4 @@ ghost use Rattle.droid_export.specs.Text.{shown_rows, text};
 pub fn text_is_read_back()
     ensures { (registry : Contents) (criteria : Filter) (nodes : List Record) →
         AreRecords default_config st.StartRecord (strip_bom (text registry criteria nodes)) (map fields (shown_rows registry criteria nodes)) }
-{
-}
+{}

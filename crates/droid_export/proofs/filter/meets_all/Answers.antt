@@ -1,4 +1,4 @@
-use Rattle.std.proofs.Common.{◌≡◌, ◌∙◌, sym, ap, arith}
+use Rattle.std.proofs.Common.{◌∙◌, sym, arith}
 use Rattle.droid_export.specs.Filters.{is_met}
 use Rattle.droid_export.proofs.Places.{all_missed, all_next, all_end, some_is_there}
 use Rattle.droid_export.proofs.filter.meets_all.Goals as goal

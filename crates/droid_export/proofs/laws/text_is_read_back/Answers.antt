@@ -1,11 +1,8 @@
-use Rattle.std.proofs.Common.{◌≡◌, List, ℕ, ◌∷◌, [], ◌++◌, map, refl, subst, sym}
+use Rattle.std.proofs.Common.{◌≡◌, List, ℕ, ◌∷◌, [], map, refl, subst, sym}
 use Rattle.std.specs.List.{flat_map}
 use Rattle.csv.specs.Machine.{next_record}
-use Rattle.csv.specs.Reading.{AreRecords, Reached, default_config, strip_bom}
+use Rattle.csv.specs.Reading.{AreRecords, default_config, strip_bom}
 use Rattle.csv.specs.declared.parser.State.TheVariants as st
-use Rattle.droid_frame.specs.declared.filter.Filter.{Filter}
-use Rattle.droid_frame.specs.declared.record.Record.{Record}
-use Rattle.droid_pronom.specs.Registry.{Contents}
 use Rattle.droid_export.specs.Csv.{quoted, joined, line}
 use Rattle.droid_export.specs.Rows.{Row, fields, header}
 use Rattle.droid_export.specs.Text.{chosen_rows, row_text, shown_rows, text}

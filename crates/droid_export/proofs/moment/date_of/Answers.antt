@@ -1,11 +1,9 @@
-use Rattle.std.proofs.Common.{◌≡◌, ℕ, ◌≤◌, arith, ap, sym, ◌∙◌, FitsSigned, w16, w64, ℤ, pos, negsuc, neg_ℤ, ◌≤ℤ◌, unsigned_abs, rules}
+use Rattle.std.proofs.Common.{◌≡◌, ap, sym, ◌∙◌, FitsSigned, w16, w64, pos, neg_ℤ, ◌≤ℤ◌, rules}
 use Rattle.std.proofs.lemmas.Int.{to_z-of_z}
 use Rattle.std.specs.Int.{int_div_euclid}
-use Rattle.jiff_core.proofs.SignedLemmas.{signed_arith}
 use Rattle.jiff_core.specs.Calendar.{days_from_civil}
-use Rattle.droid_export.specs.Civil.{Civil, civil}
-use Rattle.droid_export.specs.Moments.{date_of}
-use Rattle.droid_export.proofs.CivilDays.{civil_parts, days_late, year_is_positive, date_at}
+use Rattle.droid_export.specs.Civil.{Civil}
+use Rattle.droid_export.proofs.CivilDays.{civil_parts, days_late, year_is_positive}
 use Rattle.droid_export.proofs.moment.date_of.Goals as goal
 
 pub overflow_cast-result : goal.overflow_cast-result

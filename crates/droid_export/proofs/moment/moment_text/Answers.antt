@@ -1,6 +1,5 @@
-use Rattle.std.proofs.Common.{◌≡◌, List, ℕ, Result, Ok, Err, IsOk, refl}
+use Rattle.std.proofs.Common.{Result, Ok, Err, IsOk, refl}
 use Rattle.std.specs.Prelude.{MatchResult}
-use Rattle.std.specs.Str.{IsUtf8}
 use Rattle.std.proofs.lemmas.Str.{IsUtf8-from_ascii}
 use Rattle.droid_export.proofs.moment.moment_text.Goals as goal
 

@@ -1,4 +1,4 @@
-use Rattle.std.proofs.Common.{◌≡◌, ◌++◌, ◌<◌, ℕ, ap, sym, ◌∙◌, arith, get_or, refl}
+use Rattle.std.proofs.Common.{arith, refl}
 use Rattle.droid_export.specs.Uris as uris
 use Rattle.droid_export.proofs.Escapes.{escaped_path}
 use Rattle.droid_export.proofs.node_uri.uri.Goals as goal

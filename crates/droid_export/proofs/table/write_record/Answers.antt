@@ -1,9 +1,9 @@
-use Rattle.std.proofs.Common.{◌≡◌, ◌≢◌, ◌<◌, ◌++◌, ℕ, List, [], ◌∷◌, length, map, refl, ap, sym, ◌∙◌, arith, Bor, Option, Some, None}
+use Rattle.std.proofs.Common.{◌≡◌, ◌≢◌, ◌<◌, ◌++◌, ℕ, List, [], ◌∷◌, length, map, refl, ◌∙◌, arith, Bor, Option, Some, None}
 use Rattle.std.specs.Io.KnownBytes.{Appends}
 use Rattle.csv.specs.Writing as csv
 use Rattle.csv.specs.declared.writer.QuoteStyle.TheVariants as style
 use Rattle.droid_export.specs.Csv.{line}
-use Rattle.droid_export.specs.Writing.{Holds, always}
+use Rattle.droid_export.specs.Writing.{always}
 use Rattle.droid_export.proofs.CsvText.{line_same}
 use Rattle.std.proofs.lemmas.List.{length-map}
 use Rattle.droid_export.proofs.table.write_record.Goals as goal

@@ -1,4 +1,4 @@
-use Rattle.std.proofs.Common.{◌≡◌, ◌∙◌, ◌++◌}
+use Rattle.std.proofs.Common.{◌∙◌}
 use Rattle.droid_export.specs.Text.{text}
 use Rattle.droid_export.proofs.text.export_text.Goals as goal
 

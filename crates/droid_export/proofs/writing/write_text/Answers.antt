@@ -1,4 +1,4 @@
-use Rattle.std.proofs.Common.{◌≡◌, ℕ}
+use Rattle.std.proofs.Common.{ℕ}
 use Rattle.droid_stream.specs.Seen.{Counts}
 use Rattle.droid_stream.proofs.Scopes.{counts_none}
 use Rattle.droid_export.proofs.Stopping.{stops, goes_on}
