@@ -1,0 +1,30 @@
+-- The text of an export.
+use Rattle.std.specs.Prelude.{ℕ, List, ◌∷◌, filter}
+use Rattle.std.specs.List.{flat_map, AllByRecursion}
+use Rattle.droid_frame.specs.declared.filter.Filter.{Filter}
+use Rattle.droid_frame.specs.declared.record.Record.{Record}
+use Rattle.droid_pronom.specs.Registry.{Contents}
+use Rattle.droid_export.specs.Csv.{line}
+use Rattle.droid_export.specs.Filters.{meets}
+use Rattle.droid_export.specs.Moments.{IsMoment}
+use Rattle.droid_export.specs.Rows.{Row, fields, header, rows}
+
+-- a row as a record of CSV
+abbrev pub row_text : Row → List ℕ
+row_text row = line (fields row)
+
+-- the rows of each record that meets the filter
+abbrev pub chosen_rows : Contents → Filter → List Record → List Row
+chosen_rows registry criteria records = flat_map (rows registry) (filter (meets criteria) records)
+
+-- the rows that an export shows
+abbrev pub shown_rows : Contents → Filter → List Record → List Row
+shown_rows registry criteria records = header ∷ chosen_rows registry criteria records
+
+-- the text of an export
+unfoldable pub text : Contents → Filter → List Record → List ℕ
+text registry criteria records = flat_map row_text (shown_rows registry criteria records)
+
+-- each record was modified at a moment that can be written
+abbrev pub HaveMoments : List Record → Type 0
+HaveMoments = AllByRecursion (λ node. IsMoment node.modified)

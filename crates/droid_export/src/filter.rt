@@ -1,0 +1,132 @@
+//! Which records a filter lets through.
+
+ghost use Rattle.std.specs.Prelude.{◌≡◌};
+ghost use Rattle.std.specs.List.{list_any, list_all};
+ghost use Rattle.droid_export.specs.Filters.{is_among, is_among_in_any_case, is_file, is_met, mismatch, same_method, same_truth};
+ghost use Rattle.droid_export.specs.Filters as filters;
+
+use crate::extension::extension;
+use droid_frame::{Criteria, Criterion, Filter, Method, NodeKind, Record, Texts};
+
+/// Whether a record meets a filter. It takes no memory.
+///
+/// With `all` the record has to meet every criterion, without it at least one. A filter without criteria lets
+/// every record through in both modes. Extensions are compared without regard to the case of ASCII letters,
+/// identifiers byte for byte; no folder has a size.
+#[tactic(auto, unfolding(crate::specs::Filters::meets))]
+pub fn meets(filter: &Filter, node: &Record) -> bool
+    ensures { result ≡ filters.meets filter.now node.now }
+{
+    if filter.all {
+        meets_all(&filter.criteria, node)
+    } else if filter.criteria.is_empty() {
+        true
+    } else {
+        meets_any(&filter.criteria, node)
+    }
+}
+
+fn meets_all(criteria: &Criteria, node: &Record) -> bool
+    ensures { result ≡ list_all (is_met node.now) criteria.now }
+{
+    for place in 0..criteria.len() {
+        if let Some(criterion) = criteria.get(place) {
+            if !is_met(criterion, node) {
+                return false;
+            }
+        }
+    }
+    true
+}
+
+fn meets_any(criteria: &Criteria, node: &Record) -> bool
+    ensures { result ≡ list_any (is_met node.now) criteria.now }
+{
+    for place in 0..criteria.len() {
+        if let Some(criterion) = criteria.get(place) {
+            if is_met(criterion, node) {
+                return true;
+            }
+        }
+    }
+    false
+}
+
+#[tactic(auto, unfolding(crate::specs::Filters::is_met))]
+fn is_met(criterion: &Criterion, node: &Record) -> bool
+    ensures { result ≡ is_met node.now criterion.now }
+{
+    match criterion {
+        Criterion::MethodIs(method) => is_same_method(*method, node.method),
+        Criterion::PuidIn(texts) => shares_one(texts, &node.puids),
+        Criterion::ExtIn(texts) => is_among_in_any_case(texts, extension(node)),
+        Criterion::MismatchIs(wanted) => *wanted == mismatch(node),
+        Criterion::SizeAtLeast(size) => is_file(node.kind) && *size <= node.size,
+        Criterion::SizeAtMost(size) => is_file(node.kind) && node.size <= *size,
+        Criterion::KindIs(kind) => is_file(*kind) == is_file(node.kind),
+    }
+}
+
+fn is_same_method(left: Method, right: Method) -> bool
+    ensures { result ≡ same_method left right }
+{
+    left == right
+}
+
+/// Whether a node is a file, and not a folder.
+pub(crate) fn is_file(kind: NodeKind) -> bool
+    ensures { result ≡ is_file kind }
+{
+    match kind {
+        NodeKind::File => true,
+        NodeKind::Folder => false,
+    }
+}
+
+/// Whether a record's extension is none of its formats'. A folder's never is.
+#[tactic(auto, unfolding(crate::specs::Filters::mismatch))]
+pub(crate) fn mismatch(node: &Record) -> bool
+    ensures { result ≡ mismatch node.now }
+{
+    is_file(node.kind) && node.mismatch
+}
+
+/// Whether one of the identifiers is among the texts, byte for byte.
+fn shares_one(texts: &Texts, puids: &Texts) -> bool
+    ensures { result ≡ list_any (λ puid. is_among texts.now puid) puids.now }
+{
+    for place in 0..puids.len() {
+        if let Some(puid) = puids.get(place) {
+            if is_among(texts, puid.as_str()) {
+                return true;
+            }
+        }
+    }
+    false
+}
+
+fn is_among(texts: &Texts, text: &str) -> bool
+    ensures { result ≡ is_among texts.now text.now }
+{
+    for place in 0..texts.len() {
+        if let Some(other) = texts.get(place) {
+            if text == other.as_str() {
+                return true;
+            }
+        }
+    }
+    false
+}
+
+fn is_among_in_any_case(texts: &Texts, text: &str) -> bool
+    ensures { result ≡ is_among_in_any_case texts.now text.now }
+{
+    for place in 0..texts.len() {
+        if let Some(other) = texts.get(place) {
+            if text.eq_ignore_ascii_case(other.as_str()) {
+                return true;
+            }
+        }
+    }
+    false
+}

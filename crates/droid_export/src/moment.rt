@@ -1,0 +1,80 @@
+//! How a moment is written.
+
+ghost use Rattle.std.specs.Prelude.{◌≡◌, ◌<◌, IfOk, IsAscii};
+ghost use Rattle.droid_export.specs.Moments.{IsMoment, date_of, second_of_day, two_digits};
+ghost use Rattle.droid_export.specs.Moments as moments;
+
+use droid_frame::Text;
+use jiff_core::civil::Date;
+use std::alloc::{AllocError, Global};
+
+/// How many seconds a day has.
+const DAY: i64 = 86_400;
+
+/// A moment, seconds since 1970-01-01T00:00:00, as `yyyy-mm-ddThh:mm:ss` in UTC. Its date is the one that lies
+/// so many days after 1970-01-01 as the seconds make, rounded down. Only want of memory refuses it.
+///
+/// A moment has to lie from 0001-01-01T00:00:00 to 9999-12-31T23:59:59, so the caller sees to that.
+pub fn moment_text(alloc: Global, modified: i64) -> Result<Text, AllocError>
+    requires { IsMoment modified }
+    ensures { IfOk result (λ text. text ≡ moments.moment_text modified) }
+{
+    let bytes = moment_bytes(modified);
+    let text = str::from_utf8(&bytes).unwrap();
+    Text::copy_of(alloc, text)
+}
+
+/// The bytes of that text. It takes no memory.
+#[tactic(auto, unfolding(crate::specs::Moments::moment_text))]
+pub(crate) fn moment_bytes(modified: i64) -> [u8; 19]
+    requires { IsMoment modified }
+    ensures value { result ≡ moments.moment_text modified }
+    ensures ascii { IsAscii result }
+{
+    let date = date_of(modified);
+    let second = modified.rem_euclid(DAY) as u32;
+    let [y1, y2] = two_digits((date.year / 100) as u8);
+    let [y3, y4] = two_digits((date.year % 100) as u8);
+    let [mo1, mo2] = two_digits(date.month);
+    let [d1, d2] = two_digits(date.day);
+    let [h1, h2] = two_digits((second / 3_600) as u8);
+    let [mi1, mi2] = two_digits((second / 60 % 60) as u8);
+    let [s1, s2] = two_digits((second % 60) as u8);
+    [
+        y1, y2, y3, y4, b'-', mo1, mo2, b'-', d1, d2, b'T', h1, h2, b':', mi1, mi2, b':', s1, s2,
+    ]
+}
+
+/// A date of the civil calendar.
+#[derive(Clone, Copy)]
+struct Civil {
+    year: u16,
+    month: u8,
+    day: u8,
+}
+
+fn date_of(modified: i64) -> Civil
+    requires { IsMoment modified }
+    ensures year { result.year ≡ (date_of modified).year }
+    ensures month { result.month ≡ (date_of modified).month }
+    ensures day { result.day ≡ (date_of modified).day }
+    ensures four_digits { result.year < 10000 }
+    ensures two_digits { (result.month < 100) × (result.day < 100) }
+{
+    let days = modified.div_euclid(DAY);
+    let date = Date::from_unix_epoch_day(days).unwrap();
+    Civil {
+        year: date.year as u16,
+        month: date.month,
+        day: date.day,
+    }
+}
+
+/// Two decimal digits.
+fn two_digits(n: u8) -> [u8; 2]
+    requires { n < 100 }
+    ensures value { result ≡ two_digits n }
+    ensures ascii { IsAscii result }
+{
+    [b'0' + n / 10, b'0' + n % 10]
+}

@@ -1,0 +1,56 @@
+//! The text of an export.
+
+ghost use Rattle.std.specs.Prelude.{◌≡◌, ◌++◌, ℕ, List, IfOk, OnOk};
+ghost use Rattle.std.specs.List.{flat_map};
+ghost use Rattle.droid_export.specs.Text.{HaveMoments, chosen_rows, row_text, text};
+ghost use Rattle.droid_export.specs.Writing.{Holds};
+
+use crate::filter::meets;
+use crate::rows::{write_header, write_rows};
+use crate::table::{finish, new_writer};
+use csv::Writer;
+use droid_frame::{Blob, Filter, Record};
+use droid_pronom::Registry;
+use std::alloc::{AllocError, Global};
+
+/// The text of an export, as CSV (RFC 4180) with every field between double quotes and a line feed after each
+/// row: the names of the columns, and the rows of each record that meets the filter, in the order of the
+/// records. A record has a row for each of its formats, in order, or one whose last four fields are empty. Of a
+/// format that the registry lacks only its identifier is shown. Only want of memory refuses it.
+///
+/// Each record has to be modified at a moment from 0001-01-01T00:00:00 to 9999-12-31T23:59:59, so the caller
+/// sees to that.
+#[tactic(auto, unfolding(crate::specs::Text::text))]
+pub fn export_text(
+    alloc: Global,
+    records: &[Record],
+    registry: &Registry,
+    filter: &Filter,
+) -> Result<Blob, AllocError>
+    requires { HaveMoments records.now }
+    ensures { IfOk result (λ bytes. bytes ≡ text registry.now filter.now records.now) }
+{
+    let mut writer = new_writer(alloc);
+    write_header(&mut writer)?;
+    write_records(alloc, &mut writer, records, registry, filter)?;
+    Ok(Blob::from(finish(writer)?))
+}
+
+/// Writes the rows of each record that meets the filter.
+fn write_records(
+    alloc: Global,
+    writer: &mut Writer<Vec<u8>>,
+    records: &[Record],
+    registry: &Registry,
+    filter: &Filter,
+) -> Result<(), AllocError>
+    requires { HaveMoments records.now }
+    ensures { OnOk result ((before : List ℕ) → Holds writer.old before → Holds writer.new (before ++ flat_map row_text (chosen_rows registry.now filter.now records.now))) }
+{
+    for node in records {
+        if meets(filter, node) {
+            write_rows(alloc, writer, registry, node)?;
+        }
+    }
+    Ok(())
+}

@@ -1,0 +1,58 @@
+//! Writing an export.
+
+ghost use Rattle.std.specs.Prelude.{◌≡◌, ◌<◌, ◌^◌, IfErr, OnOk, IsErrOf, OnErr, length};
+ghost use Rattle.std.specs.Io.KnownBytes.{Appends};
+ghost use Rattle.droid_stream.specs.Seen.{IsSound, Lasts};
+ghost use Rattle.droid_stream.specs.Writes.{Stops, StopsWithin, Takes};
+ghost use Rattle.droid_export.specs.Exporting.{GoesOut, SaysStopped, UsesRoom};
+ghost use Rattle.droid_export.specs.Text.{HaveMoments, text};
+
+use crate::fault::ExportFault;
+use crate::text::export_text;
+use droid_frame::{Filter, Record};
+use droid_pronom::Registry;
+use droid_stream::{Progress, SteadyWrite, WriteFault, write_all};
+use std::alloc::Global;
+
+/// Writes the text of an export, the one that [`export_text`] gives. Want of memory comes before anything is
+/// written. An interrupted write is tried again, 64 times over all of the text; a write that takes no byte is
+/// a fault.
+///
+/// Each record has to be modified at a moment from 0001-01-01T00:00:00 to 9999-12-31T23:59:59, so the caller
+/// sees to that.
+pub fn export<W: SteadyWrite>(
+    alloc: Global,
+    records: &[Record],
+    registry: &Registry,
+    filter: &Filter,
+    writer: &mut W,
+) -> Result<(), ExportFault>
+    requires { HaveMoments records.now }
+    // All of the text went out; or nothing; or exactly its first `written` bytes.
+    ensures bytes { GoesOut (W.contents writer.old) (W.contents writer.new) (text registry.now filter.now records.now) result }
+    // Want of memory leaves the writer as it was.
+    ensures memory { IsErrOf result ExportFault.Memory → writer.new ≡ writer.old }
+    ensures room { UsesRoom (W.room writer.old) (W.room writer.new) (text registry.now filter.now records.now) result }
+    // The writer is said to have stopped exactly where it did: it failed, was interrupted for the 65th time, or
+    // had no room for the rest.
+    ensures stopped { IsSound (W.seen writer.old) → SaysStopped result → Stops (W.seen writer.old).interruptions (W.seen writer.new) (W.room writer.new) }
+    ensures steady { IsSound (W.seen writer.old) → (SaysStopped result → ⊥) → Lasts (W.seen writer.old).interruptions (W.seen writer.new) }
+{
+    let text = export_text(alloc, records, registry, filter)?;
+    write_text(writer, text.as_slice())?;
+    Ok(())
+}
+
+/// Writes a text whole, or as far as the writer takes it.
+fn write_text<W: SteadyWrite>(writer: &mut W, bytes: &[u8]) -> Result<(), WriteFault>
+    requires { length bytes.now < 2 ^ 64 }
+    ensures ok { OnOk result (Appends (W.contents writer.old) (W.contents writer.new) bytes.now) }
+    ensures err { IfErr result (λ fault. StopsWithin (W.contents writer.old) (W.contents writer.new) bytes.now 0 fault.written) }
+    ensures room { OnOk result (Takes (W.room writer.old) (W.room writer.new) (length bytes.now)) }
+    ensures room_err { IfErr result (λ fault. Takes (W.room writer.old) (W.room writer.new) fault.written) }
+    ensures stopped { IsSound (W.seen writer.old) → OnErr result (Stops (W.seen writer.old).interruptions (W.seen writer.new) (W.room writer.new)) }
+    ensures steady { IsSound (W.seen writer.old) → OnOk result (Lasts (W.seen writer.old).interruptions (W.seen writer.new)) }
+{
+    let mut progress = Progress::new();
+    write_all(writer, bytes, &mut progress)
+}
