@@ -6,8 +6,6 @@ mod fault;
 mod places;
 mod sealed;
 mod spent;
-#[cfg(test)]
-mod tests;
 mod windows;
 
 pub use assembly::Assembly;

@@ -1,6 +1,6 @@
 -- no piece is pending
 use Rattle.std.proofs.Common.{◌≡◌, None}
-use Rattle.droid_assembly.proofs.tests.every_piece_is_kept.Given as goal
+use Rattle.assembly_tests.proofs.pieces.every_piece_is_kept.Given as goal
 
 abbrev pub invariant-loop-index : goal.invariant-loop-index
 invariant-loop-index g l = l.assembly.pending ≡ None

@@ -1,0 +1,123 @@
+//! Files put together from pieces, for the tests.
+
+ghost use Rattle.std.specs.Prelude.{◌≡◌, ◌++◌, ◌∷◌, [], List, IfOk, OnOk, None};
+ghost use Rattle.droid_assembly.specs.Pieces.{Piece};
+ghost use Rattle.droid_assembly.specs.State.{StandsFor};
+
+use droid_assembly::{Assembly, PutFault, Sealed};
+use droid_frame::Blob;
+use std::alloc::Global;
+use std::process::Abort;
+use std::test::Fail;
+
+/// The suite of RFC 1321, appendix A.5, but for its last two messages.
+pub const SUITE: [(&str, [u8; 16]); 5] = [
+    (
+        "",
+        [
+            0xd4, 0x1d, 0x8c, 0xd9, 0x8f, 0x00, 0xb2, 0x04, 0xe9, 0x80, 0x09, 0x98, 0xec, 0xf8,
+            0x42, 0x7e,
+        ],
+    ),
+    (
+        "a",
+        [
+            0x0c, 0xc1, 0x75, 0xb9, 0xc0, 0xf1, 0xb6, 0xa8, 0x31, 0xc3, 0x99, 0xe2, 0x69, 0x77,
+            0x26, 0x61,
+        ],
+    ),
+    (
+        "abc",
+        [
+            0x90, 0x01, 0x50, 0x98, 0x3c, 0xd2, 0x4f, 0xb0, 0xd6, 0x96, 0x3f, 0x7d, 0x28, 0xe1,
+            0x7f, 0x72,
+        ],
+    ),
+    (
+        "message digest",
+        [
+            0xf9, 0x6b, 0x69, 0x7d, 0x7c, 0xb7, 0x93, 0x8d, 0x52, 0x5a, 0x2f, 0x31, 0xaa, 0xf1,
+            0x61, 0xd0,
+        ],
+    ),
+    (
+        "abcdefghijklmnopqrstuvwxyz",
+        [
+            0xc3, 0xfc, 0xd3, 0xd7, 0x61, 0x92, 0xe4, 0x00, 0x7d, 0xfb, 0x49, 0x6c, 0xca, 0x67,
+            0xe1, 0x3b,
+        ],
+    ),
+];
+
+/// In which order the pieces of a file come in.
+#[derive(Clone, Copy, Debug)]
+pub enum Order {
+    Forward,
+    /// Each sixteen of them from the last to the first.
+    Backward,
+    /// Of each two the second first.
+    Swapped,
+}
+
+// The index of the piece that comes in at this turn, of so many in all.
+fn index_at(order: Order, turn: usize, count: usize) -> usize {
+    let last = count.saturating_sub(1);
+    match order {
+        Order::Forward => turn,
+        Order::Backward => {
+            let end = (turn | 15).min(last);
+            end.saturating_sub(turn % 16)
+        }
+        Order::Swapped => (turn ^ 1).min(last),
+    }
+}
+
+/// Puts a piece and settles it.
+pub fn take(assembly: &mut Assembly, index: u32, bytes: Blob) -> Result<(), PutFault>
+    requires { assembly.old.pending ≡ None }
+    ensures none_pending { assembly.new.pending ≡ None }
+    ensures stands { (pieces : List Piece) → StandsFor assembly.old pieces
+        → OnOk result (StandsFor assembly.new (pieces ++ (index, bytes) ∷ [])) }
+{
+    assembly.put(index, bytes)?;
+    let _ = assembly.settle();
+    Ok(())
+}
+
+/// The message in pieces of this size, put together in this order.
+pub fn assembled(
+    rt: &impl Abort,
+    alloc: Global,
+    message: &[u8],
+    piece_size: u32,
+    limit: u32,
+    order: Order,
+) -> Result<Assembly, Fail>
+    ensures { IfOk result (λ assembly. assembly.pending ≡ None) }
+{
+    let size = message.len() as u64;
+    assert!(rt; size <= 1 << 40 && 1 <= piece_size && piece_size <= 1 << 20);
+    assert!(rt; size.div_ceil(u64::from(piece_size)) <= 1 << 20);
+    assert!(rt; 1 <= limit && limit <= 1 << 16);
+    let mut assembly = Assembly::new(alloc, size, piece_size, limit)?;
+    let count = message.chunks(piece_size as usize).count();
+    for turn in 0..count {
+        let index = index_at(order, turn, count);
+        let chunk = message.chunks(piece_size as usize).nth(index);
+        let bytes = Blob::copy_of(alloc, chunk.unwrap_or(b""))?;
+        assert!(rt; index < 1 << 20);
+        take(&mut assembly, index as u32, bytes)?;
+    }
+    Ok(assembly)
+}
+
+/// What the file is sealed to, and its windows.
+pub fn expect_file(rt: &impl Abort, assembly: &mut Assembly, sealed: Sealed, first: &[u8], last: &[u8])
+    requires { assembly.old.pending ≡ None }
+    ensures { assembly.new.pending ≡ None }
+{
+    assert_eq!(rt; assembly.seal(), Ok(sealed));
+    let windows = assembly.windows();
+    assert_eq!(rt; windows.first, first);
+    assert_eq!(rt; windows.last, last);
+}

@@ -1,0 +1,9 @@
+//! Tests of the assembly of a file's pieces, over the public calls of `droid_assembly` alone.
+#![tactic(auto)]
+
+#[cfg(test)]
+mod files;
+#[cfg(test)]
+mod memory;
+#[cfg(test)]
+mod pieces;

@@ -1,0 +1,84 @@
+//! Memory: `new` alone takes any, answers where it is refused, and takes it again at the next call.
+
+ghost use Rattle.std.specs.Prelude.{◌≡◌, IfOk, None};
+
+use crate::files::{SUITE, expect_file, take};
+use droid_assembly::{Assembly, Sealed};
+use droid_frame::Blob;
+use std::alloc::{AllocError, Global};
+use std::process::Abort;
+use std::test::Fail;
+
+fn blob(alloc: Global, bytes: &[u8]) -> Result<Blob, AllocError> {
+    Blob::copy_of(alloc, bytes).or_else(|_| Blob::copy_of(alloc, bytes))
+}
+
+/// An assembly of nothing yet, for `abc` in pieces of two.
+fn empty_assembly(alloc: Global) -> Result<Assembly, AllocError>
+    ensures { IfOk result (λ assembly. assembly.pending ≡ None) }
+{
+    Assembly::new(alloc, 3, 2, 2).or_else(|_| Assembly::new(alloc, 3, 2, 2))
+}
+
+/// Every call after `new`, on pieces that are there already.
+fn call_each(
+    rt: &impl Abort,
+    assembly: &mut Assembly,
+    first: Blob,
+    again: Blob,
+    last: Blob,
+) -> Result<(), Fail>
+    requires { assembly.old.pending ≡ None }
+{
+    take(assembly, 1, last)?;
+    assembly.put(0, first)?;
+    assert_eq!(rt; assembly.pending(), Some(0));
+    assembly.take_back();
+    assert_eq!(rt; assembly.seal().is_err(), true);
+    assert!(rt; assembly.put(0, again).is_ok());
+    let spent = assembly.settle();
+    assert_eq!(rt; spent.len(), 0);
+    assert!(rt; spent.get(0).is_none());
+    assert_eq!(rt; assembly.held(), 2);
+    assert_eq!(rt; assembly.missing(), 2);
+    assert_eq!(rt; assembly.kept_bytes(), 3);
+    let sealed = Sealed {
+        size: 3,
+        md5: SUITE[2].1,
+    };
+    expect_file(rt, assembly, sealed, b"ab", b"bc");
+    expect_file(rt, assembly, sealed, b"ab", b"bc");
+    Ok(())
+}
+
+// It passes whichever single allocation is refused: tests/memory refuses each in turn.
+#[test]
+fn each_growth_refused(rt: HostRuntime) -> Result<(), Fail> {
+    let alloc = rt.alloc();
+    let mut assembly = empty_assembly(alloc)?;
+    let (first, again, last) = (blob(alloc, b"ab")?, blob(alloc, b"ab")?, blob(alloc, b"c")?);
+    call_each(&rt, &mut assembly, first, again, last)
+}
+
+// This test and the one above ask for the same number of allocations, so no call after `new` takes
+// memory: tests/memory counts both.
+#[test]
+fn growths_without_calls(rt: HostRuntime) -> Result<(), Fail> {
+    let alloc = rt.alloc();
+    let assembly = empty_assembly(alloc)?;
+    let (first, again, last) = (blob(alloc, b"ab")?, blob(alloc, b"ab")?, blob(alloc, b"c")?);
+    assert_eq!(rt; assembly.held(), 0);
+    assert_eq!(rt; first.len(), 2);
+    assert_eq!(rt; again.len(), 2);
+    assert_eq!(rt; last.len(), 1);
+    Ok(())
+}
+
+#[test]
+fn files_of_many_pieces(rt: HostRuntime) -> Result<(), Fail> {
+    for (size, piece_size) in [(1 << 20, 1), (1 << 40, 1 << 20), ((1 << 40) - 1, 1 << 20)] {
+        let assembly = Assembly::new(rt.alloc(), size, piece_size, 65_536)?;
+        assert_eq!(rt; assembly.missing(), 0);
+    }
+    Ok(())
+}
