@@ -3,10 +3,10 @@ use Rattle.std.specs.Prelude.{ℕ, ◌==◌, Bool, List, [], ◌∷◌, length, 
 use Rattle.std.specs.Option.{option_and_then}
 use Rattle.std.specs.Fmt.{decimal}
 use Rattle.hex.specs.Hex.{encode_lower}
-use Rattle.droid_frame.specs.declared.method.Method.{Method}
-use Rattle.droid_frame.specs.declared.method.Method.TheVariants.{Unidentified, Signature, Extension}
-use Rattle.droid_frame.specs.declared.node_kind.NodeKind.{NodeKind}
-use Rattle.droid_frame.specs.declared.record.Record.{Record}
+use Rattle.droid_frame.specs.types.method.Method.{Method}
+use Rattle.droid_frame.specs.types.method.Method.TheVariants.{Unidentified, Signature, Extension}
+use Rattle.droid_frame.specs.types.node_kind.NodeKind.{NodeKind}
+use Rattle.droid_frame.specs.types.record.Record.{Record}
 use Rattle.droid_pronom.specs.Registry.{Contents, place_of}
 use Rattle.droid_pronom.specs.declared.registry.format.Format.{Format}
 use Rattle.droid_export.specs.Filters.{extension, is_file, mismatch}

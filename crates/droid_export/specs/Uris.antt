@@ -1,8 +1,8 @@
 -- The URI of a node: `file:` and its path, percent-encoded (RFC 3986, section 2).
 use Rattle.std.specs.Prelude.{ℕ, ◌+◌, ◌/◌, ◌%◌, Bool, ◌||◌, ◌&&◌, ◌==◌, nat_lt, nat_le, List, [], ◌∷◌, ◌++◌, codes, if◌then◌else◌}
 use Rattle.std.specs.List.{flat_map}
-use Rattle.droid_frame.specs.declared.node_kind.NodeKind.{NodeKind}
-use Rattle.droid_frame.specs.declared.node_kind.NodeKind.TheVariants.{File, Folder}
+use Rattle.droid_frame.specs.types.node_kind.NodeKind.{NodeKind}
+use Rattle.droid_frame.specs.types.node_kind.NodeKind.TheVariants.{File, Folder}
 
 -- whether a byte lies from the first to the last
 abbrev pub is_from_to : ℕ → ℕ → ℕ → Bool

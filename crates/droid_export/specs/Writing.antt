@@ -8,7 +8,7 @@ use Rattle.csv.specs.declared.writer.QuoteStyle.TheVariants as style
 use Rattle.csv.specs.declared.writer.Writer.{Writer}
 use Rattle.csv.specs.declared.writer.WriterBuilder.{WriterBuilder}
 use Rattle.hex.specs.Hex.{encode_lower}
-use Rattle.droid_frame.specs.declared.record.Record.{Record}
+use Rattle.droid_frame.specs.types.record.Record.{Record}
 use Rattle.droid_export.specs.Moments.{moment_text}
 use Rattle.droid_export.specs.Rows.{of_file, parent_text}
 use Rattle.droid_export.specs.Uris.{uri}

@@ -3,8 +3,8 @@
 ghost use Rattle.std.specs.Prelude.{List, map};
 ghost use Rattle.csv.specs.Reading.{AreRecords, default_config, strip_bom};
 ghost use Rattle.csv.specs.declared.parser.State.TheVariants as st;
-ghost use Rattle.droid_frame.specs.declared.filter.Filter.{Filter};
-ghost use Rattle.droid_frame.specs.declared.record.Record.{Record};
+ghost use Rattle.droid_frame.specs.types.filter.Filter.{Filter};
+ghost use Rattle.droid_frame.specs.types.record.Record.{Record};
 ghost use Rattle.droid_pronom.specs.Registry.{Contents};
 ghost use Rattle.droid_export.specs.Rows.{fields};
 ghost use Rattle.droid_export.specs.Text.{shown_rows, text};
