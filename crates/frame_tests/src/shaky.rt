@@ -12,6 +12,11 @@ pub struct Place {
 /// No interruption.
 pub const NOWHERE: Place = Place { at: 0, times: 0 };
 
+/// So many interruptions before this byte.
+pub fn before(at: usize, times: u32) -> Place {
+    Place { at, times }
+}
+
 /// How a stream behaves.
 #[derive(Clone, Copy)]
 pub struct Manner {
