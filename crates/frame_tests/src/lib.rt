@@ -4,6 +4,8 @@
 #[cfg(test)]
 mod filters;
 #[cfg(test)]
+mod inputs;
+#[cfg(test)]
 mod lists;
 #[cfg(test)]
 mod memory;
@@ -16,4 +18,8 @@ mod requests;
 #[cfg(test)]
 mod shaky;
 #[cfg(test)]
+mod stream_faults;
+#[cfg(test)]
 mod streams;
+#[cfg(test)]
+mod vectors;

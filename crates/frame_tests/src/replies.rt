@@ -75,9 +75,7 @@ fn read_and_written(
             let copy = reply.try_clone(alloc)?;
             let body = reply_body(alloc, &copy)?;
             assert_eq!(rt; Some(body.as_slice()), bytes.get(HEADER..), "{kind}");
-            let mut written = Unsteady {
-                stream: Vec::new(alloc),
-            };
+            let mut written = Unsteady::new(Vec::new(alloc));
             assert_eq!(rt; write_reply(client, number, &reply, &mut written), Ok(()));
             assert_eq!(rt; written.stream.as_slice(), bytes, "{kind}");
             Ok(copy)
@@ -239,9 +237,7 @@ fn writes_cut_short(rt: HostRuntime) -> Result<(), Fail> {
     for bytes in [MADE.as_slice(), &FINISHED, &NODES_REACHED] {
         for manner in [STEADY, BYTE_BY_BYTE] {
             for room in 0..=bytes.len() {
-                let mut writer = Unsteady {
-                    stream: ShakyWriter::new(Vec::new(alloc), room, manner),
-                };
+                let mut writer = Unsteady::new(ShakyWriter::new(Vec::new(alloc), room, manner));
                 let answer = written(&rt, alloc, bytes, &mut writer)?;
                 let want = if room < bytes.len() {
                     Err(WriteFault { written: room })

@@ -2,51 +2,68 @@
 
 use std::io::{self, ErrorKind, Read, Write};
 
+/// How many calls are interrupted before a byte, given by how many bytes stand before it.
+#[derive(Clone, Copy)]
+pub struct Place {
+    pub at: usize,
+    pub times: u32,
+}
+
+/// No interruption.
+pub const NOWHERE: Place = Place { at: 0, times: 0 };
+
+/// So many interruptions before this byte.
+pub fn before(at: usize, times: u32) -> Place {
+    Place { at, times }
+}
+
 /// How a stream behaves.
 #[derive(Clone, Copy)]
 pub struct Manner {
     /// How many bytes it takes or gives at a time.
     pub width: usize,
-    /// How many calls are interrupted before each one that isn't.
-    pub each_time: u32,
-    /// How many calls are interrupted in all.
-    pub interruptions: u32,
+    /// Where it is interrupted.
+    pub places: [Place; 3],
 }
 
 /// As many bytes as are asked for, without an interruption.
 pub const STEADY: Manner = Manner {
     width: usize::MAX,
-    each_time: 0,
-    interruptions: 0,
+    places: [NOWHERE; 3],
 };
 
 /// One byte at a time.
 pub const BYTE_BY_BYTE: Manner = Manner { width: 1, ..STEADY };
 
-/// What is left of a manner, and how many interruptions come before the next call that isn't one.
-#[derive(Clone, Copy)]
-struct Interruptions {
-    left: u32,
-    before_next: u32,
-}
-
-impl Interruptions {
-    fn of(manner: Manner) -> Interruptions {
-        Interruptions {
-            left: manner.interruptions,
-            before_next: manner.each_time,
+impl Manner {
+    /// As many bytes as are asked for, with interruptions.
+    pub fn interrupted(places: [Place; 3]) -> Manner {
+        Manner {
+            width: usize::MAX,
+            places,
         }
     }
 
-    /// Whether this call is interrupted.
-    fn comes(&mut self, manner: Manner) -> bool {
-        if self.left > 0 && self.before_next > 0 {
-            self.left -= 1;
-            self.before_next -= 1;
-            return true;
+    /// Whether the call after so many bytes is interrupted.
+    fn comes(&mut self, at: usize) -> bool {
+        for place in &mut self.places {
+            if place.at == at && place.times > 0 {
+                place.times -= 1;
+                return true;
+            }
         }
-        self.before_next = manner.each_time;
         false
+    }
+
+    /// How many bytes it takes or gives after so many.
+    fn width(&self, at: usize) -> usize {
+        let mut width = self.width;
+        for place in &self.places {
+            if place.at > at && place.times > 0 {
+                width = width.min(place.at - at);
+            }
+        }
+        width
     }
 }
 
@@ -55,8 +72,8 @@ impl Interruptions {
 pub struct ShakyReader<'a> {
     bytes: &'a [u8],
     behind_the_fault: Option<&'a [u8]>,
+    given: usize,
     manner: Manner,
-    interruptions: Interruptions,
 }
 
 impl<'a> ShakyReader<'a> {
@@ -65,8 +82,8 @@ impl<'a> ShakyReader<'a> {
         ShakyReader {
             bytes,
             behind_the_fault: None,
+            given: 0,
             manner,
-            interruptions: Interruptions::of(manner),
         }
     }
 
@@ -75,8 +92,8 @@ impl<'a> ShakyReader<'a> {
         ShakyReader {
             bytes,
             behind_the_fault: Some(behind),
+            given: 0,
             manner,
-            interruptions: Interruptions::of(manner),
         }
     }
 
@@ -84,16 +101,11 @@ impl<'a> ShakyReader<'a> {
     pub fn left(&self) -> usize {
         self.bytes.len()
     }
-
-    /// Lets the interruptions begin anew.
-    pub fn begin_anew(&mut self) {
-        self.interruptions = Interruptions::of(self.manner);
-    }
 }
 
 impl Read for ShakyReader<'_> {
     fn read(&mut self, buf: &mut [u8]) -> io::Result<usize> {
-        if self.interruptions.comes(self.manner) {
+        if self.manner.comes(self.given) {
             return Err(io::Error::from(ErrorKind::Interrupted));
         }
         if self.bytes.is_empty() {
@@ -102,30 +114,48 @@ impl Read for ShakyReader<'_> {
                 return Err(io::Error::from(ErrorKind::ConnectionReset));
             }
         }
-        let count = self.bytes.len().min(buf.len()).min(self.manner.width);
+        let width = self.manner.width(self.given);
+        let count = self.bytes.len().min(buf.len()).min(width);
         buf[..count].copy_from_slice(&self.bytes[..count]);
         self.bytes = &self.bytes[count..];
+        self.given = self.given.saturating_add(count);
         Ok(count)
     }
 }
 
-/// A writer that takes so many bytes, then fails once, and then takes all.
+/// How a writer stops, once.
+#[derive(Clone, Copy, Debug)]
+pub enum Stop {
+    /// It answers an error.
+    Fails,
+    /// It takes no byte.
+    TakesNothing,
+}
+
+/// A writer that takes so many bytes, then stops once, and then takes all.
 #[derive(Drop)]
 pub struct ShakyWriter {
     taken: Vec<u8>,
     room: usize,
+    stop: Stop,
+    flushes: u32,
     manner: Manner,
-    interruptions: Interruptions,
 }
 
 impl ShakyWriter {
     /// A writer that fails behind so many bytes.
     pub fn new(taken: Vec<u8>, room: usize, manner: Manner) -> ShakyWriter {
+        ShakyWriter::stopping(taken, room, Stop::Fails, manner)
+    }
+
+    /// A writer that stops in this way behind so many bytes.
+    pub fn stopping(taken: Vec<u8>, room: usize, stop: Stop, manner: Manner) -> ShakyWriter {
         ShakyWriter {
             taken,
             room,
+            stop,
+            flushes: 0,
             manner,
-            interruptions: Interruptions::of(manner),
         }
     }
 
@@ -133,24 +163,35 @@ impl ShakyWriter {
     pub fn taken(&self) -> &[u8] {
         self.taken.as_slice()
     }
+
+    /// How often it was flushed.
+    pub fn flushes(&self) -> u32 {
+        self.flushes
+    }
 }
 
 impl Write for ShakyWriter {
     fn write(&mut self, buf: &[u8]) -> io::Result<usize> {
-        if self.interruptions.comes(self.manner) {
+        let taken = self.taken.len();
+        if self.manner.comes(taken) {
             return Err(io::Error::from(ErrorKind::Interrupted));
         }
         if self.room == 0 {
             self.room = usize::MAX;
-            return Err(io::Error::from(ErrorKind::BrokenPipe));
+            return match self.stop {
+                Stop::Fails => Err(io::Error::from(ErrorKind::BrokenPipe)),
+                Stop::TakesNothing => Ok(0),
+            };
         }
-        let count = buf.len().min(self.manner.width).min(self.room);
+        let width = self.manner.width(taken);
+        let count = buf.len().min(width).min(self.room);
         self.taken.extend_from_slice(&buf[..count])?;
         self.room -= count;
         Ok(count)
     }
 
     fn flush(&mut self) -> io::Result<()> {
+        self.flushes = self.flushes.saturating_add(1);
         Ok(())
     }
 }
