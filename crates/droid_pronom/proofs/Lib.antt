@@ -4,13 +4,6 @@ pub mod FoundFile
 pub mod FoundSteps
 pub mod MarkSteps
 pub mod Marks
-pub mod PatternFaultLemmas
-pub mod PatternFrontLemmas
-pub mod PatternPathLemmas
-pub mod PatternPlaceLemmas
-pub mod PatternRunLemmas
-pub mod PatternStepLemmas
-pub mod PatternTextLemmas
 pub mod RegistryForms
 pub mod RegistryReading
 pub mod RegistryRows

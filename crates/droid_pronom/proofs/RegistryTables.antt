@@ -12,7 +12,8 @@ use Rattle.droid_pronom.specs.Registry.{Contents, Signed, AnyOf, IsSigned, IsReg
 use Rattle.std.specs.BTreeMap.{get_by_text}
 use Rattle.std.proofs.Math.ListN.{length-set}
 use Rattle.droid_pronom.specs.declared.registry.Registry.TheInside.{Inside}
-use Rattle.droid_pronom.specs.RegistryKept.{IsKept, contents, with_format, with_signature, with_sequence, extended}
+use Rattle.droid_pronom.specs.RegistryGrowth.{with_format, with_signature, with_sequence, extended}
+use Rattle.droid_pronom.specs.RegistryKept.{IsKept, contents}
 use Rattle.droid_pronom.specs.declared.registry.format.Format.{Format}
 use Rattle.droid_pronom.specs.declared.registry.rows.ByteSequence.{ByteSequence}
 use Rattle.droid_pronom.proofs.Flags.{all_push, all_more, any_more, any_before, any_last, any_parts, set_here, set_keeps, set_only, unset_push, push_keeps}

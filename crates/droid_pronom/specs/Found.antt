@@ -4,7 +4,7 @@ use Rattle.std.specs.List.{list_any, AllByRecursion}
 use Rattle.std.specs.Str.{str_to_ascii_lowercase}
 use Rattle.droid_frame.specs.declared.method.Method.{Method}
 use Rattle.droid_frame.specs.declared.method.Method.TheVariants as methods
-use Rattle.droid_pronom.specs.Patterns.{Lang}
+use Rattle.droid_pattern.specs.Patterns.{Lang}
 use Rattle.droid_pronom.specs.Registry.{Contents, Signed, AnyOf, IsSigned}
 use Rattle.droid_pronom.specs.declared.registry.format.Format.{Format}
 use Rattle.droid_pronom.specs.declared.registry.rows.Anchor.{Anchor}

@@ -1,38 +1,20 @@
 //! Reading a registry file from a reader.
 
-ghost use Rattle.std.specs.Prelude.{◌≡◌, ◌≢◌, ℕ, List, Some, Err, IfOk, IfErr, IfSome, IsErrOf};
+ghost use Rattle.std.specs.Prelude.{◌≡◌, IfOk, IfErr, IfSome, IsErrOf};
 ghost use Rattle.droid_frame.specs.SteadyStreams.{IsSteady};
-ghost use Rattle.droid_pronom.specs.RegistryFile.{File, TellsRead};
+ghost use Rattle.droid_pronom.specs.RegistryCalls.{TellsRead};
 
-use crate::registry::Registry;
+use crate::registry::BYTES_LIMIT;
 use crate::registry::fault::RegistryFault;
-use crate::registry::parse::MOST_BYTES;
 use droid_frame::SteadyRead;
 use std::alloc::Global;
 use std::io::ErrorKind;
 
 /// How many interrupted reads of one file are tried again.
-const MOST_INTERRUPTIONS: u32 = 64;
-
-impl Registry {
-    /// Reads a registry file from a reader, to its end, and then as `parse` does. `TooLong` comes
-    /// before any record is looked at; `Read` says that the reader failed, or was interrupted more
-    /// than 64 times.
-    pub fn read<R: SteadyRead>(alloc: Global, reader: &mut R) -> Result<Registry, RegistryFault>
-        // Where the reader tells its bytes: what they come to.
-        ensures reads { (bytes : List ℕ) → R.remaining reader.old ≡ Some bytes → result ≢ Err RegistryFault.Memory → result ≢ Err RegistryFault.Read → File bytes result }
-        // Of a reader that is known not to fail the answer is never `Read`.
-        ensures steady { IsSteady (R.interruptions reader.old) → result ≢ Err RegistryFault.Read }
-    {
-        match read_bytes(alloc, reader) {
-            Ok(bytes) => Registry::parse(alloc, bytes.as_slice()),
-            Err(fault) => Err(fault),
-        }
-    }
-}
+const INTERRUPTIONS_LIMIT: u32 = 64;
 
 /// All bytes of a reader, as far as a registry file may have them.
-fn read_bytes<R: SteadyRead>(alloc: Global, reader: &mut R) -> Result<Vec<u8>, RegistryFault>
+pub(crate) fn read_bytes<R: SteadyRead>(alloc: Global, reader: &mut R) -> Result<Vec<u8>, RegistryFault>
     ensures ok { IfOk result (λ v. IfSome (R.remaining reader.old) (λ bytes. v.items ≡ bytes)) }
     ensures err { IfErr result (λ fault. TellsRead fault (R.remaining reader.old)) }
     // A reader that doesn't fail is never said to.
@@ -40,12 +22,12 @@ fn read_bytes<R: SteadyRead>(alloc: Global, reader: &mut R) -> Result<Vec<u8>, R
 {
     let mut bytes = Vec::new(alloc);
     let mut buffer = [0u8; 8192];
-    let mut tries = MOST_INTERRUPTIONS;
+    let mut tries = INTERRUPTIONS_LIMIT;
     'reads: loop {
         match reader.read_on(&mut buffer) {
             Ok(0) => return Ok(bytes),
             Ok(count) => {
-                if count > MOST_BYTES - bytes.len() {
+                if count > BYTES_LIMIT - bytes.len() {
                     return Err(RegistryFault::TooLong);
                 }
                 if bytes.extend_from_slice(&buffer[..count]).is_err() {

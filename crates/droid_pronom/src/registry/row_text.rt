@@ -2,10 +2,10 @@
 
 ghost use Rattle.std.specs.Prelude.{◌≡◌, [], ◌∷◌, length};
 ghost use Rattle.csv.specs.Records.{fields_of};
-ghost use Rattle.droid_pronom.specs.RegistryRecords.{TellsPattern};
+ghost use Rattle.droid_pronom.specs.RegistryCalls.{TellsPattern};
 
-use crate::pattern::Pattern;
-use crate::pattern::fault::PatternFault;
+use droid_pattern::Pattern;
+use droid_pattern::PatternFault;
 use crate::registry::fault::{Fault, Refusal};
 use csv::StringRecord;
 use std::alloc::Global;

@@ -2,7 +2,7 @@
 
 ghost use Rattle.std.specs.Prelude.{◌≡◌, ◌++◌, ◌∷◌, [], IfOk, OnOk, OnErr};
 
-use crate::pattern::Pattern;
+use droid_pattern::Pattern;
 use droid_frame::Text;
 use std::alloc::{AllocError, Global};
 use std::marker::Model;
