@@ -1,6 +1,7 @@
 pub mod Flags
 pub mod FoundExtension
 pub mod FoundFile
+pub mod FoundOnce
 pub mod FoundSteps
 pub mod MarkSteps
 pub mod Marks

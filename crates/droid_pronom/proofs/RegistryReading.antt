@@ -1,5 +1,5 @@
 -- A registry file, record by record.
-use Rattle.std.proofs.Common.{Bor, ◌≢◌, ◌≡◌, ◌∙◌, ◌+◌, ◌<◌, ◌≤◌, ℕ, true, false, List, [], ◌∷◌, length, Option, Some, None, Result, Ok, Err, refl, sym, ap, rules}
+use Rattle.std.proofs.Common.{Bor, ◌≢◌, ◌≡◌, ◌∙◌, ◌+◌, ℕ, true, false, List, [], Option, Some, Result, Ok, Err, refl, sym, rules}
 use Rattle.csv.specs.Machine.{Read, next_record}
 use Rattle.csv.specs.Reading.{ReadRecord, Reached, ExplainsRead, source_of, default_config}
 use Rattle.csv.specs.declared.error.ErrorKind.{ErrorKind}

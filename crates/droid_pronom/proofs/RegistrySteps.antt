@@ -1,5 +1,5 @@
 -- What a record comes to, from what the calls say that judge its parts.
-use Rattle.std.proofs.Common.{◌≡◌, ◌∙◌, ℕ, List, [], ◌∷◌, length, Option, Some, None, Result, Ok, Err, IsOk, false, true, refl, sym, ap}
+use Rattle.std.proofs.Common.{◌≡◌, ℕ, List, [], ◌∷◌, length, Option, Some, Result, Ok, Err, IsOk, false, true, sym}
 use Rattle.droid_pattern.specs.Patterns.{Element}
 use Rattle.droid_pattern.specs.PatternText.{Spells}
 use Rattle.droid_pronom.specs.RegistryRecords.{Draft, RecordFault, WithPattern, ReadsAs, Judged, Step, judged, no_text}

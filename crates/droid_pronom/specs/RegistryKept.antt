@@ -1,13 +1,8 @@
 -- How a registry is kept.
-use Rattle.std.specs.Prelude.{◌≡◌, ℕ, ◌<◌, ◌++◌, ◌↔◌, IsTrue, List, [], ◌∷◌, length, Some, slice_get, true}
-use Rattle.std.specs.BTreeMap.{get_by_text, IsOrdered}
-use Rattle.std.specs.String.{string_cmp}
-use Rattle.droid_pronom.specs.Registry.{Contents, IsRegistry, IsSigned, Signed, place_of}
+use Rattle.std.specs.Prelude.{◌≡◌, ℕ, ◌↔◌, List, length, Some, slice_get, true}
+use Rattle.std.specs.BTreeMap.{get_by_text}
+use Rattle.droid_pronom.specs.Registry.{Contents, IsRegistry, IsSigned, place_of}
 use Rattle.droid_pronom.specs.declared.registry.Registry.TheInside.{Inside}
-use Rattle.droid_pronom.specs.declared.registry.format.Format.{Format}
-use Rattle.droid_pronom.specs.declared.registry.rows.ListedExtension.{ListedExtension}
-use Rattle.droid_pronom.specs.declared.registry.rows.Priority.{Priority}
-use Rattle.droid_pronom.specs.declared.registry.rows.ByteSequence.{ByteSequence}
 
 -- what the fields say
 abbrev pub contents : Inside → Contents

@@ -1,12 +1,12 @@
 -- What one record does to the registry that was read before it, or what is wrong with it: the first fault in order (this project's own).
-use Rattle.std.specs.Prelude.{◌≡◌, ◌≢◌, ℕ, ◌+◌, Bool, true, false, ◌==◌, ◌&&◌, ◌||◌, not, nat_lt, if◌then◌else◌, List, [], ◌∷◌, length, Option, Some, None, is_none, Result, Ok, Err, ⊤}
+use Rattle.std.specs.Prelude.{◌≡◌, ◌≢◌, ℕ, ◌+◌, Bool, true, false, ◌==◌, ◌&&◌, not, nat_lt, List, [], ◌∷◌, length, Option, Some, None, is_none, Result, Ok, Err, ⊤}
 use Rattle.std.specs.Option.{ok_or}
 use Rattle.std.specs.Str.{bytes_eq, str_to_ascii_lowercase}
 use Rattle.csv.specs.Records.{AllText}
 use Rattle.droid_pattern.specs.Patterns.{Element}
 use Rattle.droid_pattern.specs.PatternText.{Spells}
 use Rattle.droid_pronom.specs.RegistryFields.{is_puid, is_name, is_note, is_extension, is_empty, offsets_of, kind_of}
-use Rattle.droid_pronom.specs.Registry.{Contents, Signed, place_of, nothing}
+use Rattle.droid_pronom.specs.Registry.{Contents, place_of}
 use Rattle.droid_pronom.specs.RegistryFields as kinds
 use Rattle.droid_pronom.specs.RegistryGrowth.{with_format, with_extension, with_priority, with_signature, with_sequence}
 use Rattle.droid_pronom.specs.declared.registry.rows.Offsets.{Offsets}

@@ -2,6 +2,7 @@
 #![tactic(auto)]
 
 mod identify;
+pub mod laws;
 mod registry;
 
 pub use droid_pattern::{Pattern, PatternFault};

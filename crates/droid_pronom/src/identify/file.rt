@@ -45,7 +45,8 @@ pub(crate) fn identify_windows(
     let wanted = lower_case(alloc, extension(name))?;
     let left = left_formats(alloc, registry, first, last)?;
     let puids = puids_of(alloc, registry.formats(), left.as_slice())?;
-    if !puids.is_empty() {
+    let by_signature = !puids.is_empty();
+    if by_signature {
         let mismatch = is_mismatch(left.as_slice(), registry.extensions(), wanted.as_str());
         return Ok(Found {
             method: Method::Signature,
@@ -54,7 +55,13 @@ pub(crate) fn identify_windows(
         });
     }
     let signed = registry.signed();
-    let named = named_formats(alloc, registry.extensions(), wanted.as_str(), signed, match_all)?;
+    let named = named_formats(
+        alloc,
+        registry.extensions(),
+        wanted.as_str(),
+        signed,
+        match_all,
+    )?;
     let puids = puids_of(alloc, registry.formats(), named.as_slice())?;
     let method = if puids.is_empty() {
         Method::Unidentified

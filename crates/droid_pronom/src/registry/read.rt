@@ -14,7 +14,10 @@ use std::io::ErrorKind;
 const INTERRUPTIONS_LIMIT: u32 = 64;
 
 /// All bytes of a reader, as far as a registry file may have them.
-pub(crate) fn read_bytes<R: SteadyRead>(alloc: Global, reader: &mut R) -> Result<Vec<u8>, RegistryFault>
+pub(crate) fn read_bytes<R: SteadyRead>(
+    alloc: Global,
+    reader: &mut R,
+) -> Result<Vec<u8>, RegistryFault>
     ensures ok { IfOk result (λ v. IfSome (R.remaining reader.old) (λ bytes. v.items ≡ bytes)) }
     ensures err { IfErr result (λ fault. TellsRead fault (R.remaining reader.old)) }
     // A reader that doesn't fail is never said to.

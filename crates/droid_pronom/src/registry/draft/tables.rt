@@ -62,7 +62,10 @@ impl Draft {
             Fault::BadRecord,
         )?;
         let place = self.known(puid)?;
-        check(self.registry.extensions().len() < ROWS_LIMIT, Fault::TooMany)?;
+        check(
+            self.registry.extensions().len() < ROWS_LIMIT,
+            Fault::TooMany,
+        )?;
         let extension = lower_case(alloc, extension)?;
         self.registry
             .push_extension(ListedExtension { place, extension })?;
@@ -88,7 +91,10 @@ impl Draft {
         )?;
         let place = self.known(puid)?;
         let over = self.known(other)?;
-        check(self.registry.priorities().len() < ROWS_LIMIT, Fault::TooMany)?;
+        check(
+            self.registry.priorities().len() < ROWS_LIMIT,
+            Fault::TooMany,
+        )?;
         self.registry.push_priority(Priority { place, over })?;
         self.current = None;
         Ok(())

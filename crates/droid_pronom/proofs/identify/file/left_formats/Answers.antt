@@ -1,7 +1,6 @@
-use Rattle.std.proofs.Common.{◌≡◌, ◌∙◌, ℕ, List, Bool, Vec, Global, length, ap, sym}
+use Rattle.std.proofs.Common.{◌≡◌, ◌∙◌, length, ap, sym}
 use Rattle.std.proofs.lemmas.Result.{IfOk-weaker}
-use Rattle.droid_pronom.specs.Found.{IsLeft}
-use Rattle.droid_pronom.specs.FoundWindows.{HitsWindows, Tell, without}
+use Rattle.droid_pronom.specs.FoundWindows.{HitsWindows}
 use Rattle.droid_pronom.proofs.FoundSteps.{tell_left, without_length}
 use Rattle.droid_pronom.proofs.identify.file.left_formats.Goals as goal
 

@@ -1,8 +1,7 @@
-use Rattle.std.proofs.Common.{Bor, ◌≡◌, ◌∙◌, ◌+◌, List, [], ℕ, Some, Ok, Err, refl, sym, ap, inl, inr, arith}
-use Rattle.csv.specs.Reading.{default_config, error_kind, strip_bom}
+use Rattle.std.proofs.Common.{◌∙◌, [], refl, inl, inr, arith}
+use Rattle.csv.specs.Reading.{error_kind, strip_bom}
 use Rattle.csv.specs.Records.{fields_of}
-use Rattle.csv.specs.declared.parser.State.TheVariants as st
-use Rattle.droid_pronom.specs.RegistryFile.{File, Outcome, too_long, read, fault_at}
+use Rattle.droid_pronom.specs.RegistryFile.{too_long, read}
 use Rattle.droid_pronom.specs.RegistryCalls.{draft_of}
 use Rattle.droid_pronom.proofs.RegistryReading.{ends_reading, next_read, outcome_taken, outcome_refused, outcome_end}
 use Rattle.droid_pronom.proofs.registry.Registry.parse.Goals as goal

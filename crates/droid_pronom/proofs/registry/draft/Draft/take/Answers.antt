@@ -1,5 +1,5 @@
-use Rattle.std.proofs.Common.{◌≡◌, ◌∙◌, sym}
-use Rattle.csv.specs.Records.{fields_of, AllText}
+use Rattle.std.proofs.Common.{◌∙◌, sym}
+use Rattle.csv.specs.Records.{fields_of}
 use Rattle.droid_pronom.specs.RegistryRecords.{miscounted}
 use Rattle.droid_pronom.proofs.RegistrySteps.{tells_step, untold}
 use Rattle.droid_pronom.specs.RegistryCalls.{draft_of}
