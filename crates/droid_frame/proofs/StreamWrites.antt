@@ -5,7 +5,7 @@ use Rattle.std.specs.Io.KnownBytes.{Appends}
 use Rattle.std.proofs.KnownBytes.{Appends-nil, Appends-trans}
 use Rattle.std.proofs.Math.Seq.{take-add, take-append-add}
 use Rattle.std.proofs.lemmas.List.{take_all, take-append-le, length-append, length-drop, drop-drop}
-use Rattle.droid_frame.specs.Fields.{IsEnd}
+use Rattle.droid_value.specs.Fields.{IsEnd}
 use Rattle.droid_frame.specs.StreamWrites.{Stops, StopsWithin}
 
 -- after the bytes before the rest, n more of the rest; what is left then is the end too

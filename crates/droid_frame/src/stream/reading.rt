@@ -1,7 +1,7 @@
 //! Reading a frame.
 
 ghost use Rattle.std.specs.Prelude.{◌≡◌, ◌++◌, ℕ, List, Some, Err, IfOk, IfErr, OnErr, IfSome, IsErrOf};
-ghost use Rattle.droid_frame.specs.Frames.{frame_bytes};
+ghost use Rattle.droid_value.specs.Frames.{frame_bytes};
 ghost use Rattle.droid_frame.specs.Streams.{IsReadable, BeginsNoFrame, why};
 ghost use Rattle.droid_frame.specs.SteadyStreams.{IsSteady, Lasts};
 ghost use Rattle.droid_frame.specs.StreamReads.{Arrives, BodyCame, Brings, HeaderCame, ReadsGoodHeader, ReadsNoFrame, Tells, UnlessRefused, judged};
@@ -11,8 +11,7 @@ use super::fault::FrameFault;
 use super::filling::fill;
 use super::header::{HEADER_LENGTH, Header};
 use super::steady::SteadyRead;
-use crate::blob::Blob;
-use crate::frame::{BODY_LIMIT, Frame, VERSION};
+use droid_value::{BODY_LIMIT, Blob, Frame, VERSION};
 use std::alloc::Global;
 
 /// Reads the next frame. The header is read whole before any of it is judged, and memory is taken once, for

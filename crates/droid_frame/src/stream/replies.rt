@@ -3,21 +3,19 @@
 ghost use Rattle.std.specs.Prelude.{◌≡◌, ◌+◌, ◌<◌, ◌≤◌, ◌^◌, IsOk, OnOk, IfErr, length};
 ghost use Rattle.std.specs.Io.KnownBytes.{Appends};
 ghost use Rattle.std.specs.List.{AllByRecursion};
-ghost use Rattle.droid_frame.specs.Replies.{HasReplySpelling, IsPuidText};
+ghost use Rattle.droid_value.specs.Replies.{HasReplySpelling, IsPuidText};
 ghost use Rattle.droid_frame.specs.ReplyParts.{reply_frame, reply_rest};
 ghost use Rattle.droid_frame.specs.SteadyStreams.{IsSteady, Lasts, TookAll};
 ghost use Rattle.droid_frame.specs.StreamWrites.{Stops, StopsWithin};
-ghost use Rattle.droid_frame.specs.TextLists.{texts_bytes};
+ghost use Rattle.droid_value.specs.TextLists.{texts_bytes};
 
 use super::fault::WriteFault;
 use super::header::Header;
 use super::steady::SteadyWrite;
 use super::write_all::{Progress, write_all};
-use crate::frame::VERSION;
-use crate::reply::Reply;
-use crate::reply_parts::{front_of, sized_puid};
-use crate::reply_writing::body_length;
-use crate::texts::Texts;
+use crate::replies::body_length;
+use crate::replies::parts::{front_of, sized_puid};
+use droid_value::{Reply, Texts, VERSION};
 
 /// Writes a reply's frame, to the client and under the number of the request that it answers. It takes no
 /// memory. An interrupted write is tried again, 64 times over all of the frame.

@@ -2,7 +2,7 @@
 
 ghost use Rattle.std.specs.Prelude.{◌≤◌, IsOk, OnOk, IfErr, length};
 ghost use Rattle.std.specs.Io.KnownBytes.{Appends};
-ghost use Rattle.droid_frame.specs.Frames.{frame_bytes};
+ghost use Rattle.droid_value.specs.Frames.{frame_bytes};
 ghost use Rattle.droid_frame.specs.SteadyStreams.{IsSteady, TookAll};
 ghost use Rattle.droid_frame.specs.StreamWrites.{Stops};
 
@@ -10,7 +10,7 @@ use super::fault::WriteFault;
 use super::header::Header;
 use super::steady::SteadyWrite;
 use super::write_all::{Progress, write_all};
-use crate::frame::{BODY_LIMIT, Frame};
+use droid_value::{BODY_LIMIT, Frame};
 
 /// Writes a frame. It takes no memory. An interrupted write is tried again, 64 times over all of the frame.
 ///

@@ -2,7 +2,7 @@ use Rattle.std.proofs.Common.{rules, refl, ◌≡◌, ◌≤◌, ◌+◌, ◌++�
 use Rattle.std.proofs.lemmas.Grind.{common_steps}
 use Rattle.droid_frame.specs.declared.stream.fault.WriteFault.{WriteFault}
 use Rattle.droid_frame.specs.StreamWrites.{StopsWithin}
-use Rattle.droid_frame.specs.TextLists.{sized_bytes, texts_bytes}
+use Rattle.droid_value.specs.TextLists.{sized_bytes, texts_bytes}
 use Rattle.droid_frame.proofs.ReplyWrites.{puid_room, puids_split, stops_on}
 use Rattle.droid_frame.proofs.StreamWrites.{passed_on}
 use Rattle.droid_frame.proofs.stream.replies.write_puids.Goals as goal

@@ -2,7 +2,7 @@
 use Rattle.std.proofs.Common.{◌≡◌, ◌≤◌, ◌+◌, length, take}
 use Rattle.std.specs.Io.KnownBytes.{Appends}
 use Rattle.droid_frame.specs.SteadyStreams.{Lasts, TookAll}
-use Rattle.droid_frame.specs.TextLists.{texts_bytes}
+use Rattle.droid_value.specs.TextLists.{texts_bytes}
 use Rattle.droid_frame.proofs.stream.replies.write_puids.Given as goal
 
 abbrev pub invariant-loop-puid : goal.invariant-loop-puid

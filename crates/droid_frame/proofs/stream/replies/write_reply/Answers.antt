@@ -1,8 +1,8 @@
 use Rattle.std.proofs.Common.{◌≤◌, ◌++◌, [], length, refl, ◌∙◌, arith}
 use Rattle.std.specs.Io.KnownBytes.{Appends}
 use Rattle.droid_frame.specs.declared.stream.fault.WriteFault.{WriteFault}
-use Rattle.droid_frame.specs.declared.frame.TheConstants.{BODY_LIMIT}
-use Rattle.droid_frame.specs.Replies.{reply_bytes}
+use Rattle.droid_value.specs.declared.frame.TheConstants.{BODY_LIMIT}
+use Rattle.droid_value.specs.Replies.{reply_bytes}
 use Rattle.droid_frame.specs.ReplyParts.{reply_frame, reply_front, reply_rest}
 use Rattle.droid_frame.specs.StreamWrites.{Stops, StopsWithin}
 use Rattle.droid_frame.proofs.ReplyWrites.{all_sent, frame_is, rest_room, stops_in_front, stops_in_header, stops_in_rest}

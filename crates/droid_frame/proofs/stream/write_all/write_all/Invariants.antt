@@ -1,7 +1,7 @@
 use Rattle.std.proofs.Common.{◌≡◌, ◌≤◌, ◌+◌, ◌-◌, length, take}
 use Rattle.std.specs.Io.KnownBytes.{Appends}
 use Rattle.droid_frame.specs.SteadyStreams.{Lasts}
-use Rattle.droid_frame.specs.Fields.{IsEnd}
+use Rattle.droid_value.specs.Fields.{IsEnd}
 use Rattle.droid_frame.proofs.stream.write_all.write_all.Given as goal
 
 -- the part is what went out and the rest

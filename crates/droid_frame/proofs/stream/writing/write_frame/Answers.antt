@@ -3,7 +3,7 @@ use Rattle.std.proofs.lemmas.List.{append-nil}
 use Rattle.std.specs.Io.KnownBytes.{Appends}
 use Rattle.std.proofs.KnownBytes.{Appends-trans}
 use Rattle.droid_frame.specs.declared.stream.fault.WriteFault.{WriteFault}
-use Rattle.droid_frame.specs.Frames.{frame_bytes}
+use Rattle.droid_value.specs.Frames.{frame_bytes}
 use Rattle.droid_frame.specs.StreamWrites.{Stops, StopsWithin}
 use Rattle.droid_frame.proofs.StreamWrites.{Sent, sent_nothing, sent_more, stops_after, passed_on, on_ok, if_err}
 use Rattle.droid_frame.proofs.stream.writing.write_frame.Goals as goal
