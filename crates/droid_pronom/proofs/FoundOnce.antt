@@ -1,6 +1,6 @@
 -- What is found is found once: whatever byte sequences hit, at most one answer meets the rules.
 use Rattle.std.proofs.Common.{◌≡◌, ◌⊎◌, ◌↔◌, ℕ, suc, Bool, true, false, IsTrue, List, [], ◌∷◌, refl, ap, sym, ◌∙◌, inl, inr, rules}
-use Rattle.droid_frame.specs.declared.method.Method.{Method}
+use Rattle.droid_frame.specs.types.method.Method.{Method}
 use Rattle.droid_pronom.specs.Found.{extension_of, IsLeft, IsNamed, IsMismatch, IsFoundBy, Chosen, end, chosen, passed}
 use Rattle.droid_pronom.specs.Registry.{Contents}
 use Rattle.droid_pronom.specs.declared.identify.found.Found.{Found}

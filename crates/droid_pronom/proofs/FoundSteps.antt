@@ -4,7 +4,7 @@ use Rattle.std.specs.List.{AllByRecursion}
 use Rattle.std.specs.Str.{str_to_ascii_lowercase}
 use Rattle.droid_pronom.specs.RegistryFields.{is_puid}
 use Rattle.droid_pronom.specs.Registry.{Contents, AnyOf, IsSigned, IsRegistry}
-use Rattle.droid_frame.specs.declared.method.Method.TheVariants as methods
+use Rattle.droid_frame.specs.types.method.Method.TheVariants as methods
 use Rattle.droid_pronom.specs.declared.identify.found.Found.{Found}
 use Rattle.droid_pronom.specs.Found.{extension_of, IsHit, IsLeft, IsNamed, IsMismatch, IsFoundBy, Chosen, end, chosen, passed}
 use Rattle.droid_pronom.specs.FoundWindows.{Stands, Tell, without}

@@ -1,5 +1,6 @@
 -- A registry file, record by record.
-use Rattle.std.proofs.Common.{Bor, ◌≢◌, ◌≡◌, ◌∙◌, ◌+◌, ℕ, true, false, List, [], Option, Some, Result, Ok, Err, refl, sym, rules}
+use Rattle.std.proofs.Common.{Bor, ◌≢◌, ◌≡◌, ◌∙◌, ◌+◌, ◌++◌, ℕ, true, false, List, [], length, Option, Some, None, Result, Ok, Err, refl, sym, ap, arith, rules}
+use Rattle.std.proofs.lemmas.List.{length-append}
 use Rattle.csv.specs.Machine.{Read, next_record}
 use Rattle.csv.specs.Reading.{ReadRecord, Reached, ExplainsRead, source_of, default_config}
 use Rattle.csv.specs.declared.error.ErrorKind.{ErrorKind}
@@ -7,11 +8,12 @@ use Rattle.csv.specs.declared.error.ErrorKind.TheVariants as csv
 use Rattle.csv.specs.declared.reader.Reader.{Reader}
 use Rattle.csv.specs.declared.parser.State.{State}
 use Rattle.csv.proofs.ReadFacts.{rows-more, rows-end}
+use Rattle.droid_stream.specs.Reads.{ConsumesSoMany}
 use Rattle.droid_pronom.specs.Registry.{Contents}
 use Rattle.droid_pronom.specs.RegistryRecords as faults
 use Rattle.droid_pronom.specs.RegistryRecords.{Draft, RecordFault, Step}
 use Rattle.droid_pronom.specs.RegistryFile.{Outcome, taken, faulty, end, fault_at, taken_count, File, too_long, read}
-use Rattle.droid_pronom.specs.RegistryCalls.{EndsReading, Tells, fault_of, refusal_at, TellsRead}
+use Rattle.droid_pronom.specs.RegistryCalls.{EndsReading, Tells, fault_of, refusal_at}
 use Rattle.droid_pronom.specs.declared.registry.fault.Refusal.{Refusal}
 use Rattle.droid_pronom.specs.declared.registry.fault.Refusal.TheVariants as refusals
 use Rattle.droid_pronom.specs.declared.registry.fault.RegistryFault.{RegistryFault}
@@ -68,18 +70,14 @@ pub outcome_end : (a b : Reader (Bor (List ℕ))) (y : List ℕ) (fields : List 
     → Outcome draft a.state y (Ok draft.registry)
 outcome_end a b y fields draft config source reads = end (rows-end rest_of a b fields default_config y config source reads)
 
--- a fault of reading, which is neither want of memory nor the reader's
-pub read_refused : (fault : RegistryFault) (known : Option (List ℕ)) (bytes : List ℕ) → TellsRead fault known → known ≡ Some bytes
-    → ◌≢◌ {A = Result Contents RegistryFault} (Err fault) (Err registry_faults.Memory) → ◌≢◌ {A = Result Contents RegistryFault} (Err fault) (Err registry_faults.Read) → File bytes (Err fault)
-read_refused registry_faults.TooLong known bytes tells is memory failed = too_long (rw is at tells)
-read_refused registry_faults.Read known bytes tells is memory failed = absurd (failed refl)
-read_refused registry_faults.Memory known bytes tells is memory failed = absurd (memory refl)
-read_refused (registry_faults.NotUtf8 at) known bytes tells is memory failed = absurd tells
-read_refused (registry_faults.BadRecord at) known bytes tells is memory failed = absurd tells
-read_refused (registry_faults.BadPattern at) known bytes tells is memory failed = absurd tells
-read_refused (registry_faults.UnknownPuid at) known bytes tells is memory failed = absurd tells
-read_refused (registry_faults.DuplicatePuid at) known bytes tells is memory failed = absurd tells
-read_refused (registry_faults.TooMany at) known bytes tells is memory failed = absurd tells
+-- a reader of known bytes that gave one more than a file may have
+pub read_too_long : (old new : Option (List ℕ)) (bytes : List ℕ) → ConsumesSoMany old new 16777217 → old ≡ Some bytes → File bytes (Err registry_faults.TooLong)
+read_too_long None new bytes so is = cc
+read_too_long (Some xs) None bytes so is = absurd so.consumed
+read_too_long (Some xs) (Some rest) bytes so is =
+    let same : xs ≡ bytes = cc in
+    let whole : xs ≡ so.bytes ++ rest = so.consumed in
+    too_long (omega (arith, so.counted, ap length whole, ap length same, length-append so.bytes rest))
 
 -- ---- no record's fault is the reader's
 

@@ -1,5 +1,5 @@
 -- What the calls that take one record say of it, by the code's own types.
-use Rattle.std.specs.Prelude.{◌≡◌, ℕ, ◌<◌, List, length, Option, None, IfSome, Result, Ok, Err, ⊤}
+use Rattle.std.specs.Prelude.{◌≡◌, ℕ, List, None, Result, Ok, Err, ⊤}
 use Rattle.csv.specs.declared.error.ErrorKind.{ErrorKind}
 use Rattle.csv.specs.declared.error.ErrorKind.TheVariants as csv
 use Rattle.droid_pattern.specs.Patterns.{Element}
@@ -63,18 +63,6 @@ TellsPattern (Err (refusals.Fault fault)) text = (fault ≡ faults.BadPattern) �
 abbrev pub refusal_at : Refusal → ℕ → RegistryFault
 refusal_at refusals.Memory at = registry_faults.Memory
 refusal_at (refusals.Fault fault) at = fault_at (fault_of fault) at
-
--- what a fault of reading says of the bytes that a reader has, where they are known
-abbrev pub TellsRead : RegistryFault → Option (List ℕ) → Type 0
-TellsRead registry_faults.TooLong known = IfSome known (λ bytes. 16777216 < length bytes)
-TellsRead registry_faults.Read known = ⊤
-TellsRead registry_faults.Memory known = ⊤
-TellsRead (registry_faults.NotUtf8 at) known = ⊥
-TellsRead (registry_faults.BadRecord at) known = ⊥
-TellsRead (registry_faults.BadPattern at) known = ⊥
-TellsRead (registry_faults.UnknownPuid at) known = ⊥
-TellsRead (registry_faults.DuplicatePuid at) known = ⊥
-TellsRead (registry_faults.TooMany at) known = ⊥
 
 -- the errors of `csv` after which a reader of bytes goes no further: memory, or the reader underneath
 abbrev pub EndsReading : ErrorKind → Type 0

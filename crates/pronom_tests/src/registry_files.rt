@@ -1,8 +1,8 @@
 //! Registry files: what they come to, and their limits.
 
 use crate::samples::SAMPLE;
-use droid_frame::Unsteady;
 use droid_pronom::{Registry, RegistryFault};
+use droid_stream::Unsteady;
 use std::alloc::{AllocError, Global};
 use std::io;
 use std::io::{Error, ErrorKind, Read};
@@ -246,14 +246,12 @@ const READERS: [(u32, Option<usize>, &str); 6] = [
 fn readers(rt: HostRuntime) -> Result<(), Fail> {
     let alloc = rt.alloc();
     for (interruptions, fails_at, want) in READERS {
-        let mut reader = Unsteady {
-            stream: Halting {
-                bytes: SAMPLE.as_bytes(),
-                interruptions,
-                is_next: false,
-                fails_at,
-            },
-        };
+        let mut reader = Unsteady::new(Halting {
+            bytes: SAMPLE.as_bytes(),
+            interruptions,
+            is_next: false,
+            fails_at,
+        });
         let text = match Registry::read(alloc, &mut reader) {
             Ok(registry) => {
                 let count = registry.len();

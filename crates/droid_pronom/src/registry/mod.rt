@@ -1,19 +1,18 @@
 //! The registry: formats, and what tells them apart.
 
-ghost use Rattle.std.specs.Prelude.{◌≡◌, ◌≢◌, ℕ, List, ◌+◌, ◌-◌, ◌<◌, ◌≤◌, ◌++◌, ◌∷◌, [], length, take, drop, IsTrue, IfSome, option_map, Some, None, Err, IfOk, OnOk, OnErr, slice_get, true, ◌↔◌};
+ghost use Rattle.std.specs.Prelude.{◌≡◌, ◌≢◌, ℕ, List, ◌+◌, ◌-◌, ◌<◌, ◌≤◌, ◌++◌, ◌∷◌, [], length, take, drop, IsTrue, IfSome, option_map, Some, None, Err, IfOk, IsErrOf, OnOk, OnErr, slice_get, true, ◌↔◌};
 ghost use Rattle.std.specs.Option.{option_copied};
 ghost use Rattle.std.specs.List.{AllByRecursion};
-ghost use Rattle.droid_frame.specs.SteadyStreams.{IsSteady};
 ghost use Rattle.droid_pronom.specs.Found.{IsFound};
 ghost use Rattle.droid_pronom.specs.RegistryFields.{is_puid};
 ghost use Rattle.droid_pronom.specs.RegistryFile.{File};
+ghost use Rattle.droid_stream.specs.Seen.{IsSound, TellsFault};
 
 mod draft;
 pub mod fault;
 mod fields;
 pub mod format;
 pub(crate) mod lower_case;
-mod read;
 mod record_forms;
 mod row_text;
 pub(crate) mod rows;
@@ -24,17 +23,16 @@ use crate::identify::found::Found;
 use crate::registry::draft::Draft;
 use crate::registry::fault::RegistryFault;
 use crate::registry::format::Format;
-use crate::registry::read::read_bytes;
 use crate::registry::rows::{ByteSequence, ListedExtension, Priority, Signature};
 use crate::registry::unread::unread;
 use csv::ReaderBuilder;
-use droid_frame::SteadyRead;
+use droid_stream::{InputFault, SteadyRead, read_to_end};
 use std::alloc::{AllocError, Global};
 use std::collections::BTreeMap;
 use std::marker::Model;
 
 /// How many bytes a registry file may have.
-pub(crate) const BYTES_LIMIT: usize = 16_777_216;
+const BYTES_LIMIT: usize = 16_777_216;
 /// How many formats a registry may have.
 pub(crate) const FORMATS_LIMIT: usize = 4_096;
 
@@ -101,12 +99,14 @@ impl Registry {
     pub fn read<R: SteadyRead>(alloc: Global, reader: &mut R) -> Result<Registry, RegistryFault>
         // Where the reader tells its bytes: what they come to.
         ensures reads { (bytes : List ℕ) → R.remaining reader.old ≡ Some bytes → result ≢ Err RegistryFault.Memory → result ≢ Err RegistryFault.Read → File bytes result }
-        // Of a reader that is known not to fail the answer is never `Read`.
-        ensures steady { IsSteady (R.interruptions reader.old) → result ≢ Err RegistryFault.Read }
+        // `Read` comes exactly where the reader failed or was interrupted for the 65th time.
+        ensures fault { IsSound (R.seen reader.old) → TellsFault (R.seen reader.old).interruptions (R.seen reader.new) (IsErrOf result RegistryFault.Read) }
     {
-        match read_bytes(alloc, reader) {
+        match read_to_end(alloc, reader, BYTES_LIMIT) {
             Ok(bytes) => Registry::parse(alloc, bytes.as_slice()),
-            Err(fault) => Err(fault),
+            Err(InputFault::TooLong) => Err(RegistryFault::TooLong),
+            Err(InputFault::Memory) => Err(RegistryFault::Memory),
+            Err(InputFault::Read) => Err(RegistryFault::Read),
         }
     }
 
