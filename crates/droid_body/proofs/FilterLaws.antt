@@ -9,7 +9,7 @@ use Rattle.droid_value.specs.declared.filter.Filter.{Filter}
 use Rattle.droid_value.specs.declared.node_kind.NodeKind.{NodeKind}
 use Rattle.droid_value.specs.declared.node_kind.NodeKind.TheVariants.{File, Folder}
 use Rattle.droid_value.specs.Fields.{IsBytes, IsU64, u64_bytes, truth_bytes, method_bytes}
-use Rattle.droid_body.specs.filters.Values.{node_kind_at, list_at, method_is_at, puid_in_at, ext_in_at, mismatch_is_at, size_at_least_at, size_at_most_at, kind_is_at, listless_at, tagged_at, criterion_at, filter_at, filter_value}
+use Rattle.droid_body.specs.filters.Values.{node_kind_at, list_at, method_is_at, puid_in_at, ext_in_at, mismatch_is_at, size_at_least_at, size_at_most_at, kind_is_at, plain_at, tagged_at, criterion_at, filter_at, filter_value}
 use Rattle.droid_value.specs.Filters.{node_kind_bytes, list_bytes, criterion_bytes, filter_bytes, IsList, IsCriterion, IsFilter}
 use Rattle.droid_body.specs.fields.Reading.{◌>>=◌, byte_at, number_at, truth_at, method_at, whole}
 use Rattle.droid_body.specs.fields.Sequences.{sequence_at, counted_at}
@@ -134,9 +134,9 @@ kind_is_reads : (bytes : List ℕ) (x : Criterion × List ℕ) → IsBytes bytes
 unfolding kind_is_at
 kind_is_reads bytes x are e = made_reads 7 node_kind_at node_kind_bytes AlwaysKind KindIs node_kind_field (λ a. refl) (λ a h. tt) bytes x are e
 
-listless_reads : (tag : ℕ) (bytes : List ℕ) (x : Criterion × List ℕ) → IsBytes bytes → listless_at tag bytes ≡ Some x → IsTagged tag bytes x
-unfolding listless_at
-listless_reads tag bytes x are e =
+plain_reads : (tag : ℕ) (bytes : List ℕ) (x : Criterion × List ℕ) → IsBytes bytes → plain_at tag bytes ≡ Some x → IsTagged tag bytes x
+unfolding plain_at
+plain_reads tag bytes x are e =
     let P : ℕ → Type 0 = λ t. IsTagged t bytes x in
     by_number 1 P tag _ _ x (method_is_reads bytes x are)
     (by_number 4 P tag _ _ x (mismatch_is_reads bytes x are)
@@ -148,7 +148,7 @@ tagged_reads : (tag : ℕ) (bytes : List ℕ) (x : Criterion × List ℕ) → Is
 unfolding tagged_at
 tagged_reads tag bytes x are e =
     let P : ℕ → Type 0 = λ t. IsTagged t bytes x in
-    by_number 2 P tag _ _ x (puid_in_reads bytes x are) (by_number 3 P tag _ _ x (ext_in_reads bytes x are) (listless_reads tag bytes x are)) e
+    by_number 2 P tag _ _ x (puid_in_reads bytes x are) (by_number 3 P tag _ _ x (ext_in_reads bytes x are) (plain_reads tag bytes x are)) e
 
 criterion_reads : (bytes : List ℕ) (x : Criterion × List ℕ) → IsBytes bytes → criterion_at bytes ≡ Some x → Leaves criterion_bytes IsCriterion bytes x
 unfolding criterion_at
@@ -159,7 +159,7 @@ criterion_reads bytes x are e =
     (record { parts = front.0.parts ∙ is.spelled; bytes_follow = is.bytes_follow }, is.has_one)
 
 criterion_again : (criterion : Criterion) (rest : List ℕ) → IsCriterion criterion → criterion_at (criterion_bytes criterion ++ rest) ≡ Some (criterion, rest)
-unfolding criterion_at byte_at tagged_at listless_at method_is_at puid_in_at ext_in_at mismatch_is_at size_at_least_at size_at_most_at kind_is_at
+unfolding criterion_at byte_at tagged_at plain_at method_is_at puid_in_at ext_in_at mismatch_is_at size_at_least_at size_at_most_at kind_is_at
 criterion_again (MethodIs method) rest is = rw (method_field.again method rest tt) refl
 criterion_again (PuidIn texts) rest is = rw (list_again texts rest is) refl
 criterion_again (ExtIn texts) rest is = rw (list_again texts rest is) refl

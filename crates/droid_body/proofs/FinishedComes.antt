@@ -5,12 +5,13 @@ use Rattle.std.specs.Option.{option_map}
 use Rattle.droid_body.specs.declared.replies.finished.FinishedHead.{FinishedHead}
 use Rattle.droid_body.specs.declared.body_fault.BodyFault.{BodyFault}
 use Rattle.droid_body.specs.declared.body_fault.BodyFault.TheVariants.{Malformed, Memory}
-use Rattle.droid_value.specs.declared.reply.TheConstants.{PUID_LIMIT}
+use Rattle.droid_value.specs.Limits.{puid_limit}
 use Rattle.droid_value.specs.declared.reply.Reply.{Reply}
 use Rattle.droid_value.specs.declared.reply.Reply.TheVariants.{Finished}
 use Rattle.droid_body.specs.Outcomes.{Fails}
 use Rattle.droid_body.specs.fields.Reading.{◌>>=◌, whole}
-use Rattle.droid_body.specs.replies.Values.{ArePuids, IsFaultOf, finished_head_at, finished_value}
+use Rattle.droid_body.specs.replies.Steps.{ArePuids, IsFaultOf}
+use Rattle.droid_body.specs.replies.Values.{finished_head_at, finished_value}
 use Rattle.droid_body.specs.fields.TextLists.{texts_at}
 use Rattle.droid_body.proofs.FieldLaws.{some_is}
 
@@ -41,15 +42,15 @@ made_of head puids = Finished head.method head.mismatch head.md5 puids
 pub no_puids : (body : List ℕ) (head : FinishedHead) (rest : List ℕ) → HasHead body head rest → (ArePuids head.count rest → ⊥) → finished_value body ≡ None
 unfolding finished_value
 no_puids body head rest has not_all =
-    rw has.head_is (whole_none (texts_at head.count 1 PUID_LIMIT rest) (made_of head) not_all)
+    rw has.head_is (whole_none (texts_at head.count 1 puid_limit rest) (made_of head) not_all)
 
-puids_are : (body : List ℕ) (head : FinishedHead) (rest : List ℕ) → HasHead body head rest → ArePuids head.count rest → (puids : List (List ℕ)) × (texts_at head.count 1 PUID_LIMIT rest ≡ Some (puids, [])) × (finished_value body ≡ Some (made_of head puids))
+puids_are : (body : List ℕ) (head : FinishedHead) (rest : List ℕ) → HasHead body head rest → ArePuids head.count rest → (puids : List (List ℕ)) × (texts_at head.count 1 puid_limit rest ≡ Some (puids, [])) × (finished_value body ≡ Some (made_of head puids))
 unfolding finished_value
 puids_are body head rest has all =
-    let some = whole_some (texts_at head.count 1 PUID_LIMIT rest) (made_of head) all in
+    let some = whole_some (texts_at head.count 1 puid_limit rest) (made_of head) all in
     (some.0, some.1, rw has.head_is some.2)
 
-pub is_finished : (body : List ℕ) (head : FinishedHead) (rest : List ℕ) (puids : List (List ℕ)) (after : List ℕ) → HasHead body head rest → ArePuids head.count rest → texts_at head.count 1 PUID_LIMIT rest ≡ Some (puids, after) → finished_value body ≡ Some (made_of head puids)
+pub is_finished : (body : List ℕ) (head : FinishedHead) (rest : List ℕ) (puids : List (List ℕ)) (after : List ℕ) → HasHead body head rest → ArePuids head.count rest → texts_at head.count 1 puid_limit rest ≡ Some (puids, after) → finished_value body ≡ Some (made_of head puids)
 is_finished body head rest puids after has all read =
     let some = puids_are body head rest has all in
     let same : some.0 ≡ puids = ap (λ (x : List (List ℕ) × List ℕ). x.0) (some_is (some.0, []) (puids, after) (sym some.1 ∙ read)) in
@@ -58,7 +59,7 @@ is_finished body head rest puids after has all read =
 is_some_at : (value : Option Reply) (reply : Reply) → value ≡ Some reply → IsSome value
 is_some_at value reply e = rw e refl
 
-pub fault_is : (body : List ℕ) (head : FinishedHead) (rest : List ℕ) (fault : BodyFault) → HasHead body head rest → ArePuids head.count rest → Fails fault (texts_at head.count 1 PUID_LIMIT rest) → IsFaultOf 132 (finished_value body) fault
+pub fault_is : (body : List ℕ) (head : FinishedHead) (rest : List ℕ) (fault : BodyFault) → HasHead body head rest → ArePuids head.count rest → Fails fault (texts_at head.count 1 puid_limit rest) → IsFaultOf 132 (finished_value body) fault
 fault_is body head rest Malformed has all read =
     let some = puids_are body head rest has all in
     absurd (let both = sym some.1 ∙ read in cc)

@@ -5,7 +5,7 @@ use Rattle.std.specs.Int.{w16}
 use Rattle.std.proofs.lemmas.Bool.{ltb-false, le-ltb}
 use Rattle.std.proofs.lemmas.List.{take_at, drop_at, take-append-drop, length-append, length-take}
 use Rattle.droid_body.specs.declared.replies.finished.FinishedHead.{FinishedHead}
-use Rattle.droid_value.specs.declared.reply.TheConstants.{PUIDS_LIMIT}
+use Rattle.droid_value.specs.Limits.{puids_limit}
 use Rattle.droid_value.specs.Fields.{IsBytes, method_bytes, u16_bytes, truth_bytes}
 use Rattle.droid_body.specs.fields.Reading.{◌>>=◌, number_at, truth_at, method_at}
 use Rattle.droid_value.specs.Replies.{IsDigest}
@@ -38,20 +38,20 @@ md5_field = record { reads = md5_reads; again = md5_again }
 -- ---- how many identifiers follow
 
 abbrev pub IsCount : ℕ → Type 0
-IsCount count = count ≤ PUIDS_LIMIT
+IsCount count = count ≤ puids_limit
 
 count_reads : (bytes : List ℕ) (x : ℕ × List ℕ) → IsBytes bytes → count_at bytes ≡ Some x → IsFront bytes (u16_bytes x.0) x.1 × IsCount x.0
 unfolding count_at
 count_reads bytes x are e =
-    let count = bind_some (number_at w16 bytes) (λ n. cond (ltb PUIDS_LIMIT n.0) None (Some n)) x e in
-    let few = unless_some (ltb PUIDS_LIMIT count.0.0) count.0 x count.2 in
+    let count = bind_some (number_at w16 bytes) (λ n. cond (ltb puids_limit n.0) None (Some n)) x e in
+    let few = unless_some (ltb puids_limit count.0.0) count.0 x count.2 in
     let front = u16_field.reads bytes count.0 are count.1 in
     subst (λ (y : ℕ × List ℕ). IsFront bytes (u16_bytes y.0) y.1 × IsCount y.0) few.1 (front.0, ltb-false _ _ few.0)
 
 count_again : (count : ℕ) (rest : List ℕ) → IsCount count → count_at (u16_bytes count ++ rest) ≡ Some (count, rest)
 unfolding count_at
 count_again count rest few =
-    let kept : ltb PUIDS_LIMIT count ≡ false = le-ltb _ _ few in
+    let kept : ltb puids_limit count ≡ false = le-ltb _ _ few in
     let small : count < 2 ^ 16 = omega arith in
     rw (u16_field.again count rest small, kept) refl
 

@@ -4,7 +4,7 @@ pub mod FilterLaws
 pub mod FilterSteps
 pub mod FinishedComes
 pub mod FinishedLaws
-pub mod PlaceLaws
+pub mod NodeHeadLaws
 pub mod ReplyComes
 pub mod ReplyFieldLaws
 pub mod ReplyLaws

@@ -6,7 +6,9 @@ use Rattle.droid_body.specs.declared.body_fault.BodyFault.TheVariants.{Malformed
 use Rattle.droid_value.specs.declared.reply.Reply.{Reply}
 use Rattle.droid_value.specs.Fields.{IsBytes}
 use Rattle.droid_value.specs.Replies.{SpellsReply}
-use Rattle.droid_body.specs.replies.Values.{Comes, IsReadAs, reply_value}
+use Rattle.droid_body.specs.replies.Results.{IsReadAs}
+use Rattle.droid_body.specs.replies.Steps.{Comes}
+use Rattle.droid_body.specs.replies.Values.{reply_value}
 use Rattle.droid_body.proofs.FieldLaws.{some_is}
 use Rattle.droid_body.proofs.ReplyLaws.{spelled_is_value, value_is_spelled}
 

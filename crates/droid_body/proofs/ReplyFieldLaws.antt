@@ -12,7 +12,7 @@ use Rattle.droid_value.specs.Fields.{IsBytes}
 use Rattle.droid_body.specs.fields.Reading.{number_at}
 use Rattle.droid_value.specs.Refusals.{refusal_number, limit_number}
 use Rattle.droid_value.specs.Replies.{refusal_bytes, refusal_detail, HasRefusalSpelling}
-use Rattle.droid_body.specs.replies.Values.{choice_at, limit_at, plain_refusals, plain_refusal, plain_refusal_at, too_far_at, incomplete_at, limit_reached_at, refusal_after, refusal_at}
+use Rattle.droid_body.specs.replies.Refusals.{choice_at, limit_at, plain_refusals, plain_refusal, plain_refusal_at, too_far_at, incomplete_at, limit_reached_at, refusal_after, refusal_at}
 use Rattle.droid_body.proofs.FieldLaws.{bind_some, some_is, IsFront, IsField, u32_field}
 
 -- ---- one of some choices

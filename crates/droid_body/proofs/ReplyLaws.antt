@@ -6,13 +6,15 @@ use Rattle.std.proofs.lemmas.Bool.{eqb-true, ltb-false, le-ltb}
 use Rattle.std.proofs.lemmas.List.{append-nil}
 use Rattle.droid_body.specs.declared.replies.finished.FinishedHead.{FinishedHead}
 use Rattle.droid_value.specs.declared.method.Method.{Method}
-use Rattle.droid_value.specs.declared.reply.TheConstants.{PART_LIMIT, PUID_LIMIT, PUIDS_LIMIT}
+use Rattle.droid_value.specs.Limits.{part_limit, puid_limit, puids_limit}
 use Rattle.droid_value.specs.declared.reply.Reply.{Reply}
 use Rattle.droid_value.specs.declared.reply.Reply.TheVariants.{Made, Node, Taken, Finished, Abandoned, Progress, Part, Refused}
 use Rattle.droid_value.specs.Fields.{IsBytes, IsU32, u32_bytes, u64_bytes}
 use Rattle.droid_body.specs.fields.Reading.{◌>>=◌, number_at, whole}
 use Rattle.droid_value.specs.Replies.{SpellsReply, HasReplySpelling, HasRefusalSpelling, refusal_bytes, reply_kind, reply_bytes}
-use Rattle.droid_body.specs.replies.Values.{SpellsOneReply, finished_head_at, refusal_at, made_value, node_value, taken_value, finished_value, abandoned_value, progress_value, part_value, refused_value, plain_value, reply_value}
+use Rattle.droid_body.specs.replies.Refusals.{refusal_at}
+use Rattle.droid_body.specs.replies.Results.{SpellsOneReply}
+use Rattle.droid_body.specs.replies.Values.{finished_head_at, made_value, node_value, taken_value, finished_value, abandoned_value, progress_value, part_value, refused_value, plain_value, reply_value}
 use Rattle.droid_body.proofs.FieldLaws.{bind_some, some_is, IsField, u32_field, u64_field, unless_some, whole_reads, whole_again}
 use Rattle.droid_body.specs.fields.TextLists.{texts_at}
 use Rattle.droid_value.specs.TextLists.{texts_bytes}
@@ -94,11 +96,11 @@ within_some limit size x y e = let kept = unless_some (ltb limit size) x y e in 
 part_reads : (body : List ℕ) (reply : Reply) → IsBytes body → part_value body ≡ Some reply → SpellsReply 135 body reply
 unfolding part_value
 part_reads body reply are e =
-    let as_of = bind_some (number_at w64 body) (λ a. number_at w64 a.1 >>= λ t. cond (ltb PART_LIMIT (length t.1)) None (Some (Part a.0 t.0 t.1))) reply e in
+    let as_of = bind_some (number_at w64 body) (λ a. number_at w64 a.1 >>= λ t. cond (ltb part_limit (length t.1)) None (Some (Part a.0 t.0 t.1))) reply e in
     let a = as_of.0 in
-    let total = bind_some (number_at w64 a.1) (λ t. cond (ltb PART_LIMIT (length t.1)) None (Some (Part a.0 t.0 t.1))) reply as_of.2 in
+    let total = bind_some (number_at w64 a.1) (λ t. cond (ltb part_limit (length t.1)) None (Some (Part a.0 t.0 t.1))) reply as_of.2 in
     let t = total.0 in
-    let within = within_some PART_LIMIT (length t.1) (Part a.0 t.0 t.1) reply total.2 in
+    let within = within_some part_limit (length t.1) (Part a.0 t.0 t.1) reply total.2 in
     let a_front = u64_field.reads body a are as_of.1 in
     let t_front = u64_field.reads a.1 t a_front.0.bytes_follow total.1 in
     subst (SpellsReply 135 body) within.1 (record {
@@ -116,12 +118,12 @@ refused_reads body reply are e =
 finished_reads : (body : List ℕ) (reply : Reply) → IsBytes body → finished_value body ≡ Some reply → SpellsReply 132 body reply
 unfolding finished_value
 finished_reads body reply are e =
-    let head = bind_some (finished_head_at body) (λ h. texts_at h.0.count 1 PUID_LIMIT h.1 >>= λ p. whole p.1 (Finished h.0.method h.0.mismatch h.0.md5 p.0)) reply e in
+    let head = bind_some (finished_head_at body) (λ h. texts_at h.0.count 1 puid_limit h.1 >>= λ p. whole p.1 (Finished h.0.method h.0.mismatch h.0.md5 p.0)) reply e in
     let h = head.0 in
     let front = head_field.reads body h are head.1 in
-    let last = last_reads (texts_at h.0.count 1 PUID_LIMIT) texts_bytes (AreTexts h.0.count 1 PUID_LIMIT) (Finished h.0.method h.0.mismatch h.0.md5) h.1 reply (texts_field h.0.count 1 PUID_LIMIT) front.0.bytes_follow head.2 in
+    let last = last_reads (texts_at h.0.count 1 puid_limit) texts_bytes (AreTexts h.0.count 1 puid_limit) (Finished h.0.method h.0.mismatch h.0.md5) h.1 reply (texts_field h.0.count 1 puid_limit) front.0.bytes_follow head.2 in
     let puids = last.value in
-    let few : length puids ≤ PUIDS_LIMIT = omega (arith, last.has_one.0, front.1.1) in
+    let few : length puids ≤ puids_limit = omega (arith, last.has_one.0, front.1.1) in
     let parts : body ≡ head_bytes h.0 ++ texts_bytes puids = front.0.parts ∙ ap (λ (r : List ℕ). head_bytes h.0 ++ r) last.bytes_are in
     let same : head_bytes h.0 ++ texts_bytes puids ≡ reply_bytes (Finished h.0.method h.0.mismatch h.0.md5 puids) = rw last.has_one.0 (head_regroups h.0 (texts_bytes puids)) in
     subst (SpellsReply 132 body) last.makes (record { kind_is = refl; body_is = parts ∙ same; has_spelling = (front.1.0, few, last.has_one.1) })
@@ -136,7 +138,7 @@ unfolding finished_value
 finished_again method mismatch md5 puids fits =
     let head = head_of method mismatch md5 puids in
     ap finished_value (sym (head_regroups head (texts_bytes puids)))
-    ∙ rw (head_field.again head (texts_bytes puids) (fits.0, fits.1)) (last_again (texts_at (length puids) 1 PUID_LIMIT) texts_bytes (AreTexts (length puids) 1 PUID_LIMIT) (Finished method mismatch md5) puids (texts_field (length puids) 1 PUID_LIMIT) (refl, fits.2))
+    ∙ rw (head_field.again head (texts_bytes puids) (fits.0, fits.1)) (last_again (texts_at (length puids) 1 puid_limit) texts_bytes (AreTexts (length puids) 1 puid_limit) (Finished method mismatch md5) puids (texts_field (length puids) 1 puid_limit) (refl, fits.2))
 
 progress_again : (held missing : ℕ) → HasReplySpelling (Progress held missing) → progress_value (reply_bytes (Progress held missing)) ≡ Some (Progress held missing)
 unfolding progress_value
@@ -147,7 +149,7 @@ progress_again held missing fits =
 part_again : (as_of total : ℕ) (bytes : List ℕ) → HasReplySpelling (Part as_of total bytes) → part_value (reply_bytes (Part as_of total bytes)) ≡ Some (Part as_of total bytes)
 unfolding part_value
 part_again as_of total bytes fits =
-    let kept : ltb PART_LIMIT (length bytes) ≡ false = le-ltb _ _ fits.2 in
+    let kept : ltb part_limit (length bytes) ≡ false = le-ltb _ _ fits.2 in
     rw (u64_field.again as_of (u64_bytes total ++ bytes) fits.0, u64_field.again total bytes fits.1, kept) refl
 
 again : (reply : Reply) → HasReplySpelling reply → reply_value (reply_kind reply) (reply_bytes reply) ≡ Some reply

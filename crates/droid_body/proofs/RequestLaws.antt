@@ -3,19 +3,19 @@
 use Rattle.std.proofs.Common.{◌≡◌, ℕ, pos, List, [], ◌++◌, Option, Some, None, refl, sym, ap, subst, ◌∙◌}
 use Rattle.std.specs.Int.{w32, w64}
 use Rattle.std.proofs.lemmas.List.{append-nil}
-use Rattle.droid_body.specs.declared.requests.place.Place.{Place}
+use Rattle.droid_body.specs.declared.requests.node_head.NodeHead.{NodeHead}
 use Rattle.droid_value.specs.declared.request.Request.{Request}
 use Rattle.droid_value.specs.declared.request.Request.TheVariants.{CreateProfile, AddFolder, AddFile, Piece, Finish, Abandon, Status, Export}
 use Rattle.droid_value.specs.Fields.{IsBytes, IsU32, u32_bytes, u64_bytes, truth_bytes}
 use Rattle.droid_value.specs.Filters.{filter_bytes}
 use Rattle.droid_body.specs.filters.Values.{filter_value}
 use Rattle.droid_value.specs.Bodies.{SpellsRequest, HasSpelling, request_kind, request_body}
-use Rattle.droid_body.specs.requests.Places.{place_at}
+use Rattle.droid_body.specs.requests.NodeHeads.{node_head_at}
 use Rattle.droid_body.specs.fields.Reading.{◌>>=◌, number_at, truth_at, text_at, whole}
-use Rattle.droid_body.specs.requests.Values.{create_profile_value, add_folder_value, add_file_value, piece_value, file_value, finish_value, abandon_value, status_value, export_value, listless_value, request_value}
+use Rattle.droid_body.specs.requests.Values.{create_profile_value, add_folder_value, add_file_value, piece_value, file_value, finish_value, abandon_value, status_value, export_value, plain_value, request_value}
 use Rattle.droid_body.proofs.FieldLaws.{bind_some, some_is, by_number, u32_field, u64_field, truth_field, text_reads, whole_reads, whole_again}
 use Rattle.droid_body.proofs.FilterLaws.{filter_value_reads, filter_value_again}
-use Rattle.droid_body.proofs.PlaceLaws.{place_bytes, place_field}
+use Rattle.droid_body.proofs.NodeHeadLaws.{node_head_bytes, node_head_field}
 use Rattle.droid_body.proofs.Utf8.{text_at-utf8}
 
 -- ---- what is read is spelled
@@ -38,34 +38,34 @@ create_profile_reads body request are e =
 add_folder_reads : (body : List ℕ) (request : Request) → IsBytes body → add_folder_value body ≡ Some request → SpellsRequest 2 body request
 unfolding add_folder_value
 add_folder_reads body request are e =
-    let read = bind_some (place_at body) (λ p. text_at p.1 >>= λ name. Some (AddFolder p.0.profile p.0.parent p.0.modified name)) request e in
-    let place = read.0.0 in
-    let name = bind_some (text_at read.0.1) (λ name. Some (AddFolder place.profile place.parent place.modified name)) request read.2 in
-    let front = place_field.reads body read.0 are read.1 in
+    let read = bind_some (node_head_at body) (λ p. text_at p.1 >>= λ name. Some (AddFolder p.0.profile p.0.parent p.0.modified name)) request e in
+    let head = read.0.0 in
+    let name = bind_some (text_at read.0.1) (λ name. Some (AddFolder head.profile head.parent head.modified name)) request read.2 in
+    let front = node_head_field.reads body read.0 are read.1 in
     let text = text_reads read.0.1 name.0 name.1 in
-    subst (SpellsRequest 2 body) (some_is (AddFolder place.profile place.parent place.modified name.0) request name.2) (record {
+    subst (SpellsRequest 2 body) (some_is (AddFolder head.profile head.parent head.modified name.0) request name.2) (record {
       kind_is = refl;
-      body_is = front.0.parts ∙ ap (λ (r : List ℕ). place_bytes place ++ r) text.0;
+      body_is = front.0.parts ∙ ap (λ (r : List ℕ). node_head_bytes head ++ r) text.0;
       has_spelling = (front.1.0, front.1.1, front.1.2, text.1);
     })
 
 add_file_reads : (body : List ℕ) (request : Request) → IsBytes body → add_file_value body ≡ Some request → SpellsRequest 3 body request
 unfolding add_file_value
 add_file_reads body request are e =
-    let read = bind_some (place_at body) (λ p. number_at w64 p.1 >>= λ s. number_at w32 s.1 >>= λ z. text_at z.1 >>= λ name. Some (AddFile p.0.profile p.0.parent p.0.modified s.0 z.0 name)) request e in
-    let place = read.0.0 in
-    let size = bind_some (number_at w64 read.0.1) (λ s. number_at w32 s.1 >>= λ z. text_at z.1 >>= λ name. Some (AddFile place.profile place.parent place.modified s.0 z.0 name)) request read.2 in
+    let read = bind_some (node_head_at body) (λ p. number_at w64 p.1 >>= λ s. number_at w32 s.1 >>= λ z. text_at z.1 >>= λ name. Some (AddFile p.0.profile p.0.parent p.0.modified s.0 z.0 name)) request e in
+    let head = read.0.0 in
+    let size = bind_some (number_at w64 read.0.1) (λ s. number_at w32 s.1 >>= λ z. text_at z.1 >>= λ name. Some (AddFile head.profile head.parent head.modified s.0 z.0 name)) request read.2 in
     let s = size.0 in
-    let piece_size = bind_some (number_at w32 s.1) (λ z. text_at z.1 >>= λ name. Some (AddFile place.profile place.parent place.modified s.0 z.0 name)) request size.2 in
+    let piece_size = bind_some (number_at w32 s.1) (λ z. text_at z.1 >>= λ name. Some (AddFile head.profile head.parent head.modified s.0 z.0 name)) request size.2 in
     let z = piece_size.0 in
-    let name = bind_some (text_at z.1) (λ name. Some (AddFile place.profile place.parent place.modified s.0 z.0 name)) request piece_size.2 in
-    let front = place_field.reads body read.0 are read.1 in
+    let name = bind_some (text_at z.1) (λ name. Some (AddFile head.profile head.parent head.modified s.0 z.0 name)) request piece_size.2 in
+    let front = node_head_field.reads body read.0 are read.1 in
     let s_front = u64_field.reads read.0.1 s front.0.bytes_follow size.1 in
     let z_front = u32_field.reads s.1 z s_front.0.bytes_follow piece_size.1 in
     let text = text_reads z.1 name.0 name.1 in
-    subst (SpellsRequest 3 body) (some_is (AddFile place.profile place.parent place.modified s.0 z.0 name.0) request name.2) (record {
+    subst (SpellsRequest 3 body) (some_is (AddFile head.profile head.parent head.modified s.0 z.0 name.0) request name.2) (record {
       kind_is = refl;
-      body_is = front.0.parts ∙ ap (λ (r : List ℕ). place_bytes place ++ r) (s_front.0.parts ∙ ap (λ (r : List ℕ). u64_bytes s.0 ++ r) (z_front.0.parts ∙ ap (λ (r : List ℕ). u32_bytes z.0 ++ r) text.0));
+      body_is = front.0.parts ∙ ap (λ (r : List ℕ). node_head_bytes head ++ r) (s_front.0.parts ∙ ap (λ (r : List ℕ). u64_bytes s.0 ++ r) (z_front.0.parts ∙ ap (λ (r : List ℕ). u32_bytes z.0 ++ r) text.0));
       has_spelling = (front.1.0, front.1.1, front.1.2, s_front.1, z_front.1, text.1);
     })
 
@@ -150,9 +150,9 @@ export_reads body request are e =
       has_spelling = (p_front.1, f_front.1, m_front.1, read.1);
     })
 
-listless_reads : (kind : ℕ) (body : List ℕ) (request : Request) → IsBytes body → listless_value kind body ≡ Some request → SpellsRequest kind body request
-unfolding listless_value
-listless_reads kind body request are e =
+plain_reads : (kind : ℕ) (body : List ℕ) (request : Request) → IsBytes body → plain_value kind body ≡ Some request → SpellsRequest kind body request
+unfolding plain_value
+plain_reads kind body request are e =
     let P : ℕ → Type 0 = λ n. SpellsRequest n body request in
     by_number 1 P kind _ _ request (create_profile_reads body request are)
     (by_number 2 P kind _ _ request (add_folder_reads body request are)
@@ -166,7 +166,7 @@ pub value_is_spelled : (kind : ℕ) (body : List ℕ) (request : Request) → Is
 unfolding request_value
 value_is_spelled kind body request are e =
     let P : ℕ → Type 0 = λ n. SpellsRequest n body request in
-    by_number 8 P kind _ _ request (export_reads body request are) (listless_reads kind body request are) e
+    by_number 8 P kind _ _ request (export_reads body request are) (plain_reads kind body request are) e
 
 -- ---- what is spelled is read
 
@@ -181,19 +181,19 @@ file_again profile file is_profile is_file =
     goes_on (number_at w32 (u32_bytes profile ++ u32_bytes file)) (profile, u32_bytes file) (λ p. number_at w32 p.1 >>= λ f. whole f.1 (p.0, f.0)) (u32_field.again profile (u32_bytes file) is_profile)
     ∙ (goes_on (number_at w32 (u32_bytes file)) (file, []) (λ f. whole f.1 (profile, f.0)) last ∙ whole_again (profile, file))
 
-abbrev placed : Request → Place
-placed (AddFolder profile parent modified name) = record { profile = profile; parent = parent; modified = modified }
-placed (AddFile profile parent modified size piece_size name) = record { profile = profile; parent = parent; modified = modified }
-placed _ = record { profile = 0; parent = 0; modified = pos 0 }
+abbrev head_of : Request → NodeHead
+head_of (AddFolder profile parent modified name) = record { profile = profile; parent = parent; modified = modified }
+head_of (AddFile profile parent modified size piece_size name) = record { profile = profile; parent = parent; modified = modified }
+head_of _ = record { profile = 0; parent = 0; modified = pos 0 }
 
 again : (request : Request) → HasSpelling request → request_value (request_kind request) (request_body request) ≡ Some request
-unfolding request_value listless_value create_profile_value add_folder_value add_file_value piece_value finish_value abandon_value status_value export_value
+unfolding request_value plain_value create_profile_value add_folder_value add_file_value piece_value finish_value abandon_value status_value export_value
 again (CreateProfile limit all) fits =
     rw (u32_field.again limit (truth_bytes all) fits, ap truth_at (sym (append-nil (truth_bytes all))) ∙ truth_field.again all [] tt, whole_again (CreateProfile limit all)) refl
 again (AddFolder profile parent modified name) fits =
-    rw (place_field.again (placed (AddFolder profile parent modified name)) name (fits.0, fits.1, fits.2), text_at-utf8 name fits.3) refl
+    rw (node_head_field.again (head_of (AddFolder profile parent modified name)) name (fits.0, fits.1, fits.2), text_at-utf8 name fits.3) refl
 again (AddFile profile parent modified size piece_size name) fits =
-    rw (place_field.again (placed (AddFile profile parent modified size piece_size name)) (u64_bytes size ++ (u32_bytes piece_size ++ name)) (fits.0, fits.1, fits.2), u64_field.again size (u32_bytes piece_size ++ name) fits.3, u32_field.again piece_size name fits.4, text_at-utf8 name fits.5) refl
+    rw (node_head_field.again (head_of (AddFile profile parent modified size piece_size name)) (u64_bytes size ++ (u32_bytes piece_size ++ name)) (fits.0, fits.1, fits.2), u64_field.again size (u32_bytes piece_size ++ name) fits.3, u32_field.again piece_size name fits.4, text_at-utf8 name fits.5) refl
 again (Piece profile file index bytes) fits =
     rw (u32_field.again profile (u32_bytes file ++ (u32_bytes index ++ bytes)) fits.0, u32_field.again file (u32_bytes index ++ bytes) fits.1, u32_field.again index bytes fits.2) refl
 again (Finish profile file) fits = rw (file_again profile file fits.0 fits.1) refl

@@ -1,4 +1,4 @@
--- What a reader that may want memory answers.
+-- For proofs alone: what a reader that may want memory answers.
 use Rattle.std.specs.Prelude.{◌≡◌, Option, Some, None, IsSome, Result, Ok, Err}
 use Rattle.droid_body.specs.declared.body_fault.BodyFault.{BodyFault}
 use Rattle.droid_body.specs.declared.body_fault.BodyFault.TheVariants.{Malformed, Memory}

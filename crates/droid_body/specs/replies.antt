@@ -1,1 +1,4 @@
+pub mod Refusals
+pub mod Results
+pub mod Steps
 pub mod Values

@@ -2,7 +2,7 @@
 
 ghost use Rattle.std.specs.Prelude.{◌≡◌, is_some};
 ghost use Rattle.std.specs.Option.{option_map};
-ghost use Rattle.droid_body.specs.filters.Values.{node_kind_at, list_at, listless_at, criterion_at, tagged_at, filter_at, filter_value};
+ghost use Rattle.droid_body.specs.filters.Values.{node_kind_at, list_at, plain_at, criterion_at, tagged_at, filter_at, filter_value};
 ghost use Rattle.droid_body.specs.Outcomes.{Gives, IsAnswer};
 ghost use Rattle.droid_body.specs.fields.Sequences.{sequence_at};
 
@@ -63,7 +63,7 @@ fn after_criterion(bytes: &[u8]) -> Option<&[u8]>
         2 => after_list(rest),
         3 => after_list(rest),
         _ => {
-            let (_, rest) = listless_at(tag, rest)?;
+            let (_, rest) = plain_at(tag, rest)?;
             Some(rest)
         }
     }
@@ -123,7 +123,7 @@ fn tagged_at(alloc: Global, tag: u8, bytes: &[u8]) -> Result<(Criterion, &[u8]),
             let (texts, rest) = list_at(alloc, bytes)?;
             Ok((Criterion::ExtIn(texts), rest))
         }
-        _ => listless_at(tag, bytes).ok_or(BodyFault::Malformed),
+        _ => plain_at(tag, bytes).ok_or(BodyFault::Malformed),
     }
 }
 
@@ -136,9 +136,9 @@ fn list_at(alloc: Global, bytes: &[u8]) -> Result<(Texts, &[u8]), BodyFault>
 }
 
 /// The criterion of a tag that goes before no list. It takes no memory.
-#[tactic(auto, unfolding(crate::specs::filters::Values::listless_at, crate::specs::filters::Values::method_is_at, crate::specs::filters::Values::mismatch_is_at, crate::specs::filters::Values::size_at_least_at, crate::specs::filters::Values::size_at_most_at, crate::specs::filters::Values::kind_is_at))]
-fn listless_at(tag: u8, bytes: &[u8]) -> Option<(Criterion, &[u8])>
-    ensures { option_map (λ x. (x.0, x.1.now)) result ≡ listless_at tag bytes.now }
+#[tactic(auto, unfolding(crate::specs::filters::Values::plain_at, crate::specs::filters::Values::method_is_at, crate::specs::filters::Values::mismatch_is_at, crate::specs::filters::Values::size_at_least_at, crate::specs::filters::Values::size_at_most_at, crate::specs::filters::Values::kind_is_at))]
+fn plain_at(tag: u8, bytes: &[u8]) -> Option<(Criterion, &[u8])>
+    ensures { option_map (λ x. (x.0, x.1.now)) result ≡ plain_at tag bytes.now }
 {
     match tag {
         1 => {

@@ -3,7 +3,7 @@
 ghost use Rattle.std.specs.Prelude.{◌≡◌, ℕ, List};
 ghost use Rattle.droid_value.specs.Bodies.{SpellsRequest};
 ghost use Rattle.droid_value.specs.declared.request.Request.{Request};
-ghost use Rattle.droid_body.specs.replies.Values.{SpellsOneReply};
+ghost use Rattle.droid_body.specs.replies.Results.{SpellsOneReply};
 
 /// A kind and a body spell at most one request.
 pub fn spells_one_request()

@@ -5,8 +5,8 @@ pub mod ReplyFrames
 pub mod ReplyParts
 pub mod ReplyWrites
 pub mod StreamArrivals
+pub mod StreamCounts
+pub mod StreamEnds
 pub mod StreamFrames
 pub mod StreamReadings
-pub mod SteadyStreams
-pub mod StreamReads
 pub mod StreamWrites

@@ -3,7 +3,7 @@ use Rattle.std.proofs.Common.{ℕ, ◌<◌, ◌≤◌, Bool, true, false, List, 
 use Rattle.std.specs.Int.{w16, w32, w64}
 use Rattle.std.specs.List.{AllByRecursion}
 use Rattle.std.proofs.lemmas.List.{length-append}
-use Rattle.droid_value.specs.declared.frame.TheConstants.{BODY_LIMIT}
+use Rattle.droid_value.specs.Limits.{body_limit}
 use Rattle.droid_value.specs.declared.method.Method.{Method}
 use Rattle.droid_value.specs.declared.method.Method.TheVariants.{Unidentified, Signature, Extension}
 use Rattle.droid_value.specs.declared.refusal.Limit.{Limit}
@@ -15,7 +15,7 @@ use Rattle.droid_value.specs.declared.reply.Reply.TheVariants.{Made, Node, Taken
 use Rattle.droid_value.specs.Fields.{IsBytes, u16_bytes, u32_bytes, u64_bytes, truth_bytes, method_bytes}
 use Rattle.droid_value.specs.Refusals.{limit_number}
 use Rattle.droid_value.specs.Replies.{HasReplySpelling, IsPuidText, refusal_bytes, reply_bytes, reply_kind}
-use Rattle.droid_frame.specs.ReplyParts.{ReplyFramesAreReadable}
+use Rattle.droid_frame.specs.ReplyFrames.{ReplyFramesAreReadable}
 use Rattle.droid_value.specs.TextLists.{sized_bytes, texts_bytes}
 use Rattle.droid_frame.proofs.ByteLists.{IsBytes-nil, IsBytes-cons, IsBytes-append, number_bytes, text_bytes}
 use Rattle.droid_frame.proofs.ReplyParts.{puids_are_short}
@@ -69,7 +69,7 @@ puids_bytes (puid ∷ puids) are =
     (IsBytes-cons (length puid) puid (omega (arith, are.0.at_most)) (text_bytes puid are.0.utf8))
     (puids_bytes puids are.1)
 
-finished_is_short : (method : Method) (mismatch : Bool) (md5 : List ℕ) (puids : List (List ℕ)) → HasReplySpelling (Finished method mismatch md5 puids) → IsShort BODY_LIMIT (reply_bytes (Finished method mismatch md5 puids))
+finished_is_short : (method : Method) (mismatch : Bool) (md5 : List ℕ) (puids : List (List ℕ)) → HasReplySpelling (Finished method mismatch md5 puids) → IsShort body_limit (reply_bytes (Finished method mismatch md5 puids))
 finished_is_short method mismatch md5 puids fits =
     let list : List ℕ = texts_bytes puids in
     let counted : List ℕ = u16_bytes (length puids) ++ list in
@@ -81,13 +81,13 @@ finished_is_short method mismatch md5 puids fits =
       omega (arith, fits.0.0, fits.1, puids_are_short puids fits.2, (truth_byte mismatch).1, length-append (truth_bytes mismatch) digested, length-append md5 counted, length-append (u16_bytes (length puids)) list),
     )
 
-part_is_short : (as_of total : ℕ) (bytes : List ℕ) → HasReplySpelling (Part as_of total bytes) → IsShort BODY_LIMIT (reply_bytes (Part as_of total bytes))
+part_is_short : (as_of total : ℕ) (bytes : List ℕ) → HasReplySpelling (Part as_of total bytes) → IsShort body_limit (reply_bytes (Part as_of total bytes))
 part_is_short as_of total bytes fits = (
   IsBytes-append (u64_bytes as_of) (u64_bytes total ++ bytes) (number_bytes w64 as_of) (IsBytes-append (u64_bytes total) bytes (number_bytes w64 total) fits.3),
   omega (arith, fits.2, length-append (u64_bytes as_of) (u64_bytes total ++ bytes), length-append (u64_bytes total) bytes),
 )
 
-pub reply_is_short : (reply : Reply) → HasReplySpelling reply → IsShort BODY_LIMIT (reply_bytes reply)
+pub reply_is_short : (reply : Reply) → HasReplySpelling reply → IsShort body_limit (reply_bytes reply)
 reply_is_short (Made profile) fits = (number_bytes w32 profile, omega arith)
 reply_is_short (Node id) fits = (number_bytes w32 id, omega arith)
 reply_is_short (Taken held) fits = (number_bytes w32 held, omega arith)

@@ -3,7 +3,7 @@ use Rattle.std.proofs.Common.{◌≡◌, ℕ, ◌+◌, ◌*◌, ◌<◌, ◌≤�
 use Rattle.std.specs.List.{AllByRecursion}
 use Rattle.std.proofs.lemmas.List.{append-nil, length-append}
 use Rattle.std.proofs.lemmas.List.Folds.{length-flat_map-take}
-use Rattle.droid_value.specs.declared.reply.TheConstants.{PUIDS_LIMIT}
+use Rattle.droid_value.specs.Limits.{puids_limit}
 use Rattle.droid_value.specs.declared.reply.Reply.{Reply}
 use Rattle.droid_value.specs.declared.reply.Reply.TheVariants.{Made, Node, Taken, Finished, Abandoned, Progress, Part, Refused}
 use Rattle.droid_value.specs.Fields.{u64_bytes}
@@ -28,7 +28,7 @@ puids_are_short (puid ∷ puids) are =
     omega (arith, are.0.at_most, puids_are_short puids are.1, length-append (sized_bytes puid) (texts_bytes puids))
 
 -- the first identifiers and one more
-pub room_for_puid : (puids : List (List ℕ)) (i : ℕ) (puid : List ℕ) → AllByRecursion IsPuidText puids → length puids ≤ PUIDS_LIMIT → i < length puids → puid ≡ get_or puids i puid → length (texts_bytes (take i puids)) + (1 + length puid) ≤ 135168
+pub room_for_puid : (puids : List (List ℕ)) (i : ℕ) (puid : List ℕ) → AllByRecursion IsPuidText puids → length puids ≤ puids_limit → i < length puids → puid ≡ get_or puids i puid → length (texts_bytes (take i puids)) + (1 + length puid) ≤ 135168
 room_for_puid puids i puid are few below is =
     let grown : length (texts_bytes (take i puids)) + length (sized_bytes (get_or puids i puid)) ≤ length (texts_bytes puids) = length-flat_map-take sized_bytes puids i puid below in
     let same : length (sized_bytes (get_or puids i puid)) ≡ length (sized_bytes puid) = ap (λ (t : List ℕ). length (sized_bytes t)) (sym is) in

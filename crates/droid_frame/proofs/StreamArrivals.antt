@@ -6,7 +6,7 @@ use Rattle.std.proofs.KnownBytes.{Consumes-trans}
 use Rattle.std.proofs.lemmas.Bool.{ltb-true, ltb-false, eqb-true, eqb-false}
 use Rattle.std.proofs.lemmas.List.{append-nil}
 use Rattle.droid_value.specs.declared.frame.Frame.{Frame}
-use Rattle.droid_value.specs.declared.frame.TheConstants.{BODY_LIMIT}
+use Rattle.droid_value.specs.Limits.{body_limit}
 use Rattle.droid_frame.specs.declared.stream.arrival.Arrival.{Arrival}
 use Rattle.droid_frame.specs.declared.stream.arrival.Arrival.TheVariants as arrivals
 use Rattle.droid_frame.specs.declared.stream.fault.FrameFault.{FrameFault}
@@ -60,10 +60,10 @@ header_fault old new Memory came = absurd came
 refused_told : (h : Header) (fault : FrameFault) (left : List ℕ) → IsHeader h → Judged h (Err fault) → Tells fault (header_bytes h ++ left)
 refused_told h BadVersion left is (other_version o) = record {
   no_frame = no_frame_of_version h left is (eqb-false h.version 1 o);
-  reason = why_whole h left false (ltb BODY_LIMIT h.length) is o refl;
+  reason = why_whole h left false (ltb body_limit h.length) is o refl;
 }
 refused_told h TooLong left is (too_long o l) = record {
-  no_frame = no_frame_too_long h left is (ltb-true BODY_LIMIT h.length l);
+  no_frame = no_frame_too_long h left is (ltb-true body_limit h.length l);
   reason = why_whole h left true true is o l;
 }
 refused_told h Truncated left is j = elim j [ ]
@@ -78,7 +78,7 @@ refused_by old new h BadVersion is read (other_version o) = (
 )
 refused_by old new h TooLong is read (too_long o l) = (
   begun_all old new (header_bytes h) (Tells TooLong) read (λ left. refused_told h TooLong left is (too_long o l)),
-  record { bytes = header_bytes h; consumed = read; no_frame = no_frame_too_long h [] is (ltb-true BODY_LIMIT h.length l); within = inl (omega arith) },
+  record { bytes = header_bytes h; consumed = read; no_frame = no_frame_too_long h [] is (ltb-true body_limit h.length l); within = inl (omega arith) },
 )
 refused_by old new h Truncated is read j = elim j [ ]
 refused_by old new h Memory is read j = elim j [ ]
@@ -92,7 +92,7 @@ length_fault old new h fault is read e = refused_by old new h fault is read (jud
 pub record IsGood (h : Header) (n : ℕ) : Type 0 where
   pub is_header : IsHeader h
   pub one : eqb h.version 1 ≡ true
-  pub fits : ltb BODY_LIMIT h.length ≡ false
+  pub fits : ltb body_limit h.length ≡ false
   pub length_is : n ≡ h.length
 
 good_by : (h : Header) (n : ℕ) → IsHeader h → Judged h (Ok n) → IsGood h n
@@ -105,7 +105,7 @@ good_header : (h : Header) (n : ℕ) (part : List ℕ) → IsGood h n → IsGood
 good_header h n part is = record {
   whole = omega arith;
   version_is = eqb-true h.version 1 is.one;
-  length_fits = rw (length_in-header h part is.is_header) (ltb-false BODY_LIMIT h.length is.fits);
+  length_fits = rw (length_in-header h part is.is_header) (ltb-false body_limit h.length is.fits);
 }
 
 names_some : (h : Header) (n : ℕ) (part : List ℕ) → IsGood h n → 0 < n → NamesSomeBody (header_bytes h ++ part)
@@ -150,7 +150,7 @@ pub frame_came : (old mid new : Option (List ℕ)) (h : Header) (n : ℕ) (body 
 frame_came old mid new h n body is read came =
     let size : length body ≡ h.length = came.1 ∙ is.length_is in
     let same : header_bytes h ++ body ≡ frame_bytes (made h body) = rw size refl in
-    let fits : h.length ≤ BODY_LIMIT = ltb-false BODY_LIMIT h.length is.fits in
+    let fits : h.length ≤ body_limit = ltb-false body_limit h.length is.fits in
     let header = is.is_header in (
       record {
         is_frame = record {

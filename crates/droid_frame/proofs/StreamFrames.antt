@@ -4,7 +4,7 @@ use Rattle.std.proofs.lemmas.Bool.{lt-ltb, le-ltb, ne_eqb}
 use Rattle.std.proofs.lemmas.List.{length-append}
 use Rattle.std.proofs.lemmas.Nat.{from_be_bytes-to_be_bytes_4}
 use Rattle.droid_value.specs.declared.frame.Frame.{Frame}
-use Rattle.droid_value.specs.declared.frame.TheConstants.{BODY_LIMIT}
+use Rattle.droid_value.specs.Limits.{body_limit}
 use Rattle.droid_frame.specs.declared.stream.arrival.Arrival.TheVariants as arrivals
 use Rattle.droid_frame.specs.declared.stream.fault.FrameFault.{FrameFault}
 use Rattle.droid_frame.specs.declared.stream.fault.FrameFault.TheVariants.{Truncated, BadVersion, TooLong}
@@ -22,7 +22,7 @@ length_in-header h r is = from_be_bytes-to_be_bytes_4 h.length is.length_fits
 
 -- ---- why
 
-why_by : (input : List ℕ) (empty short is_one long : Bool) → eqb (length input) 0 ≡ empty → ltb (length input) header_size ≡ short → eqb (version_in input) 1 ≡ is_one → ltb BODY_LIMIT (length_in input) ≡ long
+why_by : (input : List ℕ) (empty short is_one long : Bool) → eqb (length input) 0 ≡ empty → ltb (length input) header_size ≡ short → eqb (version_in input) 1 ≡ is_one → ltb body_limit (length_in input) ≡ long
     → why input ≡ cond empty (Ok arrivals.End) (cond short (Err Truncated) (cond is_one (cond long (Err TooLong) (Err Truncated)) (Err BadVersion)))
 unfolding why
 why_by input empty short is_one long e s o l = cc
@@ -33,15 +33,15 @@ why_nothing = refl
 
 pub why_short : (input : List ℕ) → 0 < length input → length input < header_size → why input ≡ Err Truncated
 why_short input some short =
-    why_by input false true (eqb (version_in input) 1) (ltb BODY_LIMIT (length_in input)) (ne_eqb (length input) 0 (λ e. omega arith)) (lt-ltb (length input) header_size short) refl refl
+    why_by input false true (eqb (version_in input) 1) (ltb body_limit (length_in input)) (ne_eqb (length input) 0 (λ e. omega arith)) (lt-ltb (length input) header_size short) refl refl
 
-pub why_whole : (h : Header) (r : List ℕ) (is_one long : Bool) → IsHeader h → eqb h.version 1 ≡ is_one → ltb BODY_LIMIT h.length ≡ long
+pub why_whole : (h : Header) (r : List ℕ) (is_one long : Bool) → IsHeader h → eqb h.version 1 ≡ is_one → ltb body_limit h.length ≡ long
     → why (header_bytes h ++ r) ≡ cond is_one (cond long (Err TooLong) (Err Truncated)) (Err BadVersion)
 why_whole h r is_one long is o l =
     why_by (header_bytes h ++ r) false false is_one long
     (ne_eqb (length (header_bytes h ++ r)) 0 (λ e. omega arith))
     (le-ltb (length (header_bytes h ++ r)) header_size (omega arith))
-    o (ap (ltb BODY_LIMIT) (length_in-header h r is) ∙ l)
+    o (ap (ltb body_limit) (length_in-header h r is) ∙ l)
 
 -- ---- no frame
 
@@ -56,7 +56,7 @@ pub no_frame_of_version : (h : Header) (r : List ℕ) → IsHeader h → (h.vers
 no_frame_of_version h r is other = λ frame rest readable e.
     other (ap (λ (k : Header). k.version) (header_there h r frame rest is readable.is_frame e).0 ∙ readable.version_is)
 
-pub no_frame_too_long : (h : Header) (r : List ℕ) → IsHeader h → BODY_LIMIT < h.length → BeginsNoFrame (header_bytes h ++ r)
+pub no_frame_too_long : (h : Header) (r : List ℕ) → IsHeader h → body_limit < h.length → BeginsNoFrame (header_bytes h ++ r)
 no_frame_too_long h r is long = λ frame rest readable e.
     let same : h.length ≡ length frame.body = ap (λ (k : Header). k.length) (header_there h r frame rest is readable.is_frame e).0 in
     let fits = readable.is_frame.body_fits in
@@ -74,14 +74,14 @@ no_frame_cut h r is short = λ frame rest readable e.
 -- a header that was judged: it has another version; or is too long; or is good
 pub data Judged (h : Header) : Result ℕ FrameFault → Type 0 where
   other_version : eqb h.version 1 ≡ false → Judged h (Err BadVersion)
-  too_long : eqb h.version 1 ≡ true → ltb BODY_LIMIT h.length ≡ true → Judged h (Err TooLong)
-  good : eqb h.version 1 ≡ true → ltb BODY_LIMIT h.length ≡ false → Judged h (Ok h.length)
+  too_long : eqb h.version 1 ≡ true → ltb body_limit h.length ≡ true → Judged h (Err TooLong)
+  good : eqb h.version 1 ≡ true → ltb body_limit h.length ≡ false → Judged h (Ok h.length)
 
-judged_by : (h : Header) (is_one long : Bool) → eqb h.version 1 ≡ is_one → ltb BODY_LIMIT h.length ≡ long → Judged h (cond is_one (cond long (Err TooLong) (Ok h.length)) (Err BadVersion))
+judged_by : (h : Header) (is_one long : Bool) → eqb h.version 1 ≡ is_one → ltb body_limit h.length ≡ long → Judged h (cond is_one (cond long (Err TooLong) (Ok h.length)) (Err BadVersion))
 judged_by h false long o l = other_version o
 judged_by h true true o l = too_long o l
 judged_by h true false o l = good o l
 
 pub judged_is : (h : Header) (r : Result ℕ FrameFault) → judged h ≡ r → Judged h r
 unfolding judged
-judged_is h r e = subst (Judged h) e (judged_by h (eqb h.version 1) (ltb BODY_LIMIT h.length) refl refl)
+judged_is h r e = subst (Judged h) e (judged_by h (eqb h.version 1) (ltb body_limit h.length) refl refl)

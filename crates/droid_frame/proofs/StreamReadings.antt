@@ -5,7 +5,7 @@ use Rattle.std.specs.List.{flat_map}
 use Rattle.std.proofs.lemmas.Bool.{le-ltb, ltb-true, ltb-false, eqb-true, eqb-false, cases_lt}
 use Rattle.std.proofs.lemmas.List.{length-append, length-take, take-append-drop}
 use Rattle.droid_value.specs.declared.frame.Frame.{Frame}
-use Rattle.droid_value.specs.declared.frame.TheConstants.{BODY_LIMIT}
+use Rattle.droid_value.specs.Limits.{body_limit}
 use Rattle.droid_frame.specs.declared.stream.fault.FrameFault.{FrameFault}
 use Rattle.droid_frame.specs.declared.stream.header.Header.{Header}
 use Rattle.droid_value.specs.Fields.{IsBytes, u32_bytes, u64_bytes}
@@ -93,11 +93,11 @@ record Next (bytes : List ℕ) : Type 0 where
   pub parts : bytes ≡ frame_bytes frame ++ rest
   pub bytes_follow : IsBytes rest
 
-next_of : (h : Header) (rest : List ℕ) → IsHeader h → IsBytes rest → eqb h.version 1 ≡ true → ltb BODY_LIMIT h.length ≡ false → h.length ≤ length rest → Next (header_bytes h ++ rest)
+next_of : (h : Header) (rest : List ℕ) → IsHeader h → IsBytes rest → eqb h.version 1 ≡ true → ltb body_limit h.length ≡ false → h.length ≤ length rest → Next (header_bytes h ++ rest)
 next_of h rest is are one fits long =
     let body = take h.length rest in
     let size : length body ≡ h.length = omega (arith, length-take h.length rest) in
-    let within : h.length ≤ BODY_LIMIT = ltb-false BODY_LIMIT h.length fits in
+    let within : h.length ≤ body_limit = ltb-false body_limit h.length fits in
     let same : header_bytes h ++ rest ≡ frame_bytes (made h body) ++ drop h.length rest =
     rw size (ap (λ (l : List ℕ). header_bytes h ++ l) (sym (take-append-drop h.length rest))) in
     record {
@@ -120,7 +120,7 @@ next_of h rest is are one fits long =
 
 behind_header : (h : Header) (rest : List ℕ) (r : Result ℕ FrameFault) → IsHeader h → IsBytes rest → Judged h r → Next (header_bytes h ++ rest) ⊎ BeginsNoFrame (header_bytes h ++ rest)
 behind_header h rest r is are (other_version o) = inr (no_frame_of_version h rest is (eqb-false h.version 1 o))
-behind_header h rest r is are (too_long o l) = inr (no_frame_too_long h rest is (ltb-true BODY_LIMIT h.length l))
+behind_header h rest r is are (too_long o l) = inr (no_frame_too_long h rest is (ltb-true body_limit h.length l))
 behind_header h rest r is are (good o l) =
     elim (cases_lt (length rest) h.length) [
       | inl short ↦ inr (no_frame_cut h rest is short)

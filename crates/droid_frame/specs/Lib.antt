@@ -3,6 +3,7 @@ pub use Rattle.droid_value.specs.Bodies
 pub use Rattle.droid_value.specs.Fields
 pub use Rattle.droid_value.specs.Filters
 pub use Rattle.droid_value.specs.Frames
+pub use Rattle.droid_value.specs.Limits
 pub use Rattle.droid_value.specs.Refusals
 pub use Rattle.droid_value.specs.Replies
 pub use Rattle.droid_value.specs.Sequences
@@ -14,9 +15,11 @@ pub use Rattle.droid_body.specs.filters.Values as FilterValues
 pub use Rattle.droid_body.specs.replies.Values as ReplyValues
 pub use Rattle.droid_body.specs.requests.Values
 pub use Rattle.droid_body.specs.declared.body_fault
+pub use Rattle.droid_stream.specs.Seen
+pub use Rattle.droid_stream.specs.Writes
 pub mod Headers
+pub mod ReplyFrames
 pub mod ReplyParts
-pub mod SteadyStreams
 pub mod StreamLaws
 pub mod StreamReads
 pub mod StreamWrites

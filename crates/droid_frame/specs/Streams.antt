@@ -3,7 +3,7 @@ use Rattle.std.specs.Prelude.{◌≡◌, ℕ, ◌<◌, ◌≤◌, ◌^◌, ◌==
 use Rattle.std.specs.Int.{w32, from_be_bytes}
 use Rattle.std.specs.List.{AllByRecursion, flat_map}
 use Rattle.droid_value.specs.declared.frame.Frame.{Frame}
-use Rattle.droid_value.specs.declared.frame.TheConstants.{BODY_LIMIT}
+use Rattle.droid_value.specs.Limits.{body_limit}
 use Rattle.droid_frame.specs.declared.stream.arrival.Arrival.{Arrival}
 use Rattle.droid_frame.specs.declared.stream.arrival.Arrival.TheVariants.{End}
 use Rattle.droid_frame.specs.declared.stream.fault.FrameFault.{FrameFault}
@@ -17,7 +17,7 @@ pub record IsFrame (frame : Frame) : Type 0 where
   pub kind_fits : frame.kind < 2 ^ 8
   pub client_fits : IsU32 frame.client
   pub number_fits : frame.number < 2 ^ 64
-  pub body_fits : length frame.body ≤ BODY_LIMIT
+  pub body_fits : length frame.body ≤ body_limit
   pub body_is_bytes : IsBytes frame.body
 
 -- a frame that a stream may hold
@@ -51,5 +51,5 @@ unfoldable pub why : List ℕ → Result Arrival FrameFault
 why rest =
     if length rest == 0 then Ok End
     else if nat_lt (length rest) header_size then Err Truncated
-    else if version_in rest == 1 then (if nat_lt BODY_LIMIT (length_in rest) then Err TooLong else Err Truncated)
+    else if version_in rest == 1 then (if nat_lt body_limit (length_in rest) then Err TooLong else Err Truncated)
     else Err BadVersion

@@ -12,6 +12,7 @@ mod stream;
 mod text_lists;
 
 pub use droid_body::{BodyFault, reply_of, request_of};
+pub use droid_stream::{Condition, Seen, SteadyRead, SteadyWrite, Unsteady, WriteFault};
 pub use droid_value::{
     BODY_LIMIT, Blob, Criteria, Criterion, Filter, Frame, Limit, Method, NUMBER_LIMIT, NodeKind,
     PART_LIMIT, PUID_LIMIT, PUIDS_LIMIT, Record, Refusal, Reply, Request, Text, Texts, VERSION,
@@ -19,7 +20,4 @@ pub use droid_value::{
 };
 pub use replies::reply_body;
 pub use requests::request_frame;
-pub use stream::{
-    Arrival, FrameFault, SteadyRead, SteadyWrite, Unsteady, WriteFault, read_frame, write_frame,
-    write_reply,
-};
+pub use stream::{Arrival, FrameFault, read_frame, write_frame, write_reply};

@@ -8,6 +8,9 @@ use Rattle.droid_stream.specs.Seen.{IsSound, Lasts, GivesUp, TellsFault, Counts,
 pub counts_none : (seen : Seen) → IsSound seen → Counts seen.interruptions seen 0
 counts_none seen sound = record { sound = sound; counted = omega arith; within = omega arith }
 
+pub counts_begin : (seen : Seen) (count : ℕ) → count ≡ 0 → IsSound seen → Counts seen.interruptions seen count
+counts_begin seen count none sound = record { sound = sound; counted = omega (arith, none); within = omega (arith, none) }
+
 pub counts_same : (start : ℕ) (old new : Seen) (count : ℕ) → new ≡ old → Counts start old count → Counts start new count
 counts_same start old new count same counts = subst (λ (s : Seen). Counts start s count) (sym same) counts
 

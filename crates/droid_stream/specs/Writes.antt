@@ -10,6 +10,11 @@ abbrev pub HasRoom : Option ℕ → ℕ → Type 0
 HasRoom None count = Unit {0}
 HasRoom (Some room) count = count ≤ room
 
+-- there is less room
+abbrev pub LacksRoom : Option ℕ → ℕ → Type 0
+LacksRoom None count = ⊥
+LacksRoom (Some room) count = room < count
+
 -- so many bytes went out
 abbrev pub Takes : Option ℕ → Option ℕ → ℕ → Type 0
 Takes None None count = Unit {0}
@@ -42,16 +47,22 @@ pub record IsFull (start : ℕ) (seen : Seen) (room : Option ℕ) : Type 0 where
   pub full : room ≡ Some 0
 
 -- why a writer stops: it is given up, or full
-abbrev pub Stops : ℕ → Seen → Option ℕ → Type 0
-Stops start seen room = GivesUp start seen ⊎ IsFull start seen room
+abbrev pub WriterStops : ℕ → Seen → Option ℕ → Type 0
+WriterStops start seen room = GivesUp start seen ⊎ IsFull start seen room
 
 -- after a call the count goes on, or the writer stops
 abbrev pub WritesOn : {T E : Type 0} → ℕ → Seen → Option ℕ → ℕ → Result T E → Type 0
 WritesOn start seen room count (Ok value) = Counts start seen count
-WritesOn start seen room count (Err fault) = Stops start seen room
+WritesOn start seen room count (Err fault) = WriterStops start seen room
 
 -- known bytes grew by exactly the first bytes, up to the count, which began at `before`; and some were left
 pub record StopsWithin (old new : Option (List ℕ)) (bytes : List ℕ) (before count : ℕ) : Type 0 where
   pub counts_on : before ≤ count
   pub some_left : count - before < length bytes
   pub front : Appends old new (take (count - before) bytes)
+
+-- a fault comes exactly where the writer is given up, or lasts and had less room than for so many bytes; where all went out,
+-- it lasts and had room for them
+pub record TellsWrite (start : ℕ) (seen : Seen) (room : Option ℕ) (size : ℕ) (is_fault : Type 0) : Type 0 where
+  pub fault : is_fault → GivesUp start seen ⊎ (Lasts start seen × LacksRoom room size)
+  pub otherwise : (is_fault → ⊥) → Lasts start seen × HasRoom room size

@@ -3,7 +3,7 @@
 ghost use Rattle.std.specs.Prelude.{◌≡◌, ◌+◌, ◌-◌, ◌<◌, ◌≤◌, ◌^◌, ℕ, OnOk, IfErr, IfSome, MatchOption, length, take};
 ghost use Rattle.std.specs.Io.KnownBytes.{Appends, Keeps};
 ghost use Rattle.droid_stream.specs.Seen.{Counts};
-ghost use Rattle.droid_stream.specs.Writes.{Stops, StopsWithin, Takes, WritesOn};
+ghost use Rattle.droid_stream.specs.Writes.{StopsWithin, Takes, WriterStops, WritesOn};
 
 use crate::fault::WriteFault;
 use crate::retries::Retries;
@@ -48,7 +48,7 @@ fn write_some<W: SteadyWrite>(writer: &mut W, bytes: &[u8], retries: &mut Retrie
     ensures bytes { MatchOption result (Keeps (W.contents writer.old) (W.contents writer.new)) (λ count. Appends (W.contents writer.old) (W.contents writer.new) (take count bytes.now)) }
     ensures room { MatchOption result (Takes (W.room writer.old) (W.room writer.new) 0) (λ count. Takes (W.room writer.old) (W.room writer.new) count) }
     ensures counts { (start : ℕ) → Counts start (W.seen writer.old) retries.old →
-        MatchOption result (Stops start (W.seen writer.new) (W.room writer.new)) (λ _. Counts start (W.seen writer.new) retries.new) }
+        MatchOption result (WriterStops start (W.seen writer.new) (W.room writer.new)) (λ _. Counts start (W.seen writer.new) retries.new) }
 {
     loop {
         match writer.write_on(bytes) {
@@ -75,7 +75,7 @@ pub fn write_all<W: SteadyWrite>(
     ensures counted { OnOk result (progress.new.written ≡ progress.old.written + length part.now) }
     ensures counted_err { IfErr result (λ fault. progress.new.written ≡ fault.written) }
     ensures err { IfErr result (λ fault. StopsWithin (W.contents writer.old) (W.contents writer.new) part.now progress.old.written fault.written) }
-    ensures room { OnOk result (Takes (W.room writer.old) (W.room writer.new) (length part.now)) }
+    ensures room_ok { OnOk result (Takes (W.room writer.old) (W.room writer.new) (length part.now)) }
     ensures room_err { IfErr result (λ fault. Takes (W.room writer.old) (W.room writer.new) (fault.written - progress.old.written)) }
     ensures counts { (start : ℕ) → Counts start (W.seen writer.old) progress.old.retries → WritesOn start (W.seen writer.new) (W.room writer.new) progress.new.retries result }
 {

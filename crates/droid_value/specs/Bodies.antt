@@ -1,7 +1,7 @@
 -- The grammar of bodies: which kind and bytes spell which request.
 use Rattle.std.specs.Prelude.{◌≡◌, ℕ, ◌≤◌, List, ◌++◌, length}
 use Rattle.std.specs.Str.{IsUtf8}
-use Rattle.droid_value.specs.declared.frame.TheConstants.{BODY_LIMIT}
+use Rattle.droid_value.specs.Limits.{body_limit}
 use Rattle.droid_value.specs.declared.request.Request.{Request}
 use Rattle.droid_value.specs.declared.request.Request.TheVariants.{CreateProfile, AddFolder, AddFile, Piece, Finish, Abandon, Status, Export}
 use Rattle.droid_value.specs.Fields.{IsBytes, u32_bytes, u64_bytes, i64_bytes, truth_bytes, IsU32, IsU64, IsI64}
@@ -54,5 +54,5 @@ ListsFit _ = Unit {0}
 
 -- short enough to be sent
 pub record Fits (request : Request) : Type 0 where
-  pub body : length (request_body request) ≤ BODY_LIMIT
+  pub body : length (request_body request) ≤ body_limit
   pub lists : ListsFit request

@@ -1,5 +1,5 @@
 -- The fields of a frame and of a body, and how each is spelled (this project's own).
-use Rattle.std.specs.Prelude.{◌≡◌, ℕ, ℤ, ◌-◌, ◌<◌, ◌≤◌, ◌^◌, Bool, true, false, List, [], ◌∷◌, FitsSigned, length, drop, slice_index}
+use Rattle.std.specs.Prelude.{ℕ, ℤ, ◌<◌, ◌^◌, Bool, true, false, List, [], ◌∷◌, FitsSigned, slice_index}
 use Rattle.std.specs.Int.{w16, w32, w64, to_be_bytes, cast_unsigned}
 use Rattle.droid_value.specs.declared.method.Method.{Method}
 use Rattle.droid_value.specs.declared.method.Method.TheVariants.{Unidentified, Signature, Extension}
@@ -47,8 +47,3 @@ IsU64 n = n < 2 ^ 64
 
 abbrev pub IsI64 : ℤ → Type 0
 IsI64 z = FitsSigned w64 z
-
--- the bytes end in these
-pub record IsEnd (bytes rest : List ℕ) : Type 0 where
-  pub shorter : length rest ≤ length bytes
-  pub ends : drop (length bytes - length rest) bytes ≡ rest

@@ -7,6 +7,7 @@ use Rattle.droid_value.specs.declared.filter.Filter.{Filter}
 use Rattle.droid_value.specs.declared.node_kind.NodeKind.{NodeKind}
 use Rattle.droid_value.specs.declared.node_kind.NodeKind.TheVariants.{File, Folder}
 use Rattle.droid_value.specs.Fields.{u64_bytes, truth_bytes, method_bytes}
+use Rattle.droid_value.specs.Limits.{count_limit}
 use Rattle.droid_value.specs.Sequences.{counted_bytes}
 use Rattle.droid_value.specs.TextLists.{IsSizedText, sized_bytes}
 
@@ -59,8 +60,8 @@ pub record IsFilter (filter : Filter) : Type 0 where
 -- ---- what is short enough to be spelled
 
 pub record ListFits (texts : List (List ℕ)) : Type 0 where
-  pub few : length texts ≤ 255
-  pub short : AllByRecursion (λ text. length text ≤ 255) texts
+  pub few : length texts ≤ count_limit
+  pub short : AllByRecursion (λ text. length text ≤ count_limit) texts
 
 abbrev pub CriterionFits : Criterion → Type 0
 CriterionFits (MethodIs method) = Unit {0}
@@ -72,5 +73,5 @@ CriterionFits (SizeAtMost size) = Unit {0}
 CriterionFits (KindIs kind) = Unit {0}
 
 pub record FilterFits (filter : Filter) : Type 0 where
-  pub few : length filter.criteria ≤ 255
+  pub few : length filter.criteria ≤ count_limit
   pub each : AllByRecursion CriterionFits filter.criteria

@@ -1,7 +1,9 @@
 pub mod Bodies
+pub mod Ends
 pub mod Fields
 pub mod Filters
 pub mod Frames
+pub mod Limits
 pub mod Refusals
 pub mod Replies
 pub mod Sequences

@@ -3,7 +3,7 @@ use Rattle.std.specs.Prelude.{◌≡◌, ℕ, ◌≤◌, List, [], ◌∷◌, �
 use Rattle.std.specs.List.{AllByRecursion}
 use Rattle.droid_value.specs.declared.refusal.Refusal.{Refusal}
 use Rattle.droid_value.specs.declared.refusal.Refusal.TheVariants as refusals
-use Rattle.droid_value.specs.declared.reply.TheConstants.{PUIDS_LIMIT, PUID_LIMIT, PART_LIMIT}
+use Rattle.droid_value.specs.Limits.{puids_limit, puid_limit, part_limit}
 use Rattle.droid_value.specs.declared.reply.Reply.{Reply}
 use Rattle.droid_value.specs.declared.reply.Reply.TheVariants.{Made, Node, Taken, Finished, Abandoned, Progress, Part, Refused}
 use Rattle.droid_value.specs.Fields.{IsBytes, u16_bytes, u32_bytes, u64_bytes, truth_bytes, method_bytes, IsU32, IsU64}
@@ -55,7 +55,7 @@ IsDigest md5 = (length md5 ≡ 16) × IsBytes md5
 
 -- the identifier of a format: UTF-8, of 1 to 32 bytes
 abbrev pub IsPuidText : List ℕ → Type 0
-IsPuidText puid = IsSizedText 1 PUID_LIMIT puid
+IsPuidText puid = IsSizedText 1 puid_limit puid
 
 -- each number is in its field's range, and each list within its limit
 abbrev pub HasReplySpelling : Reply → Type 0
@@ -63,10 +63,10 @@ HasReplySpelling (Made profile) = IsU32 profile
 HasReplySpelling (Node id) = IsU32 id
 HasReplySpelling (Taken held) = IsU32 held
 HasReplySpelling (Finished method mismatch md5 puids) =
-    IsDigest md5 × (length puids ≤ PUIDS_LIMIT) × AllByRecursion IsPuidText puids
+    IsDigest md5 × (length puids ≤ puids_limit) × AllByRecursion IsPuidText puids
 HasReplySpelling Abandoned = Unit {0}
 HasReplySpelling (Progress held missing) = IsU32 held × IsU32 missing
-HasReplySpelling (Part as_of total bytes) = IsU64 as_of × IsU64 total × (length bytes ≤ PART_LIMIT) × IsBytes bytes
+HasReplySpelling (Part as_of total bytes) = IsU64 as_of × IsU64 total × (length bytes ≤ part_limit) × IsBytes bytes
 HasReplySpelling (Refused refusal) = HasRefusalSpelling refusal
 
 -- the kind and the body spell the reply: every byte of the body is used

@@ -25,7 +25,7 @@ pub struct Frame {
     pub kind: u8,
     /// The client that sent the request.
     pub client: u32,
-    /// The number that the client gave it, below 2^63.
+    /// The number that the client gave it. A request has one below [`NUMBER_LIMIT`].
     pub number: u64,
     /// The request or the reply, without the frame's header.
     pub body: Blob,

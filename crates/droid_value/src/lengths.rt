@@ -3,6 +3,7 @@
 ghost use Rattle.std.specs.Prelude.{◌≡◌, ◌↔◌, ◌<◌, ◌≤◌, ◌+◌, IsTrue, MatchOption, length};
 ghost use Rattle.droid_value.specs.Bodies.{Fits, request_body};
 ghost use Rattle.droid_value.specs.Filters.{ListFits, CriterionFits, FilterFits, list_bytes, criterion_bytes, filter_bytes};
+ghost use Rattle.droid_value.specs.Limits.{body_limit};
 
 use crate::criterion::Criterion;
 use crate::filter::Filter;
@@ -42,8 +43,8 @@ impl Request {
 
 /// The length of a body whose first fields have so many bytes, and the rest so many.
 fn len_with(fields: usize, rest: usize) -> Option<usize>
-    requires { fields ≤ BODY_LIMIT }
-    ensures { MatchOption result (BODY_LIMIT < fields + rest) (λ len. (len ≡ fields + rest) × (len ≤ BODY_LIMIT)) }
+    requires { fields ≤ body_limit }
+    ensures { MatchOption result (body_limit < fields + rest) (λ len. (len ≡ fields + rest) × (len ≤ body_limit)) }
 {
     if rest > BODY_LIMIT - fields {
         return None;

@@ -8,6 +8,7 @@ mod criteria;
 mod criterion;
 mod filter;
 mod frame;
+pub mod laws;
 mod lengths;
 mod method;
 mod node_kind;

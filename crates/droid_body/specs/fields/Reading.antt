@@ -1,4 +1,4 @@
--- The fields of a body, each read from the front of bytes.
+-- For proofs, and for the clauses `exact`: the fields of a body, each read from the front of bytes by a function.
 use Rattle.std.specs.Prelude.{ℕ, zero, suc, ℤ, Bool, true, false, nat_lt, if◌then◌else◌, List, [], ◌∷◌, length, take, drop, Option, Some, None}
 use Rattle.std.specs.Int.{Width, w64, byte_len, from_be_bytes, cast_signed}
 use Rattle.std.specs.Str.{is_utf8}

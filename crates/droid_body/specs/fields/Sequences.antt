@@ -1,4 +1,4 @@
--- So many of one field, one after the other, read from the front of bytes.
+-- For proofs: so many of one field, one after the other, read from the front of bytes by a function.
 use Rattle.std.specs.Prelude.{ℕ, zero, suc, List, [], ◌∷◌, Option, Some}
 use Rattle.droid_body.specs.fields.Reading.{◌>>=◌, byte_at}
 

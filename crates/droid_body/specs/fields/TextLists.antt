@@ -1,4 +1,4 @@
--- A text after its length, and texts one after the other, read from the front of bytes.
+-- For proofs: a text after its length, and texts one after the other, read from the front of bytes by a function.
 use Rattle.std.specs.Prelude.{ℕ, nat_lt, if◌then◌else◌, List, [], ◌∷◌, length, take, drop, Option, Some, None}
 use Rattle.droid_body.specs.fields.Reading.{◌>>=◌, text_at}
 use Rattle.droid_body.specs.fields.Sequences.{sequence_at}

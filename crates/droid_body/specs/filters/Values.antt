@@ -1,4 +1,4 @@
--- The filter at the front of bytes: the same grammar, as a function.
+-- For proofs: the filter at the front of bytes, by a function.
 use Rattle.std.specs.Prelude.{ℕ, zero, suc, ◌==◌, if◌then◌else◌, List, [], ◌∷◌, Option, Some, None}
 use Rattle.std.specs.Int.{w64}
 use Rattle.droid_value.specs.declared.criterion.Criterion.{Criterion}
@@ -58,8 +58,8 @@ kind_is_at bytes = do
   Some (KindIs kind.0, kind.1)
 
 -- the criterion of a tag that goes before no list
-unfoldable pub listless_at : ℕ → List ℕ → Option (Criterion × List ℕ)
-listless_at tag bytes =
+unfoldable pub plain_at : ℕ → List ℕ → Option (Criterion × List ℕ)
+plain_at tag bytes =
     if tag == 1 then method_is_at bytes
     else if tag == 4 then mismatch_is_at bytes
     else if tag == 5 then size_at_least_at bytes
@@ -72,7 +72,7 @@ unfoldable pub tagged_at : ℕ → List ℕ → Option (Criterion × List ℕ)
 tagged_at tag bytes =
     if tag == 2 then puid_in_at bytes
     else if tag == 3 then ext_in_at bytes
-    else listless_at tag bytes
+    else plain_at tag bytes
 
 -- a tag, and its criterion
 unfoldable pub criterion_at : List ℕ → Option (Criterion × List ℕ)

@@ -1,11 +1,11 @@
--- The request of a body, read from its front: the same grammar, as a function.
+-- For proofs, and for the clause `exact` of `request_of`: the request of a body, read from its front by a function.
 use Rattle.std.specs.Prelude.{ℕ, ◌^◌, nat_lt, ◌==◌, if◌then◌else◌, List, Option, Some, None}
 use Rattle.std.specs.Int.{w32, w64}
 use Rattle.droid_value.specs.declared.frame.Frame.{Frame}
 use Rattle.droid_value.specs.declared.request.Request.{Request}
 use Rattle.droid_value.specs.declared.request.Request.TheVariants.{CreateProfile, AddFolder, AddFile, Piece, Finish, Abandon, Status, Export}
 use Rattle.droid_body.specs.filters.Values.{filter_value}
-use Rattle.droid_body.specs.requests.Places.{place_at}
+use Rattle.droid_body.specs.requests.NodeHeads.{node_head_at}
 use Rattle.droid_body.specs.fields.Reading.{◌>>=◌, number_at, truth_at, text_at, whole}
 
 unfoldable pub create_profile_value : List ℕ → Option Request
@@ -16,17 +16,17 @@ create_profile_value body = do
 
 unfoldable pub add_folder_value : List ℕ → Option Request
 add_folder_value body = do
-  place ← place_at body
-  name ← text_at place.1
-  Some (AddFolder place.0.profile place.0.parent place.0.modified name)
+  head ← node_head_at body
+  name ← text_at head.1
+  Some (AddFolder head.0.profile head.0.parent head.0.modified name)
 
 unfoldable pub add_file_value : List ℕ → Option Request
 add_file_value body = do
-  place ← place_at body
-  size ← number_at w64 place.1
+  head ← node_head_at body
+  size ← number_at w64 head.1
   piece_size ← number_at w32 size.1
   name ← text_at piece_size.1
-  Some (AddFile place.0.profile place.0.parent place.0.modified size.0 piece_size.0 name)
+  Some (AddFile head.0.profile head.0.parent head.0.modified size.0 piece_size.0 name)
 
 unfoldable pub piece_value : List ℕ → Option Request
 piece_value body = do
@@ -66,8 +66,8 @@ export_value body = do
   Some (Export profile.0 from.0 max.0 filter)
 
 -- the request of the kinds whose bodies hold no list
-unfoldable pub listless_value : ℕ → List ℕ → Option Request
-listless_value kind body =
+unfoldable pub plain_value : ℕ → List ℕ → Option Request
+plain_value kind body =
     if kind == 1 then create_profile_value body
     else if kind == 2 then add_folder_value body
     else if kind == 3 then add_file_value body
@@ -79,7 +79,7 @@ listless_value kind body =
 
 -- the request that the kind and the body spell, where they spell one
 unfoldable pub request_value : ℕ → List ℕ → Option Request
-request_value kind body = if kind == 8 then export_value body else listless_value kind body
+request_value kind body = if kind == 8 then export_value body else plain_value kind body
 
 -- the request of a frame: its number has to be below 2^63
 unfoldable pub request_in : Frame → Option Request

@@ -5,7 +5,7 @@ pub(crate) mod text_lists;
 ghost use Rattle.std.specs.Prelude.{◌≡◌, ◌≤◌, drop, length, vec_len, IfSome};
 ghost use Rattle.std.specs.Option.{option_map};
 ghost use Rattle.std.specs.Int.{w16, w32, w64};
-ghost use Rattle.droid_value.specs.Fields.{IsEnd};
+ghost use Rattle.droid_value.specs.Ends.{IsEnd};
 ghost use Rattle.droid_body.specs.fields.Reading.{byte_at, number_at, signed_at, truth_at, method_at, text_at};
 
 use droid_value::{Blob, Method, Text};

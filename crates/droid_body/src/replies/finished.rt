@@ -2,7 +2,8 @@
 
 ghost use Rattle.std.specs.Prelude.{◌≡◌, ◌↔◌, IsTrue};
 ghost use Rattle.std.specs.Option.{option_map};
-ghost use Rattle.droid_body.specs.replies.Values.{ArePuids, Comes, count_at, finished_head_at, finished_value, md5_at};
+ghost use Rattle.droid_body.specs.replies.Steps.{ArePuids, Comes};
+ghost use Rattle.droid_body.specs.replies.Values.{count_at, finished_head_at, finished_value, md5_at};
 
 use crate::body_fault::BodyFault;
 use crate::fields::text_lists::{after_texts, texts_at};

@@ -7,7 +7,9 @@ ghost use Rattle.std.specs.Prelude.{◌≡◌, ◌≢◌, ◌↔◌, IfOk, IsErr
 ghost use Rattle.droid_value.specs.Fields.{IsBytes};
 ghost use Rattle.droid_body.specs.fields.Reading.{whole};
 ghost use Rattle.droid_value.specs.Replies.{SpellsReply};
-ghost use Rattle.droid_body.specs.replies.Values.{Comes, IsReadAs, reply_value, made_value, node_value, taken_value, abandoned_value, progress_value, part_value, refused_value, plain_value};
+ghost use Rattle.droid_body.specs.replies.Results.{IsReadAs};
+ghost use Rattle.droid_body.specs.replies.Steps.{Comes};
+ghost use Rattle.droid_body.specs.replies.Values.{reply_value, made_value, node_value, taken_value, abandoned_value, progress_value, part_value, refused_value, plain_value};
 
 use self::finished::finished;
 use self::refusals::refusal_at;

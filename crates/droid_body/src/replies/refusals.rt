@@ -2,12 +2,12 @@
 
 ghost use Rattle.std.specs.Prelude.{◌≡◌};
 ghost use Rattle.std.specs.Option.{option_map};
-ghost use Rattle.droid_body.specs.replies.Values.{limit_at, plain_refusal, plain_refusal_at, too_far_at, incomplete_at, limit_reached_at, refusal_after, refusal_at};
+ghost use Rattle.droid_body.specs.replies.Refusals.{limit_at, plain_refusal, plain_refusal_at, too_far_at, incomplete_at, limit_reached_at, refusal_after, refusal_at};
 
 use crate::fields::u32_at;
 use droid_value::{Limit, Refusal};
 
-#[tactic(auto, unfolding(crate::specs::replies::Values::refusal_at))]
+#[tactic(auto, unfolding(crate::specs::replies::Refusals::refusal_at))]
 pub(crate) fn refusal_at(bytes: &[u8]) -> Option<(Refusal, &[u8])>
     ensures { option_map (λ x. (x.0, x.1.now)) result ≡ refusal_at bytes.now }
 {
@@ -17,7 +17,7 @@ pub(crate) fn refusal_at(bytes: &[u8]) -> Option<(Refusal, &[u8])>
     }
 }
 
-#[tactic(auto, unfolding(crate::specs::replies::Values::refusal_after))]
+#[tactic(auto, unfolding(crate::specs::replies::Refusals::refusal_after))]
 fn refusal_after(number: u8, rest: &[u8]) -> Option<(Refusal, &[u8])>
     ensures { option_map (λ x. (x.0, x.1.now)) result ≡ refusal_after number rest.now }
 {
@@ -29,7 +29,7 @@ fn refusal_after(number: u8, rest: &[u8]) -> Option<(Refusal, &[u8])>
     }
 }
 
-#[tactic(auto, unfolding(crate::specs::replies::Values::too_far_at))]
+#[tactic(auto, unfolding(crate::specs::replies::Refusals::too_far_at))]
 fn too_far_at(bytes: &[u8]) -> Option<(Refusal, &[u8])>
     ensures { option_map (λ x. (x.0, x.1.now)) result ≡ too_far_at bytes.now }
 {
@@ -37,7 +37,7 @@ fn too_far_at(bytes: &[u8]) -> Option<(Refusal, &[u8])>
     Some((Refusal::TooFarAhead { missing }, rest))
 }
 
-#[tactic(auto, unfolding(crate::specs::replies::Values::incomplete_at))]
+#[tactic(auto, unfolding(crate::specs::replies::Refusals::incomplete_at))]
 fn incomplete_at(bytes: &[u8]) -> Option<(Refusal, &[u8])>
     ensures { option_map (λ x. (x.0, x.1.now)) result ≡ incomplete_at bytes.now }
 {
@@ -45,7 +45,7 @@ fn incomplete_at(bytes: &[u8]) -> Option<(Refusal, &[u8])>
     Some((Refusal::Incomplete { missing }, rest))
 }
 
-#[tactic(auto, unfolding(crate::specs::replies::Values::limit_reached_at))]
+#[tactic(auto, unfolding(crate::specs::replies::Refusals::limit_reached_at))]
 fn limit_reached_at(bytes: &[u8]) -> Option<(Refusal, &[u8])>
     ensures { option_map (λ x. (x.0, x.1.now)) result ≡ limit_reached_at bytes.now }
 {
@@ -53,7 +53,7 @@ fn limit_reached_at(bytes: &[u8]) -> Option<(Refusal, &[u8])>
     Some((Refusal::LimitReached(which), rest))
 }
 
-#[tactic(auto, unfolding(crate::specs::replies::Values::plain_refusal_at))]
+#[tactic(auto, unfolding(crate::specs::replies::Refusals::plain_refusal_at))]
 fn plain_refusal_at(number: u8, rest: &[u8]) -> Option<(Refusal, &[u8])>
     ensures { option_map (λ x. (x.0, x.1.now)) result ≡ plain_refusal_at number rest.now }
 {
@@ -61,7 +61,7 @@ fn plain_refusal_at(number: u8, rest: &[u8]) -> Option<(Refusal, &[u8])>
     Some((refusal, rest))
 }
 
-#[tactic(auto, unfolding(crate::specs::replies::Values::limit_at))]
+#[tactic(auto, unfolding(crate::specs::replies::Refusals::limit_at))]
 fn limit_at(bytes: &[u8]) -> Option<(Limit, &[u8])>
     ensures { option_map (λ x. (x.0, x.1.now)) result ≡ limit_at bytes.now }
 {
@@ -74,7 +74,7 @@ fn limit_at(bytes: &[u8]) -> Option<(Limit, &[u8])>
 }
 
 /// The refusal with nothing after its number.
-#[tactic(auto, unfolding(crate::specs::replies::Values::plain_refusal))]
+#[tactic(auto, unfolding(crate::specs::replies::Refusals::plain_refusal))]
 fn plain_refusal(number: u8) -> Option<Refusal>
     ensures { result ≡ plain_refusal number }
 {

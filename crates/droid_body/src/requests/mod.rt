@@ -1,15 +1,15 @@
 //! Requests from frames.
 
-mod place;
+mod node_head;
 mod plain;
 
-ghost use Rattle.std.specs.Prelude.{◌≡◌, ◌↔◌, ◌<◌, ◌^◌, IfOk, IsSome, ok_or, Ok, Err};
+ghost use Rattle.std.specs.Prelude.{◌≡◌, ◌↔◌, ◌<◌, ◌^◌, IfOk, IsErrOf, ok_or, Ok, Err};
 ghost use Rattle.droid_value.specs.Bodies.{SpellsRequest};
 ghost use Rattle.droid_value.specs.Fields.{IsBytes};
 ghost use Rattle.droid_body.specs.Outcomes.{IsAnswer};
 ghost use Rattle.droid_body.specs.requests.Values.{export_value, request_value, request_in};
 
-use self::plain::listless_value;
+use self::plain::plain_value;
 use crate::body_fault::BodyFault;
 use crate::fields::{u32_at, u64_at};
 use crate::filters::filter_of;
@@ -28,11 +28,13 @@ pub fn request_of(alloc: Global, frame: Frame) -> Result<Request, BodyFault>
     // What is spelled so, under a number below the limit, is read, unless memory is refused.
     ensures accepted { (request : Request) → frame.number < 2 ^ 63 → SpellsRequest frame.kind frame.body request →
         ¬ (result ≡ Err BodyFault.Memory) → result ≡ Ok request }
-    // This comes exactly where no request is spelled or the number is too large.
-    ensures malformed { (result ≡ Err BodyFault.Malformed) ↔ (request_in frame ≡ None) }
-    // And this only where a request for a part of the export is spelled.
-    ensures memory { result ≡ Err BodyFault.Memory → (frame.kind ≡ 8) × IsSome (request_in frame) }
-    // The others in one equation.
+    // This comes exactly where the number is too large or no request is spelled.
+    ensures malformed { IsErrOf result BodyFault.Malformed ↔
+        (frame.number < 2 ^ 63 → (request : Request) → ¬ SpellsRequest frame.kind frame.body request) }
+    // This comes only where a request for a part of the export is spelled, under a number below the limit.
+    ensures memory { IsErrOf result BodyFault.Memory →
+        (frame.kind ≡ 8) × (frame.number < 2 ^ 63) × (request : Request) × SpellsRequest frame.kind frame.body request }
+    // The same in one equation, but for an export.
     ensures exact { ¬ (frame.kind ≡ 8) → result ≡ ok_or (request_in frame) BodyFault.Malformed }
 {
     if frame.number >= NUMBER_LIMIT {
@@ -45,12 +47,13 @@ pub fn request_of(alloc: Global, frame: Frame) -> Result<Request, BodyFault>
 fn value_of(alloc: Global, kind: u8, body: Blob) -> Result<Request, BodyFault>
     ensures answer { IsAnswer result (request_value kind body) }
     ensures exact { ¬ (kind ≡ 8) → result ≡ ok_or (request_value kind body) BodyFault.Malformed }
+    ensures wanting { IsErrOf result BodyFault.Memory → kind ≡ 8 }
     ensures bytes { IsBytes body }
 {
     let bytes = body.as_slice();
     match kind {
         8 => export(alloc, bytes),
-        _ => listless_value(kind, body).ok_or(BodyFault::Malformed),
+        _ => plain_value(kind, body).ok_or(BodyFault::Malformed),
     }
 }
 

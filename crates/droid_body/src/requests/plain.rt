@@ -2,17 +2,17 @@
 
 ghost use Rattle.std.specs.Prelude.{◌≡◌, ◌≤◌, drop, length, vec_len};
 ghost use Rattle.droid_body.specs.fields.Reading.{text_at};
-ghost use Rattle.droid_body.specs.requests.Values.{create_profile_value, add_folder_value, add_file_value, piece_value, file_value, listless_value};
+ghost use Rattle.droid_body.specs.requests.Values.{create_profile_value, add_folder_value, add_file_value, piece_value, file_value, plain_value};
 
-use super::place::place_at;
+use super::node_head::node_head_at;
 use crate::fields::{bool_at, bytes_after, text_of, u32_at, u64_at};
 use droid_value::{Blob, Request, Text};
 
 /// The request of a kind whose bodies hold no list: a name and a piece's bytes are the body's own
 /// buffer. It takes no memory.
-#[tactic(auto, unfolding(crate::specs::requests::Values::listless_value, crate::specs::requests::Values::finish_value, crate::specs::requests::Values::abandon_value, crate::specs::requests::Values::status_value))]
-pub(crate) fn listless_value(kind: u8, body: Blob) -> Option<Request>
-    ensures { result ≡ listless_value kind body }
+#[tactic(auto, unfolding(crate::specs::requests::Values::plain_value, crate::specs::requests::Values::finish_value, crate::specs::requests::Values::abandon_value, crate::specs::requests::Values::status_value))]
+pub(crate) fn plain_value(kind: u8, body: Blob) -> Option<Request>
+    ensures { result ≡ plain_value kind body }
 {
     let bytes = body.as_slice();
     match kind {
@@ -55,13 +55,13 @@ fn create_profile(body: &[u8]) -> Option<Request>
 fn add_folder(body: Blob) -> Option<Request>
     ensures { result ≡ add_folder_value body }
 {
-    let (place, rest) = place_at(body.as_slice())?;
+    let (head, rest) = node_head_at(body.as_slice())?;
     let used = body.len() - rest.len();
     let name = text_after(body, used)?;
     Some(Request::AddFolder {
-        profile: place.profile,
-        parent: place.parent,
-        modified: place.modified,
+        profile: head.profile,
+        parent: head.parent,
+        modified: head.modified,
         name,
     })
 }
@@ -70,15 +70,15 @@ fn add_folder(body: Blob) -> Option<Request>
 fn add_file(body: Blob) -> Option<Request>
     ensures { result ≡ add_file_value body }
 {
-    let (place, rest) = place_at(body.as_slice())?;
+    let (head, rest) = node_head_at(body.as_slice())?;
     let (size, rest) = u64_at(rest)?;
     let (piece_size, rest) = u32_at(rest)?;
     let used = body.len() - rest.len();
     let name = text_after(body, used)?;
     Some(Request::AddFile {
-        profile: place.profile,
-        parent: place.parent,
-        modified: place.modified,
+        profile: head.profile,
+        parent: head.parent,
+        modified: head.modified,
         size,
         piece_size,
         name,

@@ -5,13 +5,13 @@ mod small_bytes;
 
 ghost use Rattle.std.specs.Prelude.{◌≡◌, ◌≤◌, IfOk, length};
 ghost use Rattle.std.specs.List.{AllByRecursion};
-ghost use Rattle.droid_value.specs.declared.frame.TheConstants.{BODY_LIMIT};
+ghost use Rattle.droid_value.specs.Limits.{body_limit, puids_limit};
 ghost use Rattle.droid_value.specs.Replies.{HasReplySpelling, IsPuidText, SpellsReply, reply_bytes, reply_kind};
 ghost use Rattle.droid_value.specs.TextLists.{texts_bytes};
 
 use crate::replies::parts::front_of;
 use crate::text_lists::append_texts;
-use droid_value::{Blob, PUIDS_LIMIT, Reply, Texts};
+use droid_value::{Blob, Reply, Texts};
 use std::alloc::{AllocError, Global};
 
 /// The body of a reply's frame: the one spelling that the reply has. Memory is taken once, for all of it,
@@ -37,7 +37,7 @@ pub fn reply_body(alloc: Global, reply: &Reply) -> Result<Blob, AllocError>
 pub(crate) fn body_length(reply: &Reply) -> usize
     requires { HasReplySpelling reply.now }
     ensures length { result ≡ length (reply_bytes reply.now) }
-    ensures bound { result ≤ BODY_LIMIT }
+    ensures bound { result ≤ body_limit }
 {
     let rest = match reply {
         Reply::Finished { puids, .. } => puids_length(puids),
@@ -49,7 +49,7 @@ pub(crate) fn body_length(reply: &Reply) -> usize
 
 /// How many bytes the identifiers take, each after its length.
 fn puids_length(puids: &Texts) -> usize
-    requires count { length puids.now ≤ PUIDS_LIMIT }
+    requires count { length puids.now ≤ puids_limit }
     requires each { AllByRecursion IsPuidText puids.now }
     ensures length { result ≡ length (texts_bytes puids.now) }
     ensures bound { result ≤ 135168 }

@@ -5,11 +5,12 @@ mod filters;
 ghost use Rattle.std.specs.Prelude.{◌≡◌, ◌++◌, IfOk, OnOk};
 ghost use Rattle.std.specs.Str.{IsUtf8};
 ghost use Rattle.droid_value.specs.Bodies.{Fits, HasSpelling, ListsFit, SpellsRequest, request_kind, request_body};
-ghost use Rattle.droid_value.specs.Fields.{IsBytes, u32_bytes, u64_bytes, i64_bytes, IsU32, IsU64, IsI64};
+ghost use Rattle.droid_value.specs.Fields.{IsBytes, u32_bytes, u64_bytes, i64_bytes, truth_bytes, IsU32, IsU64, IsI64};
+ghost use Rattle.droid_value.specs.Filters.{FilterFits, IsFilter, filter_bytes};
 ghost use Rattle.droid_value.specs.Frames.{frame_bytes, spelling};
 
 use self::filters::append_filter;
-use droid_value::{Blob, Frame, Request, Text, VERSION};
+use droid_value::{Blob, Filter, Frame, Request, Text, VERSION};
 use std::alloc::{AllocError, Global};
 
 /// The frame of a request: the one spelling that it has. Only want of memory refuses it.
@@ -70,20 +71,13 @@ fn append_body(out: &mut Vec<u8>, request: &Request) -> Result<(), AllocError>
         Request::CreateProfile {
             scan_limit,
             match_all,
-        } => {
-            append_u32(out, *scan_limit)?;
-            out.push(u8::from(*match_all))?;
-        }
+        } => append_options(out, *scan_limit, *match_all),
         Request::AddFolder {
             profile,
             parent,
             modified,
             name,
-        } => {
-            append_pair(out, *profile, *parent)?;
-            append_i64(out, modified)?;
-            append_name(out, name)?;
-        }
+        } => append_folder(out, *profile, *parent, modified, name),
         Request::AddFile {
             profile,
             parent,
@@ -91,38 +85,105 @@ fn append_body(out: &mut Vec<u8>, request: &Request) -> Result<(), AllocError>
             size,
             piece_size,
             name,
-        } => {
-            append_pair(out, *profile, *parent)?;
-            append_i64(out, modified)?;
-            append_u64(out, *size)?;
-            append_u32(out, *piece_size)?;
-            append_name(out, name)?;
-        }
+        } => append_file(out, *profile, *parent, modified, *size, *piece_size, name),
         Request::Piece {
             profile,
             file,
             index,
             bytes,
-        } => {
-            append_pair(out, *profile, *file)?;
-            append_u32(out, *index)?;
-            append_bytes(out, bytes)?;
-        }
-        Request::Finish { profile, file } => append_pair(out, *profile, *file)?,
-        Request::Abandon { profile, file } => append_pair(out, *profile, *file)?,
-        Request::Status { profile, file } => append_pair(out, *profile, *file)?,
+        } => append_piece(out, *profile, *file, *index, bytes),
+        Request::Finish { profile, file } => append_pair(out, *profile, *file),
+        Request::Abandon { profile, file } => append_pair(out, *profile, *file),
+        Request::Status { profile, file } => append_pair(out, *profile, *file),
         Request::Export {
             profile,
             from,
             max,
             filter,
-        } => {
-            append_u32(out, *profile)?;
-            append_u64(out, *from)?;
-            append_u32(out, *max)?;
-            append_filter(out, filter)?;
-        }
+        } => append_export(out, *profile, *from, *max, filter),
     }
+}
+
+fn append_options(out: &mut Vec<u8>, scan_limit: u32, match_all: bool) -> Result<(), AllocError>
+    ensures added { OnOk result (out.new.items ≡ out.old.items ++ (u32_bytes scan_limit ++ truth_bytes match_all)) }
+    ensures spelled { IsU32 scan_limit }
+{
+    append_u32(out, scan_limit)?;
+    out.push(u8::from(match_all))?;
+    Ok(())
+}
+
+fn append_folder(
+    out: &mut Vec<u8>,
+    profile: u32,
+    parent: u32,
+    modified: &i64,
+    name: &Text,
+) -> Result<(), AllocError>
+    ensures added { OnOk result (out.new.items ≡ out.old.items
+        ++ (u32_bytes profile ++ (u32_bytes parent ++ (i64_bytes modified.now ++ name.now)))) }
+    ensures spelled { OnOk result (IsU32 profile × IsU32 parent × IsI64 modified.now × IsUtf8 name.now) }
+{
+    append_pair(out, profile, parent)?;
+    append_i64(out, modified)?;
+    append_name(out, name)?;
+    Ok(())
+}
+
+fn append_file(
+    out: &mut Vec<u8>,
+    profile: u32,
+    parent: u32,
+    modified: &i64,
+    size: u64,
+    piece_size: u32,
+    name: &Text,
+) -> Result<(), AllocError>
+    ensures added { OnOk result (out.new.items ≡ out.old.items
+        ++ (u32_bytes profile ++ (u32_bytes parent ++ (i64_bytes modified.now ++ (u64_bytes size ++ (u32_bytes piece_size ++ name.now)))))) }
+    ensures spelled { OnOk result (IsU32 profile × IsU32 parent × IsI64 modified.now × IsU64 size × IsU32 piece_size × IsUtf8 name.now) }
+{
+    append_pair(out, profile, parent)?;
+    append_i64(out, modified)?;
+    append_u64(out, size)?;
+    append_u32(out, piece_size)?;
+    append_name(out, name)?;
+    Ok(())
+}
+
+fn append_piece(
+    out: &mut Vec<u8>,
+    profile: u32,
+    file: u32,
+    index: u32,
+    bytes: &Blob,
+) -> Result<(), AllocError>
+    ensures added { OnOk result (out.new.items ≡ out.old.items
+        ++ (u32_bytes profile ++ (u32_bytes file ++ (u32_bytes index ++ bytes.now)))) }
+    ensures spelled { OnOk result (IsU32 profile × IsU32 file × IsU32 index × IsBytes bytes.now) }
+{
+    append_pair(out, profile, file)?;
+    append_u32(out, index)?;
+    append_bytes(out, bytes)?;
+    Ok(())
+}
+
+fn append_export(
+    out: &mut Vec<u8>,
+    profile: u32,
+    from: u64,
+    max: u32,
+    filter: &Filter,
+) -> Result<(), AllocError>
+    requires { FilterFits filter.now }
+    ensures added { OnOk result (out.new.items ≡ out.old.items
+        ++ (u32_bytes profile ++ (u64_bytes from ++ (u32_bytes max ++ filter_bytes filter.now)))) }
+    ensures spelled { OnOk result (IsU32 profile × IsU64 from × IsU32 max × IsFilter filter.now) }
+{
+    append_u32(out, profile)?;
+    append_u64(out, from)?;
+    append_u32(out, max)?;
+    append_filter(out, filter)?;
     Ok(())
 }
 

@@ -1,0 +1,21 @@
+-- The frames of replies (this project's own).
+use Rattle.std.specs.Prelude.{ℕ, List}
+use Rattle.droid_value.specs.declared.frame.Frame.{Frame}
+use Rattle.droid_value.specs.declared.reply.Reply.{Reply}
+use Rattle.droid_value.specs.Fields.{IsU32, IsU64}
+use Rattle.droid_value.specs.Frames.{frame_bytes}
+use Rattle.droid_value.specs.Replies.{HasReplySpelling, reply_bytes, reply_kind}
+use Rattle.droid_frame.specs.Streams.{IsReadable}
+
+-- the frame of a reply: version 1, the reply's kind, the client and the number of the request
+abbrev pub frame_of_reply : ℕ → ℕ → Reply → Frame
+frame_of_reply client number reply =
+    record { version = 1; kind = reply_kind reply; client = client; number = number; body = reply_bytes reply }
+
+abbrev pub reply_frame : ℕ → ℕ → Reply → List ℕ
+reply_frame client number reply = frame_bytes (frame_of_reply client number reply)
+
+-- it is a frame that a stream may hold, so what was written is read again
+abbrev pub ReplyFramesAreReadable : Type 0
+ReplyFramesAreReadable =
+    (client number : ℕ) (reply : Reply) → IsU32 client → IsU64 number → HasReplySpelling reply → IsReadable (frame_of_reply client number reply)
