@@ -1,8 +1,8 @@
 -- The extension, by where the last dot is.
-use Rattle.std.proofs.Common.{◌≡◌, ◌≢◌, ℕ, zero, suc, ◌+◌, ◌<◌, ◌≤◌, Bool, true, false, ◌||◌, ◌==◌, List, [], ◌∷◌, length, get_or, drop, refl, ap, sym, ◌∙◌, arith, add-one, rules, Some, None}
+use Rattle.std.proofs.Common.{◌≡◌, ℕ, zero, suc, ◌+◌, ◌<◌, ◌≤◌, Bool, true, false, ◌||◌, ◌==◌, List, [], ◌∷◌, length, get_or, drop, refl, sym, arith, add-one, Some, None}
 use Rattle.std.specs.List.{list_any}
 use Rattle.memchr.specs.Find.{IsLastByte, is_byte}
-use Rattle.std.proofs.lemmas.Bool.{false_from_ne_true, eqb-true, eq-eqb, cases_Bool, or_cases}
+use Rattle.std.proofs.lemmas.Bool.{false_from_ne_true, eqb-true}
 use Rattle.droid_pronom.specs.Found.{is_dot, after_last_dot, extension_of}
 
 -- no dot

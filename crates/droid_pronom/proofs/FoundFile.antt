@@ -1,10 +1,9 @@
 -- Windows are enough: what hits in the first and last bytes is what hits in the file.
-use Rattle.std.proofs.Common.{◌≡◌, ◌≢◌, ◌⊎◌, ◌↔◌, ℕ, zero, suc, ◌+◌, ◌-◌, ◌<◌, ◌≤◌, min, Bool, true, false, IsTrue, List, [], ◌∷◌, length, Option, Some, None, refl, ap, sym, ◌∙◌, inl, inr, arith, take, drop, length-take, length-drop}
+use Rattle.std.proofs.Common.{◌≡◌, ◌↔◌, ℕ, ◌+◌, ◌-◌, ◌≤◌, Bool, List, [], length, ap, sym, ◌∙◌, inl, inr, arith, take, drop}
 use Rattle.std.proofs.lemmas.List.{drop-drop, take-take, drop-take}
 use Rattle.std.specs.List.{AllByRecursion}
-use Rattle.droid_pronom.specs.Patterns.{Lang, BeginsWithin, EndsWithin}
-use Rattle.droid_pronom.specs.Registry.{Contents, Signed, AnyOf}
-use Rattle.droid_pronom.specs.Found.{extension_of, Hits, HitsFrom, HitsFromStart, HitsFromEnd, IsHit, IsBeaten, IsLeft, IsMismatch, IsFoundBy, IsFound, Chosen}
+use Rattle.droid_pronom.specs.Registry.{Contents, Signed}
+use Rattle.droid_pronom.specs.Found.{extension_of, Hits, HitsFrom, IsHit, IsBeaten, IsLeft, IsMismatch, IsFoundBy, IsFound}
 use Rattle.droid_pronom.specs.FoundWindows.{HitsWindows, HitsWindowsFrom}
 use Rattle.droid_pronom.specs.declared.identify.found.Found.{Found}
 use Rattle.droid_pronom.specs.declared.registry.rows.Anchor.{Anchor}

@@ -1,12 +1,12 @@
 -- What the flags of the steps tell, put together.
-use Rattle.std.proofs.Common.{◌≡◌, ◌≢◌, ◌⊎◌, ◌↔◌, ℕ, zero, suc, ◌+◌, ◌<◌, ◌≤◌, Bool, true, false, not, ◌&&◌, IsTrue, List, [], ◌∷◌, length, Option, Some, None, refl, ap, sym, ◌∙◌, inl, inr, arith, map}
-use Rattle.std.specs.List.{slice_get, AllByRecursion}
+use Rattle.std.proofs.Common.{◌≡◌, ◌≢◌, ◌⊎◌, ◌↔◌, ℕ, zero, suc, ◌≤◌, Bool, true, false, IsTrue, List, [], ◌∷◌, length, refl, ap, inl, inr, arith}
+use Rattle.std.specs.List.{AllByRecursion}
 use Rattle.std.specs.Str.{str_to_ascii_lowercase}
 use Rattle.droid_pronom.specs.RegistryFields.{is_puid}
-use Rattle.droid_pronom.specs.Registry.{Contents, Signed, AnyOf, IsSigned, IsRegistry}
-use Rattle.droid_frame.specs.declared.method.Method.TheVariants as methods
+use Rattle.droid_pronom.specs.Registry.{Contents, AnyOf, IsSigned, IsRegistry}
+use Rattle.droid_frame.specs.types.method.Method.TheVariants as methods
 use Rattle.droid_pronom.specs.declared.identify.found.Found.{Found}
-use Rattle.droid_pronom.specs.Found.{extension_of, IsHit, IsBeaten, IsLeft, IsNamed, IsMismatch, IsFoundBy, Lists, Chosen, end, chosen, passed}
+use Rattle.droid_pronom.specs.Found.{extension_of, IsHit, IsLeft, IsNamed, IsMismatch, IsFoundBy, Chosen, end, chosen, passed}
 use Rattle.droid_pronom.specs.FoundWindows.{Stands, Tell, without}
 use Rattle.droid_pronom.specs.declared.registry.format.Format.{Format}
 use Rattle.droid_pronom.specs.declared.registry.rows.ByteSequence.{ByteSequence}

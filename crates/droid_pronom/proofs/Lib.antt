@@ -1,16 +1,10 @@
 pub mod Flags
 pub mod FoundExtension
 pub mod FoundFile
+pub mod FoundOnce
 pub mod FoundSteps
 pub mod MarkSteps
 pub mod Marks
-pub mod PatternFaultLemmas
-pub mod PatternFrontLemmas
-pub mod PatternPathLemmas
-pub mod PatternPlaceLemmas
-pub mod PatternRunLemmas
-pub mod PatternStepLemmas
-pub mod PatternTextLemmas
 pub mod RegistryForms
 pub mod RegistryReading
 pub mod RegistryRows

@@ -1,12 +1,12 @@
 -- One row more, for each table of flags.
-use Rattle.std.proofs.Common.{◌≡◌, ◌≢◌, ◌⊎◌, ◌↔◌, ℕ, suc, ◌+◌, ◌<◌, Bool, true, false, IsTrue, cond, List, [], ◌∷◌, ◌++◌, length, Option, Some, None, refl, ap, sym, ◌∙◌, inl, inr, arith, set, get_or, drop, add-one, append_assoc, ◌≤◌, ◌&&◌, not}
+use Rattle.std.proofs.Common.{◌≡◌, ◌≢◌, ◌⊎◌, ◌↔◌, ℕ, ◌+◌, ◌<◌, Bool, true, false, List, [], ◌∷◌, ◌++◌, length, refl, ◌∙◌, inl, inr, arith, set, get_or, drop, add-one, append_assoc, ◌≤◌, ◌&&◌, not}
 use Rattle.std.proofs.lemmas.List.{drop_all}
 use Rattle.droid_pronom.specs.Found.{Chosen, end, chosen, passed}
 use Rattle.droid_pronom.specs.declared.registry.format.Format.{Format}
 use Rattle.std.proofs.Math.ListN.{length-set}
 use Rattle.std.specs.List.{AllByRecursion}
 use Rattle.droid_pronom.specs.Registry.{AnyOf, Signed}
-use Rattle.droid_pronom.specs.FoundWindows.{Stands, Tell, without}
+use Rattle.droid_pronom.specs.FoundWindows.{Stands, without}
 use Rattle.droid_pronom.specs.declared.registry.rows.Priority.{Priority}
 use Rattle.droid_pronom.specs.declared.registry.rows.ListedExtension.{ListedExtension}
 use Rattle.droid_pronom.specs.declared.registry.rows.ByteSequence.{ByteSequence}

@@ -1,6 +1,5 @@
 -- Flags that are set one after another, for the rows of a table.
-use Rattle.std.proofs.Common.{◌≡◌, ◌≢◌, ◌⊎◌, ◌↔◌, ℕ, zero, suc, ◌+◌, ◌<◌, Bool, true, false, List, [], ◌∷◌, ◌++◌, length, Option, Some, None, refl, ap, sym, ◌∙◌, inl, inr, arith, set, replicate}
-use Rattle.std.specs.List.{slice_get, AllByRecursion}
+use Rattle.std.proofs.Common.{◌≡◌, ◌⊎◌, ℕ, ◌<◌, Bool, true, false, List, [], ◌∷◌, length, inl, inr, set, replicate}
 use Rattle.droid_pronom.specs.Registry.{AnyOf}
 use Rattle.droid_pronom.specs.FoundWindows.{Stands, Tell}
 use Rattle.droid_pronom.proofs.Flags.{set_here, set_keeps, set_only, unset}

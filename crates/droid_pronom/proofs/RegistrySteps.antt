@@ -1,18 +1,17 @@
 -- What a record comes to, from what the calls say that judge its parts.
-use Rattle.std.proofs.Common.{◌≡◌, ◌∙◌, ℕ, List, [], ◌∷◌, length, Option, Some, None, Result, Ok, Err, IsOk, false, true, refl, sym, ap}
-use Rattle.droid_pronom.specs.Patterns.{Element}
-use Rattle.droid_pronom.specs.PatternText.{Spells}
-use Rattle.droid_pronom.specs.RegistryRecords.{WithPattern, Gives, Tells, ReadsAs, Judged, Step, judged, no_text}
+use Rattle.std.proofs.Common.{◌≡◌, ℕ, List, [], ◌∷◌, length, Option, Some, Result, Ok, Err, IsOk, false, true, sym}
+use Rattle.droid_pattern.specs.Patterns.{Element}
+use Rattle.droid_pattern.specs.PatternText.{Spells}
+use Rattle.droid_pronom.specs.RegistryRecords.{Draft, RecordFault, WithPattern, ReadsAs, Judged, Step, judged, no_text}
+use Rattle.droid_pronom.specs.RegistryRecords as faults
+use Rattle.droid_pronom.specs.RegistryCalls.{Gives, Tells}
 use Rattle.droid_pronom.specs.RegistryFields.{kind_of}
 use Rattle.csv.specs.Records.{AllText}
-use Rattle.droid_pronom.specs.declared.registry.fault.Fault.TheVariants as faults
-use Rattle.droid_pronom.specs.declared.registry.draft.Draft.{Draft}
-use Rattle.droid_pronom.specs.declared.registry.fault.Fault.{Fault}
 use Rattle.droid_pronom.specs.declared.registry.fault.Refusal.{Refusal}
 use Rattle.droid_pronom.specs.declared.registry.fault.Refusal.TheVariants as refusals
 
 -- the pattern was read, and the rest was done
-pub tells_added : {X H : Type 0} (head : Result H Fault) (h : H) (text : List ℕ) (elements : List Element) (added : H → Option (List Element) → Result Draft Fault) (result : Result X Refusal) (new : Draft)
+pub tells_added : {X H : Type 0} (head : Result H RecordFault) (h : H) (text : List ℕ) (elements : List Element) (added : H → Option (List Element) → Result Draft RecordFault) (result : Result X Refusal) (new : Draft)
     → head ≡ Ok h → Spells text elements → Gives (λ _. new) result (added h (Some elements)) → Tells result new (WithPattern head text added)
 tells_added head h text elements added (Ok x) new is spelled gives = rw is (Some elements, spelled, sym gives)
 tells_added head h text elements added (Err refusals.Memory) new is spelled gives = tt

@@ -1,21 +1,22 @@
 -- What one more record does to the look-ups of a registry.
-use Rattle.std.proofs.Common.{◌≡◌, ◌≢◌, ◌⊎◌, ◌↔◌, ℕ, zero, suc, ◌+◌, ◌-◌, ◌<◌, ◌≤◌, Bool, true, false, cond, List, [], ◌∷◌, ◌++◌, length, length-append, Option, Some, None, refl, ap, sym, ◌∙◌, inl, inr, arith, add-one, set, get_or, rules, option_map, IsTrue, IfSome}
+use Rattle.std.proofs.Common.{◌≡◌, ◌⊎◌, ◌↔◌, ℕ, zero, suc, ◌+◌, ◌-◌, ◌<◌, Bool, true, false, cond, List, [], ◌∷◌, ◌++◌, length, length-append, Option, Some, None, refl, ap, sym, ◌∙◌, inl, inr, arith, add-one, set, get_or, option_map, IsTrue, IfSome}
 use Rattle.std.specs.Option.{option_or}
 use Rattle.std.specs.List.{slice_get, AllByRecursion}
 use Rattle.std.specs.Map.{update}
 use Rattle.std.specs.Str.{bytes_eq}
 use Rattle.std.proofs.lemmas.Slice.Eq.{bytes_eq-Decides}
 use Rattle.std.proofs.lemmas.Bool.{false_from_ne_true, cases_Bool}
-use Rattle.std.proofs.lemmas.Option.{same_Some, slice_get_within}
+use Rattle.std.proofs.lemmas.Option.{same_Some}
 use Rattle.droid_pronom.specs.RegistryFields.{is_puid}
 use Rattle.droid_pronom.specs.Registry.{Contents, Signed, AnyOf, IsSigned, IsRegistry, place_of}
 use Rattle.std.specs.BTreeMap.{get_by_text}
 use Rattle.std.proofs.Math.ListN.{length-set}
 use Rattle.droid_pronom.specs.declared.registry.Registry.TheInside.{Inside}
-use Rattle.droid_pronom.specs.RegistryKept.{IsKept, contents, with_format, with_signature, with_sequence, extended}
+use Rattle.droid_pronom.specs.RegistryGrowth.{with_format, with_signature, extended}
+use Rattle.droid_pronom.specs.RegistryKept.{IsKept, contents}
 use Rattle.droid_pronom.specs.declared.registry.format.Format.{Format}
 use Rattle.droid_pronom.specs.declared.registry.rows.ByteSequence.{ByteSequence}
-use Rattle.droid_pronom.proofs.Flags.{all_push, all_more, any_more, any_before, any_last, any_parts, set_here, set_keeps, set_only, unset_push, push_keeps}
+use Rattle.droid_pronom.proofs.Flags.{all_push, all_more, any_before, any_last, any_parts, set_here, set_keeps, set_only, unset_push, push_keeps}
 
 -- ---- the place of a PUID
 

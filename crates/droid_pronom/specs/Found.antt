@@ -1,11 +1,10 @@
 -- How a file is identified: by signatures, else by the extension of its name (PRONOM's rules; what is narrowed is said where it is).
-use Rattle.std.specs.Prelude.{◌≡◌, ◌≢◌, ◌↔◌, ◌⊎◌, ℕ, zero, suc, ◌+◌, ◌-◌, ◌<◌, ◌≤◌, ◌==◌, min, Bool, true, false, IsTrue, if◌then◌else◌, List, [], ◌∷◌, length, take, drop}
+use Rattle.std.specs.Prelude.{◌≡◌, ◌≢◌, ◌↔◌, ◌⊎◌, ℕ, suc, ◌+◌, ◌-◌, ◌≤◌, ◌==◌, min, Bool, true, false, IsTrue, if◌then◌else◌, List, [], ◌∷◌, length, take, drop}
 use Rattle.std.specs.List.{list_any, AllByRecursion}
 use Rattle.std.specs.Str.{str_to_ascii_lowercase}
-use Rattle.droid_frame.specs.declared.method.Method.{Method}
-use Rattle.droid_frame.specs.declared.method.Method.TheVariants as methods
-use Rattle.droid_pronom.specs.Patterns.{Lang}
-use Rattle.droid_pronom.specs.Registry.{Contents, Signed, AnyOf, IsSigned}
+use Rattle.droid_frame.specs.types.method.Method.TheVariants as methods
+use Rattle.droid_pattern.specs.Patterns.{Lang}
+use Rattle.droid_pronom.specs.Registry.{Contents, AnyOf, IsSigned}
 use Rattle.droid_pronom.specs.declared.registry.format.Format.{Format}
 use Rattle.droid_pronom.specs.declared.registry.rows.Anchor.{Anchor}
 use Rattle.droid_pronom.specs.declared.registry.rows.Anchor.TheVariants.{Bof, Eof}

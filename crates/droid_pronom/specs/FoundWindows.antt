@@ -1,6 +1,6 @@
 -- How a file is identified from its first and last bytes: what the steps tell of each format.
 use Rattle.std.specs.Prelude.{◌≡◌, ◌↔◌, ℕ, Bool, true, not, ◌&&◌, List, [], ◌∷◌, Some, slice_get}
-use Rattle.droid_pronom.specs.Patterns.{BeginsWithin, EndsWithin}
+use Rattle.droid_pattern.specs.Patterns.{BeginsWithin, EndsWithin}
 use Rattle.droid_pronom.specs.declared.registry.rows.Anchor.{Anchor}
 use Rattle.droid_pronom.specs.declared.registry.rows.Anchor.TheVariants.{Bof, Eof}
 use Rattle.droid_pronom.specs.declared.registry.rows.ByteSequence.{ByteSequence}

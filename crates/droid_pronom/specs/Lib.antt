@@ -1,12 +1,16 @@
+-- The language of patterns, and how they are written.
+pub use Rattle.droid_pattern.specs.Patterns
+pub use Rattle.droid_pattern.specs.PatternText
+-- What a stream did, and when it is said to have failed.
+pub use Rattle.droid_stream.specs.Seen
+-- What the public calls promise: what a registry says, what a registry file comes to, and what is found in a file.
 pub mod Found
-pub mod FoundWindows
-pub mod PatternParts
-pub mod PatternPlaces
-pub mod PatternReading
-pub mod PatternText
-pub mod Patterns
 pub mod Registry
 pub mod RegistryFields
 pub mod RegistryFile
-pub mod RegistryKept
+pub mod RegistryGrowth
 pub mod RegistryRecords
+-- What the steps of reading and of identification promise each other.
+pub mod FoundWindows
+pub mod RegistryCalls
+pub mod RegistryKept

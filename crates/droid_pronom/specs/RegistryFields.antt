@@ -7,8 +7,6 @@ use Rattle.std.specs.Str.Parse.{digits_value}
 use Rattle.droid_pronom.specs.declared.registry.rows.Anchor.{Anchor}
 use Rattle.droid_pronom.specs.declared.registry.rows.Anchor.TheVariants.{Bof, Eof}
 use Rattle.droid_pronom.specs.declared.registry.rows.Offsets.{Offsets}
-use Rattle.droid_pronom.specs.declared.registry.fields.RecordKind.{RecordKind}
-use Rattle.droid_pronom.specs.declared.registry.fields.RecordKind.TheVariants as kinds
 
 -- the text has from so many to so many bytes
 abbrev pub has_bytes : ℕ → ℕ → List ℕ → Bool
@@ -63,12 +61,20 @@ offsets_between None min max = None
 abbrev pub offsets_of : List ℕ → List ℕ → List ℕ → Option Offsets
 offsets_of anchor min max = offsets_between (anchor_of anchor) (number_of min) (number_of max)
 
+-- what a record is about: a format, an extension that one lists, a priority, a signature with its first byte sequence, one more byte sequence
+pub data Kind : Type 0 where
+  Format : Kind
+  Extension : Kind
+  Priority : Kind
+  Signature : Kind
+  Sequence : Kind
+
 -- what a record is about, by its first field
-abbrev pub kind_of : List ℕ → Option RecordKind
+abbrev pub kind_of : List ℕ → Option Kind
 kind_of text =
-    if bytes_eq text (codes "F") then Some kinds.Format
-    else if bytes_eq text (codes "E") then Some kinds.Extension
-    else if bytes_eq text (codes "P") then Some kinds.Priority
-    else if bytes_eq text (codes "S") then Some kinds.Signature
-    else if bytes_eq text (codes "B") then Some kinds.Sequence
+    if bytes_eq text (codes "F") then Some Format
+    else if bytes_eq text (codes "E") then Some Extension
+    else if bytes_eq text (codes "P") then Some Priority
+    else if bytes_eq text (codes "S") then Some Signature
+    else if bytes_eq text (codes "B") then Some Sequence
     else None

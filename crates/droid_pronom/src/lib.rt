@@ -2,13 +2,12 @@
 #![tactic(auto)]
 
 mod identify;
-mod pattern;
+pub mod laws;
 mod registry;
 
+pub use droid_pattern::{Pattern, PatternFault};
 pub use identify::extension::extension;
 pub use identify::found::Found;
-pub use pattern::Pattern;
-pub use pattern::fault::PatternFault;
 pub use registry::Registry;
 pub use registry::fault::RegistryFault;
 pub use registry::format::Format;

@@ -4,6 +4,8 @@
 #[cfg(test)]
 mod identification;
 #[cfg(test)]
+mod largest;
+#[cfg(test)]
 mod memory;
 #[cfg(test)]
 mod offsets;

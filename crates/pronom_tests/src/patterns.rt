@@ -117,15 +117,36 @@ fn matches_from_the_first_and_to_the_last_byte(rt: HostRuntime) -> Result<(), Fa
     Ok(())
 }
 
+/// Bytes, a place in them, and whether a match of `(61|6263)64` begins there and ends before it.
+const PLACES: [(&[u8], usize, bool, bool); 6] = [
+    (b"zzad", 4, false, true),
+    (b"zzadz", 5, false, false),
+    (b"zzadz", 4, false, true),
+    (b"zzad", 2, true, false),
+    (b"zzad", 3, false, false),
+    (b"bcdad", 3, true, true),
+];
+
 #[test]
 fn matches_at_other_places(rt: HostRuntime) -> Result<(), Fail> {
     let pattern = Pattern::read(rt.alloc(), "(61|6263)64")?;
-    assert!(rt; pattern.matches_to(rt.alloc(), b"zzad", 4)?);
-    assert!(rt; !pattern.matches_to(rt.alloc(), b"zzadz", 5)?);
-    assert!(rt; pattern.matches_to(rt.alloc(), b"zzadz", 4)?);
-    assert!(rt; pattern.matches_from(rt.alloc(), b"zzad", 2)?);
-    assert!(rt; !pattern.matches_from(rt.alloc(), b"zzad", 3)?);
-    assert!(rt; !pattern.matches_from(rt.alloc(), b"zzad", 4)?);
+    for (bytes, place, from, to) in PLACES {
+        assert!(rt; place <= bytes.len());
+        assert_eq!(rt; pattern.matches_from(rt.alloc(), bytes, place)?, from);
+        assert_eq!(rt; pattern.matches_to(rt.alloc(), bytes, place)?, to);
+    }
+    Ok(())
+}
+
+#[test]
+fn texts_of_faults(rt: HostRuntime) -> Result<(), Fail> {
+    for (fault, want) in [
+        (PatternFault::BadPattern, "the text is no pattern"),
+        (PatternFault::Memory, "memory ran out"),
+    ] {
+        let text = format!(in rt.alloc(); "{fault}")?;
+        assert_eq!(rt; text.as_str(), want);
+    }
     Ok(())
 }
 

@@ -1,8 +1,8 @@
 //! Registry files: what they come to, and their limits.
 
 use crate::samples::SAMPLE;
-use droid_frame::Unsteady;
 use droid_pronom::{Registry, RegistryFault};
+use droid_stream::Unsteady;
 use std::alloc::{AllocError, Global};
 use std::io;
 use std::io::{Error, ErrorKind, Read};
@@ -204,47 +204,54 @@ fn limit_of_bytes(rt: HostRuntime) -> Result<(), Fail> {
     Ok(())
 }
 
-/// A reader of some bytes, a few at a time, that is interrupted so many times and may fail at
-/// their end.
+/// A reader of some bytes, a few at a time. Each second read is interrupted, so many times in all,
+/// and a read fails once where so many bytes are left.
 #[derive(Drop)]
 struct Halting<'a> {
     bytes: &'a [u8],
     interruptions: u32,
-    fails: bool,
+    is_next: bool,
+    fails_at: Option<usize>,
 }
 
 impl Read for Halting<'_> {
     fn read(&mut self, buf: &mut [u8]) -> io::Result<usize> {
-        if self.interruptions > 0 {
+        self.is_next = !self.is_next;
+        if self.is_next && self.interruptions > 0 {
             self.interruptions -= 1;
             return Err(Error::from(ErrorKind::Interrupted));
         }
-        if self.bytes.is_empty() && self.fails {
-            return Err(Error::from(ErrorKind::UnexpectedEof));
+        if self.fails_at == Some(self.bytes.len()) {
+            self.fails_at = None;
+            return Err(Error::from(ErrorKind::BrokenPipe));
         }
-        let count = self.bytes.len().min(buf.len()).min(7);
+        let count = self.bytes.len().min(buf.len()).min(3);
         buf[..count].copy_from_slice(&self.bytes[..count]);
         self.bytes = &self.bytes[count..];
         Ok(count)
     }
 }
 
+/// Interruptions, how many bytes are left where a read fails, and what the file comes to.
+const READERS: [(u32, Option<usize>, &str); 6] = [
+    (0, None, "4 formats"),
+    (64, None, "4 formats"),
+    (65, None, "Read"),
+    (0, Some(0), "Read"),
+    (0, Some(SAMPLE.len()), "Read"),
+    (64, Some(SAMPLE.len() - 150), "Read"),
+];
+
 #[test]
 fn readers(rt: HostRuntime) -> Result<(), Fail> {
     let alloc = rt.alloc();
-    for (interruptions, fails, want) in [
-        (0, false, "4 formats"),
-        (64, false, "4 formats"),
-        (65, false, "Read"),
-        (0, true, "Read"),
-    ] {
-        let mut reader = Unsteady {
-            stream: Halting {
-                bytes: SAMPLE.as_bytes(),
-                interruptions,
-                fails,
-            },
-        };
+    for (interruptions, fails_at, want) in READERS {
+        let mut reader = Unsteady::new(Halting {
+            bytes: SAMPLE.as_bytes(),
+            interruptions,
+            is_next: false,
+            fails_at,
+        });
         let text = match Registry::read(alloc, &mut reader) {
             Ok(registry) => {
                 let count = registry.len();

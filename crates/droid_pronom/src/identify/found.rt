@@ -7,7 +7,9 @@ use droid_frame::{Method, Texts};
 pub struct Found {
     /// By what they were found.
     pub method: Method,
-    /// Whether the name's extension is none of those that the formats list, although they list one.
+    /// Whether the extension speaks against the formats: true exactly where the method is
+    /// `Signature`, the extension isn't empty, some format found lists an extension, and no format
+    /// found lists this one. ASCII case makes no difference.
     pub mismatch: bool,
     /// The formats' PUIDs, in the registry's order.
     pub puids: Texts,

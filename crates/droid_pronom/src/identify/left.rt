@@ -20,7 +20,8 @@ pub(crate) fn beaten_formats(
 {
     let mut beaten = vec![in alloc; false; hit.len()]?;
     for row in priorities {
-        if hit[row.place as usize] {
+        let drops = hit[row.place as usize];
+        if drops {
             beaten[row.over as usize] = true;
         }
     }

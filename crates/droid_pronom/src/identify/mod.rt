@@ -2,7 +2,7 @@
 
 mod chosen;
 pub mod extension;
-mod file;
+pub(crate) mod file;
 pub mod found;
 mod hits;
 mod left;

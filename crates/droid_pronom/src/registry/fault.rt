@@ -2,8 +2,8 @@
 
 ghost use Rattle.std.specs.Prelude.{◌≡◌};
 ghost use Rattle.droid_pronom.specs.declared.registry.fault.Refusal.TheVariants.{Memory};
-ghost use Rattle.droid_pronom.specs.RegistryRecords.{Gives, check};
-ghost use Rattle.droid_pronom.specs.RegistryFile.{refusal_at};
+ghost use Rattle.droid_pronom.specs.RegistryCalls.{Gives, fault_of, refusal_at};
+ghost use Rattle.droid_pronom.specs.RegistryRecords.{check};
 
 use std::alloc::AllocError;
 use thiserror::Error;
@@ -87,7 +87,7 @@ impl Refusal {
 
 /// The fault, unless the condition holds.
 pub(crate) fn check(holds: bool, fault: Fault) -> Result<(), Refusal>
-    ensures { Gives (λ _. tt) result (check holds fault) }
+    ensures { Gives (λ _. tt) result (check holds (fault_of fault)) }
 {
     if holds {
         Ok(())

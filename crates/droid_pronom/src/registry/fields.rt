@@ -1,8 +1,9 @@
 //! The forms of a record's fields.
 
-ghost use Rattle.std.specs.Prelude.{◌≡◌};
+ghost use Rattle.std.specs.Prelude.{◌≡◌, option_map};
 ghost use Rattle.std.specs.Char.{is_ascii_digit};
 ghost use Rattle.std.specs.List.{list_all};
+ghost use Rattle.droid_pronom.specs.RegistryCalls.{kind_is};
 ghost use Rattle.droid_pronom.specs.RegistryFields as field;
 
 use crate::registry::rows::{Anchor, Offsets};
@@ -24,7 +25,7 @@ pub(crate) enum RecordKind {
 
 /// What a record is about, by its first field.
 pub(crate) fn kind_of(text: &str) -> Option<RecordKind>
-    ensures { result ≡ field.kind_of text.now }
+    ensures { option_map kind_is result ≡ field.kind_of text.now }
 {
     if text == "F" {
         Some(RecordKind::Format)

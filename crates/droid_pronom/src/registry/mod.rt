@@ -1,28 +1,40 @@
 //! The registry: formats, and what tells them apart.
 
-ghost use Rattle.std.specs.Prelude.{◌≡◌, ℕ, ◌+◌, ◌-◌, ◌<◌, ◌≤◌, ◌++◌, ◌∷◌, [], length, IsTrue, is_some, IsSome, IfSome, option_map, Some, None, IfOk, OnOk, OnErr, slice_get, true, false, ◌↔◌};
+ghost use Rattle.std.specs.Prelude.{◌≡◌, ◌≢◌, ℕ, List, ◌+◌, ◌-◌, ◌<◌, ◌≤◌, ◌++◌, ◌∷◌, [], length, take, drop, IsTrue, IfSome, option_map, Some, None, Err, IfOk, IsErrOf, OnOk, OnErr, slice_get, true, ◌↔◌};
 ghost use Rattle.std.specs.Option.{option_copied};
 ghost use Rattle.std.specs.List.{AllByRecursion};
+ghost use Rattle.droid_pronom.specs.Found.{IsFound};
 ghost use Rattle.droid_pronom.specs.RegistryFields.{is_puid};
+ghost use Rattle.droid_pronom.specs.RegistryFile.{File};
+ghost use Rattle.droid_stream.specs.Seen.{IsSound, TellsFault};
 
 mod draft;
 pub mod fault;
 mod fields;
 pub mod format;
 pub(crate) mod lower_case;
-pub mod parse;
-pub mod read;
+mod record_forms;
 mod row_text;
 pub(crate) mod rows;
+mod unread;
 
+use crate::identify::file::identify_windows;
+use crate::identify::found::Found;
+use crate::registry::draft::Draft;
+use crate::registry::fault::RegistryFault;
 use crate::registry::format::Format;
 use crate::registry::rows::{ByteSequence, ListedExtension, Priority, Signature};
+use crate::registry::unread::unread;
+use csv::ReaderBuilder;
+use droid_stream::{InputFault, SteadyRead, read_to_end};
 use std::alloc::{AllocError, Global};
 use std::collections::BTreeMap;
 use std::marker::Model;
 
+/// How many bytes a registry file may have.
+const BYTES_LIMIT: usize = 16_777_216;
 /// How many formats a registry may have.
-pub(crate) const MOST_FORMATS: usize = 4_096;
+pub(crate) const FORMATS_LIMIT: usize = 4_096;
 
 /// The formats of a registry file, with their extensions, priorities and signatures.
 #[derive(Drop)]
@@ -51,7 +63,52 @@ impl Model for Registry {
 
 impl Registry {
     ghost use Rattle.droid_pronom.specs.Registry.{nothing, place_of, IsRegistry, IsSigned};
-    ghost use Rattle.droid_pronom.specs.RegistryKept.{with_format, with_extension, with_priority, with_signature, with_sequence};
+    ghost use Rattle.droid_pronom.specs.RegistryGrowth.{with_format, with_extension, with_priority, with_signature, with_sequence};
+
+    /// Reads a registry file. It is CSV as `csv` reads it with its default settings and no header;
+    /// the first faulty record is answered, by its number.
+    pub fn parse(alloc: Global, bytes: &[u8]) -> Result<Registry, RegistryFault>
+        ensures { result ≢ Err RegistryFault.Memory → File bytes.now result }
+    {
+        if bytes.len() > BYTES_LIMIT {
+            return Err(RegistryFault::TooLong);
+        }
+        // The number of fields is judged with the rest of a record, so the reader lets each pass.
+        let reader = ReaderBuilder::new()
+            .has_headers(false)
+            .flexible(true)
+            .from_reader(alloc, bytes);
+        let mut draft = Draft::new(alloc);
+        for row in reader.into_byte_records() {
+            match row {
+                Err(error) => return Err(unread(error)),
+                Ok(row) => {
+                    let at = draft.records() + 1;
+                    if let Err(refusal) = draft.take(alloc, row) {
+                        return Err(refusal.at(at));
+                    }
+                }
+            }
+        }
+        Ok(draft.registry)
+    }
+
+    /// Reads a registry file from a reader, to its end, and then as `parse` does. `TooLong` comes
+    /// before any record is looked at; `Read` says that the reader failed, or was interrupted more
+    /// than 64 times.
+    pub fn read<R: SteadyRead>(alloc: Global, reader: &mut R) -> Result<Registry, RegistryFault>
+        // Where the reader tells its bytes: what they come to.
+        ensures reads { (bytes : List ℕ) → R.remaining reader.old ≡ Some bytes → result ≢ Err RegistryFault.Memory → result ≢ Err RegistryFault.Read → File bytes result }
+        // `Read` comes exactly where the reader failed or was interrupted for the 65th time.
+        ensures fault { IsSound (R.seen reader.old) → TellsFault (R.seen reader.old).interruptions (R.seen reader.new) (IsErrOf result RegistryFault.Read) }
+    {
+        match read_to_end(alloc, reader, BYTES_LIMIT) {
+            Ok(bytes) => Registry::parse(alloc, bytes.as_slice()),
+            Err(InputFault::TooLong) => Err(RegistryFault::TooLong),
+            Err(InputFault::Memory) => Err(RegistryFault::Memory),
+            Err(InputFault::Read) => Err(RegistryFault::Read),
+        }
+    }
 
     /// A registry with no format. It takes no memory.
     pub(crate) fn new(alloc: Global) -> Registry
@@ -97,6 +154,33 @@ impl Registry {
         ensures below { IfSome result (λ place. place < length self.now.formats) }
     {
         self.places.get(puid).copied()
+    }
+
+    /// Identifies a file by its name and its first and last bytes: by signatures, and where they
+    /// leave no format, by the extension of the name. Both slices have the same length, and
+    /// matches lie wholly inside them. With `match_all` an extension names each format that
+    /// lists it, without it those that have no signature. Only want of memory refuses it.
+    pub fn identify(
+        &self,
+        alloc: Global,
+        name: &str,
+        first: &[u8],
+        last: &[u8],
+        size: u64,
+        match_all: bool,
+    ) -> Result<Found, AllocError>
+        requires same { length first.now ≡ length last.now }
+        requires few { length first.now ≤ 65536 }
+        requires inside { length first.now ≤ size }
+        // What is found in every file of that size which begins and ends with these bytes, with
+        // their length as the limit.
+        ensures found { IfOk result (λ found. (file : List ℕ) → length file ≡ size → take (length first.now) file ≡ first.now → drop (size - length first.now) file ≡ last.now → IsFound self.now name.now file (length first.now) match_all found) }
+        ensures few { IfOk result (λ found. length found.puids ≤ 4096) }
+        ensures puids { IfOk result (λ found. AllByRecursion (λ puid. IsTrue (is_puid puid)) found.puids) }
+    {
+        prove!(first.len() as u64 <= size);
+        prove!(self.len() <= FORMATS_LIMIT);
+        identify_windows(alloc, self, name, first, last, match_all)
     }
 
     /// The formats in order.

@@ -2,12 +2,11 @@
 
 ghost use Rattle.std.specs.Prelude.{◌≡◌, [], ◌∷◌, length};
 ghost use Rattle.csv.specs.Records.{fields_of};
-ghost use Rattle.droid_pronom.specs.RegistryRecords.{TellsPattern};
+ghost use Rattle.droid_pronom.specs.RegistryCalls.{TellsPattern};
 
-use crate::pattern::Pattern;
-use crate::pattern::fault::PatternFault;
 use crate::registry::fault::{Fault, Refusal};
 use csv::StringRecord;
+use droid_pattern::{Pattern, PatternFault};
 use std::alloc::Global;
 
 /// The six texts of a record, in order.

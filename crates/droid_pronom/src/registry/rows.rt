@@ -2,8 +2,8 @@
 
 ghost use Rattle.std.specs.Prelude.{◌≡◌, ◌++◌, ◌∷◌, [], IfOk, OnOk, OnErr};
 
-use crate::pattern::Pattern;
 use droid_frame::Text;
+use droid_pattern::Pattern;
 use std::alloc::{AllocError, Global};
 use std::marker::Model;
 

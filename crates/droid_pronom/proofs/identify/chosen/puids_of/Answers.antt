@@ -1,4 +1,4 @@
-use Rattle.std.proofs.Common.{◌≡◌, ◌∙◌, ◌<◌, ◌++◌, ◌∷◌, [], List, ℕ, Bool, length, ap, sym, refl, append_assoc, arith}
+use Rattle.std.proofs.Common.{◌<◌, ◌∷◌, [], length, append_assoc, arith}
 use Rattle.std.proofs.lemmas.List.{append-nil}
 use Rattle.droid_pronom.specs.FoundWindows.{Stands}
 use Rattle.droid_pronom.proofs.Flags.{rest_of_item, stands_at, stands_not}

@@ -1,6 +1,5 @@
-use Rattle.std.proofs.Common.{◌≡◌, ◌∙◌, ◌<◌, ℕ, List, length, get_or, arith, Some, None}
+use Rattle.std.proofs.Common.{◌≡◌, ◌∙◌, ◌<◌, length, get_or, arith}
 use Rattle.std.proofs.lemmas.Str.{IsCharBoundary-after_ascii}
-use Rattle.memchr.specs.Find.{IsLastByte, is_byte}
 use Rattle.droid_pronom.proofs.FoundExtension.{dot_at, extension_some, extension_first, extension_no_dot}
 use Rattle.droid_pronom.proofs.identify.extension.extension.Goals as goal
 use Rattle.droid_pronom.proofs.identify.extension.extension.Goals.{in_default-via-in-Some+else-dot-gt0, in_default-via-in_default}

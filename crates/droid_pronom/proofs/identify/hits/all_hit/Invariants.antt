@@ -1,4 +1,4 @@
-use Rattle.std.proofs.Common.{◌≡◌, ◌↔◌, drop}
+use Rattle.std.proofs.Common.{◌↔◌, drop}
 use Rattle.std.specs.List.{AllByRecursion}
 use Rattle.droid_pronom.specs.FoundWindows.{HitsWindows}
 use Rattle.droid_pronom.proofs.identify.hits.all_hit.Given as goal

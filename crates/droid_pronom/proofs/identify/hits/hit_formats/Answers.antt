@@ -1,4 +1,4 @@
-use Rattle.std.proofs.Common.{◌≡◌, ◌∙◌, List, Bool, ap, sym}
+use Rattle.std.proofs.Common.{◌∙◌, sym}
 use Rattle.droid_pronom.specs.FoundWindows.{HitsWindows}
 use Rattle.droid_pronom.proofs.Flags.{rest_of_item}
 use Rattle.droid_pronom.proofs.MarkSteps.{hit_before, hit_now, hit_not}

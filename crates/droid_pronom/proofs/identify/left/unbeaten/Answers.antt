@@ -1,4 +1,4 @@
-use Rattle.std.proofs.Common.{◌≡◌, ◌∙◌, ◌<◌, ◌++◌, ◌∷◌, [], List, ℕ, Bool, false, length, ap, sym, refl, arith}
+use Rattle.std.proofs.Common.{◌<◌, false, length, refl, arith}
 use Rattle.droid_pronom.proofs.Flags.{rest_at}
 use Rattle.droid_pronom.proofs.MarkSteps.{without_step}
 use Rattle.droid_pronom.proofs.identify.left.unbeaten.Goals as goal

@@ -1,5 +1,5 @@
-use Rattle.std.proofs.Common.{◌≡◌, ◌∙◌, List, Bool, false, true, ap, sym, inl, inr}
-use Rattle.droid_pronom.proofs.Flags.{rest_of_item, stands_at}
+use Rattle.std.proofs.Common.{◌∙◌, sym}
+use Rattle.droid_pronom.proofs.Flags.{rest_of_item}
 use Rattle.droid_pronom.proofs.MarkSteps.{mismatch_one, mismatch_skip, mismatch_stop}
 use Rattle.std.proofs.lemmas.Slice.Eq.{bytes_eq-Decides}
 use Rattle.droid_pronom.proofs.identify.named.is_mismatch.Goals as goal

@@ -1,4 +1,3 @@
-use Rattle.std.proofs.Common.{◌≡◌, ◌∙◌, List, Bool, ap, sym}
 use Rattle.droid_pronom.proofs.Flags.{rest_of_item}
 use Rattle.droid_pronom.proofs.MarkSteps.{named_now, named_not}
 use Rattle.droid_pronom.proofs.identify.named.named_formats.Goals as goal

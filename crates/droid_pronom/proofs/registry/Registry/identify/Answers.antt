@@ -1,4 +1,3 @@
-use Rattle.std.proofs.Common.{◌≡◌, ◌-◌, ℕ, List, length, take, drop, sym, arith}
 use Rattle.std.proofs.lemmas.Result.{IfOk-weaker}
 use Rattle.droid_pronom.specs.FoundWindows.{HitsWindows}
 use Rattle.droid_pronom.proofs.FoundSteps.{found_few, found_puids}

@@ -1,14 +1,13 @@
-use Rattle.std.proofs.Common.{Bor, ◌≡◌, ◌∙◌, ◌+◌, List, [], ℕ, Some, Ok, Err, refl, sym, ap, inl, inr, arith}
-use Rattle.csv.specs.Reading.{default_config, strip_bom}
+use Rattle.std.proofs.Common.{◌∙◌, [], refl, inl, inr, arith}
+use Rattle.csv.specs.Reading.{error_kind, strip_bom}
 use Rattle.csv.specs.Records.{fields_of}
-use Rattle.csv.specs.declared.parser.State.TheVariants as st
-use Rattle.droid_pronom.specs.RegistryFile.{File, Outcome, too_long, read, fault_at}
-use Rattle.droid_pronom.specs.declared.registry.draft.Draft.{Draft}
-use Rattle.droid_pronom.proofs.RegistryReading.{next_read, outcome_taken, outcome_refused, outcome_end}
+use Rattle.droid_pronom.specs.RegistryFile.{too_long, read}
+use Rattle.droid_pronom.specs.RegistryCalls.{draft_of}
+use Rattle.droid_pronom.proofs.RegistryReading.{ends_reading, next_read, outcome_taken, outcome_refused, outcome_end}
 use Rattle.droid_pronom.proofs.registry.Registry.parse.Goals as goal
 
-pub returns-then-bytes-gt-MOST_BYTES : goal.returns-then-bytes-gt-MOST_BYTES
-returns-then-bytes-gt-MOST_BYTES c = λ _. too_long c.if-bytes-gt-MOST_BYTES.true
+pub returns-then-bytes-gt-BYTES_LIMIT : goal.returns-then-bytes-gt-BYTES_LIMIT
+returns-then-bytes-gt-BYTES_LIMIT c = λ _. too_long c.if-bytes-gt-BYTES_LIMIT.true
 
 pub loop-row-init : goal.loop-row-init
 loop-row-init c =
@@ -23,6 +22,7 @@ loop-row-init c =
       inr (inr (rw (f, e) at fr.has_headers, fr.headers)),
       left,
       rw (f, e) at fr.config ∙ c.new.ensures.config,
+      rw f at fr.flexible,
       strip_bom c.args.bytes.now,
       fr.source,
       λ r o. rw (c.new-draft.ensures, fr.state) at o,
@@ -35,26 +35,32 @@ pub loop-row-preserved : goal.loop-row-preserved
 loop-row-preserved c =
     let inv = c.loop-row.invariant in
     let s = rw (c.in-Some.is, c.in-Ok.is) at ((c.next.ensures.steps inv.2 inv.0).0 inv.1) in
-    let n = next_read c.loop-row.row-iterator.rdr c.next.new.self.rdr inv.4 (fields_of c.in-Ok.row) inv.3 inv.5 s.0 in (
+    let n = next_read c.loop-row.row-iterator.rdr c.next.new.self.rdr inv.5 (fields_of c.in-Ok.row) inv.3 inv.6 s.0 in (
       s.0.3 ∙ inv.0,
       inl s.1,
       s.2,
       s.0.2 ∙ inv.3,
+      rw (c.in-Some.is, c.in-Ok.is) at ((c.next.ensures.steps inv.2 inv.0).3) ∙ inv.4,
       n.rest,
       n.source,
-      λ r o. inv.6 r (outcome_taken c.loop-row.row-iterator.rdr c.next.new.self.rdr inv.4 (fields_of c.in-Ok.row) n c.loop-row.draft c.take.new.self c.in_default-take.ensures r o),
+      λ r o. inv.7 r (outcome_taken c.loop-row.row-iterator.rdr c.next.new.self.rdr inv.5 (fields_of c.in-Ok.row) n (draft_of c.loop-row.draft) (draft_of c.take.new.self) c.in_default.ensures r o),
     )
 
-pub returns-in-Err : goal.returns-in-Err
-returns-in-Err c =
+pub returns-in-Err-take : goal.returns-in-Err-take
+returns-in-Err-take c =
     let inv = c.loop-row.invariant in
     let s = rw (c.in-Some.is, c.in-Ok.is) at ((c.next.ensures.steps inv.2 inv.0).0 inv.1) in
-    let n = next_read c.loop-row.row-iterator.rdr c.next.new.self.rdr inv.4 (fields_of c.in-Ok.row) inv.3 inv.5 s.0 in
+    let n = next_read c.loop-row.row-iterator.rdr c.next.new.self.rdr inv.5 (fields_of c.in-Ok.row) inv.3 inv.6 s.0 in
     rw (c.at.ensures, c.records-at.ensures.count) (
-    λ some. read c.if-bytes-gt-MOST_BYTES.false (inv.6 _ (outcome_refused c.loop-row.row-iterator.rdr c.next.new.self.rdr inv.4 (fields_of c.in-Ok.row) n c.loop-row.draft c.take.new.self c.in-Err.refusal c.in-Err.ensures some)))
+    λ some. read c.if-bytes-gt-BYTES_LIMIT.false (inv.7 _ (outcome_refused c.loop-row.row-iterator.rdr c.next.new.self.rdr inv.5 (fields_of c.in-Ok.row) n (draft_of c.loop-row.draft) (draft_of c.take.new.self) c.in-Err-take.refusal c.in-Err-take.ensures some)))
 
 pub returns : goal.returns
 returns c = λ _.
     let inv = c.loop-row.invariant in
     let s = rw c.in-None.is at ((c.next.ensures.steps inv.2 inv.0).0 inv.1) in
-    read c.if-bytes-gt-MOST_BYTES.false (inv.6 _ (outcome_end c.loop-row.row-iterator.rdr c.next.new.self.rdr inv.4 [] c.loop-row.draft inv.3 inv.5 s))
+    read c.if-bytes-gt-BYTES_LIMIT.false (inv.7 _ (outcome_end c.loop-row.row-iterator.rdr c.next.new.self.rdr inv.5 [] (draft_of c.loop-row.draft) inv.3 inv.6 s))
+
+pub unread-requires : goal.unread-requires
+unread-requires c =
+    let inv = c.loop-row.invariant in
+    ends_reading c.loop-row.row-iterator.rdr c.next.new.self.rdr (error_kind c.in-Err.error) inv.4 (rw (c.in-Some.is, c.in-Err.is) at ((c.next.ensures.steps inv.2 inv.0).0 inv.1))

@@ -1,6 +1,6 @@
-use Rattle.std.proofs.Common.{◌≡◌, ◌∙◌, ◌-◌, ◌<◌, List, ℕ, length, refl, sym, ap, set, arith}
+use Rattle.std.proofs.Common.{◌≡◌, ◌∙◌, List, length, refl, sym, ap, arith}
 use Rattle.droid_pronom.specs.Registry.{Contents, Signed}
-use Rattle.droid_pronom.specs.RegistryKept.{contents, extended, with_sequence}
+use Rattle.droid_pronom.specs.RegistryGrowth.{with_sequence}
 use Rattle.droid_pronom.proofs.RegistryTables.{kept_sequence, extended_is}
 use Rattle.droid_pronom.proofs.registry.Registry.push_sequence.Goals as goal
 

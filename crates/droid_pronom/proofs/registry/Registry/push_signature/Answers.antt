@@ -1,4 +1,4 @@
-use Rattle.std.proofs.Common.{◌≡◌, ◌∙◌, List, ℕ, Bool, true, refl, sym, ap, set}
+use Rattle.std.proofs.Common.{ℕ, true, refl, ap, set}
 use Rattle.droid_pronom.proofs.RegistryTables.{kept_signature}
 use Rattle.droid_pronom.proofs.registry.Registry.push_signature.Goals as goal
 

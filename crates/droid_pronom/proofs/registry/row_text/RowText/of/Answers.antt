@@ -1,4 +1,4 @@
-use Rattle.std.proofs.Common.{◌≡◌, ◌∙◌, ◌<◌, ℕ, List, length, arith, refl, sym, ap}
+use Rattle.std.proofs.Common.{◌<◌, ℕ, List, length, arith}
 use Rattle.std.specs.Borrow.{Bor}
 use Rattle.csv.specs.Records.{fields_of}
 use Rattle.droid_pronom.proofs.RegistryRows.{field_given, field_is, six}

@@ -1,0 +1,7 @@
+pub mod FaultLemmas
+pub mod FrontLemmas
+pub mod PathLemmas
+pub mod PositionLemmas
+pub mod RunLemmas
+pub mod StepLemmas
+pub mod TextLemmas

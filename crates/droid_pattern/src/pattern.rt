@@ -1,0 +1,131 @@
+//! Byte sequences of signatures: their text, and the bytes that they match.
+
+ghost use Rattle.std.specs.Prelude.{◌≡◌, ◌↔◌, ◌≤◌, List, length, IsTrue, IfOk, OnErr, IsErrOf};
+ghost use Rattle.droid_pattern.specs.Patterns.{Element, MatchesFrom, MatchesTo, BeginsWithin, EndsWithin};
+ghost use Rattle.droid_pattern.specs.PatternText.{Spells};
+
+use crate::fault::PatternFault;
+use crate::part::{Part, any_byte};
+use crate::reading::parts_of;
+use crate::span::Span;
+use crate::toward::Toward;
+use std::alloc::{AllocError, Global};
+use std::marker::Model;
+
+/// How many bytes the text of a pattern may have: this project's own limit.
+const TEXT_LIMIT: usize = 4096;
+
+/// A byte sequence of a signature, in PRONOM's syntax. Contracts see the list of its elements.
+#[derive(Debug, Drop)]
+pub struct Pattern {
+    parts: Vec<Part>,
+}
+
+impl Model for Pattern {
+    ghost use Rattle.std.specs.Prelude.{List, map};
+    ghost use Rattle.droid_pattern.specs.Patterns.{Element};
+
+    ghost Value = { List Element };
+
+    ghost use Rattle.droid_pattern.specs.Parts.{element_of};
+
+    ghost view = { λ pattern. map element_of pattern.parts.items };
+}
+
+impl Pattern {
+    /// Reads the text of a pattern: `61` is that byte, `??` any byte, `{3}`, `{2-5}`, `{2-*}` and
+    /// `*` a gap of so many bytes, `[61:7A]` a byte of a range, `[!61]` any other byte, and
+    /// `(61|6263)` one of several runs of bytes. A text has at most 4,096 bytes, and some element
+    /// is no gap. `BadPattern` says that the text is not of this form.
+    pub fn read(alloc: Global, text: &str) -> Result<Pattern, PatternFault>
+        // What is read is spelled so.
+        ensures spelled { IfOk result (λ pattern. Spells text.now pattern) }
+        // A text spells one pattern at most, and that is read, unless memory runs out.
+        ensures only { (es : List Element) → Spells text.now es → IfOk result (λ pattern. pattern ≡ es) }
+        ensures bad { IsErrOf result PatternFault.BadPattern → (es : List Element) → Spells text.now es → ⊥ }
+    {
+        let text = text.as_bytes();
+        if text.len() > TEXT_LIMIT {
+            return Err(PatternFault::BadPattern);
+        }
+        let parts = parts_of(alloc, text)?;
+        if !any_byte(&parts) {
+            return Err(PatternFault::BadPattern);
+        }
+        Ok(Pattern { parts })
+    }
+
+    /// Whether a match begins at this position.
+    pub fn matches_from(&self, alloc: Global, bytes: &[u8], at: usize) -> Result<bool, AllocError>
+        requires { at ≤ length bytes.now }
+        ensures { IfOk result (λ found. IsTrue found ↔ MatchesFrom self.now bytes.now at) }
+    {
+        self.begins_within(alloc, bytes, at, at)
+    }
+
+    /// Whether a match ends before this position.
+    pub fn matches_to(&self, alloc: Global, bytes: &[u8], end: usize) -> Result<bool, AllocError>
+        requires { end ≤ length bytes.now }
+        ensures { IfOk result (λ found. IsTrue found ↔ MatchesTo self.now bytes.now end) }
+    {
+        self.ends_within(alloc, &bytes[..end], 0, 0)
+    }
+
+    /// Whether a match begins at an offset from `low` to `high`.
+    pub fn begins_within(
+        &self,
+        alloc: Global,
+        bytes: &[u8],
+        low: usize,
+        high: usize,
+    ) -> Result<bool, AllocError>
+        ensures { IfOk result (λ found. IsTrue found ↔ BeginsWithin self.now bytes.now low high) }
+    {
+        let Some(start) = Span::new(low, high.min(bytes.len())) else {
+            return Ok(false);
+        };
+        let [first, rest @ ..] = self.parts.as_slice() else {
+            return Ok(true);
+        };
+        let mut positions = first.step(alloc, bytes, &[start], Toward::End)?;
+        for part in rest {
+            if positions.is_empty() {
+                return Ok(false);
+            }
+            positions = part.step(alloc, bytes, positions.as_slice(), Toward::End)?;
+        }
+        Ok(!positions.is_empty())
+    }
+
+    /// Whether a match ends at an offset from `low` to `high` before the end of the bytes.
+    pub fn ends_within(
+        &self,
+        alloc: Global,
+        bytes: &[u8],
+        low: usize,
+        high: usize,
+    ) -> Result<bool, AllocError>
+        ensures { IfOk result (λ found. IsTrue found ↔ EndsWithin self.now bytes.now low high) }
+    {
+        let len = bytes.len();
+        if low > len {
+            return Ok(false);
+        }
+        let Some(end) = Span::new(len - high.min(len), len - low) else {
+            return Ok(false);
+        };
+        let [front @ .., last] = self.parts.as_slice() else {
+            return Ok(true);
+        };
+        let mut rest = front;
+        let mut positions = last.step(alloc, bytes, &[end], Toward::Start)?;
+        while let [before @ .., part] = rest {
+            if positions.is_empty() {
+                return Ok(false);
+            }
+            positions = part.step(alloc, bytes, positions.as_slice(), Toward::Start)?;
+            rest = before;
+        }
+        Ok(!positions.is_empty())
+    }
+}

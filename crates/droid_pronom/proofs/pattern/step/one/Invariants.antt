@@ -1,8 +1,0 @@
--- The places that the first spans lead to are in.
-use Rattle.std.proofs.Common.{take}
-use Rattle.droid_pronom.specs.PatternParts.{element_of_class}
-use Rattle.droid_pronom.specs.PatternPlaces.{Reaches}
-use Rattle.droid_pronom.proofs.pattern.step.one.Given as goal
-
-abbrev pub invariant-loop-span : goal.invariant-loop-span
-invariant-loop-span l = Reaches l.toward (element_of_class l.class) l.bytes (take l.span-index l.from) l.to.spans.items

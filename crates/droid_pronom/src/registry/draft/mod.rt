@@ -1,0 +1,112 @@
+//! A registry while its records are read.
+
+ghost use Rattle.std.specs.Prelude.{◌≡◌, ◌<◌, ◌^◌, length, IfOk};
+ghost use Rattle.csv.specs.Records.{fields_of};
+ghost use Rattle.droid_pronom.specs.RegistryCalls.{draft_of, Gives, Tells};
+ghost use Rattle.droid_pronom.specs.RegistryFields as field;
+ghost use Rattle.droid_pronom.specs.RegistryFile.{empty_draft, taken_count};
+ghost use Rattle.droid_pronom.specs.RegistryRecords.{Step, Judged, known};
+
+mod signatures;
+mod tables;
+
+use crate::registry::Registry;
+use crate::registry::fault::{Fault, Refusal};
+use crate::registry::fields::{RecordKind, kind_of};
+use crate::registry::row_text::RowText;
+use csv::{ByteRecord, StringRecord};
+use std::alloc::Global;
+
+/// How many records each may list an extension, give a priority or begin a signature.
+const ROWS_LIMIT: usize = 16_384;
+/// How many fields a record has.
+const FIELDS: usize = 6;
+
+/// What the records so far say.
+#[derive(Drop)]
+pub(crate) struct Draft {
+    pub registry: Registry,
+    /// How many byte sequences the signatures have together.
+    pub sequences: u32,
+    /// The place of the format whose signature the next record may go on with.
+    pub current: Option<u32>,
+}
+
+impl Draft {
+    /// Nothing was read yet. It takes no memory.
+    pub(crate) fn new(alloc: Global) -> Draft
+        ensures { draft_of result ≡ empty_draft }
+    {
+        Draft {
+            registry: Registry::new(alloc),
+            sequences: 0,
+            current: None,
+        }
+    }
+
+    /// How many records were taken: each is a row of one of the tables, or a byte sequence.
+    pub(crate) fn records(&self) -> u64
+        ensures count { result ≡ taken_count (draft_of self.now) }
+        ensures small { result < 2 ^ 63 }
+    {
+        let sequences = self.sequences as u64;
+        self.registry.len() as u64
+            + self.registry.extensions().len() as u64
+            + self.registry.priorities().len() as u64
+            + sequences
+    }
+
+    /// Takes the next record.
+    pub(crate) fn take(&mut self, alloc: Global, row: ByteRecord) -> Result<(), Refusal>
+        ensures { Tells result (draft_of self.new) (Step (draft_of self.old) (fields_of row)) }
+    {
+        if row.len() != FIELDS {
+            return Err(Refusal::Fault(Fault::BadRecord));
+        }
+        let Ok(row) = StringRecord::from_byte_record(row) else {
+            return Err(Refusal::Fault(Fault::NotUtf8));
+        };
+        self.judge(alloc, RowText::of(&row))
+    }
+
+    /// Takes a record of six texts.
+    fn judge(&mut self, alloc: Global, row: RowText) -> Result<(), Refusal>
+        ensures { Tells result (draft_of self.new) (Judged (draft_of self.old) (field.kind_of row.entry.kind.now) row.entry.puid.now row.entry.second.now row.entry.third.now row.entry.fourth.now row.entry.fifth.now) }
+    {
+        let RowText {
+            kind,
+            puid,
+            second,
+            third,
+            fourth,
+            fifth,
+        } = row;
+        match kind_of(kind) {
+            None => Err(Refusal::Fault(Fault::BadRecord)),
+            Some(RecordKind::Format) => {
+                self.take_format(alloc, puid, second, third, fourth, fifth)
+            }
+            Some(RecordKind::Extension) => {
+                self.take_extension(alloc, puid, second, third, fourth, fifth)
+            }
+            Some(RecordKind::Priority) => self.take_priority(puid, second, third, fourth, fifth),
+            Some(RecordKind::Signature) => {
+                self.take_signature(alloc, puid, second, third, fourth, fifth)
+            }
+            Some(RecordKind::Sequence) => {
+                self.take_sequence(alloc, puid, second, third, fourth, fifth)
+            }
+        }
+    }
+
+    /// The place of an earlier format.
+    pub(crate) fn known(&self, puid: &str) -> Result<u32, Refusal>
+        ensures gives { Gives (λ place. place) result (known puid.now (draft_of self.now)) }
+        ensures below { IfOk result (λ place. place < length self.now.registry.formats) }
+    {
+        match self.registry.by_puid(puid) {
+            Some(place) => Ok(place),
+            None => Err(Refusal::Fault(Fault::UnknownPuid)),
+        }
+    }
+}

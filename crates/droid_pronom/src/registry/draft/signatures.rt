@@ -1,0 +1,139 @@
+//! What is taken of a record that begins a signature or goes on with one.
+
+ghost use Rattle.std.specs.Prelude.{◌≡◌, ◌<◌, ◌&&◌, nat_lt, Some, length, IfOk};
+ghost use Rattle.droid_pronom.specs.Registry.{place_of};
+ghost use Rattle.droid_pronom.specs.RegistryCalls.{draft_of, Gives, Tells};
+ghost use Rattle.droid_pronom.specs.RegistryRecords.{WithPattern, signature_head, signature_added, sequence_head, sequence_added, is_same_place};
+
+use crate::registry::draft::{Draft, ROWS_LIMIT};
+use crate::registry::fault::{Fault, Refusal, check};
+use crate::registry::fields::{is_puid, offsets_of};
+use crate::registry::row_text::pattern_of;
+use crate::registry::rows::{ByteSequence, Offsets, Signature};
+use std::alloc::Global;
+
+/// How many byte sequences a registry may have.
+const SEQUENCES_LIMIT: u32 = 32_768;
+
+impl Draft {
+    /// Where a new signature's first byte sequence may stand, and the place of its format.
+    #[tactic(auto, unfolding(crate::specs::RegistryRecords::signature_head))]
+    fn signature_head(
+        &self,
+        puid: &str,
+        anchor: &str,
+        min: &str,
+        max: &str,
+    ) -> Result<(u32, Offsets), Refusal>
+        ensures gives { Gives (λ head. head) result (signature_head (draft_of self.now) puid.now anchor.now min.now max.now) }
+        ensures below { IfOk result (λ head. head.0 < length self.now.registry.formats) }
+    {
+        check(is_puid(puid), Fault::BadRecord)?;
+        let Some(offsets) = offsets_of(anchor, min, max) else {
+            return Err(Refusal::Fault(Fault::BadRecord));
+        };
+        let place = self.known(puid)?;
+        Ok((place, offsets))
+    }
+
+    /// Takes an S record.
+    #[tactic(auto, unfolding(crate::specs::RegistryRecords::signature_added))]
+    pub(crate) fn take_signature(
+        &mut self,
+        alloc: Global,
+        puid: &str,
+        anchor: &str,
+        min: &str,
+        max: &str,
+        pattern: &str,
+    ) -> Result<(), Refusal>
+        ensures { Tells result (draft_of self.new) (WithPattern (signature_head (draft_of self.old) puid.now anchor.now min.now max.now) pattern.now (signature_added (draft_of self.old))) }
+    {
+        let (place, offsets) = self.signature_head(puid, anchor, min, max)?;
+        let pattern = pattern_of(alloc, pattern)?;
+        self.add_signature(alloc, place, ByteSequence { offsets, pattern })
+    }
+
+    /// Whether there is room for one more signature and its first byte sequence.
+    fn has_room(&self) -> bool
+        ensures { result ≡ (nat_lt (length self.now.registry.signatures) 16384 && nat_lt self.now.sequences 32768) }
+    {
+        self.registry.signatures().len() < ROWS_LIMIT && self.sequences < SEQUENCES_LIMIT
+    }
+
+    /// Adds a signature with its first byte sequence.
+    #[tactic(auto, unfolding(crate::specs::RegistryRecords::signature_added))]
+    fn add_signature(
+        &mut self,
+        alloc: Global,
+        place: u32,
+        first: ByteSequence,
+    ) -> Result<(), Refusal>
+        requires { place < length self.old.registry.formats }
+        ensures { Gives (λ _. draft_of self.new) result (signature_added (draft_of self.old) (place, first.offsets) (Some first.pattern)) }
+    {
+        check(self.has_room(), Fault::TooMany)?;
+        let signature = Signature::new(alloc, place, first)?;
+        self.registry.push_signature(signature)?;
+        self.sequences += 1;
+        self.current = Some(place);
+        Ok(())
+    }
+
+    /// Whether the record just before is an S or a B with this PUID.
+    fn goes_on(&self, puid: &str) -> bool
+        ensures { result ≡ is_same_place self.now.current (place_of puid.now self.now.registry.formats) }
+    {
+        match (self.current, self.registry.by_puid(puid)) {
+            (Some(current), Some(place)) => current == place,
+            _ => false,
+        }
+    }
+
+    /// Where one more byte sequence of the last signature may stand.
+    #[tactic(auto, unfolding(crate::specs::RegistryRecords::sequence_head))]
+    fn sequence_head(
+        &self,
+        puid: &str,
+        anchor: &str,
+        min: &str,
+        max: &str,
+    ) -> Result<Offsets, Refusal>
+        ensures { Gives (λ offsets. offsets) result (sequence_head (draft_of self.now) puid.now anchor.now min.now max.now) }
+    {
+        let Some(offsets) = offsets_of(anchor, min, max) else {
+            return Err(Refusal::Fault(Fault::BadRecord));
+        };
+        check(self.goes_on(puid), Fault::BadRecord)?;
+        Ok(offsets)
+    }
+
+    /// Takes a B record.
+    #[tactic(auto, unfolding(crate::specs::RegistryRecords::sequence_added))]
+    pub(crate) fn take_sequence(
+        &mut self,
+        alloc: Global,
+        puid: &str,
+        anchor: &str,
+        min: &str,
+        max: &str,
+        pattern: &str,
+    ) -> Result<(), Refusal>
+        ensures { Tells result (draft_of self.new) (WithPattern (sequence_head (draft_of self.old) puid.now anchor.now min.now max.now) pattern.now (sequence_added (draft_of self.old))) }
+    {
+        let offsets = self.sequence_head(puid, anchor, min, max)?;
+        let pattern = pattern_of(alloc, pattern)?;
+        self.add_sequence(ByteSequence { offsets, pattern })
+    }
+
+    /// Adds a byte sequence to the last signature.
+    #[tactic(auto, unfolding(crate::specs::RegistryRecords::sequence_added))]
+    fn add_sequence(&mut self, sequence: ByteSequence) -> Result<(), Refusal>
+        ensures { Gives (λ _. draft_of self.new) result (sequence_added (draft_of self.old) sequence.offsets (Some sequence.pattern)) }
+    {
+        check(self.sequences < SEQUENCES_LIMIT, Fault::TooMany)?;
+        self.registry.push_sequence(sequence)?;
+        self.sequences += 1;
+        Ok(())
+    }
+}
