@@ -10,7 +10,7 @@ ${CC:-cc} -shared -fPIC -o "$work/refuse.so" "$top/tests/memory/refuse.c" -ldl |
 
 passed=0
 failed=0
-for test in droid_desk:service::tests::one_after_the_other droid_desk:service::tests::in_one_run \
+for test in core_tests:memory::one_after_the_other core_tests:memory::in_one_run \
     droid_assembly:tests::each_growth_refused pronom_tests:memory::each_growth_of_a_registry \
     pronom_tests:memory::each_growth_of_a_search frame_tests:memory::each_growth_of_a_request \
     frame_tests:memory::each_growth_of_a_reply frame_tests:streams::growths_refused; do

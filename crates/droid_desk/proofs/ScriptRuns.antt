@@ -12,14 +12,14 @@ use Rattle.droid_frame.specs.Frames.{frame_bytes, spelling}
 use Rattle.droid_frame.specs.declared.reply.Reply.{Reply}
 use Rattle.droid_desk.specs.declared.script.parse.Line.{Line}
 use Rattle.droid_desk.specs.declared.script.tally.Tally.{Tally}
-use Rattle.droid_desk.specs.declared.service.Service.{Service}
-use Rattle.droid_desk.specs.declared.service.limits.Limits.{Limits}
-use Rattle.droid_desk.specs.Histories.{History, command, answer, next}
+use Rattle.droid_core.specs.declared.service.Service.{Service}
+use Rattle.droid_core.specs.declared.service.limits.Limits.{Limits}
+use Rattle.droid_core.specs.Histories.{History, command, answer, next, Handles}
 use Rattle.droid_desk.specs.Lines.{lines_of, line_value}
 use Rattle.droid_desk.specs.Printed.{answer_line}
-use Rattle.droid_desk.specs.Scripts.{frame_of, Answers, ScriptRun, script_text, LineAnswered, WritesFront, RunsAll, RunsFront, is_bad, Counts, StandsForSome}
-use Rattle.droid_desk.specs.Standing.{StandsFor, Handles, limits_of}
-use Rattle.droid_desk.specs.Wants.{is_want}
+use Rattle.droid_desk.specs.Scripts.{frame_of, ScriptRun, script_text, LineAnswered, WritesFront, RunsAll, RunsFront, is_bad, Counts, StandsForSome}
+use Rattle.droid_core.specs.Standing.{StandsFor, limits_of}
+use Rattle.droid_core.specs.Wants.{is_want}
 
 -- ---- one line
 
@@ -31,10 +31,10 @@ answered_by false limits history frame reply after p = (next limits history fram
 
 -- a request that was handled was answered
 pub line_handled : (limits : Limits) (history : History) (line : Line) (frame : Frame) (reply : Reply) (after : Service)
-    → frame ≡ frame_of line → Handles limits history frame reply after → LineAnswered limits history (Some line) (Some reply) after
+    → frame ≡ frame_of line → Handles limits history frame reply (StandsFor after) → LineAnswered limits history (Some line) (Some reply) after
 line_handled limits history line frame reply after e handled =
     let by = answered_by (is_want reply) limits history frame reply after handled in
-    record { after = by.0; run = subst (λ (sent : Frame). Answers limits history sent reply by.0) e by.1; stands = by.2 }
+    record { after = by.0; run = subst (λ (sent : Frame). Handles limits history sent reply (λ left. by.0 ≡ left)) e by.1; stands = by.2 }
 
 -- a bad line changes nothing
 pub bad_line_run : (limits : Limits) (history : History) (service : Service) → StandsFor service history → LineAnswered limits history None None service

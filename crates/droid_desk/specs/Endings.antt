@@ -1,17 +1,16 @@
 -- How the program ends (this project's own).
-use Rattle.std.specs.Prelude.{◌≡◌, ℕ, ◌<◌, ◌==◌, if◌then◌else◌, List, [], length, Option, Result, Ok, Err}
+use Rattle.std.specs.Prelude.{◌≡◌, ℕ, ◌<◌, ◌==◌, if◌then◌else◌, List, [], Option, Result, Ok, Err}
 use Rattle.std.specs.List.{count_by}
 use Rattle.std.specs.Io.KnownBytes.{Keeps}
 use Rattle.droid_desk.specs.declared.program.Ending.{Ending}
 use Rattle.droid_desk.specs.declared.program.Ending.TheVariants.{Done, Help, CommandLine, NoService, Script, BadLine}
 use Rattle.droid_desk.specs.declared.script.fault.ScriptFault.{ScriptFault}
 use Rattle.droid_desk.specs.declared.script.fault.ScriptFault.TheVariants.{TooLong, Read, Memory, Write}
-use Rattle.droid_desk.specs.declared.script.input.TheConstants.{INPUT_LIMIT}
 use Rattle.droid_desk.specs.declared.script.tally.Tally.{Tally}
-use Rattle.droid_desk.specs.declared.service.Service.{Service}
-use Rattle.droid_desk.specs.declared.service.limits.Limits.{Limits}
+use Rattle.droid_core.specs.declared.service.Service.{Service}
+use Rattle.droid_core.specs.declared.service.limits.Limits.{Limits}
 use Rattle.droid_desk.specs.Lines.{lines_of}
-use Rattle.droid_desk.specs.Scripts.{RunsAll, RunsFront, is_bad}
+use Rattle.droid_desk.specs.Scripts.{RunsAll, RunsFront, IsTooLong, is_bad}
 
 -- the exit status
 abbrev pub status_of : Ending → ℕ
@@ -27,6 +26,10 @@ abbrev pub ending_of : Result Tally ScriptFault → Ending
 ending_of (Ok tally) = if tally.bad == 0 then Done else BadLine
 ending_of (Err fault) = Script fault
 
+-- the limits of the program's service
+abbrev pub program_limits : Limits
+program_limits = record { profiles = 64; nodes = 100000; unfinished = 64 }
+
 -- all lines ran from the empty history, and a writer's bytes grew by all that they print
 abbrev pub PrintsAll : Limits → List ℕ → Option (List ℕ) → Option (List ℕ) → Type 0
 PrintsAll limits input old new = (service : Service) × RunsAll limits [] (lines_of input) service old new
@@ -35,11 +38,12 @@ PrintsAll limits input old new = (service : Service) × RunsAll limits [] (lines
 abbrev pub PrintsFront : Limits → List ℕ → Option (List ℕ) → Option (List ℕ) → Type 0
 PrintsFront limits input old new = (service : Service) × RunsFront limits [] (lines_of input) service old new
 
--- a script over a fresh service ends so: what each ending says of the input and of what was written
+-- a script over a fresh service with these limits ends so: what each ending says of the input and of what
+-- was written
 abbrev pub EndsAs : Limits → Ending → List ℕ → Option (List ℕ) → Option (List ℕ) → Type 0
 EndsAs limits Done input old new = PrintsAll limits input old new × (count_by is_bad (lines_of input) ≡ 0)
 EndsAs limits BadLine input old new = PrintsAll limits input old new × (0 < count_by is_bad (lines_of input))
-EndsAs limits (Script TooLong) input old new = Keeps old new × (INPUT_LIMIT < length input)
+EndsAs limits (Script TooLong) input old new = Keeps old new × IsTooLong input
 EndsAs limits (Script Read) input old new = Keeps old new
 EndsAs limits (Script Memory) input old new = PrintsFront limits input old new
 EndsAs limits (Script Write) input old new = PrintsFront limits input old new

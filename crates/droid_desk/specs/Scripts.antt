@@ -1,5 +1,5 @@
 -- Runs of a script: which lines were handled, what they printed, and the history that they left.
-use Rattle.std.specs.Prelude.{◌≡◌, ℕ, Bool, List, [], ◌∷◌, ◌++◌, length, Option, Some, None, is_none, IsSome, MatchBool}
+use Rattle.std.specs.Prelude.{◌≡◌, ℕ, ◌<◌, Bool, List, [], ◌∷◌, ◌++◌, length, Option, Some, None, is_none}
 use Rattle.std.specs.List.{flat_map, count_by}
 use Rattle.std.specs.Io.KnownBytes.{Appends}
 use Rattle.droid_frame.specs.declared.frame.Frame.{Frame}
@@ -9,13 +9,12 @@ use Rattle.droid_desk.specs.declared.script.fault.ScriptFault.{ScriptFault}
 use Rattle.droid_desk.specs.declared.script.fault.ScriptFault.TheVariants.{TooLong, Read, Memory, Write}
 use Rattle.droid_desk.specs.declared.script.parse.Line.{Line}
 use Rattle.droid_desk.specs.declared.script.tally.Tally.{Tally}
-use Rattle.droid_desk.specs.declared.service.Service.{Service}
-use Rattle.droid_desk.specs.declared.service.limits.Limits.{Limits}
-use Rattle.droid_desk.specs.Histories.{History, command, answer, next}
+use Rattle.droid_core.specs.declared.service.Service.{Service}
+use Rattle.droid_core.specs.declared.service.limits.Limits.{Limits}
+use Rattle.droid_core.specs.Histories.{History, Handles}
 use Rattle.droid_desk.specs.Lines.{line_value}
 use Rattle.droid_desk.specs.Printed.{answer_line}
-use Rattle.droid_desk.specs.Standing.{StandsFor}
-use Rattle.droid_desk.specs.Wants.{is_want}
+use Rattle.droid_core.specs.Standing.{StandsFor}
 
 -- the frame of version 1 that a line sends
 abbrev pub frame_of : Line → Frame
@@ -27,20 +26,13 @@ frame_of line = record {
   body = request_body line.request;
 }
 
--- after the history the request is answered so, and the history goes on so: by its answer; or for want
--- of memory, which is never said of a malformed request, and the history stays
-abbrev pub Answers : Limits → History → Frame → Reply → History → Type 0
-Answers limits history frame reply after =
-    MatchBool (is_want reply)
-    (IsSome (command frame) × (after ≡ history))
-    ((reply ≡ answer limits history frame) × (after ≡ next limits history frame))
-
--- a bad line sends nothing, and has no reply
+-- A line's request is handled, and the history goes on to this one. A bad line sends nothing, and has no
+-- reply.
 abbrev pub LineRun : Limits → History → Option Line → Option Reply → History → Type 0
 LineRun limits history None None after = after ≡ history
 LineRun limits history None (Some reply) after = ⊥
 LineRun limits history (Some line) None after = ⊥
-LineRun limits history (Some line) (Some reply) after = Answers limits history (frame_of line) reply after
+LineRun limits history (Some line) (Some reply) after = Handles limits history (frame_of line) reply (λ left. after ≡ left)
 
 -- the lines were taken one after the other, with these replies, and the history went on to the last
 abbrev pub ScriptRun : Limits → History → List (List ℕ) → List (Option Reply) → History → Type 0
@@ -92,6 +84,10 @@ pub record RunsFront (limits : Limits) (history : History) (lines : List (List �
 
 abbrev pub StandsForSome : Service → Type 0
 StandsForSome service = (history : History) × StandsFor service history
+
+-- longer than 67,108,864 bytes
+abbrev pub IsTooLong : List ℕ → Type 0
+IsTooLong input = 67108864 < length input
 
 -- a line that asks for nothing
 abbrev pub is_bad : List ℕ → Bool

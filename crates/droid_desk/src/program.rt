@@ -2,11 +2,11 @@
 
 ghost use Rattle.std.specs.Prelude.{◌≡◌, ◌≢◌, IfSome};
 ghost use Rattle.droid_frame.specs.SteadyStreams.{IsSteady};
-ghost use Rattle.droid_desk.specs.Endings.{status_of, ending_of, EndsAs};
+ghost use Rattle.droid_desk.specs.Endings.{status_of, ending_of, program_limits, EndsAs};
 
 use crate::script::{ScriptFault, Tally, script};
-use crate::service::{Limits, Service};
 use clap::{Command, Error};
+use droid_core::{Limits, Service};
 use droid_frame::{SteadyRead, SteadyWrite, Unsteady};
 use std::alloc::{AllocError, Global};
 use std::process::ExitCode;
@@ -149,7 +149,7 @@ fn run_script<R: SteadyRead, W: SteadyWrite>(
     writer: &mut W,
 ) -> Ending
     ensures ends { IfSome (R.remaining reader.old) (λ input.
-        EndsAs Limits.LARGEST result input (W.contents writer.old) (W.contents writer.new)) }
+        EndsAs program_limits result input (W.contents writer.old) (W.contents writer.new)) }
     // A stream that doesn't fail is never said to.
     ensures steady_reader { IsSteady (R.interruptions reader.old) → result ≢ Ending.Script ScriptFault.Read }
     ensures steady_writer { IsSteady (W.interruptions writer.old) → W.is_endless writer.old → result ≢ Ending.Script ScriptFault.Write }

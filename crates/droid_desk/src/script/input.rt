@@ -4,6 +4,7 @@ ghost use Rattle.std.specs.Prelude.{◌≡◌, ◌≢◌, ◌<◌, ◌≤◌, �
 ghost use Rattle.std.specs.Io.KnownBytes.{Consumes, IsAtEnd};
 ghost use Rattle.droid_frame.specs.SteadyStreams.{IsSteady};
 ghost use Rattle.droid_desk.specs.Lines.{is_line_feed, lines_of};
+ghost use Rattle.droid_desk.specs.Scripts.{IsTooLong};
 ghost use Rattle.std.specs.List.{position_from};
 
 use super::fault::ScriptFault;
@@ -12,7 +13,7 @@ use std::alloc::Global;
 use std::io::ErrorKind;
 
 /// How many bytes a script has at most.
-pub const INPUT_LIMIT: usize = 67_108_864;
+const INPUT_LIMIT: usize = 67_108_864;
 
 /// How many times an interrupted read of a script, or an interrupted write of a reply, is tried again.
 pub const RETRY_LIMIT: u32 = 64;
@@ -22,8 +23,8 @@ const CHUNK: usize = 8_192;
 /// Reads a script to its end.
 pub fn read_input<R: SteadyRead>(alloc: Global, reader: &mut R) -> Result<Vec<u8>, ScriptFault>
     ensures whole { IfOk result (λ input. IfSome (R.remaining reader.old) (λ bytes. input.items ≡ bytes)) }
-    ensures short { IfOk result (λ input. length input.items ≤ INPUT_LIMIT) }
-    ensures too_long { IsErrOf result ScriptFault.TooLong → IfSome (R.remaining reader.old) (λ bytes. INPUT_LIMIT < length bytes) }
+    ensures short { IfOk result (λ input. length input.items ≤ 67108864) }
+    ensures too_long { IsErrOf result ScriptFault.TooLong → IfSome (R.remaining reader.old) IsTooLong }
     ensures steady { IsSteady (R.interruptions reader.old) → IsErrOf result ScriptFault.Read → ⊥ }
     ensures reading { IfErr result (λ fault. fault ≢ ScriptFault.Write) }
 {

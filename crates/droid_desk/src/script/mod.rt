@@ -1,11 +1,11 @@
 //! Scripts: requests as lines of text, and their replies as lines of text.
 
-ghost use Rattle.std.specs.Prelude.{◌≡◌, ◌<◌, ◌≤◌, length, ◌≢◌, IfOk, IfSome, IfErr, OnOk, IsErrOf, IsErrAnd};
+ghost use Rattle.std.specs.Prelude.{◌≡◌, ◌≢◌, IfOk, IfSome, IfErr, OnOk, IsErrOf, IsErrAnd};
 ghost use Rattle.droid_frame.specs.SteadyStreams.{IsSteady};
-ghost use Rattle.droid_desk.specs.Histories.{History};
+ghost use Rattle.droid_core.specs.Histories.{History};
 ghost use Rattle.droid_desk.specs.Lines.{lines_of};
-ghost use Rattle.droid_desk.specs.Scripts.{RunsAll, RunsFront, Counts, IsOfHandling, IsOfReading, StandsForSome};
-ghost use Rattle.droid_desk.specs.Standing.{StandsFor, limits_of};
+ghost use Rattle.droid_desk.specs.Scripts.{RunsAll, RunsFront, Counts, IsOfHandling, IsOfReading, IsTooLong, StandsForSome};
+ghost use Rattle.droid_core.specs.Standing.{StandsFor, limits_of};
 
 mod fault;
 mod input;
@@ -16,10 +16,9 @@ mod run;
 mod tally;
 mod words;
 
-use crate::service::Service;
+use droid_core::Service;
 use droid_frame::{SteadyRead, SteadyWrite};
 pub use fault::ScriptFault;
-pub use input::INPUT_LIMIT;
 use input::read_input;
 use run::run_lines;
 use std::alloc::Global;
@@ -44,8 +43,8 @@ pub fn script<R: SteadyRead, W: SteadyWrite>(
     // The two others come before any line is handled.
     ensures before { IfErr result (λ fault. IsOfReading fault → (service.new ≡ service.old) × (writer.new ≡ writer.old)) }
     // A script that is too long is refused so, unless it could not be read or kept; no other is.
-    ensures too_long { IsErrOf result ScriptFault.TooLong → IfSome (R.remaining reader.old) (λ input. INPUT_LIMIT < length input) }
-    ensures long { IfSome (R.remaining reader.old) (λ input. INPUT_LIMIT < length input →
+    ensures too_long { IsErrOf result ScriptFault.TooLong → IfSome (R.remaining reader.old) IsTooLong }
+    ensures long { IfSome (R.remaining reader.old) (λ input. IsTooLong input →
         IsErrAnd result (λ fault. (fault ≢ ScriptFault.Write) × (service.new ≡ service.old) × (writer.new ≡ writer.old))) }
     // A stream that doesn't fail is never said to.
     ensures steady_reader { IsSteady (R.interruptions reader.old) → IsErrOf result ScriptFault.Read → ⊥ }
@@ -57,6 +56,3 @@ pub fn script<R: SteadyRead, W: SteadyWrite>(
     let input = read_input(alloc, reader)?;
     run_lines(alloc, service, input.as_slice(), writer)
 }
-
-#[cfg(test)]
-mod tests;

@@ -2,10 +2,10 @@
 
 ghost use Rattle.std.specs.Prelude.{◌≡◌, ◌∷◌, [], IfOk, IfErr, IsErrOf, OnOk, OnErr, is_none};
 ghost use Rattle.droid_frame.specs.SteadyStreams.{IsSteady};
-ghost use Rattle.droid_desk.specs.Histories.{History};
+ghost use Rattle.droid_core.specs.Histories.{History};
 ghost use Rattle.droid_desk.specs.Lines.{lines_of, line_value};
 ghost use Rattle.droid_desk.specs.Scripts.{RunsAll, RunsFront, LineAnswered, Counts, IsOfHandling, is_bad};
-ghost use Rattle.droid_desk.specs.Standing.{StandsFor, limits_of};
+ghost use Rattle.droid_core.specs.Standing.{StandsFor, limits_of};
 
 use super::fault::ScriptFault;
 use super::input::next_line;
@@ -13,7 +13,7 @@ use super::output::write_text;
 use super::parse::parse_line;
 use super::print::print_answer;
 use super::tally::Tally;
-use crate::service::Service;
+use droid_core::Service;
 use droid_frame::{Reply, SteadyWrite, request_frame};
 use std::alloc::{AllocError, Global};
 
@@ -64,7 +64,7 @@ fn run_line<W: SteadyWrite>(
         (IsErrOf result ScriptFault.Write → ⊥) × IsSteady (W.interruptions writer.new) × W.is_endless writer.new }
     ensures handling { IfErr result IsOfHandling }
 {
-    let answer = answer_line(alloc, service, line)?;
+    let answer = handle_line(alloc, service, line)?;
     let mut text = String::new(alloc);
     print_answer(&mut text, &answer)?;
     write_text(writer, text.as_str().as_bytes())?;
@@ -72,7 +72,7 @@ fn run_line<W: SteadyWrite>(
 }
 
 /// The reply to the request of a line, or `None` where the line is bad. On an error nothing was handled.
-fn answer_line(
+fn handle_line(
     alloc: Global,
     service: &mut Service,
     line: &[u8],
