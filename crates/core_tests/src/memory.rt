@@ -67,8 +67,14 @@ fn requests(alloc: Global) -> Result<Vec<Frame>, AllocError> {
     Ok(frames)
 }
 
+const LIMITS: Limits = Limits {
+    profiles: 64,
+    nodes: 100_000,
+    unfinished: 64,
+};
+
 fn service(alloc: Global) -> Result<Service, AllocError> {
-    Service::new(alloc, Limits::LARGEST).or_else(|_| Service::new(alloc, Limits::LARGEST))
+    Service::new(alloc, LIMITS).or_else(|_| Service::new(alloc, LIMITS))
 }
 
 // The reply to a request, which is sent again where memory was wanting.

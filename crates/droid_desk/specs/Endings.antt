@@ -2,8 +2,13 @@
 use Rattle.std.specs.Prelude.{◌≡◌, ℕ, ◌<◌, ◌==◌, if◌then◌else◌, List, [], Option, Result, Ok, Err}
 use Rattle.std.specs.List.{count_by}
 use Rattle.std.specs.Io.KnownBytes.{Keeps}
+use Rattle.std.specs.declared.io.ErrorKind.{ErrorKind as InputErrorKind}
+use Rattle.std.specs.declared.io.ErrorKind.TheVariants as reading
+use Rattle.clap.specs.declared.error.Error.{Error}
+use Rattle.clap.specs.declared.error.kind.ErrorKind.{ErrorKind}
+use Rattle.clap.specs.declared.error.kind.ErrorKind.TheVariants as words
 use Rattle.droid_desk.specs.declared.program.Ending.{Ending}
-use Rattle.droid_desk.specs.declared.program.Ending.TheVariants.{Done, Help, CommandLine, NoService, Script, BadLine}
+use Rattle.droid_desk.specs.declared.program.Ending.TheVariants.{Done, Help, CommandLine, NoText, NoService, Script, BadLine}
 use Rattle.droid_desk.specs.declared.script.fault.ScriptFault.{ScriptFault}
 use Rattle.droid_desk.specs.declared.script.fault.ScriptFault.TheVariants.{TooLong, Read, Memory, Write}
 use Rattle.droid_desk.specs.declared.script.tally.Tally.{Tally}
@@ -17,9 +22,22 @@ abbrev pub status_of : Ending → ℕ
 status_of Done = 0
 status_of (Help error) = 0
 status_of (CommandLine error) = 2
+status_of NoText = 2
 status_of NoService = 6
 status_of (Script fault) = 4
 status_of BadLine = 5
+
+-- the words of the command line could not be had: for want of memory, or one of them is no text
+abbrev pub unread_ending : InputErrorKind → Ending
+unread_ending reading.OutOfMemory = NoService
+unread_ending _ = NoText
+
+-- they name no command to run: for want of memory, for help, or they are wrong
+abbrev pub unused_ending : ErrorKind → Error → Ending
+unused_ending words.OutOfMemory error = NoService
+unused_ending words.DisplayHelp error = Help error
+unused_ending words.DisplayVersion error = Help error
+unused_ending _ error = CommandLine error
 
 -- how a script's end ends the program
 abbrev pub ending_of : Result Tally ScriptFault → Ending
@@ -50,3 +68,4 @@ EndsAs limits (Script Write) input old new = PrintsFront limits input old new
 EndsAs limits NoService input old new = Keeps old new
 EndsAs limits (Help error) input old new = ⊥
 EndsAs limits (CommandLine error) input old new = ⊥
+EndsAs limits NoText input old new = ⊥

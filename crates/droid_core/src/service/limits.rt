@@ -10,12 +10,3 @@ pub struct Limits {
     /// Unfinished files over the whole service: at most 64.
     pub unfinished: u32,
 }
-
-impl Limits {
-    /// The limits of the program.
-    pub const LARGEST: Limits = Limits {
-        profiles: 64,
-        nodes: 100_000,
-        unfinished: 64,
-    };
-}

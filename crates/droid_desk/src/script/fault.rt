@@ -5,20 +5,20 @@ ghost use Rattle.std.specs.Prelude.{◌≡◌};
 use std::alloc::AllocError;
 use thiserror::Error;
 
-/// Why a script ended before its last line.
+/// Why a script ended before its last line. It is shown by its name, as the program prints it.
 #[derive(Debug, Drop, Error)]
 pub enum ScriptFault {
-    /// The input is longer than a script may be. No line was handled.
-    #[error("the script is longer than 67,108,864 bytes")]
+    /// The input is longer than 67,108,864 bytes. No line was handled.
+    #[error("TooLong")]
     TooLong,
     /// The input could not be read. No line was handled.
-    #[error("the script could not be read")]
+    #[error("Read")]
     Read,
     /// Memory was refused.
-    #[error("memory was refused")]
+    #[error("Memory")]
     Memory,
     /// A reply could not be written.
-    #[error("a reply could not be written")]
+    #[error("Write")]
     Write,
 }
 
