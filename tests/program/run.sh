@@ -1,5 +1,6 @@
 #!/bin/sh
-# Runs the program on each case of tests/program/cases and compares what it writes and how it ends.
+# Runs the program on each case of tests/program/cases and compares what it writes and how it ends; then over
+# streams that are interrupted or fail (streams.sh).
 # A case is a folder with any of these files; what is missing is empty, and the status 0:
 #   args    the arguments, in one line
 #   in      standard input          in.sh  or a script that writes it   from  or a path that is opened
@@ -64,5 +65,6 @@ for case in "$top"/tests/program/cases/*/; do
         sed 's/^/  err: /' "$work/err" | head -n 20
     fi
 done
+sh "$top/tests/program/streams.sh" "$program" || failed=$((failed + 1))
 echo "$passed passed, $failed failed"
 [ "$failed" -eq 0 ] && [ "$passed" -gt 0 ]

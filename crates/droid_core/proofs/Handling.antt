@@ -5,11 +5,11 @@ use Rattle.std.specs.List.{find}
 use Rattle.std.specs.Option.{option_map}
 use Rattle.std.proofs.lemmas.List.{map_push}
 use Rattle.std.proofs.lemmas.List.Sums.{fold-append}
-use Rattle.droid_frame.specs.declared.frame.Frame.{Frame}
-use Rattle.droid_frame.specs.declared.refusal.Refusal.TheVariants.{Malformed}
-use Rattle.droid_frame.specs.declared.reply.Reply.{Reply}
-use Rattle.droid_frame.specs.declared.reply.Reply.TheVariants.{Refused}
-use Rattle.droid_frame.specs.declared.request.Request.{Request}
+use Rattle.droid_frame.specs.types.frame.Frame.{Frame}
+use Rattle.droid_frame.specs.types.refusal.Refusal.TheVariants.{Malformed}
+use Rattle.droid_frame.specs.types.reply.Reply.{Reply}
+use Rattle.droid_frame.specs.types.reply.Reply.TheVariants.{Refused}
+use Rattle.droid_frame.specs.types.request.Request.{Request}
 use Rattle.droid_core.specs.declared.service.Service.{Service}
 use Rattle.droid_core.specs.declared.service.limits.Limits.{Limits}
 use Rattle.droid_core.specs.declared.service.rows.KeptReply.{KeptReply}

@@ -2,13 +2,13 @@
 use Rattle.std.proofs.Common.{◌≡◌, ℕ, ℤ, Bool, true, false, List, Option, Some, None, refl, subst}
 use Rattle.std.specs.Prelude.{Result, ok_or}
 use Rattle.std.specs.Result.{result_ok}
-use Rattle.droid_frame.specs.declared.frame.Frame.{Frame}
-use Rattle.droid_frame.specs.declared.reading.BodyFault.{BodyFault}
-use Rattle.droid_frame.specs.declared.reading.BodyFault.TheVariants as body_faults
-use Rattle.droid_frame.specs.declared.refusal.Refusal.TheVariants.{Malformed}
-use Rattle.droid_frame.specs.declared.reply.Reply.TheVariants.{Refused}
-use Rattle.droid_frame.specs.declared.request.Request.{Request}
-use Rattle.droid_frame.specs.declared.request.Request.TheVariants.{CreateProfile, AddFolder, AddFile, Piece, Finish, Abandon, Status, Export}
+use Rattle.droid_frame.specs.types.frame.Frame.{Frame}
+use Rattle.droid_frame.specs.body_fault.BodyFault.{BodyFault}
+use Rattle.droid_frame.specs.body_fault.BodyFault.TheVariants as body_faults
+use Rattle.droid_frame.specs.types.refusal.Refusal.TheVariants.{Malformed}
+use Rattle.droid_frame.specs.types.reply.Reply.TheVariants.{Refused}
+use Rattle.droid_frame.specs.types.request.Request.{Request}
+use Rattle.droid_frame.specs.types.request.Request.TheVariants.{CreateProfile, AddFolder, AddFile, Piece, Finish, Abandon, Status, Export}
 use Rattle.droid_frame.specs.Values.{request_in}
 use Rattle.droid_core.specs.declared.service.Service.{Service}
 use Rattle.droid_core.specs.declared.service.limits.Limits.{Limits}

@@ -4,14 +4,14 @@ use Rattle.std.specs.Prelude.{nat_le, not, MatchBool, IsSome}
 use Rattle.std.specs.List.{AllByRecursion, find}
 use Rattle.std.specs.Str.{bytes_eq}
 use Rattle.std.proofs.lemmas.Bool.{leb-false}
-use Rattle.droid_frame.specs.declared.frame.Frame.{Frame}
-use Rattle.droid_frame.specs.declared.refusal.Limit.TheVariants as reached
-use Rattle.droid_frame.specs.declared.refusal.Refusal.{Refusal}
-use Rattle.droid_frame.specs.declared.refusal.Refusal.TheVariants as refusals
-use Rattle.droid_frame.specs.declared.reply.Reply.{Reply}
-use Rattle.droid_frame.specs.declared.reply.Reply.TheVariants as replies
-use Rattle.droid_frame.specs.declared.request.Request.{Request}
-use Rattle.droid_frame.specs.declared.request.Request.TheVariants.{CreateProfile, AddFolder, AddFile, Piece, Finish, Abandon, Status, Export}
+use Rattle.droid_frame.specs.types.frame.Frame.{Frame}
+use Rattle.droid_frame.specs.types.refusal.Limit.TheVariants as reached
+use Rattle.droid_frame.specs.types.refusal.Refusal.{Refusal}
+use Rattle.droid_frame.specs.types.refusal.Refusal.TheVariants as refusals
+use Rattle.droid_frame.specs.types.reply.Reply.{Reply}
+use Rattle.droid_frame.specs.types.reply.Reply.TheVariants as replies
+use Rattle.droid_frame.specs.types.request.Request.{Request}
+use Rattle.droid_frame.specs.types.request.Request.TheVariants.{CreateProfile, AddFolder, AddFile, Piece, Finish, Abandon, Status, Export}
 use Rattle.droid_frame.specs.Replies.{HasReplySpelling}
 use Rattle.droid_core.specs.declared.service.limits.Limits.{Limits}
 use Rattle.droid_core.specs.Histories.{Entry, History, GoesOn, Handles, IsLegal, command, frame_mark, is_under, kept, world_of, answer, answer_asked, answer_to, next, verdict_reply}

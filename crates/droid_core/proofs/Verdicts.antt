@@ -2,11 +2,11 @@
 use Rattle.std.proofs.Common.{◌≡◌, ℕ, ℤ, ◌+◌, ◌-◌, ◌≤◌, Bool, true, false, cond, List, [], ◌∷◌, ◌++◌, length, Option, Some, None, refl}
 use Rattle.std.specs.Prelude.{nat_le, slice_set, MatchBool, ⊤}
 use Rattle.std.proofs.lemmas.Bool.{ltb-false}
-use Rattle.droid_frame.specs.declared.refusal.Limit.TheVariants as reached
-use Rattle.droid_frame.specs.declared.refusal.Refusal.{Refusal}
-use Rattle.droid_frame.specs.declared.refusal.Refusal.TheVariants.{NoSuchProfile, NoSuchNode, NotAFolder, BadName, PathTooLong, BadOption, LimitReached}
-use Rattle.droid_frame.specs.declared.reply.Reply.TheVariants as replies
-use Rattle.droid_frame.specs.declared.request.Request.TheVariants.{CreateProfile, AddFolder}
+use Rattle.droid_frame.specs.types.refusal.Limit.TheVariants as reached
+use Rattle.droid_frame.specs.types.refusal.Refusal.{Refusal}
+use Rattle.droid_frame.specs.types.refusal.Refusal.TheVariants.{NoSuchProfile, NoSuchNode, NotAFolder, BadName, PathTooLong, BadOption, LimitReached}
+use Rattle.droid_frame.specs.types.reply.Reply.TheVariants as replies
+use Rattle.droid_frame.specs.types.request.Request.TheVariants.{CreateProfile, AddFolder}
 use Rattle.droid_core.specs.declared.service.Service.{Service}
 use Rattle.droid_core.specs.declared.service.limits.Limits.{Limits}
 use Rattle.droid_core.specs.declared.service.rows.Stamp.{Stamp}

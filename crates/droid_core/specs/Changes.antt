@@ -1,7 +1,7 @@
 -- What one command changes inside the service. No public clause names these: they only serve proofs.
 use Rattle.std.specs.Prelude.{◌≡◌, ℕ, ℤ, ◌+◌, ◌∷◌, [], ◌++◌, List, length, MatchBool, ⊤, None, Some}
-use Rattle.droid_frame.specs.declared.refusal.Refusal.{Refusal}
-use Rattle.droid_frame.specs.declared.reply.Reply.{Reply}
+use Rattle.droid_frame.specs.types.refusal.Refusal.{Refusal}
+use Rattle.droid_frame.specs.types.reply.Reply.{Reply}
 use Rattle.droid_core.specs.declared.service.Service.{Service}
 use Rattle.droid_core.specs.declared.service.limits.Limits.{Limits}
 use Rattle.droid_core.specs.declared.service.rows.ProfileRow.{ProfileRow}

@@ -4,13 +4,13 @@ use Rattle.std.specs.Prelude.{ℕ, zero, suc, ℤ, pos, negsuc, ◌+◌, ◌-◌
 use Rattle.std.specs.Int.Signed.{lt_z}
 use Rattle.std.specs.List.{list_any}
 use Rattle.std.specs.Str.{bytes_eq}
-use Rattle.droid_frame.specs.declared.refusal.Limit.TheVariants as reached
-use Rattle.droid_frame.specs.declared.refusal.Refusal.{Refusal}
-use Rattle.droid_frame.specs.declared.refusal.Refusal.TheVariants.{Malformed, NoSuchProfile, NoSuchNode, NotAFolder, BadName, PathTooLong, NameTaken, BadOption, LimitReached}
-use Rattle.droid_frame.specs.declared.reply.Reply.{Reply}
-use Rattle.droid_frame.specs.declared.reply.Reply.TheVariants as replies
-use Rattle.droid_frame.specs.declared.request.Request.{Request}
-use Rattle.droid_frame.specs.declared.request.Request.TheVariants.{CreateProfile, AddFolder}
+use Rattle.droid_frame.specs.types.refusal.Limit.TheVariants as reached
+use Rattle.droid_frame.specs.types.refusal.Refusal.{Refusal}
+use Rattle.droid_frame.specs.types.refusal.Refusal.TheVariants.{Malformed, NoSuchProfile, NoSuchNode, NotAFolder, BadName, PathTooLong, NameTaken, BadOption, LimitReached}
+use Rattle.droid_frame.specs.types.reply.Reply.{Reply}
+use Rattle.droid_frame.specs.types.reply.Reply.TheVariants as replies
+use Rattle.droid_frame.specs.types.request.Request.{Request}
+use Rattle.droid_frame.specs.types.request.Request.TheVariants.{CreateProfile, AddFolder}
 use Rattle.droid_core.specs.declared.service.limits.Limits.{Limits}
 use Rattle.droid_core.specs.World.{Node, Folder, File, Abandoned, Profile, World, numbered, node_at, is_taken, path}
 

@@ -1,9 +1,9 @@
 -- What a kept reply answers.
 use Rattle.std.specs.Prelude.{ℕ, List, if◌then◌else◌}
 use Rattle.std.specs.Str.{bytes_eq}
-use Rattle.droid_frame.specs.declared.refusal.Refusal.TheVariants.{NumberReused}
-use Rattle.droid_frame.specs.declared.reply.Reply.{Reply}
-use Rattle.droid_frame.specs.declared.reply.Reply.TheVariants.{Refused}
+use Rattle.droid_frame.specs.types.refusal.Refusal.TheVariants.{NumberReused}
+use Rattle.droid_frame.specs.types.reply.Reply.{Reply}
+use Rattle.droid_frame.specs.types.reply.Reply.TheVariants.{Refused}
 use Rattle.droid_core.specs.declared.service.rows.KeptReply.{KeptReply}
 
 -- to a request with this mark: the kept reply where the marks are equal

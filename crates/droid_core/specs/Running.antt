@@ -1,8 +1,8 @@
 -- What handling a list of requests gives.
 use Rattle.std.specs.Prelude.{◌≡◌, if◌then◌else◌, not, List, [], ◌∷◌, length, filter, MatchBool, IsSome, ⊤}
 use Rattle.std.specs.List.{AllByRecursion}
-use Rattle.droid_frame.specs.declared.frame.Frame.{Frame}
-use Rattle.droid_frame.specs.declared.reply.Reply.{Reply}
+use Rattle.droid_frame.specs.types.frame.Frame.{Frame}
+use Rattle.droid_frame.specs.types.reply.Reply.{Reply}
 use Rattle.droid_frame.specs.Replies.{HasReplySpelling}
 use Rattle.droid_core.specs.declared.service.Service.{Service}
 use Rattle.droid_core.specs.declared.service.limits.Limits.{Limits}

@@ -1,9 +1,9 @@
 -- Which refusals say that memory or the database was wanting.
 use Rattle.std.specs.Prelude.{Bool, true, false}
-use Rattle.droid_frame.specs.declared.refusal.Refusal.{Refusal}
-use Rattle.droid_frame.specs.declared.refusal.Refusal.TheVariants as refusals
-use Rattle.droid_frame.specs.declared.reply.Reply.{Reply}
-use Rattle.droid_frame.specs.declared.reply.Reply.TheVariants.{Made, Node, Refused}
+use Rattle.droid_frame.specs.types.refusal.Refusal.{Refusal}
+use Rattle.droid_frame.specs.types.refusal.Refusal.TheVariants as refusals
+use Rattle.droid_frame.specs.types.reply.Reply.{Reply}
+use Rattle.droid_frame.specs.types.reply.Reply.TheVariants.{Made, Node, Refused}
 
 -- memory or the database was wanting
 abbrev pub is_want_of : Refusal → Bool

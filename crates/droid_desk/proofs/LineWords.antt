@@ -6,7 +6,7 @@ use Rattle.std.specs.List.{position_or_len, before_first, after_first}
 use Rattle.std.specs.Option.{option_map}
 use Rattle.droid_desk.specs.Lines.{is_space, word_at, line_value, text_line, where_fitting, head_at, request_words}
 use Rattle.droid_frame.specs.Bodies.{request_body}
-use Rattle.droid_frame.specs.declared.request.Request.{Request}
+use Rattle.droid_frame.specs.types.request.Request.{Request}
 use Rattle.std.specs.Prelude.{nat_le}
 use Rattle.droid_frame.specs.Reading.{◌>>=◌, text_at}
 use Rattle.std.specs.Str.{IsUtf8, is_utf8}

@@ -4,8 +4,8 @@ use Rattle.std.specs.List.{slice_split, position_or_len, before_first, after_fir
 use Rattle.std.specs.Option.{option_map}
 use Rattle.std.specs.Str.{all_ascii_digits, bytes_eq}
 use Rattle.std.specs.Str.Parse.{digits_value}
-use Rattle.droid_frame.specs.declared.request.Request.{Request}
-use Rattle.droid_frame.specs.declared.request.Request.TheVariants.{CreateProfile, AddFolder}
+use Rattle.droid_frame.specs.types.request.Request.{Request}
+use Rattle.droid_frame.specs.types.request.Request.TheVariants.{CreateProfile, AddFolder}
 use Rattle.droid_frame.specs.Bodies.{request_body}
 use Rattle.droid_frame.specs.Reading.{◌>>=◌, text_at}
 use Rattle.droid_desk.specs.declared.script.parse.Line.{Line}

@@ -1,7 +1,9 @@
 //! The program: its command line, its streams and how it ends.
 
-ghost use Rattle.std.specs.Prelude.{◌≡◌, ◌≢◌, IfSome};
-ghost use Rattle.droid_frame.specs.SteadyStreams.{IsSteady};
+ghost use Rattle.std.specs.Prelude.{◌≡◌, length, IfSome};
+ghost use Rattle.droid_stream.specs.Seen.{IsSound, TellsFault};
+ghost use Rattle.droid_desk.specs.Lines.{lines_of};
+ghost use Rattle.droid_desk.specs.Scripts.{TellsFaultOver};
 ghost use Rattle.clap.specs.Values.{kind_of};
 ghost use Rattle.std.specs.IoError.{error_kind};
 ghost use Rattle.droid_desk.specs.Endings.{status_of, ending_of, unread_ending, unused_ending, program_limits, EndsAs};
@@ -10,7 +12,7 @@ use crate::script::{ScriptFault, Tally, script};
 use clap::error::ErrorKind;
 use clap::{Command, Error};
 use droid_core::{Limits, Service};
-use droid_frame::{SteadyRead, SteadyWrite, Unsteady};
+use droid_stream::{SteadyRead, SteadyWrite, Unsteady};
 use std::alloc::{AllocError, Global};
 use std::process::ExitCode;
 use std::rt::Env;
@@ -136,12 +138,8 @@ fn run_command<R: Env + Input + Print + Eprint + AllocGlobal>(rt: &R) -> Ending 
     };
     match check_words(alloc, words.as_slice()) {
         Ok(()) => {
-            let mut input = Unsteady {
-                stream: rt.reader(),
-            };
-            let mut output = Unsteady {
-                stream: io::writer(rt),
-            };
+            let mut input = Unsteady::new(rt.reader());
+            let mut output = Unsteady::new(io::writer(rt));
             run_script(alloc, &mut input, &mut output)
         }
         Err(error) => unused_words(error),
@@ -199,9 +197,10 @@ fn run_script<R: SteadyRead, W: SteadyWrite>(
 ) -> Ending
     ensures ends { IfSome (R.remaining reader.old) (λ input.
         EndsAs program_limits result input (W.contents writer.old) (W.contents writer.new)) }
-    // A stream that doesn't fail is never said to.
-    ensures steady_reader { IsSteady (R.interruptions reader.old) → result ≢ Ending.Script ScriptFault.Read }
-    ensures steady_writer { IsSteady (W.interruptions writer.old) → W.is_endless writer.old → result ≢ Ending.Script ScriptFault.Write }
+    // The streams are said to have failed exactly where they did, or were interrupted too often.
+    ensures read_fault { IsSound (R.seen reader.old) → TellsFault (R.seen reader.old).interruptions (R.seen reader.new) (result ≡ Ending.Script ScriptFault.Read) }
+    ensures write_fault { IsSound (W.seen writer.old) → W.room writer.old ≡ None → IfSome (R.remaining reader.old) (λ input.
+        TellsFaultOver (W.seen writer.old).interruptions (length (lines_of input)) (W.seen writer.new) (result ≡ Ending.Script ScriptFault.Write)) }
 {
     let Ok(mut service) = Service::new(alloc, LIMITS) else {
         return Ending::NoService;

@@ -5,13 +5,14 @@ use Rattle.std.proofs.KnownBytes.{Appends-trans}
 use Rattle.std.proofs.Math.Seq.{drop-cons}
 use Rattle.std.proofs.lemmas.Grind.{flat_map-append}
 use Rattle.std.proofs.lemmas.List.{append-nil, length-append, take-append-drop}
-use Rattle.droid_frame.specs.declared.frame.TheConstants.{BODY_LIMIT}
-use Rattle.droid_frame.specs.declared.reply.Reply.{Reply}
+use Rattle.droid_value.specs.declared.frame.TheConstants.{BODY_LIMIT}
+use Rattle.droid_value.specs.declared.reply.Reply.{Reply}
 use Rattle.droid_frame.specs.Headers.{header_bytes}
-use Rattle.droid_frame.specs.Replies.{reply_bytes, reply_kind}
+use Rattle.droid_value.specs.Replies.{reply_bytes, reply_kind}
 use Rattle.droid_frame.specs.ReplyParts.{reply_frame, reply_front, reply_rest}
-use Rattle.droid_frame.specs.StreamWrites.{Stops, StopsWithin}
-use Rattle.droid_frame.specs.TextLists.{sized_bytes, texts_bytes}
+use Rattle.droid_frame.specs.StreamWrites.{Stops}
+use Rattle.droid_stream.specs.Writes.{StopsWithin}
+use Rattle.droid_value.specs.TextLists.{sized_bytes, texts_bytes}
 use Rattle.droid_frame.proofs.ReplyParts.{front_and_rest}
 use Rattle.droid_frame.proofs.StreamWrites.{Sent, sent_nothing, stops_after}
 
@@ -22,12 +23,15 @@ stops_on start mid now front part rest all at before count sent counted stops is
     let left : count - before ≡ (count - at) - length front = omega (arith, counted, stops.counts_on) in
     let within : StopsWithin mid now part (length front) (count - at) = record {
       counts_on = omega arith;
-      stops = subst (Stops mid now part) left stops.stops;
+      some_left = omega (arith, left, stops.some_left);
+      front = subst (λ (n : ℕ). Appends mid now (take n part)) left stops.front;
     } in
     let sent_front : Sent start mid front (length front) = record { counted = refl; appended = sent } in
+    let whole : Stops start now all (count - at) = stops_after start mid now front part rest all (length front) (count - at) sent_front within is_all in
     record {
       counts_on = omega arith;
-      stops = stops_after start mid now front part rest all (length front) (count - at) sent_front within is_all;
+      some_left = whole.some_left;
+      front = whole.front;
     }
 
 -- the first identifiers, one more, and the others
@@ -60,15 +64,19 @@ frame_is client number kind size reply header front kind_is size_is header_is fr
   header_size = rw header_is refl;
 }
 
+pub frame_size : (frame header front rest : List ℕ) (before after : ℕ) → IsFrameOf frame header front rest → before ≡ length header → after ≡ before + length front → length frame ≡ after + length rest
+frame_size frame header front rest before after is sent both =
+    omega (arith, ap (λ (bytes : List ℕ). length bytes) is.parts, sent, both, length-append header (front ++ rest), length-append front rest)
+
 pub rest_room : (client number : ℕ) (reply : Reply) (header front : List ℕ) (written : ℕ) → IsFrameOf (reply_frame client number reply) header front (reply_rest reply) → length (reply_bytes reply) ≤ BODY_LIMIT → front ≡ reply_front reply → written ≡ length (header ++ front) → written + length (reply_rest reply) < 2 ^ 64
 rest_room client number reply header front written frame short front_is counted =
     let body : length (reply_front reply ++ reply_rest reply) ≡ length (reply_bytes reply) = ap (λ (bytes : List ℕ). length bytes) (front_and_rest reply) in
     let size : length front ≡ length (reply_front reply) = ap (λ (bytes : List ℕ). length bytes) front_is in
     omega (arith, frame.header_size, body, size, counted, short, length-append (reply_front reply) (reply_rest reply), length-append header front)
 
-pub stops_in_header : (old new : Option (List ℕ)) (frame header front rest : List ℕ) (count : ℕ) → IsFrameOf frame header front rest → StopsWithin old new header 0 count → Stops old new frame count
-stops_in_header old new frame header front rest count is stops =
-    stops_after old old new [] header (front ++ rest) frame 0 count (sent_nothing old) stops is.parts
+pub stops_in_header : (old new : Option (List ℕ)) (frame header front rest : List ℕ) (before count : ℕ) → IsFrameOf frame header front rest → before ≡ 0 → StopsWithin old new header before count → Stops old new frame count
+stops_in_header old new frame header front rest before count is none stops =
+    stops_after old old new [] header (front ++ rest) frame before count (sent_nothing old before none) stops is.parts
 
 pub stops_in_front : (old mid new : Option (List ℕ)) (frame header front rest : List ℕ) (before count : ℕ) → IsFrameOf frame header front rest → Sent old mid header before → StopsWithin mid new front before count → Stops old new frame count
 stops_in_front old mid new frame header front rest before count is sent stops =

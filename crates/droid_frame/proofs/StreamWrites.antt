@@ -1,35 +1,12 @@
 -- What a writer holds after the parts of a frame so far.
-use Rattle.std.proofs.Common.{◌≡◌, ℕ, ◌+◌, ◌-◌, ◌≤◌, List, [], ◌++◌, length, take, drop, Option, Result, Ok, Err, OnOk, IfErr, refl, sym, ap, subst, ◌∙◌, arith}
+use Rattle.std.proofs.Common.{◌≡◌, ℕ, ◌+◌, ◌-◌, List, [], ◌++◌, length, take, Option, Result, Ok, Err, OnOk, IfErr, sym, ap, subst, ◌∙◌, arith}
 use Rattle.std.specs.Prelude.{IsErrAnd}
 use Rattle.std.specs.Io.KnownBytes.{Appends}
 use Rattle.std.proofs.KnownBytes.{Appends-nil, Appends-trans}
-use Rattle.std.proofs.Math.Seq.{take-add, take-append-add}
-use Rattle.std.proofs.lemmas.List.{take_all, take-append-le, length-append, length-drop, drop-drop}
-use Rattle.droid_frame.specs.Fields.{IsEnd}
-use Rattle.droid_frame.specs.StreamWrites.{Stops, StopsWithin}
-
--- after the bytes before the rest, n more of the rest; what is left then is the end too
-pub record WroteMore (old new : Option (List ℕ)) (part next : List ℕ) : Type 0 where
-  pub written : Appends old new (take (length part - length next) part)
-  pub rest : IsEnd part next
-
-pub wrote_more : (old mid new : Option (List ℕ)) (part rest : List ℕ) (n : ℕ) → IsEnd part rest → n ≤ length rest
-    → Appends old mid (take (length part - length rest) part) → Appends mid new (take n rest)
-    → WroteMore old new part (take (length rest - n) (drop n rest))
-wrote_more old mid new part rest n is_end within first next =
-    let whole : take (length rest - n) (drop n rest) ≡ drop n rest = take_all (length rest - n) (drop n rest) (omega (arith, length-drop n rest)) in
-    let size : length (drop n rest) ≡ length rest - n = length-drop n rest in
-    let place : (length part - length rest) + n ≡ length part - length (drop n rest) = omega (arith, size, is_end.shorter) in
-    let two : Appends mid new (take n (drop (length part - length rest) part)) = subst (λ (l : List ℕ). Appends mid new (take n l)) (sym is_end.ends) next in
-    let both : Appends old new (take ((length part - length rest) + n) part) =
-    subst (Appends old new) (sym (take-add (length part - length rest) n part)) (Appends-trans old mid new _ _ first two) in
-    rw whole (record {
-      written = rw (← place) both;
-      rest = record {
-        shorter = omega (arith, size, is_end.shorter);
-        ends = rw (← place) (sym (drop-drop n (length part - length rest) part) ∙ ap (drop n) is_end.ends);
-      };
-    })
+use Rattle.std.proofs.Math.Seq.{take-append-add}
+use Rattle.std.proofs.lemmas.List.{take-append-le, length-append}
+use Rattle.droid_frame.specs.StreamWrites.{Stops}
+use Rattle.droid_stream.specs.Writes.{StopsWithin}
 
 -- ---- the parts of a frame, one after the other
 
@@ -38,8 +15,8 @@ pub record Sent (start now : Option (List ℕ)) (front : List ℕ) (written : �
   pub counted : written ≡ length front
   pub appended : Appends start now front
 
-pub sent_nothing : (start : Option (List ℕ)) → Sent start start [] 0
-sent_nothing start = record { counted = refl; appended = Appends-nil start }
+pub sent_nothing : (start : Option (List ℕ)) (written : ℕ) → written ≡ 0 → Sent start start [] written
+sent_nothing start written none = record { counted = none; appended = Appends-nil start }
 
 -- after one part more
 pub sent_more : (start mid now : Option (List ℕ)) (front part : List ℕ) (before after : ℕ)
@@ -56,10 +33,10 @@ stops_after start mid now front part rest all before count sent stops is_all =
     let more = count - before in
     let place : count ≡ length front + more = omega (arith, sent.counted, stops.counts_on) in
     let first : take count all ≡ front ++ take more part =
-    ap (take count) is_all ∙ (ap (λ (n : ℕ). take n (front ++ (part ++ rest))) place ∙ (take-append-add front (part ++ rest) more ∙ ap (λ (l : List ℕ). front ++ l) (take-append-le more part rest (omega (arith, stops.stops.some_left))))) in
+    ap (take count) is_all ∙ (ap (λ (n : ℕ). take n (front ++ (part ++ rest))) place ∙ (take-append-add front (part ++ rest) more ∙ ap (λ (l : List ℕ). front ++ l) (take-append-le more part rest (omega (arith, stops.some_left))))) in
     record {
-      some_left = rw is_all (omega (arith, place, stops.stops.some_left, length-append front (part ++ rest), length-append part rest));
-      front = rw first (Appends-trans start mid now front (take more part) sent.appended stops.stops.front);
+      some_left = rw is_all (omega (arith, place, stops.some_left, length-append front (part ++ rest), length-append part rest));
+      front = rw first (Appends-trans start mid now front (take more part) sent.appended stops.front);
     }
 
 -- ---- what follows where a call succeeded, and where it failed

@@ -1,13 +1,13 @@
 -- A reply's body in two parts: fields of a few bytes, and then a list or bytes of any length.
 use Rattle.std.specs.Prelude.{ℕ, List, [], ◌++◌, length}
-use Rattle.droid_frame.specs.declared.frame.Frame.{Frame}
-use Rattle.droid_frame.specs.declared.reply.Reply.{Reply}
-use Rattle.droid_frame.specs.declared.reply.Reply.TheVariants.{Made, Node, Taken, Finished, Abandoned, Progress, Part, Refused}
-use Rattle.droid_frame.specs.Fields.{u16_bytes, u32_bytes, u64_bytes, truth_bytes, method_bytes, IsU32, IsU64}
-use Rattle.droid_frame.specs.Frames.{frame_bytes}
-use Rattle.droid_frame.specs.Replies.{HasReplySpelling, refusal_bytes, reply_bytes, reply_kind}
+use Rattle.droid_value.specs.declared.frame.Frame.{Frame}
+use Rattle.droid_value.specs.declared.reply.Reply.{Reply}
+use Rattle.droid_value.specs.declared.reply.Reply.TheVariants.{Made, Node, Taken, Finished, Abandoned, Progress, Part, Refused}
+use Rattle.droid_value.specs.Fields.{u16_bytes, u32_bytes, u64_bytes, truth_bytes, method_bytes, IsU32, IsU64}
+use Rattle.droid_value.specs.Frames.{frame_bytes}
+use Rattle.droid_value.specs.Replies.{HasReplySpelling, refusal_bytes, reply_bytes, reply_kind}
 use Rattle.droid_frame.specs.Streams.{IsReadable}
-use Rattle.droid_frame.specs.TextLists.{texts_bytes}
+use Rattle.droid_value.specs.TextLists.{texts_bytes}
 
 -- the fields before the list or the bytes
 abbrev pub reply_front : Reply → List ℕ

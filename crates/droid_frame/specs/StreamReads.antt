@@ -1,22 +1,19 @@
 -- What a reader has left after the reads of one frame, and what then is known of its bytes.
 use Rattle.std.specs.Prelude.{◌≡◌, ℕ, ◌+◌, ◌<◌, ◌≤◌, ◌^◌, ◌==◌, nat_lt, if◌then◌else◌, ◌⊎◌, List, [], Option, Some, None, IfSome, Result, Ok, Err, length}
 use Rattle.std.specs.Io.KnownBytes.{Consumes, IsAtEnd}
-use Rattle.droid_frame.specs.declared.frame.TheConstants.{BODY_LIMIT}
+use Rattle.droid_value.specs.declared.frame.TheConstants.{BODY_LIMIT}
 use Rattle.droid_frame.specs.declared.stream.arrival.Arrival.{Arrival}
 use Rattle.droid_frame.specs.declared.stream.arrival.Arrival.TheVariants as arrivals
 use Rattle.droid_frame.specs.declared.stream.fault.FrameFault.{FrameFault}
 use Rattle.droid_frame.specs.declared.stream.fault.FrameFault.TheVariants.{Truncated, BadVersion, TooLong, Memory, Read}
 use Rattle.droid_frame.specs.declared.stream.header.Header.{Header}
-use Rattle.droid_frame.specs.Fields.{IsBytes, IsU32}
-use Rattle.droid_frame.specs.Frames.{frame_bytes}
+use Rattle.droid_value.specs.Fields.{IsBytes, IsU32}
+use Rattle.droid_value.specs.Frames.{frame_bytes}
 use Rattle.droid_frame.specs.Headers.{header_bytes}
+use Rattle.droid_stream.specs.declared.seen.Seen.{Seen}
+use Rattle.droid_stream.specs.Reads.{ConsumesFewer}
+use Rattle.droid_stream.specs.Seen.{Counts, GivesUp}
 use Rattle.droid_frame.specs.Streams.{IsReadable, BeginsNoFrame, header_size, version_in, length_in, why}
-
--- known bytes lost some at their front, fewer than were wanted
-pub record ConsumesFewer (old new : Option (List ℕ)) (wanted : ℕ) : Type 0 where
-  pub bytes : List ℕ
-  pub consumed : Consumes old new bytes
-  pub fewer : length bytes < wanted
 
 -- known bytes lost all, which are at least so many, and fewer than were wanted
 pub record ConsumesShort (old new : Option (List ℕ)) (least wanted : ℕ) : Type 0 where
@@ -109,6 +106,19 @@ BodyCame old new wanted (Err Memory) = Consumes old new [] × (0 < wanted)
 BodyCame old new wanted (Err Read) = ConsumesFewer old new wanted
 BodyCame old new wanted (Err BadVersion) = ⊥
 BodyCame old new wanted (Err TooLong) = ⊥
+
+-- at a fault: the reader is given up where that is why, and otherwise the count of interruptions goes on
+abbrev pub FaultCounts : ℕ → Seen → ℕ → FrameFault → Type 0
+FaultCounts start seen count Truncated = Counts start seen count
+FaultCounts start seen count BadVersion = Counts start seen count
+FaultCounts start seen count TooLong = Counts start seen count
+FaultCounts start seen count Memory = Counts start seen count
+FaultCounts start seen count Read = GivesUp start seen
+
+-- after some of the reads
+abbrev pub ReadsOn : {T : Type 0} → ℕ → Seen → ℕ → Result T FrameFault → Type 0
+ReadsOn start seen count (Ok value) = Counts start seen count
+ReadsOn start seen count (Err fault) = FaultCounts start seen count fault
 
 -- what a header is refused for: its version first, then its length
 unfoldable pub judged : Header → Result ℕ FrameFault

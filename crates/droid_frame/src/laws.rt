@@ -1,9 +1,9 @@
-//! Laws of the grammar: each stands on a function that does nothing, and is proved with it.
+//! Laws of frames: each stands on a function that does nothing, and is proved with it.
 
-ghost use Rattle.std.specs.Prelude.{◌≡◌, ℕ, List};
-ghost use Rattle.droid_frame.specs.Bodies.{SpellsRequest};
-ghost use Rattle.droid_frame.specs.declared.request.Request.{Request};
+ghost use Rattle.droid_frame.specs.ReplyParts.{ReplyFramesAreReadable};
 ghost use Rattle.droid_frame.specs.StreamLaws.{OneFrameAtTheFront, EachStreamHasFrames, NoStreamHasOthers};
+
+pub use droid_body::laws::{spells_one_reply, spells_one_request};
 
 /// No spelling of a frame is a prefix of another frame's: where the spellings of two frames begin one
 /// input, the frames are equal, and so is what follows them. Nothing is said of a body of more than
@@ -19,7 +19,9 @@ pub fn one_reading_of_a_stream()
     ensures only { NoStreamHasOthers }
 {}
 
-/// A kind and a body spell at most one request.
-pub fn spells_one_request()
-    ensures { (kind : ℕ) (body : List ℕ) (one other : Request) → SpellsRequest kind body one → SpellsRequest kind body other → one ≡ other }
+/// The frame of a reply that has a spelling is one that a stream may hold. So
+/// [`read_frame`](crate::read_frame) gives it where its bytes were written, and
+/// [`reply_of`](crate::reply_of) the reply.
+pub fn reply_frames_are_readable()
+    ensures { ReplyFramesAreReadable }
 {}

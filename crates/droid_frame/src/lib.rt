@@ -1,60 +1,23 @@
-//! Frames and the values that their bodies spell.
+//! Frames, and streams of them.
 //!
-//! A frame carries a request or a reply as bytes. This crate has the values, the one grammar that
-//! relates bytes and values, and the calls that read and write by it.
+//! A frame carries a request or a reply as bytes. This crate writes requests and replies as frames, and
+//! reads and writes frames on streams. It gives the values, and the calls that read them from bodies, of
+//! the crates below under its own name.
 #![tactic(auto)]
 
-mod blob;
-mod criteria;
-mod criterion;
-mod fields;
-mod filter;
-mod filter_reading;
-mod filter_writing;
-mod finished;
-mod frame;
 pub mod laws;
-mod lengths;
-mod listless;
-mod method;
-mod node_kind;
-mod place;
-mod reading;
-mod record;
-mod refusal;
-mod reply;
-mod reply_fields;
-mod reply_laws;
-mod reply_parts;
-mod reply_reading;
-mod reply_writing;
-mod request;
-mod small_bytes;
+mod replies;
+mod requests;
 mod stream;
-mod text;
 mod text_lists;
-mod texts;
-mod writing;
 
-pub use blob::Blob;
-pub use criteria::Criteria;
-pub use criterion::Criterion;
-pub use filter::Filter;
-pub use frame::{BODY_LIMIT, Frame, VERSION, mark};
-pub use method::Method;
-pub use node_kind::NodeKind;
-pub use reading::{BodyFault, NUMBER_LIMIT, request_of};
-pub use record::Record;
-pub use refusal::{Limit, Refusal};
-pub use reply::{PART_LIMIT, PUID_LIMIT, PUIDS_LIMIT, Reply};
-pub use reply_laws::{reply_frames_are_readable, spells_one_reply};
-pub use reply_reading::reply_of;
-pub use reply_writing::reply_body;
-pub use request::Request;
-pub use stream::{
-    Arrival, FrameFault, SteadyRead, SteadyWrite, Unsteady, WriteFault, read_frame, write_frame,
-    write_reply,
+pub use droid_body::{BodyFault, reply_of, request_of};
+pub use droid_stream::{Condition, Seen, SteadyRead, SteadyWrite, Unsteady, WriteFault};
+pub use droid_value::{
+    BODY_LIMIT, Blob, Criteria, Criterion, Filter, Frame, Limit, Method, NUMBER_LIMIT, NodeKind,
+    PART_LIMIT, PUID_LIMIT, PUIDS_LIMIT, Record, Refusal, Reply, Request, Text, Texts, VERSION,
+    mark,
 };
-pub use text::Text;
-pub use texts::Texts;
-pub use writing::request_frame;
+pub use replies::reply_body;
+pub use requests::request_frame;
+pub use stream::{Arrival, FrameFault, read_frame, write_frame, write_reply};

@@ -1,7 +1,7 @@
 //! The commands: each is judged, finds its memory, and then changes the service.
 
 ghost use Rattle.std.specs.Prelude.{◌≡◌};
-ghost use Rattle.droid_frame.specs.declared.request.Request.TheVariants.{CreateProfile, AddFolder};
+ghost use Rattle.droid_frame.specs.types.request.Request.TheVariants.{CreateProfile, AddFolder};
 ghost use Rattle.droid_core.specs.Judging.{judge};
 ghost use Rattle.droid_core.specs.Rows.{world_in};
 ghost use Rattle.droid_core.specs.Standing.{AreMeasured};

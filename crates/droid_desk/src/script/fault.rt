@@ -2,6 +2,7 @@
 
 ghost use Rattle.std.specs.Prelude.{◌≡◌};
 
+use droid_stream::{InputFault, WriteFault};
 use std::alloc::AllocError;
 use thiserror::Error;
 
@@ -29,5 +30,29 @@ impl From<AllocError> for ScriptFault {
 
     fn from(_error: AllocError) -> ScriptFault {
         ScriptFault::Memory
+    }
+}
+
+impl From<InputFault> for ScriptFault {
+    ghost use Rattle.droid_desk.specs.Scripts.{reading_fault};
+
+    ghost from_gives = { λ input fault. fault ≡ reading_fault input };
+
+    fn from(fault: InputFault) -> ScriptFault {
+        match fault {
+            InputFault::TooLong => ScriptFault::TooLong,
+            InputFault::Memory => ScriptFault::Memory,
+            InputFault::Read => ScriptFault::Read,
+        }
+    }
+}
+
+impl From<WriteFault> for ScriptFault {
+    ghost use Rattle.droid_desk.specs.declared.script.fault.ScriptFault.TheVariants.{Write};
+
+    ghost from_gives = { λ _ fault. fault ≡ Write };
+
+    fn from(_fault: WriteFault) -> ScriptFault {
+        ScriptFault::Write
     }
 }

@@ -1,6 +1,6 @@
 //! What comes next on a stream.
 
-use crate::frame::Frame;
+use droid_value::Frame;
 
 /// What a stream brought where a frame may begin.
 #[derive(Debug, Drop)]

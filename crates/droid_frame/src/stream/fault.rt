@@ -1,7 +1,8 @@
-//! Why a frame could not be read or written.
+//! Why a frame could not be read.
 
 ghost use Rattle.std.specs.Prelude.{◌≡◌};
 
+use droid_stream::ReadFault;
 use std::alloc::AllocError;
 use thiserror::Error;
 
@@ -35,10 +36,12 @@ impl From<AllocError> for FrameFault {
     }
 }
 
-/// The writer failed: it answered an error, was interrupted more than 64 times, or took no byte.
-#[derive(Clone, Copy, Debug, PartialEq, Eq, Error)]
-#[error("the frame could not be written past its first {written} bytes")]
-pub struct WriteFault {
-    /// How many bytes of the frame went out: exactly its first ones.
-    pub written: usize,
+impl From<ReadFault> for FrameFault {
+    ghost use Rattle.droid_frame.specs.declared.stream.fault.FrameFault.TheVariants.{Read};
+
+    ghost from_gives = { λ _ fault. fault ≡ Read };
+
+    fn from(_fault: ReadFault) -> FrameFault {
+        FrameFault::Read
+    }
 }

@@ -1,18 +1,16 @@
 //! Reading a frame.
 
 ghost use Rattle.std.specs.Prelude.{◌≡◌, ◌++◌, ℕ, List, Some, Err, IfOk, IfErr, OnErr, IfSome, IsErrOf};
-ghost use Rattle.droid_frame.specs.Frames.{frame_bytes};
+ghost use Rattle.droid_value.specs.Frames.{frame_bytes};
 ghost use Rattle.droid_frame.specs.Streams.{IsReadable, BeginsNoFrame, why};
-ghost use Rattle.droid_frame.specs.SteadyStreams.{IsSteady, Lasts};
-ghost use Rattle.droid_frame.specs.StreamReads.{Arrives, BodyCame, Brings, HeaderCame, ReadsGoodHeader, ReadsNoFrame, Tells, UnlessRefused, judged};
+ghost use Rattle.droid_stream.specs.Seen.{Counts, IsSound, TellsFault};
+ghost use Rattle.droid_frame.specs.StreamReads.{Arrives, BodyCame, Brings, HeaderCame, ReadsGoodHeader, ReadsNoFrame, ReadsOn, Tells, UnlessRefused, judged};
 
 use super::arrival::Arrival;
 use super::fault::FrameFault;
-use super::filling::fill;
 use super::header::{HEADER_LENGTH, Header};
-use super::steady::SteadyRead;
-use crate::blob::Blob;
-use crate::frame::{BODY_LIMIT, Frame, VERSION};
+use droid_stream::{Retries, SteadyRead, fill};
+use droid_value::{BODY_LIMIT, Blob, Frame, VERSION};
 use std::alloc::Global;
 
 /// Reads the next frame. The header is read whole before any of it is judged, and memory is taken once, for
@@ -31,28 +29,27 @@ pub fn read_frame<R: SteadyRead>(alloc: Global, reader: &mut R) -> Result<Arriva
     // that it names. Want of memory has read a good header, and the body isn't empty.
     ensures fault { OnErr result (ReadsNoFrame (R.remaining reader.old) (R.remaining reader.new)) }
     ensures memory { IsErrOf result FrameFault.Memory → ReadsGoodHeader (R.remaining reader.old) (R.remaining reader.new) }
-    // A reader that doesn't fail is never said to.
-    ensures steady { IsSteady (R.interruptions reader.old) →
-        (IsErrOf result FrameFault.Read → ⊥) × IsSteady (R.interruptions reader.new) }
+    // `Read` comes exactly where the reader failed or was interrupted for the 65th time in this call.
+    ensures failed { IsSound (R.seen reader.old) →
+        TellsFault (R.seen reader.old).interruptions (R.seen reader.new) (IsErrOf result FrameFault.Read) }
 {
-    let mut interruptions = 0;
-    next_arrival(alloc, reader, &mut interruptions)
+    let mut retries = Retries::new();
+    next_arrival(alloc, reader, &mut retries)
 }
 
 fn next_arrival<R: SteadyRead>(
     alloc: Global,
     reader: &mut R,
-    interruptions: &mut u32,
+    retries: &mut Retries,
 ) -> Result<Arrival, FrameFault>
     ensures came { Arrives (R.remaining reader.old) (R.remaining reader.new) result }
-    ensures steady { Lasts (R.interruptions reader.old) interruptions.old →
-        (IsErrOf result FrameFault.Read → ⊥) × Lasts (R.interruptions reader.new) interruptions.new }
+    ensures counts { (start : ℕ) → Counts start (R.seen reader.old) retries.old → ReadsOn start (R.seen reader.new) retries.new result }
 {
-    let Some(header) = read_header(reader, interruptions)? else {
+    let Some(header) = read_header(reader, retries)? else {
         return Ok(Arrival::End);
     };
     let length = body_length(header)?;
-    let body = read_body(alloc, reader, length, interruptions)?;
+    let body = read_body(alloc, reader, length, retries)?;
     Ok(Arrival::Frame(Frame {
         version: header.version,
         kind: header.kind,
@@ -65,14 +62,13 @@ fn next_arrival<R: SteadyRead>(
 /// Reads a header, or nothing at the end of the input.
 fn read_header<R: SteadyRead>(
     reader: &mut R,
-    interruptions: &mut u32,
+    retries: &mut Retries,
 ) -> Result<Option<Header>, FrameFault>
     ensures came { HeaderCame (R.remaining reader.old) (R.remaining reader.new) result }
-    ensures steady { Lasts (R.interruptions reader.old) interruptions.old →
-        (IsErrOf result FrameFault.Read → ⊥) × Lasts (R.interruptions reader.new) interruptions.new }
+    ensures counts { (start : ℕ) → Counts start (R.seen reader.old) retries.old → ReadsOn start (R.seen reader.new) retries.new result }
 {
     let mut bytes = [0u8; HEADER_LENGTH];
-    match fill(reader, &mut bytes, interruptions)? {
+    match fill(reader, &mut bytes, retries)? {
         0 => Ok(None),
         HEADER_LENGTH => Ok(Some(Header::from_bytes(&bytes))),
         _ => Err(FrameFault::Truncated),
@@ -100,17 +96,16 @@ fn read_body<R: SteadyRead>(
     alloc: Global,
     reader: &mut R,
     length: usize,
-    interruptions: &mut u32,
+    retries: &mut Retries,
 ) -> Result<Blob, FrameFault>
     ensures came { BodyCame (R.remaining reader.old) (R.remaining reader.new) length result }
-    ensures steady { Lasts (R.interruptions reader.old) interruptions.old →
-        (IsErrOf result FrameFault.Read → ⊥) × Lasts (R.interruptions reader.new) interruptions.new }
+    ensures counts { (start : ℕ) → Counts start (R.seen reader.old) retries.old → ReadsOn start (R.seen reader.new) retries.new result }
 {
     if length == 0 {
         return Ok(Blob::from(Vec::new(alloc)));
     }
     let mut body = vec![in alloc; 0u8; length]?;
-    let count = fill(reader, body.as_mut_slice(), interruptions)?;
+    let count = fill(reader, body.as_mut_slice(), retries)?;
     if count < length {
         return Err(FrameFault::Truncated);
     }

@@ -1,23 +1,20 @@
 //! Writing replies.
 
-ghost use Rattle.std.specs.Prelude.{◌≡◌, ◌+◌, ◌<◌, ◌≤◌, ◌^◌, IsOk, OnOk, IfErr, length};
+ghost use Rattle.std.specs.Prelude.{◌≡◌, ◌+◌, ◌<◌, ◌≤◌, ◌^◌, ◌-◌, ℕ, IsErr, OnOk, IfErr, length};
 ghost use Rattle.std.specs.Io.KnownBytes.{Appends};
 ghost use Rattle.std.specs.List.{AllByRecursion};
-ghost use Rattle.droid_frame.specs.Replies.{HasReplySpelling, IsPuidText};
+ghost use Rattle.droid_value.specs.Replies.{HasReplySpelling, IsPuidText};
 ghost use Rattle.droid_frame.specs.ReplyParts.{reply_frame, reply_rest};
-ghost use Rattle.droid_frame.specs.SteadyStreams.{IsSteady, Lasts, TookAll};
-ghost use Rattle.droid_frame.specs.StreamWrites.{Stops, StopsWithin};
-ghost use Rattle.droid_frame.specs.TextLists.{texts_bytes};
+ghost use Rattle.droid_frame.specs.StreamWrites.{Stops};
+ghost use Rattle.droid_stream.specs.Seen.{Counts, IsSound};
+ghost use Rattle.droid_stream.specs.Writes.{StopsWithin, Takes, TellsWrite, WritesOn};
+ghost use Rattle.droid_value.specs.TextLists.{texts_bytes};
 
-use super::fault::WriteFault;
 use super::header::Header;
-use super::steady::SteadyWrite;
-use super::write_all::{Progress, write_all};
-use crate::frame::VERSION;
-use crate::reply::Reply;
-use crate::reply_parts::{front_of, sized_puid};
-use crate::reply_writing::body_length;
-use crate::texts::Texts;
+use crate::replies::body_length;
+use crate::replies::parts::{front_of, sized_puid};
+use droid_stream::{Progress, SteadyWrite, WriteFault, write_all};
+use droid_value::{Reply, Texts, VERSION};
 
 /// Writes a reply's frame, to the client and under the number of the request that it answers. It takes no
 /// memory. An interrupted write is tried again, 64 times over all of the frame.
@@ -35,9 +32,12 @@ pub fn write_reply<W: SteadyWrite>(
     ensures ok { OnOk result (Appends (W.contents writer.old) (W.contents writer.new) (reply_frame client number reply.now)) }
     // Exactly the first `written` bytes of it were written, and that isn't all.
     ensures err { IfErr result (λ fault. Stops (W.contents writer.old) (W.contents writer.new) (reply_frame client number reply.now) fault.written) }
-    // A writer that doesn't fail, and has room, takes all.
-    ensures steady { IsSteady (W.interruptions writer.old) → length (reply_frame client number reply.now) ≤ W.room writer.old →
-        IsOk result × TookAll (W.interruptions writer.new) 0 (W.room writer.old) (W.room writer.new) (length (reply_frame client number reply.now)) }
+    // A fault comes exactly where the writer failed or was interrupted for the 65th time in this call, or had no room.
+    ensures failed { IsSound (W.seen writer.old) →
+        TellsWrite (W.seen writer.old).interruptions (W.seen writer.new) (W.room writer.old) (length (reply_frame client number reply.now)) (IsErr result) }
+    // What went out is taken from the room; where there is no end of it, it stays so.
+    ensures room_ok { OnOk result (Takes (W.room writer.old) (W.room writer.new) (length (reply_frame client number reply.now))) }
+    ensures room_err { IfErr result (λ fault. Takes (W.room writer.old) (W.room writer.new) fault.written) }
 {
     let header = Header {
         version: VERSION,
@@ -46,10 +46,7 @@ pub fn write_reply<W: SteadyWrite>(
         number,
         length: body_length(reply) as u32,
     };
-    let mut progress = Progress {
-        written: 0,
-        interruptions: 0,
-    };
+    let mut progress = Progress::new();
     write_all(writer, &header.to_bytes(), &mut progress)?;
     write_all(writer, front_of(reply).as_slice(), &mut progress)?;
     write_rest(writer, reply, &mut progress)
@@ -65,8 +62,9 @@ fn write_rest<W: SteadyWrite>(
     requires room { progress.old.written + length (reply_rest reply.now) < 2 ^ 64 }
     ensures ok { OnOk result (Appends (W.contents writer.old) (W.contents writer.new) (reply_rest reply.now)) }
     ensures err { IfErr result (λ fault. StopsWithin (W.contents writer.old) (W.contents writer.new) (reply_rest reply.now) progress.old.written fault.written) }
-    ensures steady { Lasts (W.interruptions writer.old) progress.old.interruptions → length (reply_rest reply.now) ≤ W.room writer.old →
-        IsOk result × TookAll (W.interruptions writer.new) progress.new.interruptions (W.room writer.old) (W.room writer.new) (length (reply_rest reply.now)) }
+    ensures room_ok { OnOk result (Takes (W.room writer.old) (W.room writer.new) (length (reply_rest reply.now))) }
+    ensures room_err { IfErr result (λ fault. Takes (W.room writer.old) (W.room writer.new) (fault.written - progress.old.written)) }
+    ensures counts { (start : ℕ) → Counts start (W.seen writer.old) progress.old.retries → WritesOn start (W.seen writer.new) (W.room writer.new) progress.new.retries result }
 {
     match reply {
         Reply::Finished { puids, .. } => write_puids(writer, puids, progress),
@@ -85,8 +83,9 @@ fn write_puids<W: SteadyWrite>(
     requires room { progress.old.written + length (texts_bytes puids.now) < 2 ^ 64 }
     ensures ok { OnOk result (Appends (W.contents writer.old) (W.contents writer.new) (texts_bytes puids.now)) }
     ensures err { IfErr result (λ fault. StopsWithin (W.contents writer.old) (W.contents writer.new) (texts_bytes puids.now) progress.old.written fault.written) }
-    ensures steady { Lasts (W.interruptions writer.old) progress.old.interruptions → length (texts_bytes puids.now) ≤ W.room writer.old →
-        IsOk result × TookAll (W.interruptions writer.new) progress.new.interruptions (W.room writer.old) (W.room writer.new) (length (texts_bytes puids.now)) }
+    ensures room_ok { OnOk result (Takes (W.room writer.old) (W.room writer.new) (length (texts_bytes puids.now))) }
+    ensures room_err { IfErr result (λ fault. Takes (W.room writer.old) (W.room writer.new) (fault.written - progress.old.written)) }
+    ensures counts { (start : ℕ) → Counts start (W.seen writer.old) progress.old.retries → WritesOn start (W.seen writer.new) (W.room writer.new) progress.new.retries result }
 {
     for puid in puids.as_slice() {
         write_all(writer, sized_puid(puid).as_slice(), progress)?;

@@ -1,16 +1,15 @@
 //! Writing a frame.
 
-ghost use Rattle.std.specs.Prelude.{◌≤◌, IsOk, OnOk, IfErr, length};
+ghost use Rattle.std.specs.Prelude.{◌≤◌, IsErr, OnOk, IfErr, length};
 ghost use Rattle.std.specs.Io.KnownBytes.{Appends};
-ghost use Rattle.droid_frame.specs.Frames.{frame_bytes};
-ghost use Rattle.droid_frame.specs.SteadyStreams.{IsSteady, TookAll};
+ghost use Rattle.droid_value.specs.Frames.{frame_bytes};
+ghost use Rattle.droid_stream.specs.Seen.{IsSound};
+ghost use Rattle.droid_stream.specs.Writes.{Takes, TellsWrite};
 ghost use Rattle.droid_frame.specs.StreamWrites.{Stops};
 
-use super::fault::WriteFault;
 use super::header::Header;
-use super::steady::SteadyWrite;
-use super::write_all::{Progress, write_all};
-use crate::frame::{BODY_LIMIT, Frame};
+use droid_stream::{Progress, SteadyWrite, WriteFault, write_all};
+use droid_value::{BODY_LIMIT, Frame};
 
 /// Writes a frame. It takes no memory. An interrupted write is tried again, 64 times over all of the frame.
 ///
@@ -21,9 +20,12 @@ pub fn write_frame<W: SteadyWrite>(frame: &Frame, writer: &mut W) -> Result<(), 
     ensures ok { OnOk result (Appends (W.contents writer.old) (W.contents writer.new) (frame_bytes frame.now)) }
     // Exactly the first `written` bytes of it were written, and that isn't all.
     ensures err { IfErr result (λ fault. Stops (W.contents writer.old) (W.contents writer.new) (frame_bytes frame.now) fault.written) }
-    // A writer that doesn't fail, and has room, takes all.
-    ensures steady { IsSteady (W.interruptions writer.old) → length (frame_bytes frame.now) ≤ W.room writer.old →
-        IsOk result × TookAll (W.interruptions writer.new) 0 (W.room writer.old) (W.room writer.new) (length (frame_bytes frame.now)) }
+    // A fault comes exactly where the writer failed or was interrupted for the 65th time in this call, or had no room.
+    ensures failed { IsSound (W.seen writer.old) →
+        TellsWrite (W.seen writer.old).interruptions (W.seen writer.new) (W.room writer.old) (length (frame_bytes frame.now)) (IsErr result) }
+    // What went out is taken from the room; where there is no end of it, it stays so.
+    ensures room_ok { OnOk result (Takes (W.room writer.old) (W.room writer.new) (length (frame_bytes frame.now))) }
+    ensures room_err { IfErr result (λ fault. Takes (W.room writer.old) (W.room writer.new) fault.written) }
 {
     let header = Header {
         version: frame.version,
@@ -32,10 +34,7 @@ pub fn write_frame<W: SteadyWrite>(frame: &Frame, writer: &mut W) -> Result<(), 
         number: frame.number,
         length: frame.body.len() as u32,
     };
-    let mut progress = Progress {
-        written: 0,
-        interruptions: 0,
-    };
+    let mut progress = Progress::new();
     write_all(writer, &header.to_bytes(), &mut progress)?;
     write_all(writer, frame.body.as_slice(), &mut progress)
 }

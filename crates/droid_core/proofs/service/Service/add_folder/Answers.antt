@@ -3,7 +3,7 @@ use Rattle.std.specs.Int.{w64}
 use Rattle.std.proofs.lemmas.Grind.{common_steps}
 use Rattle.std.proofs.lemmas.Int.{to_z-of_z}
 use Rattle.std.proofs.lemmas.List.{length-map}
-use Rattle.droid_frame.specs.declared.reply.Reply.TheVariants.{Node}
+use Rattle.droid_frame.specs.types.reply.Reply.TheVariants.{Node}
 use Rattle.droid_core.specs.declared.service.rows.KeptReply.{KeptReply}
 use Rattle.droid_core.specs.Rows.{node_in, nodes_in, profile_in, world_in}
 use Rattle.droid_core.specs.World.{numbered}

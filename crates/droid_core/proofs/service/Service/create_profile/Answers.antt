@@ -3,7 +3,7 @@ use Rattle.std.specs.Prelude.{nat_le}
 use Rattle.std.proofs.lemmas.Grind.{common_steps}
 use Rattle.std.proofs.lemmas.List.{length-map, map_push}
 use Rattle.std.proofs.lemmas.Bool.{le-leb, lt-leb}
-use Rattle.droid_frame.specs.declared.reply.Reply.TheVariants.{Made}
+use Rattle.droid_frame.specs.types.reply.Reply.TheVariants.{Made}
 use Rattle.droid_core.specs.declared.service.rows.KeptReply.{KeptReply}
 use Rattle.droid_core.specs.declared.service.rows.ProfileRow.{ProfileRow}
 use Rattle.droid_core.specs.Judging.{is_scan_limit}

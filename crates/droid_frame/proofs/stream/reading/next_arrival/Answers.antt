@@ -1,4 +1,6 @@
-use Rattle.std.proofs.Common.{sym}
+use Rattle.std.proofs.Common.{Err, ap, sym}
+use Rattle.droid_frame.specs.declared.stream.fault.FrameFault.{FrameFault}
+use Rattle.droid_frame.proofs.StreamCounts.{counts_judged, counts_passed}
 use Rattle.droid_frame.proofs.StreamArrivals.{header_fault, length_fault, body_fault, frame_came, good_is, passed_fault}
 use Rattle.droid_frame.proofs.stream.reading.next_arrival.Goals as goal
 
@@ -25,3 +27,21 @@ pub returns-clause-came : goal.returns-clause-came
 returns-clause-came g c =
     let came = rw c.in-Some.is at c.in_ok-header.ensures.came in
     frame_came _ _ _ c.in-Some.header c.in_ok-length.length c.in_ok-body.body (good_is c.in-Some.header c.in_ok-length.length came.0 (sym c.in_ok-length.ensures.judged)) came.1 c.in_ok-body.ensures.came
+
+pub returns-in_err-header-clause-counts : goal.returns-in_err-header-clause-counts
+returns-in_err-header-clause-counts g c = λ start counts.
+    counts_passed start _ _ c.in_err-header.field-0.0 c.from_residual.result c.from_residual.ensures.1 (c.in_err-header.ensures.counts start counts)
+
+pub returns-in_err-length-clause-counts : goal.returns-in_err-length-clause-counts
+returns-in_err-length-clause-counts g c = λ start counts.
+    let fault = c.in_err-length.field-0.0 in
+    counts_passed start _ _ fault c.from_residual-in_err-length.result c.from_residual-in_err-length.ensures.1
+    (counts_judged start _ _ fault (λ e. c.in_err-length.ensures.fault (ap (λ (f : FrameFault). Err f) e)) (c.in_ok-header.ensures.counts start counts))
+
+pub returns-in_err-body-clause-counts : goal.returns-in_err-body-clause-counts
+returns-in_err-body-clause-counts g c = λ start counts.
+    counts_passed start _ _ c.in_err-body.field-0.0 c.from_residual-in_err-body.result c.from_residual-in_err-body.ensures.1
+    (c.in_err-body.ensures.counts start (c.in_ok-header.ensures.counts start counts))
+
+pub returns-clause-counts : goal.returns-clause-counts
+returns-clause-counts g c = λ start counts. c.in_ok-body.ensures.counts start (c.in_ok-header.ensures.counts start counts)

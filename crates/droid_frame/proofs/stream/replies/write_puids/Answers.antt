@@ -1,9 +1,11 @@
-use Rattle.std.proofs.Common.{rules, refl, ◌≡◌, ◌≤◌, ◌+◌, ◌++◌, List, ℕ, suc, length, take, drop, ap, sym, subst, ◌∙◌, arith}
+use Rattle.std.proofs.Common.{◌≡◌, ◌+◌, ◌++◌, List, ℕ, suc, length, take, drop, ap, sym, subst, ◌∙◌, arith}
 use Rattle.std.proofs.lemmas.Grind.{common_steps}
-use Rattle.droid_frame.specs.declared.stream.fault.WriteFault.{WriteFault}
-use Rattle.droid_frame.specs.StreamWrites.{StopsWithin}
-use Rattle.droid_frame.specs.TextLists.{sized_bytes, texts_bytes}
+use Rattle.droid_stream.specs.declared.fault.WriteFault.{WriteFault}
+use Rattle.droid_stream.specs.Writes.{StopsWithin, Takes}
+use Rattle.droid_stream.proofs.Stopping.{takes_more}
+use Rattle.droid_value.specs.TextLists.{sized_bytes, texts_bytes}
 use Rattle.droid_frame.proofs.ReplyWrites.{puid_room, puids_split, stops_on}
+use Rattle.droid_frame.proofs.StreamEnds.{stop_passed}
 use Rattle.droid_frame.proofs.StreamWrites.{passed_on}
 use Rattle.droid_frame.proofs.stream.replies.write_puids.Goals as goal
 
@@ -33,35 +35,20 @@ returns-in_err-write_all-clause-err g c =
     passed_on c.from_residual.result fault (λ (f : WriteFault). StopsWithin start now (texts_bytes c.args.puids.now) at f.written) c.from_residual.ensures.1
     (stops_on start mid now front (sized_bytes puid) rest (texts_bytes c.args.puids.now) at c.loop-puid.progress.written fault.written c.loop-puid.invariant.sent c.loop-puid.invariant.counted sized split)
 
-pub returns-in_err-write_all-clause-steady : goal.returns-in_err-write_all-clause-steady
-returns-in_err-write_all-clause-steady g c = λ lasts fits.
-    let puids = c.as_slice-puid-items.result.now in
-    let room = puid_room puids c.loop-puid.puid-index c.puid-item.result c.loop-puid-test.true c.puid-item.is in
-    let all = ap (λ (ps : List (List ℕ)). length (texts_bytes ps)) c.as_slice-puid-items.ensures in
-    let part = ap (λ (bytes : List ℕ). length bytes) (c.as_slice.ensures ∙ c.sized_puid.ensures) in
-    let now = c.loop-puid.invariant.steady lasts fits in
-    let stopped = c.in_err-write_all.ensures.steady now.0 (omega (arith, room, all, part, now.1, fits)) in
-    search rules
+pub returns-in_err-write_all-clause-counts : goal.returns-in_err-write_all-clause-counts
+returns-in_err-write_all-clause-counts g c = λ start counts.
+    stop_passed start _ _ _ c.from_residual.result _ c.from_residual.ensures.1 (c.in_err-write_all.ensures.counts start (c.loop-puid.invariant.counts start counts))
 
 pub loop-puid-preserved : goal.loop-puid-preserved
 loop-puid-preserved g c =
     let puids = c.as_slice-puid-items.result.now in
-    let room = puid_room puids c.loop-puid.puid-index c.puid-item.result c.loop-puid-test.true c.puid-item.is in
-    let all = ap (λ (ps : List (List ℕ)). length (texts_bytes ps)) c.as_slice-puid-items.ensures in
-    let part = ap (λ (bytes : List ℕ). length bytes) (c.as_slice.ensures ∙ c.sized_puid.ensures) in
     let counted : c.write_all.new.progress.written ≡ c.args.progress.now.written + length (texts_bytes (take (c.loop-puid.puid-index + 1) puids)) = grind (arith, common_steps) in
+    let sent : length (texts_bytes (take c.loop-puid.puid-index puids)) + length c.as_slice.result.now ≡ length (texts_bytes (take (c.loop-puid.puid-index + 1) puids)) =
+    omega (arith, counted, c.loop-puid.invariant.counted, c.in_ok-write_all.ensures.counted) in
     record {
       sent = grind (arith, common_steps);
       counted = counted;
-      steady = λ lasts fits.
-          let now = c.loop-puid.invariant.steady lasts fits in
-          let took = c.in_ok-write_all.ensures.steady now.0 (omega (arith, room, all, part, now.1, fits)) in
-          (took.1.0, omega (arith, took.1.1, now.1, counted, c.loop-puid.invariant.counted, c.in_ok-write_all.ensures.counted));
+      room = subst (λ (n : ℕ). Takes (g.W.SteadyWrite.room c.args.writer.now) (g.W.SteadyWrite.room c.write_all.new.writer) n) sent
+          (takes_more _ _ _ _ _ c.loop-puid.invariant.room c.in_ok-write_all.ensures.room_ok);
+      counts = λ start counts. c.in_ok-write_all.ensures.counts start (c.loop-puid.invariant.counts start counts);
     }
-
-pub returns-clause-steady : goal.returns-clause-steady
-returns-clause-steady g c = λ lasts fits.
-    let puids = c.as_slice-puid-items.result.now in
-    let now = c.loop-puid.invariant.steady lasts fits in
-    let all : take c.loop-puid.puid-index puids ≡ c.args.puids.now = grind (arith, common_steps) in
-    (refl, (now.0, subst (λ (ps : List (List ℕ)). g.W.SteadyWrite.room c.args.writer.now ≤ g.W.SteadyWrite.room c.loop-puid.writer + length (texts_bytes ps)) all now.1))

@@ -1,0 +1,15 @@
+pub mod Answering
+pub mod FieldLaws
+pub mod FilterLaws
+pub mod FilterSteps
+pub mod FinishedComes
+pub mod FinishedLaws
+pub mod PlaceLaws
+pub mod ReplyComes
+pub mod ReplyFieldLaws
+pub mod ReplyLaws
+pub mod RequestLaws
+pub mod SequenceLaws
+pub mod SequenceLoops
+pub mod TextListLaws
+pub mod Utf8

@@ -1,0 +1,5 @@
+pub mod Outcomes
+pub mod fields
+pub mod filters
+pub mod replies
+pub mod requests

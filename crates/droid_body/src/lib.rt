@@ -1,0 +1,13 @@
+//! The bodies of frames, read: which request or reply a kind and a body spell.
+#![tactic(auto)]
+
+mod body_fault;
+mod fields;
+mod filters;
+pub mod laws;
+mod replies;
+mod requests;
+
+pub use body_fault::BodyFault;
+pub use replies::reply_of;
+pub use requests::request_of;

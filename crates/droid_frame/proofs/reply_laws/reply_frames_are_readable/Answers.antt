@@ -1,5 +1,0 @@
-use Rattle.droid_frame.proofs.ReplyFrames as laws
-use Rattle.droid_frame.proofs.reply_laws.reply_frames_are_readable.Goals as goal
-
-pub returns : goal.returns
-returns c = laws.reply_frames_are_readable

@@ -1,0 +1,62 @@
+//! Replies as bodies of frames.
+
+pub(crate) mod parts;
+mod small_bytes;
+
+ghost use Rattle.std.specs.Prelude.{◌≡◌, ◌≤◌, IfOk, length};
+ghost use Rattle.std.specs.List.{AllByRecursion};
+ghost use Rattle.droid_value.specs.declared.frame.TheConstants.{BODY_LIMIT};
+ghost use Rattle.droid_value.specs.Replies.{HasReplySpelling, IsPuidText, SpellsReply, reply_bytes, reply_kind};
+ghost use Rattle.droid_value.specs.TextLists.{texts_bytes};
+
+use crate::replies::parts::front_of;
+use crate::text_lists::append_texts;
+use droid_value::{Blob, PUIDS_LIMIT, Reply, Texts};
+use std::alloc::{AllocError, Global};
+
+/// The body of a reply's frame: the one spelling that the reply has. Memory is taken once, for all of it,
+/// and only want of memory refuses it.
+///
+/// A reply with more identifiers, a longer one or a longer part than a reply may have has no spelling, so
+/// the caller sees to that.
+pub fn reply_body(alloc: Global, reply: &Reply) -> Result<Blob, AllocError>
+    requires { HasReplySpelling reply.now }
+    ensures spells { IfOk result (λ body. SpellsReply (reply_kind reply.now) body reply.now) }
+{
+    let mut body = Vec::with_capacity(alloc, body_length(reply))?;
+    body.extend_from_slice(front_of(reply).as_slice())?;
+    match reply {
+        Reply::Finished { puids, .. } => append_texts(&mut body, puids)?,
+        Reply::Part { bytes, .. } => body.extend_from_slice(bytes.as_slice())?,
+        _ => {}
+    }
+    Ok(Blob::from(body))
+}
+
+/// How many bytes the body of the reply has.
+pub(crate) fn body_length(reply: &Reply) -> usize
+    requires { HasReplySpelling reply.now }
+    ensures length { result ≡ length (reply_bytes reply.now) }
+    ensures bound { result ≤ BODY_LIMIT }
+{
+    let rest = match reply {
+        Reply::Finished { puids, .. } => puids_length(puids),
+        Reply::Part { bytes, .. } => bytes.len(),
+        _ => 0,
+    };
+    front_of(reply).as_slice().len() + rest
+}
+
+/// How many bytes the identifiers take, each after its length.
+fn puids_length(puids: &Texts) -> usize
+    requires count { length puids.now ≤ PUIDS_LIMIT }
+    requires each { AllByRecursion IsPuidText puids.now }
+    ensures length { result ≡ length (texts_bytes puids.now) }
+    ensures bound { result ≤ 135168 }
+{
+    let mut total = 0;
+    for puid in puids.as_slice() {
+        total += 1 + puid.len();
+    }
+    total
+}

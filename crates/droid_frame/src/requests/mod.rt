@@ -1,0 +1,171 @@
+//! Requests as frames.
+
+mod filters;
+
+ghost use Rattle.std.specs.Prelude.{◌≡◌, ◌++◌, IfOk, OnOk};
+ghost use Rattle.std.specs.Str.{IsUtf8};
+ghost use Rattle.droid_value.specs.Bodies.{Fits, HasSpelling, ListsFit, SpellsRequest, request_kind, request_body};
+ghost use Rattle.droid_value.specs.Fields.{IsBytes, u32_bytes, u64_bytes, i64_bytes, IsU32, IsU64, IsI64};
+ghost use Rattle.droid_value.specs.Frames.{frame_bytes, spelling};
+
+use self::filters::append_filter;
+use droid_value::{Blob, Frame, Request, Text, VERSION};
+use std::alloc::{AllocError, Global};
+
+/// The frame of a request: the one spelling that it has. Only want of memory refuses it.
+pub fn request_frame(
+    alloc: Global,
+    client: u32,
+    number: u64,
+    request: &Request,
+) -> Result<Frame, AllocError>
+    requires { Fits request.now }
+    ensures spells { IfOk result (λ frame. SpellsRequest frame.kind frame.body request.now) }
+    ensures sender { IfOk result (λ frame. (frame.client ≡ client) × (frame.number ≡ number)) }
+    ensures bytes { IfOk result (λ frame.
+        frame_bytes frame ≡ spelling 1 (request_kind request.now) client number (request_body request.now)) }
+{
+    Ok(Frame {
+        version: VERSION,
+        kind: kind_of(request),
+        client,
+        number,
+        body: body_of(alloc, request)?,
+    })
+}
+
+fn kind_of(request: &Request) -> u8
+    ensures { result ≡ request_kind request.now }
+{
+    match request {
+        Request::CreateProfile { .. } => 1,
+        Request::AddFolder { .. } => 2,
+        Request::AddFile { .. } => 3,
+        Request::Piece { .. } => 4,
+        Request::Finish { .. } => 5,
+        Request::Abandon { .. } => 6,
+        Request::Status { .. } => 7,
+        Request::Export { .. } => 8,
+    }
+}
+
+/// The body, in a buffer of exactly its length.
+fn body_of(alloc: Global, request: &Request) -> Result<Blob, AllocError>
+    requires { Fits request.now }
+    ensures { IfOk result (λ body. SpellsRequest (request_kind request.now) body request.now) }
+{
+    let len = request.body_len().unwrap();
+    let mut body = Vec::with_capacity(alloc, len)?;
+    append_body(&mut body, request)?;
+    Ok(Blob::from(body))
+}
+
+/// Adds the request's fields at the end, one after the other.
+fn append_body(out: &mut Vec<u8>, request: &Request) -> Result<(), AllocError>
+    requires { ListsFit request.now }
+    ensures added { OnOk result (out.new.items ≡ out.old.items ++ request_body request.now) }
+    ensures spelled { OnOk result (HasSpelling request.now) }
+{
+    match request {
+        Request::CreateProfile {
+            scan_limit,
+            match_all,
+        } => {
+            append_u32(out, *scan_limit)?;
+            out.push(u8::from(*match_all))?;
+        }
+        Request::AddFolder {
+            profile,
+            parent,
+            modified,
+            name,
+        } => {
+            append_pair(out, *profile, *parent)?;
+            append_i64(out, modified)?;
+            append_name(out, name)?;
+        }
+        Request::AddFile {
+            profile,
+            parent,
+            modified,
+            size,
+            piece_size,
+            name,
+        } => {
+            append_pair(out, *profile, *parent)?;
+            append_i64(out, modified)?;
+            append_u64(out, *size)?;
+            append_u32(out, *piece_size)?;
+            append_name(out, name)?;
+        }
+        Request::Piece {
+            profile,
+            file,
+            index,
+            bytes,
+        } => {
+            append_pair(out, *profile, *file)?;
+            append_u32(out, *index)?;
+            append_bytes(out, bytes)?;
+        }
+        Request::Finish { profile, file } => append_pair(out, *profile, *file)?,
+        Request::Abandon { profile, file } => append_pair(out, *profile, *file)?,
+        Request::Status { profile, file } => append_pair(out, *profile, *file)?,
+        Request::Export {
+            profile,
+            from,
+            max,
+            filter,
+        } => {
+            append_u32(out, *profile)?;
+            append_u64(out, *from)?;
+            append_u32(out, *max)?;
+            append_filter(out, filter)?;
+        }
+    }
+    Ok(())
+}
+
+fn append_u32(out: &mut Vec<u8>, number: u32) -> Result<(), AllocError>
+    ensures added { OnOk result (out.new.items ≡ out.old.items ++ u32_bytes number) }
+    ensures spelled { IsU32 number }
+{
+    out.extend_from_slice(&number.to_be_bytes())
+}
+
+fn append_u64(out: &mut Vec<u8>, wide: u64) -> Result<(), AllocError>
+    ensures added { OnOk result (out.new.items ≡ out.old.items ++ u64_bytes wide) }
+    ensures spelled { IsU64 wide }
+{
+    out.extend_from_slice(&wide.to_be_bytes())
+}
+
+fn append_i64(out: &mut Vec<u8>, signed: &i64) -> Result<(), AllocError>
+    ensures added { OnOk result (out.new.items ≡ out.old.items ++ i64_bytes signed.now) }
+    ensures spelled { IsI64 signed.now }
+{
+    let signed = *signed;
+    out.extend_from_slice(&signed.to_be_bytes())
+}
+
+fn append_name(out: &mut Vec<u8>, name: &Text) -> Result<(), AllocError>
+    ensures added { OnOk result (out.new.items ≡ out.old.items ++ name.now) }
+    ensures utf8 { IsUtf8 name.now }
+{
+    let name = name.as_str();
+    out.extend_from_slice(name.as_bytes())
+}
+
+fn append_bytes(out: &mut Vec<u8>, bytes: &Blob) -> Result<(), AllocError>
+    ensures added { OnOk result (out.new.items ≡ out.old.items ++ bytes.now) }
+    ensures are_bytes { IsBytes bytes.now }
+{
+    out.extend_from_slice(bytes.as_slice())
+}
+
+fn append_pair(out: &mut Vec<u8>, first: u32, second: u32) -> Result<(), AllocError>
+    ensures { OnOk result (out.new.items ≡ out.old.items ++ (u32_bytes first ++ u32_bytes second)) }
+{
+    append_u32(out, first)?;
+    append_u32(out, second)
+}

@@ -1,0 +1,4 @@
+pub mod Inputs
+pub mod Parts
+pub mod Scopes
+pub mod Stopping

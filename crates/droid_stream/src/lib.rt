@@ -1,0 +1,23 @@
+//! Reading and writing over streams that may be interrupted or fail.
+//!
+//! An interrupted read or write is tried again, 64 times within one frame, file or text; any other error, and
+//! a write that takes no byte, is a fault at once.
+#![tactic(auto)]
+
+mod fault;
+mod input;
+mod reading;
+mod retries;
+mod seen;
+mod steady;
+mod unsteady;
+mod writing;
+
+pub use fault::{InputFault, ReadFault, WriteFault};
+pub use input::read_to_end;
+pub use reading::{fill, read_some};
+pub use retries::{RETRY_LIMIT, Retries};
+pub use seen::{Condition, Seen};
+pub use steady::{SteadyRead, SteadyWrite};
+pub use unsteady::Unsteady;
+pub use writing::{Progress, write_all};

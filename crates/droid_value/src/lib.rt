@@ -1,0 +1,33 @@
+//! The values that frames carry: requests, replies and what they are made of.
+//!
+//! Each value has one spelling in bytes, which `specs/` defines; the crates above read and write by it.
+#![tactic(auto)]
+
+mod blob;
+mod criteria;
+mod criterion;
+mod filter;
+mod frame;
+mod lengths;
+mod method;
+mod node_kind;
+mod record;
+mod refusal;
+mod reply;
+mod request;
+mod text;
+mod texts;
+
+pub use blob::Blob;
+pub use criteria::Criteria;
+pub use criterion::Criterion;
+pub use filter::Filter;
+pub use frame::{BODY_LIMIT, Frame, NUMBER_LIMIT, VERSION, mark};
+pub use method::Method;
+pub use node_kind::NodeKind;
+pub use record::Record;
+pub use refusal::{Limit, Refusal};
+pub use reply::{PART_LIMIT, PUID_LIMIT, PUIDS_LIMIT, Reply};
+pub use request::Request;
+pub use text::Text;
+pub use texts::Texts;

@@ -1,0 +1,82 @@
+//! A list of texts.
+
+ghost use Rattle.std.specs.Prelude.{◌≡◌, ◌↔◌, ◌++◌, ◌∷◌, [], IsTrue, IfOk, OnOk, OnErr, length};
+ghost use Rattle.std.specs.Option.{option_copied};
+ghost use Rattle.std.specs.List.{slice_get};
+
+use crate::text::Text;
+use std::alloc::{AllocError, Global};
+use std::marker::Model;
+
+/// Texts in order, as the identifiers of a file's formats. Contracts see the list of their bytes.
+#[derive(Debug, Drop)]
+pub struct Texts {
+    items: Vec<Text>,
+}
+
+impl Model for Texts {
+    ghost use Rattle.std.specs.Prelude.{List, ℕ};
+
+    ghost Value = { List (List ℕ) };
+
+    ghost view = { λ texts. texts.items.items };
+}
+
+impl Texts {
+    /// No text. It takes no memory.
+    pub fn new(alloc: Global) -> Texts
+        ensures { result ≡ [] }
+    {
+        Texts {
+            items: Vec::new(alloc),
+        }
+    }
+
+    /// Adds a text at the end. Only want of memory refuses it, and the list then stays as it was.
+    pub fn push(&mut self, text: Text) -> Result<(), AllocError>
+        ensures ok { OnOk result (self.new ≡ self.old ++ text ∷ []) }
+        ensures err { OnErr result (self.new ≡ self.old) }
+    {
+        self.items.push(text)?;
+        Ok(())
+    }
+
+    /// The text at this place, counted from 0, or `None` past the end.
+    pub fn get(&self, place: usize) -> Option<&Text>
+        ensures { option_copied result ≡ slice_get self.now place }
+    {
+        self.items.get(place)
+    }
+
+    /// The texts.
+    pub fn as_slice(&self) -> &[Text]
+        ensures { result.now ≡ self.now }
+    {
+        self.items.as_slice()
+    }
+
+    /// How many texts there are.
+    pub fn len(&self) -> usize
+        ensures { result ≡ length self.now }
+    {
+        self.items.len()
+    }
+
+    /// Whether there is no text.
+    pub fn is_empty(&self) -> bool
+        ensures { IsTrue result ↔ (self.now ≡ []) }
+    {
+        self.items.is_empty()
+    }
+
+    /// A copy of the list and of each text. Only want of memory refuses it.
+    pub fn try_clone(&self, alloc: Global) -> Result<Texts, AllocError>
+        ensures { IfOk result (λ texts. texts ≡ self.now) }
+    {
+        let mut items = Vec::with_capacity(alloc, self.items.len())?;
+        for text in &self.items {
+            items.push(text.try_clone(alloc)?)?;
+        }
+        Ok(Texts { items })
+    }
+}
