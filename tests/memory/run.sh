@@ -1,7 +1,7 @@
 #!/bin/sh
 # Runs tests of the crates again and again, each time with another of their allocations refused. A test
 # asks again where memory was wanting, so it passes whichever allocation is refused. The tests are those
-# that `rt ci` or `rt test` left in the crates' out/.
+# that `rt ci` or `rt test` left in the crates' out/. Then runs the program in the same way (program.sh).
 set -u
 top=$(cd "$(dirname "$0")/../.." && pwd)
 work=$(mktemp -d) || exit 1
@@ -10,7 +10,7 @@ ${CC:-cc} -shared -fPIC -o "$work/refuse.so" "$top/tests/memory/refuse.c" -ldl |
 
 passed=0
 failed=0
-for test in droid_desk:service::tests::one_after_the_other droid_desk:service::tests::in_one_run \
+for test in core_tests:memory::one_after_the_other core_tests:memory::in_one_run \
     droid_assembly:tests::each_growth_refused pronom_tests:memory::each_growth_of_a_registry \
     pronom_tests:memory::each_growth_of_a_search frame_tests:memory::each_growth_of_a_request \
     frame_tests:memory::each_growth_of_a_reply frame_tests:streams::growths_refused; do
@@ -40,5 +40,6 @@ for test in droid_desk:service::tests::one_after_the_other droid_desk:service::t
         number=$((number + 1))
     done
 done
+sh "$top/tests/memory/program.sh" "$work/refuse.so" || failed=$((failed + 1))
 echo "$passed passed, $failed failed"
 [ "$failed" -eq 0 ]

@@ -1,9 +1,10 @@
 #!/bin/sh
-# Runs the program on each case of tests/program/cases and compares what it writes and how it ends.
+# Runs the program on each case of tests/program/cases and compares what it writes and how it ends; then over
+# streams that are interrupted or fail (streams.sh).
 # A case is a folder with any of these files; what is missing is empty, and the status 0:
 #   args    the arguments, in one line
 #   in      standard input          in.sh  or a script that writes it   from  or a path that is opened
-#   out     wanted standard output  to     or a path that it goes to
+#   out     wanted standard output  out.sh or a script that writes it   to  or a path that it goes to
 #   err     wanted standard error, or err.has, a text that has to be in it
 #   status  wanted exit status
 set -u
@@ -35,8 +36,13 @@ for case in "$top"/tests/program/cases/*/; do
     status=$?
     problem=
     [ "$status" = "$(cat "$case/status" 2>/dev/null || echo 0)" ] || problem="ended with status $status"
-    if [ -f "$case/out" ]; then
-        cmp -s "$case/out" "$work/out" || problem="wrote something else"
+    wanted=$case/out
+    if [ -f "$case/out.sh" ]; then
+        sh "$case/out.sh" >"$work/wanted"
+        wanted=$work/wanted
+    fi
+    if [ -f "$wanted" ]; then
+        cmp -s "$wanted" "$work/out" || problem="wrote something else"
     elif [ -s "$work/out" ] && [ ! -f "$case/out.has" ]; then
         problem="wrote something"
     fi
@@ -59,5 +65,6 @@ for case in "$top"/tests/program/cases/*/; do
         sed 's/^/  err: /' "$work/err" | head -n 20
     fi
 done
+sh "$top/tests/program/streams.sh" "$program" || failed=$((failed + 1))
 echo "$passed passed, $failed failed"
 [ "$failed" -eq 0 ] && [ "$passed" -gt 0 ]

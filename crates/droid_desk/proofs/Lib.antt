@@ -1,14 +1,7 @@
-pub mod Folders
-pub mod Handling
 pub mod LineCuts
 pub mod LineNumbers
 pub mod LineWords
-pub mod Measures
-pub mod Places
-pub mod Running
 pub mod ScriptEndings
+pub mod ScriptFaults
 pub mod ScriptRuns
 pub mod ScriptWrites
-pub mod Served
-pub mod SteadyWriters
-pub mod Verdicts

@@ -6,8 +6,7 @@ use Rattle.std.specs.List.{position_or_len, before_first, after_first}
 use Rattle.std.specs.Option.{option_map}
 use Rattle.droid_desk.specs.Lines.{is_space, word_at, line_value, text_line, where_fitting, head_at, request_words}
 use Rattle.droid_frame.specs.Bodies.{request_body}
-use Rattle.droid_frame.specs.declared.frame.TheConstants.{BODY_LIMIT}
-use Rattle.droid_frame.specs.declared.request.Request.{Request}
+use Rattle.droid_frame.specs.types.request.Request.{Request}
 use Rattle.std.specs.Prelude.{nat_le}
 use Rattle.droid_frame.specs.Reading.{◌>>=◌, text_at}
 use Rattle.std.specs.Str.{IsUtf8, is_utf8}
@@ -42,6 +41,6 @@ not_at_most a b not =
 
 -- a line whose request doesn't fit asks for nothing
 pub line_too_long : (text : List ℕ) (client number : ℕ) (kind rest : List ℕ) (request : Request) → Some (client, number, kind, rest) ≡ head_at text → Some request ≡ request_words kind rest
-    → nat_le (length (request_body request)) BODY_LIMIT ≡ false → None ≡ text_line text
+    → nat_le (length (request_body request)) 1048640 ≡ false → None ≡ text_line text
 unfolding text_line where_fitting
 line_too_long text client number kind rest request head words long = rw (← head, ← words, long) refl

@@ -1,5 +1,5 @@
 -- What the end of a script says of the program's ending.
-use Rattle.std.proofs.Common.{◌≡◌, ℕ, ◌<◌, Bool, true, false, cond, eqb, List, [], length, Option, Some, None, Result, Ok, Err, OnOk, IfOk, IfErr, IfSome, refl, sym, ◌∙◌, subst, arith}
+use Rattle.std.proofs.Common.{◌≡◌, ℕ, Bool, true, false, cond, eqb, List, [], Option, Some, None, Result, Ok, Err, OnOk, IfOk, IfErr, IfSome, refl, sym, ◌∙◌, subst, arith}
 use Rattle.std.specs.Prelude.{IsErrOf}
 use Rattle.std.specs.Io.KnownBytes.{Keeps}
 use Rattle.std.proofs.KnownBytes.{Keeps-refl}
@@ -7,13 +7,12 @@ use Rattle.std.proofs.lemmas.Bool.{eqb-true, eqb-false}
 use Rattle.droid_desk.specs.declared.program.Ending.TheVariants.{Done, BadLine}
 use Rattle.droid_desk.specs.declared.script.fault.ScriptFault.{ScriptFault}
 use Rattle.droid_desk.specs.declared.script.fault.ScriptFault.TheVariants.{TooLong, Read, Memory, Write}
-use Rattle.droid_desk.specs.declared.script.input.TheConstants.{INPUT_LIMIT}
 use Rattle.droid_desk.specs.declared.script.tally.Tally.{Tally}
-use Rattle.droid_desk.specs.declared.service.Service.{Service}
-use Rattle.droid_desk.specs.declared.service.limits.Limits.{Limits}
+use Rattle.droid_core.specs.declared.service.Service.{Service}
+use Rattle.droid_core.specs.declared.service.limits.Limits.{Limits}
 use Rattle.droid_desk.specs.Endings.{ending_of, EndsAs, PrintsAll}
 use Rattle.droid_desk.specs.Lines.{lines_of}
-use Rattle.droid_desk.specs.Scripts.{RunsAll, RunsFront, Counts, IsOfReading, IsOfHandling}
+use Rattle.droid_desk.specs.Scripts.{RunsAll, RunsFront, Counts, IsOfReading, IsOfHandling, IsTooLong}
 
 pub keeps_same : (old new : Option (List ℕ)) → new ≡ old → Keeps old new
 keeps_same old new e = subst (Keeps old) (sym e) (Keeps-refl old)
@@ -36,7 +35,7 @@ pub ends : (known : Option (List ℕ)) (r : Result Tally ScriptFault) (limits : 
     → IfOk r (λ tally. IfSome known (λ input. Counts tally (lines_of input)))
     → IfErr r (λ fault. IsOfHandling fault → IfSome known (λ input. RunsFront limits [] (lines_of input) after old new))
     → IfErr r (λ fault. IsOfReading fault → Keeps old new)
-    → (IsErrOf r TooLong → IfSome known (λ input. INPUT_LIMIT < length input))
+    → (IsErrOf r TooLong → IfSome known IsTooLong)
     → IfSome known (λ input. EndsAs limits (ending_of r) input old new)
 ends None r limits after old new all tally front before too_long = tt
 ends (Some input) (Ok counted) limits after old new all tally front before too_long =

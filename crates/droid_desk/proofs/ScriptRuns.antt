@@ -6,20 +6,20 @@ use Rattle.std.specs.Io.KnownBytes.{Appends}
 use Rattle.std.proofs.KnownBytes.{Appends-nil, Appends-trans}
 use Rattle.std.proofs.lemmas.Grind.{flat_map-append}
 use Rattle.std.proofs.lemmas.List.Sums.{sum_by-append}
-use Rattle.droid_frame.specs.declared.frame.Frame.{Frame}
+use Rattle.droid_frame.specs.types.frame.Frame.{Frame}
 use Rattle.droid_frame.specs.Bodies.{SpellsRequest, request_kind, request_body}
 use Rattle.droid_frame.specs.Frames.{frame_bytes, spelling}
-use Rattle.droid_frame.specs.declared.reply.Reply.{Reply}
+use Rattle.droid_frame.specs.types.reply.Reply.{Reply}
 use Rattle.droid_desk.specs.declared.script.parse.Line.{Line}
 use Rattle.droid_desk.specs.declared.script.tally.Tally.{Tally}
-use Rattle.droid_desk.specs.declared.service.Service.{Service}
-use Rattle.droid_desk.specs.declared.service.limits.Limits.{Limits}
-use Rattle.droid_desk.specs.Histories.{History, command, answer, next}
+use Rattle.droid_core.specs.declared.service.Service.{Service}
+use Rattle.droid_core.specs.declared.service.limits.Limits.{Limits}
+use Rattle.droid_core.specs.Histories.{History, command, answer, next, Handles}
 use Rattle.droid_desk.specs.Lines.{lines_of, line_value}
 use Rattle.droid_desk.specs.Printed.{answer_line}
-use Rattle.droid_desk.specs.Scripts.{frame_of, Answers, ScriptRun, script_text, LineAnswered, WritesFront, RunsAll, RunsFront, is_bad, Counts, StandsForSome}
-use Rattle.droid_desk.specs.Standing.{StandsFor, Handles, limits_of}
-use Rattle.droid_desk.specs.Wants.{is_want}
+use Rattle.droid_desk.specs.Scripts.{frame_of, ScriptRun, script_text, LineAnswered, WritesFront, RunsAll, RunsFront, is_bad, Counts, StandsForSome}
+use Rattle.droid_core.specs.Standing.{StandsFor, limits_of}
+use Rattle.droid_core.specs.Wants.{is_want}
 
 -- ---- one line
 
@@ -31,10 +31,10 @@ answered_by false limits history frame reply after p = (next limits history fram
 
 -- a request that was handled was answered
 pub line_handled : (limits : Limits) (history : History) (line : Line) (frame : Frame) (reply : Reply) (after : Service)
-    → frame ≡ frame_of line → Handles limits history frame reply after → LineAnswered limits history (Some line) (Some reply) after
+    → frame ≡ frame_of line → Handles limits history frame reply (StandsFor after) → LineAnswered limits history (Some line) (Some reply) after
 line_handled limits history line frame reply after e handled =
     let by = answered_by (is_want reply) limits history frame reply after handled in
-    record { after = by.0; run = subst (λ (sent : Frame). Answers limits history sent reply by.0) e by.1; stands = by.2 }
+    record { after = by.0; run = subst (λ (sent : Frame). Handles limits history sent reply (λ left. by.0 ≡ left)) e by.1; stands = by.2 }
 
 -- a bad line changes nothing
 pub bad_line_run : (limits : Limits) (history : History) (service : Service) → StandsFor service history → LineAnswered limits history None None service
@@ -226,6 +226,17 @@ stop before now later input rest line after tally old new newer so_far cut ran h
 pub all_lines : (before now : Service) (input rest : List ℕ) (tally : Tally) (old new : Option (List ℕ))
     → (so_far : Progress before now input rest tally old new) → lines_of rest ≡ [] → lines_of input ≡ so_far.front
 all_lines before now input rest tally old new so_far none = so_far.cut ∙ (ap (λ (l : List (List ℕ)). so_far.front ++ l) none ∙ append-nil so_far.front)
+
+-- so many lines ran, and one is left
+pub line_is_left : (before now : Service) (input rest line after : List ℕ) (tally : Tally) (old new : Option (List ℕ))
+    → Progress before now input rest tally old new → lines_of rest ≡ line ∷ lines_of after → tally.lines + 1 ≤ length (lines_of input)
+line_is_left before now input rest line after tally old new so_far cut =
+    omega (arith, so_far.counted.lines, ap length so_far.cut, ap length cut, length-append so_far.front (lines_of rest))
+
+pub lines_are_within : (before now : Service) (input rest : List ℕ) (tally : Tally) (old new : Option (List ℕ))
+    → Progress before now input rest tally old new → tally.lines ≤ length (lines_of input)
+lines_are_within before now input rest tally old new so_far =
+    omega (arith, so_far.counted.lines, ap length so_far.cut, length-append so_far.front (lines_of rest))
 
 -- ---- the frame that a line sends
 

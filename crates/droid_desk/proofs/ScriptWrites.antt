@@ -1,21 +1,13 @@
--- What was written so far, and what a `?` passes on.
-use Rattle.std.proofs.Common.{ℕ, ◌+◌, ◌-◌, List, length, take, drop, Option, Some, None, Result, Ok, Err, sym, subst, OnErr, IfErr, IfSome}
-use Rattle.std.specs.Io.KnownBytes.{Appends}
-use Rattle.std.proofs.KnownBytes.{Appends-trans}
-use Rattle.std.proofs.Math.Seq.{take-add}
+-- What was written of a text, and what a `?` passes on.
+use Rattle.std.proofs.Common.{ℕ, ◌-◌, List, take, drop, Option, Some, None, Result, Ok, Err, sym, OnErr, IfErr, IfSome}
 use Rattle.std.proofs.lemmas.List.{take-append-drop}
-use Rattle.droid_desk.proofs.LineCuts.{end_of}
+use Rattle.droid_stream.specs.Writes.{StopsWithin}
 use Rattle.droid_desk.specs.Scripts.{WritesFront}
 
-pub front_written : (old new : Option (List ℕ)) (text : List ℕ) (n : ℕ) → Appends old new (take n text) → WritesFront old new text
-front_written old new text n writes = record { written = take n text; unwritten = drop n text; cut = sym (take-append-drop n text); writes = writes }
-
--- after w bytes, n more of the rest
-pub written_more : (old mid new : Option (List ℕ)) (text : List ℕ) (w n : ℕ) → Appends old mid (take w text)
-    → Appends mid new (take n (take (length text - w) (drop w text))) → Appends old new (take (w + n) text)
-written_more old mid new text w n first next =
-    let rest : Appends mid new (take n (drop w text)) = subst (λ (l : List ℕ). Appends mid new (take n l)) (end_of w text) next in
-    subst (Appends old new) (sym (take-add w n text)) (Appends-trans old mid new (take w text) (take n (drop w text)) first rest)
+-- a write that stopped wrote the first bytes
+pub front_written : (old new : Option (List ℕ)) (text : List ℕ) (before count : ℕ) → StopsWithin old new text before count → WritesFront old new text
+front_written old new text before count stops =
+    record { written = take (count - before) text; unwritten = drop (count - before) text; cut = sym (take-append-drop (count - before) text); writes = stops.front }
 
 -- ---- a fact for one variant
 

@@ -1,13 +1,5 @@
 pub mod Endings
-pub mod Histories
-pub mod Judging
 pub mod Lines
 pub mod Printed
-pub mod Replies
-pub mod Rows
-pub mod Running
 pub mod Sample
 pub mod Scripts
-pub mod Standing
-pub mod Wants
-pub mod World

@@ -4,9 +4,8 @@ use Rattle.std.specs.List.{slice_split, position_or_len, before_first, after_fir
 use Rattle.std.specs.Option.{option_map}
 use Rattle.std.specs.Str.{all_ascii_digits, bytes_eq}
 use Rattle.std.specs.Str.Parse.{digits_value}
-use Rattle.droid_frame.specs.declared.frame.TheConstants.{BODY_LIMIT}
-use Rattle.droid_frame.specs.declared.request.Request.{Request}
-use Rattle.droid_frame.specs.declared.request.Request.TheVariants.{CreateProfile, AddFolder}
+use Rattle.droid_frame.specs.types.request.Request.{Request}
+use Rattle.droid_frame.specs.types.request.Request.TheVariants.{CreateProfile, AddFolder}
 use Rattle.droid_frame.specs.Bodies.{request_body}
 use Rattle.droid_frame.specs.Reading.{◌>>=◌, text_at}
 use Rattle.droid_desk.specs.declared.script.parse.Line.{Line}
@@ -100,9 +99,9 @@ request_words kind text =
     else if bytes_eq kind (codes "folder") then folder_words text
     else None
 
--- the line, where its request fits into a frame
+-- the line, where its request fits into a frame: a body has at most 1,048,640 bytes
 unfoldable pub where_fitting : Line → Option Line
-where_fitting line = if nat_le (length (request_body line.request)) BODY_LIMIT then Some line else None
+where_fitting line = if nat_le (length (request_body line.request)) 1048640 then Some line else None
 
 -- `C N KIND`: the client, the number, the word of the kind, and what stands after the space
 unfoldable pub head_at : List ℕ → Option (ℕ × ℕ × List ℕ × List ℕ)

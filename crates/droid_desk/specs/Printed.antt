@@ -1,12 +1,12 @@
 -- How replies are printed (this project's own).
 use Rattle.std.specs.Prelude.{ℕ, List, [], ◌∷◌, ◌++◌, codes, Option, Some, None}
 use Rattle.std.specs.Fmt.{decimal}
-use Rattle.droid_frame.specs.declared.refusal.Limit.{Limit}
-use Rattle.droid_frame.specs.declared.refusal.Limit.TheVariants as limits
-use Rattle.droid_frame.specs.declared.refusal.Refusal.{Refusal}
-use Rattle.droid_frame.specs.declared.refusal.Refusal.TheVariants.{TooFarAhead, Incomplete, LimitReached}
-use Rattle.droid_frame.specs.declared.reply.Reply.{Reply}
-use Rattle.droid_frame.specs.declared.reply.Reply.TheVariants.{Made, Node, Taken, Finished, Abandoned, Progress, Part, Refused}
+use Rattle.droid_frame.specs.types.refusal.Limit.{Limit}
+use Rattle.droid_frame.specs.types.refusal.Limit.TheVariants as limits
+use Rattle.droid_frame.specs.types.refusal.Refusal.{Refusal}
+use Rattle.droid_frame.specs.types.refusal.Refusal.TheVariants.{TooFarAhead, Incomplete, LimitReached}
+use Rattle.droid_frame.specs.types.reply.Reply.{Reply}
+use Rattle.droid_frame.specs.types.reply.Reply.TheVariants.{Made, Node, Taken, Finished, Abandoned, Progress, Part, Refused}
 use Rattle.droid_frame.specs.Refusals.{refusal_number}
 
 abbrev pub limit_text : Limit → List ℕ

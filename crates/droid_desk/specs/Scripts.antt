@@ -1,21 +1,24 @@
 -- Runs of a script: which lines were handled, what they printed, and the history that they left.
-use Rattle.std.specs.Prelude.{◌≡◌, ℕ, Bool, List, [], ◌∷◌, ◌++◌, length, Option, Some, None, is_none, IsSome, MatchBool}
+use Rattle.std.specs.Prelude.{◌≡◌, ℕ, ◌+◌, ◌*◌, ◌<◌, ◌≤◌, Bool, List, [], ◌∷◌, ◌++◌, length, Option, Some, None, is_none}
 use Rattle.std.specs.List.{flat_map, count_by}
 use Rattle.std.specs.Io.KnownBytes.{Appends}
-use Rattle.droid_frame.specs.declared.frame.Frame.{Frame}
-use Rattle.droid_frame.specs.declared.reply.Reply.{Reply}
+use Rattle.droid_frame.specs.types.frame.Frame.{Frame}
+use Rattle.droid_frame.specs.types.reply.Reply.{Reply}
 use Rattle.droid_frame.specs.Bodies.{request_kind, request_body}
 use Rattle.droid_desk.specs.declared.script.fault.ScriptFault.{ScriptFault}
 use Rattle.droid_desk.specs.declared.script.fault.ScriptFault.TheVariants.{TooLong, Read, Memory, Write}
+use Rattle.droid_stream.specs.declared.fault.InputFault.{InputFault}
+use Rattle.droid_stream.specs.declared.fault.InputFault.TheVariants as inputs
+use Rattle.droid_stream.specs.declared.seen.Seen.{Seen}
+use Rattle.droid_stream.specs.Seen.{GivesUp, IsSound}
 use Rattle.droid_desk.specs.declared.script.parse.Line.{Line}
 use Rattle.droid_desk.specs.declared.script.tally.Tally.{Tally}
-use Rattle.droid_desk.specs.declared.service.Service.{Service}
-use Rattle.droid_desk.specs.declared.service.limits.Limits.{Limits}
-use Rattle.droid_desk.specs.Histories.{History, command, answer, next}
+use Rattle.droid_core.specs.declared.service.Service.{Service}
+use Rattle.droid_core.specs.declared.service.limits.Limits.{Limits}
+use Rattle.droid_core.specs.Histories.{History, Handles}
 use Rattle.droid_desk.specs.Lines.{line_value}
 use Rattle.droid_desk.specs.Printed.{answer_line}
-use Rattle.droid_desk.specs.Standing.{StandsFor}
-use Rattle.droid_desk.specs.Wants.{is_want}
+use Rattle.droid_core.specs.Standing.{StandsFor}
 
 -- the frame of version 1 that a line sends
 abbrev pub frame_of : Line → Frame
@@ -27,20 +30,13 @@ frame_of line = record {
   body = request_body line.request;
 }
 
--- after the history the request is answered so, and the history goes on so: by its answer; or for want
--- of memory, which is never said of a malformed request, and the history stays
-abbrev pub Answers : Limits → History → Frame → Reply → History → Type 0
-Answers limits history frame reply after =
-    MatchBool (is_want reply)
-    (IsSome (command frame) × (after ≡ history))
-    ((reply ≡ answer limits history frame) × (after ≡ next limits history frame))
-
--- a bad line sends nothing, and has no reply
+-- A line's request is handled, and the history goes on to this one. A bad line sends nothing, and has no
+-- reply.
 abbrev pub LineRun : Limits → History → Option Line → Option Reply → History → Type 0
 LineRun limits history None None after = after ≡ history
 LineRun limits history None (Some reply) after = ⊥
 LineRun limits history (Some line) None after = ⊥
-LineRun limits history (Some line) (Some reply) after = Answers limits history (frame_of line) reply after
+LineRun limits history (Some line) (Some reply) after = Handles limits history (frame_of line) reply (λ left. after ≡ left)
 
 -- the lines were taken one after the other, with these replies, and the history went on to the last
 abbrev pub ScriptRun : Limits → History → List (List ℕ) → List (Option Reply) → History → Type 0
@@ -92,6 +88,36 @@ pub record RunsFront (limits : Limits) (history : History) (lines : List (List �
 
 abbrev pub StandsForSome : Service → Type 0
 StandsForSome service = (history : History) × StandsFor service history
+
+-- longer than 67,108,864 bytes
+abbrev pub IsTooLong : List ℕ → Type 0
+IsTooLong input = 67108864 < length input
+
+-- what an input that didn't come says of the script
+abbrev pub reading_fault : InputFault → ScriptFault
+reading_fault inputs.TooLong = TooLong
+reading_fault inputs.Memory = Memory
+reading_fault inputs.Read = Read
+
+-- Over the replies of so many lines, each with 64 interruptions of its own that are tried again, a writer
+-- hasn't failed since it had been interrupted `start` times.
+pub record LastsOver (start lines : ℕ) (seen : Seen) : Type 0 where
+  pub sound : IsSound seen
+  pub counted : start ≤ seen.interruptions
+  pub within : seen.interruptions ≤ start + 64 * lines
+
+-- in one of these replies it was given up
+pub record GivesUpOver (start lines : ℕ) (seen : Seen) : Type 0 where
+  pub from : ℕ
+  pub counted : start ≤ from
+  pub within : from + 64 ≤ start + 64 * lines
+  pub gives_up : GivesUp from seen
+
+-- A fault of the writer comes exactly where it is given up in one of the replies; with any other end it
+-- lasts.
+pub record TellsFaultOver (start lines : ℕ) (seen : Seen) (is_fault : Type 0) : Type 0 where
+  pub fault : is_fault → GivesUpOver start lines seen
+  pub otherwise : (is_fault → ⊥) → LastsOver start lines seen
 
 -- a line that asks for nothing
 abbrev pub is_bad : List ℕ → Bool

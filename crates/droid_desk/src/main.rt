@@ -4,7 +4,6 @@
 mod program;
 mod sample;
 mod script;
-mod service;
 
 use std::process::ExitCode;
 

@@ -2,23 +2,24 @@
 
 ghost use Rattle.std.specs.Prelude.{◌≡◌};
 
+use droid_stream::{InputFault, WriteFault};
 use std::alloc::AllocError;
 use thiserror::Error;
 
-/// Why a script ended before its last line.
+/// Why a script ended before its last line. It is shown by its name, as the program prints it.
 #[derive(Debug, Drop, Error)]
 pub enum ScriptFault {
-    /// The input is longer than a script may be. No line was handled.
-    #[error("the script is longer than 67,108,864 bytes")]
+    /// The input is longer than 67,108,864 bytes. No line was handled.
+    #[error("TooLong")]
     TooLong,
     /// The input could not be read. No line was handled.
-    #[error("the script could not be read")]
+    #[error("Read")]
     Read,
     /// Memory was refused.
-    #[error("memory was refused")]
+    #[error("Memory")]
     Memory,
     /// A reply could not be written.
-    #[error("a reply could not be written")]
+    #[error("Write")]
     Write,
 }
 
@@ -29,5 +30,29 @@ impl From<AllocError> for ScriptFault {
 
     fn from(_error: AllocError) -> ScriptFault {
         ScriptFault::Memory
+    }
+}
+
+impl From<InputFault> for ScriptFault {
+    ghost use Rattle.droid_desk.specs.Scripts.{reading_fault};
+
+    ghost from_gives = { λ input fault. fault ≡ reading_fault input };
+
+    fn from(fault: InputFault) -> ScriptFault {
+        match fault {
+            InputFault::TooLong => ScriptFault::TooLong,
+            InputFault::Memory => ScriptFault::Memory,
+            InputFault::Read => ScriptFault::Read,
+        }
+    }
+}
+
+impl From<WriteFault> for ScriptFault {
+    ghost use Rattle.droid_desk.specs.declared.script.fault.ScriptFault.TheVariants.{Write};
+
+    ghost from_gives = { λ _ fault. fault ≡ Write };
+
+    fn from(_fault: WriteFault) -> ScriptFault {
+        ScriptFault::Write
     }
 }

@@ -1,29 +1,29 @@
 //! Scripts: requests as lines of text, and their replies as lines of text.
 
-ghost use Rattle.std.specs.Prelude.{◌≡◌, ◌<◌, ◌≤◌, length, ◌≢◌, IfOk, IfSome, IfErr, OnOk, IsErrOf, IsErrAnd};
-ghost use Rattle.droid_frame.specs.SteadyStreams.{IsSteady};
-ghost use Rattle.droid_desk.specs.Histories.{History};
+ghost use Rattle.std.specs.Prelude.{◌≡◌, ◌≢◌, length, IfOk, IfSome, IfErr, OnOk, IsErrOf, IsErrAnd};
+ghost use Rattle.droid_stream.specs.Seen.{IsSound, TellsFault};
+ghost use Rattle.droid_core.specs.Histories.{History};
 ghost use Rattle.droid_desk.specs.Lines.{lines_of};
-ghost use Rattle.droid_desk.specs.Scripts.{RunsAll, RunsFront, Counts, IsOfHandling, IsOfReading, StandsForSome};
-ghost use Rattle.droid_desk.specs.Standing.{StandsFor, limits_of};
+ghost use Rattle.droid_desk.specs.Scripts.{RunsAll, RunsFront, Counts, IsOfHandling, IsOfReading, IsTooLong, StandsForSome, TellsFaultOver};
+ghost use Rattle.droid_core.specs.Standing.{StandsFor, limits_of};
 
+mod cut;
 mod fault;
-mod input;
-mod output;
 mod parse;
 mod print;
 mod run;
 mod tally;
 mod words;
 
-use crate::service::Service;
-use droid_frame::{SteadyRead, SteadyWrite};
+use droid_core::Service;
+use droid_stream::{SteadyRead, SteadyWrite, read_to_end};
 pub use fault::ScriptFault;
-pub use input::INPUT_LIMIT;
-use input::read_input;
 use run::run_lines;
 use std::alloc::Global;
 pub use tally::Tally;
+
+/// How many bytes a script has at most.
+const INPUT_LIMIT: usize = 67_108_864;
 
 /// Reads a script to its end, hands the request of each line to the service, and writes what each line
 /// prints: its reply, or `bad line`.
@@ -44,19 +44,18 @@ pub fn script<R: SteadyRead, W: SteadyWrite>(
     // The two others come before any line is handled.
     ensures before { IfErr result (λ fault. IsOfReading fault → (service.new ≡ service.old) × (writer.new ≡ writer.old)) }
     // A script that is too long is refused so, unless it could not be read or kept; no other is.
-    ensures too_long { IsErrOf result ScriptFault.TooLong → IfSome (R.remaining reader.old) (λ input. INPUT_LIMIT < length input) }
-    ensures long { IfSome (R.remaining reader.old) (λ input. INPUT_LIMIT < length input →
+    ensures too_long { IsErrOf result ScriptFault.TooLong → IfSome (R.remaining reader.old) IsTooLong }
+    ensures long { IfSome (R.remaining reader.old) (λ input. IsTooLong input →
         IsErrAnd result (λ fault. (fault ≢ ScriptFault.Write) × (service.new ≡ service.old) × (writer.new ≡ writer.old))) }
-    // A stream that doesn't fail is never said to.
-    ensures steady_reader { IsSteady (R.interruptions reader.old) → IsErrOf result ScriptFault.Read → ⊥ }
-    ensures steady_writer { IsSteady (W.interruptions writer.old) → W.is_endless writer.old → IsErrOf result ScriptFault.Write → ⊥ }
+    // The reader is said to have failed exactly where it did, or was interrupted for the 65th time.
+    ensures read_fault { IsSound (R.seen reader.old) → TellsFault (R.seen reader.old).interruptions (R.seen reader.new) (IsErrOf result ScriptFault.Read) }
+    // So is a writer with no end of room, of which 64 interruptions are tried again for each reply.
+    ensures write_fault { IsSound (W.seen writer.old) → W.room writer.old ≡ None → IfSome (R.remaining reader.old) (λ input.
+        TellsFaultOver (W.seen writer.old).interruptions (length (lines_of input)) (W.seen writer.new) (IsErrOf result ScriptFault.Write)) }
     // Whatever comes, the service stands for some history.
     ensures stands { StandsForSome service.old → StandsForSome service.new }
     ensures limits { limits_of service.new ≡ limits_of service.old }
 {
-    let input = read_input(alloc, reader)?;
+    let input = read_to_end(alloc, reader, INPUT_LIMIT)?;
     run_lines(alloc, service, input.as_slice(), writer)
 }
-
-#[cfg(test)]
-mod tests;

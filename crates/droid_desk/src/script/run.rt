@@ -1,20 +1,20 @@
 //! The lines of a script, one after the other.
 
-ghost use Rattle.std.specs.Prelude.{◌≡◌, ◌∷◌, [], IfOk, IfErr, IsErrOf, OnOk, OnErr, is_none};
-ghost use Rattle.droid_frame.specs.SteadyStreams.{IsSteady};
-ghost use Rattle.droid_desk.specs.Histories.{History};
+ghost use Rattle.std.specs.Prelude.{◌≡◌, ◌∷◌, [], IfOk, IfErr, IsErrOf, OnOk, OnErr, is_none, length};
+ghost use Rattle.droid_stream.specs.Seen.{IsSound, TellsFault};
+ghost use Rattle.droid_core.specs.Histories.{History};
 ghost use Rattle.droid_desk.specs.Lines.{lines_of, line_value};
-ghost use Rattle.droid_desk.specs.Scripts.{RunsAll, RunsFront, LineAnswered, Counts, IsOfHandling, is_bad};
-ghost use Rattle.droid_desk.specs.Standing.{StandsFor, limits_of};
+ghost use Rattle.droid_desk.specs.Scripts.{RunsAll, RunsFront, LineAnswered, Counts, IsOfHandling, TellsFaultOver, is_bad};
+ghost use Rattle.droid_core.specs.Standing.{StandsFor, limits_of};
 
+use super::cut::next_line;
 use super::fault::ScriptFault;
-use super::input::next_line;
-use super::output::write_text;
 use super::parse::parse_line;
 use super::print::print_answer;
 use super::tally::Tally;
-use crate::service::Service;
-use droid_frame::{Reply, SteadyWrite, request_frame};
+use droid_core::Service;
+use droid_frame::{Reply, request_frame};
+use droid_stream::{Progress, SteadyWrite, write_all};
 use std::alloc::{AllocError, Global};
 
 /// Handles the lines of the input, and writes what each prints.
@@ -30,8 +30,8 @@ pub fn run_lines<W: SteadyWrite>(
         OnErr result (RunsFront (limits_of service.old) history (lines_of input.now) service.new (W.contents writer.old) (W.contents writer.new)) }
     ensures tally { IfOk result (λ tally. Counts tally (lines_of input.now)) }
     ensures limits { limits_of service.new ≡ limits_of service.old }
-    ensures steady { IsSteady (W.interruptions writer.old) → W.is_endless writer.old →
-        (IsErrOf result ScriptFault.Write → ⊥) × IsSteady (W.interruptions writer.new) × W.is_endless writer.new }
+    ensures told { IsSound (W.seen writer.old) → W.room writer.old ≡ None →
+        TellsFaultOver (W.seen writer.old).interruptions (length (lines_of input.now)) (W.seen writer.new) (IsErrOf result ScriptFault.Write) }
     ensures handling { IfErr result IsOfHandling }
 {
     let mut tally = Tally { lines: 0, bad: 0 };
@@ -60,19 +60,19 @@ fn run_line<W: SteadyWrite>(
         OnErr result (RunsFront (limits_of service.old) history (line.now ∷ []) service.new (W.contents writer.old) (W.contents writer.new)) }
     ensures bad { IfOk result (λ bad. bad ≡ is_bad line.now) }
     ensures limits { limits_of service.new ≡ limits_of service.old }
-    ensures steady { IsSteady (W.interruptions writer.old) → W.is_endless writer.old →
-        (IsErrOf result ScriptFault.Write → ⊥) × IsSteady (W.interruptions writer.new) × W.is_endless writer.new }
+    ensures told { IsSound (W.seen writer.old) → W.room writer.old ≡ None →
+        TellsFault (W.seen writer.old).interruptions (W.seen writer.new) (IsErrOf result ScriptFault.Write) × (W.room writer.new ≡ None) }
     ensures handling { IfErr result IsOfHandling }
 {
-    let answer = answer_line(alloc, service, line)?;
+    let answer = handle_line(alloc, service, line)?;
     let mut text = String::new(alloc);
     print_answer(&mut text, &answer)?;
-    write_text(writer, text.as_str().as_bytes())?;
+    write_all(writer, text.as_str().as_bytes(), &mut Progress::new())?;
     Ok(answer.is_none())
 }
 
 /// The reply to the request of a line, or `None` where the line is bad. On an error nothing was handled.
-fn answer_line(
+fn handle_line(
     alloc: Global,
     service: &mut Service,
     line: &[u8],

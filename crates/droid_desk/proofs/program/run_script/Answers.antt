@@ -1,9 +1,9 @@
 use Rattle.std.proofs.Common.{[], IfErr, IfSome, subst, ap}
 use Rattle.std.specs.Io.KnownBytes.{Keeps}
-use Rattle.droid_desk.specs.declared.service.limits.Limits.{Limits}
+use Rattle.droid_core.specs.declared.service.limits.Limits.{Limits}
 use Rattle.droid_desk.specs.Endings.{ending_of, EndsAs}
 use Rattle.droid_desk.specs.Scripts.{IsOfReading}
-use Rattle.droid_desk.specs.Standing.{limits_of}
+use Rattle.droid_core.specs.Standing.{limits_of}
 use Rattle.droid_desk.proofs.ScriptEndings.{ends, keeps_same, if_err_then}
 use Rattle.droid_desk.proofs.program.run_script.Goals as goal
 

@@ -1,11 +1,16 @@
 use Rattle.std.proofs.Common.{◌≡◌, List, [], ◌∷◌, ◌++◌, ℕ, sym, ap, subst, ◌∙◌}
 use Rattle.std.specs.Io.KnownBytes.{Appends}
-use Rattle.droid_desk.specs.declared.service.Service.{Service}
+use Rattle.droid_core.specs.declared.service.Service.{Service}
 use Rattle.droid_desk.specs.Printed.{answer_line}
 use Rattle.droid_desk.specs.Scripts.{RunsFront, WritesFront}
-use Rattle.droid_desk.specs.Standing.{limits_of}
+use Rattle.droid_core.specs.Standing.{limits_of}
 use Rattle.droid_desk.proofs.ScriptRuns.{line_runs, line_runs_front, writes_nothing, runs_nothing}
-use Rattle.droid_desk.proofs.ScriptWrites.{on_err}
+use Rattle.droid_desk.proofs.ScriptWrites.{front_written, on_err}
+use Rattle.std.proofs.Common.{rules}
+use Rattle.droid_stream.specs.Seen.{Counts}
+use Rattle.droid_stream.proofs.Scopes.{counts_none, is_error, told_fault, told_none}
+use Rattle.droid_stream.proofs.Stopping.{given_up_only, room_stays}
+use Rattle.droid_desk.specs.declared.script.fault.ScriptFault.TheVariants.{Write}
 use Rattle.droid_desk.proofs.script.run.run_line.Goals as goal
 
 pub returns-in_err-answer-clause-front : goal.returns-in_err-answer-clause-front
@@ -18,25 +23,43 @@ pub returns-in_err-print_answer-clause-front : goal.returns-in_err-print_answer-
 returns-in_err-print_answer-clause-front g c = λ history stands.
     let answer = c.in_ok-answer.answer in
     let bytes = g.W.Write.contents c.args.writer.now in
-    on_err _ _ (line_runs_front (limits_of c.args.service.now) history c.args.line.now answer c.answer_line.new.service bytes bytes
+    on_err _ _ (line_runs_front (limits_of c.args.service.now) history c.args.line.now answer c.handle_line.new.service bytes bytes
     (c.in_ok-answer.ensures.ok history stands) (writes_nothing bytes (answer_line answer)))
 
-pub returns-in_err-write_text-clause-front : goal.returns-in_err-write_text-clause-front
-returns-in_err-write_text-clause-front g c = λ history stands.
+pub returns-in_err-write_all-clause-front : goal.returns-in_err-write_all-clause-front
+returns-in_err-write_all-clause-front g c = λ history stands.
     let answer = c.in_ok-answer.answer in
     let old = g.W.Write.contents c.args.writer.now in
-    let new = g.W.Write.contents c.write_text.new.writer in
+    let new = g.W.Write.contents c.write_all.new.writer in
     let text : c.as_bytes.result.now ≡ answer_line answer =
     c.as_bytes.ensures.value ∙ (c.as_str.ensures.value ∙ (c.in_ok-print_answer.ensures ∙ ap (λ (l : List ℕ). l ++ answer_line answer) c.new-text.ensures.bytes)) in
-    on_err _ _ (line_runs_front (limits_of c.args.service.now) history c.args.line.now answer c.answer_line.new.service old new
-    (c.in_ok-answer.ensures.ok history stands) (subst (WritesFront old new) text c.in_err-write_text.ensures.err))
+    on_err _ _ (line_runs_front (limits_of c.args.service.now) history c.args.line.now answer c.handle_line.new.service old new
+    (c.in_ok-answer.ensures.ok history stands) (subst (WritesFront old new) text (front_written _ _ _ _ _ c.in_err-write_all.ensures.err)))
 
 pub returns-clause-all : goal.returns-clause-all
 returns-clause-all g c = λ history stands.
     let answer = c.in_ok-answer.answer in
     let old = g.W.Write.contents c.args.writer.now in
-    let new = g.W.Write.contents c.write_text.new.writer in
+    let new = g.W.Write.contents c.write_all.new.writer in
     let text : c.as_bytes.result.now ≡ answer_line answer =
     c.as_bytes.ensures.value ∙ (c.as_str.ensures.value ∙ (c.in_ok-print_answer.ensures ∙ ap (λ (l : List ℕ). l ++ answer_line answer) c.new-text.ensures.bytes)) in
-    line_runs (limits_of c.args.service.now) history c.args.line.now answer c.answer_line.new.service old new
-    (c.in_ok-answer.ensures.ok history stands) (subst (Appends old new) text c.in_ok-write_text.ensures.ok)
+    line_runs (limits_of c.args.service.now) history c.args.line.now answer c.handle_line.new.service old new
+    (c.in_ok-answer.ensures.ok history stands) (subst (Appends old new) text c.in_ok-write_all.ensures.ok)
+
+pub returns-in_err-write_all-clause-told : goal.returns-in_err-write_all-clause-told
+returns-in_err-write_all-clause-told g c = λ sound endless.
+    let old = g.W.SteadyWrite.seen c.args.writer.now in
+    let new = g.W.SteadyWrite.seen c.write_all.new.writer in
+    let counts : Counts old.interruptions old c.new.result.retries = rw c.new.ensures.retries (counts_none old sound) in
+    let stops = c.in_err-write_all.ensures.counts old.interruptions counts in
+    let none = room_stays _ _ (rw endless at c.in_err-write_all.ensures.room_err) in
+    (told_fault old.interruptions new _ (is_error _ Write (search rules)) (given_up_only old.interruptions new _ stops none), none)
+
+pub returns-clause-told : goal.returns-clause-told
+returns-clause-told g c = λ sound endless.
+    let old = g.W.SteadyWrite.seen c.args.writer.now in
+    let new = g.W.SteadyWrite.seen c.write_all.new.writer in
+    let counts : Counts old.interruptions old c.new.result.retries = rw c.new.ensures.retries (counts_none old sound) in
+    let still = c.in_ok-write_all.ensures.counts old.interruptions counts in
+    let none = room_stays _ _ (rw endless at c.in_ok-write_all.ensures.room_ok) in
+    (told_none old.interruptions new _ _ (λ e. absurd cc) still, none)

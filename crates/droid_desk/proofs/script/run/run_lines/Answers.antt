@@ -1,6 +1,8 @@
-use Rattle.std.proofs.Common.{rules, ◌≡◌, true, false, refl, arith}
+use Rattle.std.proofs.Common.{rules, ◌≡◌, true, false, length, refl, arith}
 use Rattle.droid_desk.specs.Scripts.{is_bad}
-use Rattle.droid_desk.proofs.ScriptRuns.{step, stop}
+use Rattle.droid_desk.specs.Lines.{lines_of}
+use Rattle.droid_desk.proofs.ScriptFaults.{lasts_once_more, told_none, told_over}
+use Rattle.droid_desk.proofs.ScriptRuns.{step, stop, line_is_left, lines_are_within}
 use Rattle.droid_desk.proofs.ScriptWrites.{on_err}
 use Rattle.droid_desk.proofs.script.run.run_lines.Goals as goal
 
@@ -17,10 +19,10 @@ loop-line-preserved-then-is_bad g c =
       progress = step c.args.service.now c.loop-line.service c.run_line.new.service c.args.input.now c.loop-line.rest.now c.in-Some.line.now c.in-Some.after.now c.loop-line.tally _
           (g.W.Write.contents c.args.writer.now) (g.W.Write.contents c.loop-line.writer) (g.W.Write.contents c.run_line.new.writer)
           c.loop-line.invariant.progress c.in-Some.ensures.line c.in-Some.ensures.shorter c.in_ok-is_bad.ensures.all c.in_ok-is_bad.ensures.limits refl (rw bad refl);
-      steady = λ lasts endless.
-          let now = c.loop-line.invariant.steady lasts endless in
-          let ran = c.in_ok-is_bad.ensures.steady now.0 now.1 in
-          (ran.1, ran.2);
+      lasts = λ sound endless.
+          let now = c.loop-line.invariant.lasts sound endless in
+          let told = c.in_ok-is_bad.ensures.told now.0.sound now.1 in
+          (lasts_once_more _ c.loop-line.tally.lines _ (g.W.SteadyWrite.seen c.loop-line.writer) _ now.0 (told.0.otherwise (λ e. absurd cc)) refl, told.1);
     }
 
 pub loop-line-preserved : goal.loop-line-preserved
@@ -30,19 +32,24 @@ loop-line-preserved g c =
       progress = step c.args.service.now c.loop-line.service c.run_line.new.service c.args.input.now c.loop-line.rest.now c.in-Some.line.now c.in-Some.after.now c.loop-line.tally _
           (g.W.Write.contents c.args.writer.now) (g.W.Write.contents c.loop-line.writer) (g.W.Write.contents c.run_line.new.writer)
           c.loop-line.invariant.progress c.in-Some.ensures.line c.in-Some.ensures.shorter c.in_ok-is_bad.ensures.all c.in_ok-is_bad.ensures.limits refl (rw good (omega arith));
-      steady = λ lasts endless.
-          let now = c.loop-line.invariant.steady lasts endless in
-          let ran = c.in_ok-is_bad.ensures.steady now.0 now.1 in
-          (ran.1, ran.2);
+      lasts = λ sound endless.
+          let now = c.loop-line.invariant.lasts sound endless in
+          let told = c.in_ok-is_bad.ensures.told now.0.sound now.1 in
+          (lasts_once_more _ c.loop-line.tally.lines _ (g.W.SteadyWrite.seen c.loop-line.writer) _ now.0 (told.0.otherwise (λ e. absurd cc)) refl, told.1);
     }
 
-pub returns-in_err-is_bad-clause-steady : goal.returns-in_err-is_bad-clause-steady
-returns-in_err-is_bad-clause-steady g c = λ lasts endless.
-    let now = c.loop-line.invariant.steady lasts endless in
-    let ran = c.in_err-is_bad.ensures.steady now.0 now.1 in
-    (search rules, ran.1, ran.2)
+pub returns-in_err-is_bad-clause-told : goal.returns-in_err-is_bad-clause-told
+returns-in_err-is_bad-clause-told g c = λ sound endless.
+    let start = (g.W.SteadyWrite.seen c.args.writer.now).interruptions in
+    let now = c.loop-line.invariant.lasts sound endless in
+    let told = (c.in_err-is_bad.ensures.told now.0.sound now.1).0 in
+    told_over start c.loop-line.tally.lines (length (lines_of c.args.input.now)) (g.W.SteadyWrite.seen c.loop-line.writer) (g.W.SteadyWrite.seen c.run_line.new.writer) _ _
+    now.0 (line_is_left c.args.service.now c.loop-line.service c.args.input.now c.loop-line.rest.now c.in-Some.line.now c.in-Some.after.now c.loop-line.tally
+    (g.W.Write.contents c.args.writer.now) (g.W.Write.contents c.loop-line.writer) c.loop-line.invariant.progress c.in-Some.ensures.line) told (λ e. search rules) (λ e. search rules)
 
-pub returns-clause-steady : goal.returns-clause-steady
-returns-clause-steady g c = λ lasts endless.
-    let now = c.loop-line.invariant.steady lasts endless in
-    (search rules, now.0, now.1)
+pub returns-clause-told : goal.returns-clause-told
+returns-clause-told g c = λ sound endless.
+    let start = (g.W.SteadyWrite.seen c.args.writer.now).interruptions in
+    let now = c.loop-line.invariant.lasts sound endless in
+    told_none start c.loop-line.tally.lines (length (lines_of c.args.input.now)) (g.W.SteadyWrite.seen c.loop-line.writer) _ (λ e. absurd cc) now.0
+    (lines_are_within _ _ _ _ _ _ _ c.loop-line.invariant.progress)

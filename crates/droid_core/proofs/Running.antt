@@ -1,0 +1,102 @@
+-- A run goes on by one request.
+use Rattle.std.proofs.Common.{◌≡◌, Bool, true, false, cond, not, List, [], ◌∷◌, ◌++◌, length, refl, sym, ap, ◌∙◌, arith, append-nil}
+use Rattle.std.specs.List.{AllByRecursion}
+use Rattle.std.specs.Prelude.{MatchBool, IsSome, ⊤}
+use Rattle.droid_frame.specs.types.frame.Frame.{Frame}
+use Rattle.droid_frame.specs.types.reply.Reply.{Reply}
+use Rattle.droid_frame.specs.Replies.{HasReplySpelling}
+use Rattle.std.proofs.lemmas.List.{length-append}
+use Rattle.droid_core.specs.declared.service.Service.{Service}
+use Rattle.droid_core.specs.declared.service.limits.Limits.{Limits}
+use Rattle.droid_core.specs.Histories.{History, command, answer, next, answers, history_from, Handles}
+use Rattle.droid_core.specs.Running.{without_wants, other_replies, NoWantOfMalformed, Runs}
+use Rattle.droid_core.specs.Standing.{StandsFor}
+use Rattle.droid_core.specs.Wants.{is_want}
+
+-- ---- along a list and one request more
+
+history_from-push : (limits : Limits) (history : History) (frames : List Frame) (frame : Frame) → history_from limits history (frames ++ frame ∷ []) ≡ next limits (history_from limits history frames) frame
+history_from-push limits history [] frame = refl
+history_from-push limits history (first ∷ frames) frame = history_from-push limits (next limits history first) frames frame
+
+answers-push : (limits : Limits) (history : History) (frames : List Frame) (frame : Frame) → answers limits history (frames ++ frame ∷ []) ≡ answers limits history frames ++ answer limits (history_from limits history frames) frame ∷ []
+answers-push limits history [] frame = refl
+answers-push limits history (first ∷ frames) frame = ap (λ (rest : List Reply). answer limits history first ∷ rest) (answers-push limits (next limits history first) frames frame)
+
+-- what one pair more adds
+abbrev more_frames : Bool → Frame → List Frame
+more_frames true frame = []
+more_frames false frame = frame ∷ []
+
+abbrev more_replies : Bool → Reply → List Reply
+more_replies true reply = []
+more_replies false reply = reply ∷ []
+
+one_frame : (b : Bool) (frame : Frame) → cond b [] (frame ∷ []) ≡ more_frames b frame
+one_frame true frame = refl
+one_frame false frame = refl
+
+frames_either : (b : Bool) (frame : Frame) (left right more : List Frame) → left ≡ right ++ more → cond b left (frame ∷ left) ≡ cond b right (frame ∷ right) ++ more
+frames_either true frame left right more e = e
+frames_either false frame left right more e = ap (λ (rest : List Frame). frame ∷ rest) e
+
+without_wants-push : (frames : List Frame) (replies : List Reply) (frame : Frame) (reply : Reply) → length replies ≡ length frames → without_wants (frames ++ frame ∷ []) (replies ++ reply ∷ []) ≡ without_wants frames replies ++ more_frames (is_want reply) frame
+without_wants-push [] [] frame reply e = one_frame (is_want reply) frame
+without_wants-push [] (r ∷ replies) frame reply e = absurd (omega arith)
+without_wants-push (f ∷ frames) [] frame reply e = absurd (omega arith)
+without_wants-push (f ∷ frames) (r ∷ replies) frame reply e =
+    frames_either (is_want r) f (without_wants (frames ++ frame ∷ []) (replies ++ reply ∷ [])) (without_wants frames replies) (more_frames (is_want reply) frame) (without_wants-push frames replies frame reply (omega arith))
+
+one_reply : (b : Bool) (reply : Reply) → cond (not b) (reply ∷ []) [] ≡ more_replies b reply
+one_reply true reply = refl
+one_reply false reply = refl
+
+replies_either : (b : Bool) (reply : Reply) (left right more : List Reply) → left ≡ right ++ more → cond b (reply ∷ left) left ≡ cond b (reply ∷ right) right ++ more
+replies_either true reply left right more e = ap (λ (rest : List Reply). reply ∷ rest) e
+replies_either false reply left right more e = e
+
+other_replies-push : (replies : List Reply) (reply : Reply) → other_replies (replies ++ reply ∷ []) ≡ other_replies replies ++ more_replies (is_want reply) reply
+other_replies-push [] reply = one_reply (is_want reply) reply
+other_replies-push (r ∷ replies) reply =
+    replies_either (not (is_want r)) r (other_replies (replies ++ reply ∷ [])) (other_replies replies) (more_replies (is_want reply) reply) (other_replies-push replies reply)
+
+wants-push : (frames : List Frame) (replies : List Reply) (frame : Frame) (reply : Reply) → NoWantOfMalformed frames replies → MatchBool (is_want reply) (IsSome (command frame)) ⊤ → length replies ≡ length frames → NoWantOfMalformed (frames ++ frame ∷ []) (replies ++ reply ∷ [])
+wants-push [] [] frame reply wants last e = (last, tt)
+wants-push [] (r ∷ replies) frame reply wants last e = absurd (omega arith)
+wants-push (f ∷ frames) [] frame reply wants last e = absurd (omega arith)
+wants-push (f ∷ frames) (r ∷ replies) frame reply wants last e = (wants.0, wants-push frames replies frame reply wants.1 last (omega arith))
+
+spelled-push : (replies : List Reply) (reply : Reply) → AllByRecursion HasReplySpelling replies → HasReplySpelling reply → AllByRecursion HasReplySpelling (replies ++ reply ∷ [])
+spelled-push [] reply all last = (last, tt)
+spelled-push (r ∷ replies) reply all last = (all.0, spelled-push replies reply all.1 last)
+
+-- ---- the step
+
+last_want : (b : Bool) (P Q S T : Type 0) → MatchBool b (P × S) (Q × T) → MatchBool b P ⊤
+last_want true P Q S T handled = handled.0
+last_want false P Q S T handled = tt
+
+goes_on : (b : Bool) (limits : Limits) (history : History) (frames : List Frame) (replies : List Reply) (frame : Frame) (reply : Reply) (after : Service)
+    → other_replies replies ≡ answers limits history frames
+    → MatchBool b (IsSome (command frame) × StandsFor after (history_from limits history frames)) ((reply ≡ answer limits (history_from limits history frames) frame) × StandsFor after (next limits (history_from limits history frames) frame))
+    → (other_replies replies ++ more_replies b reply ≡ answers limits history (frames ++ more_frames b frame)) × StandsFor after (history_from limits history (frames ++ more_frames b frame))
+goes_on true limits history frames replies frame reply after answered handled =
+    (append-nil (other_replies replies) ∙ (answered ∙ ap (answers limits history) (sym (append-nil frames))), rw (append-nil frames) handled.1)
+goes_on false limits history frames replies frame reply after answered handled =
+    (rw (answered, handled.0) (sym (answers-push limits history frames frame)), rw (history_from-push limits history frames frame) handled.1)
+
+pub Runs-push : (limits : Limits) (history : History) (frames : List Frame) (replies : List Reply) (before after : Service) (frame : Frame) (reply : Reply) → Runs limits history frames replies before
+    → Handles limits (history_from limits history (without_wants frames replies)) frame reply (StandsFor after) → HasReplySpelling reply → Runs limits history (frames ++ frame ∷ []) (replies ++ reply ∷ []) after
+Runs-push limits history frames replies before after frame reply runs handled spelled =
+    let more = goes_on (is_want reply) limits history (without_wants frames replies) replies frame reply after runs.answered handled in
+    let kept = without_wants-push frames replies frame reply runs.count in
+    record {
+      count = omega (arith, runs.count, length-append replies (reply ∷ []), length-append frames (frame ∷ []));
+      spelled = spelled-push replies reply runs.spelled spelled;
+      wants = wants-push frames replies frame reply runs.wants (last_want (is_want reply) _ _ _ _ handled) runs.count;
+      answered = other_replies-push replies reply ∙ (more.0 ∙ ap (answers limits history) (sym kept));
+      stands = rw kept more.1;
+    }
+
+pub Runs-none : (limits : Limits) (history : History) (service : Service) → StandsFor service history → Runs limits history [] [] service
+Runs-none limits history service stands = record { count = refl; spelled = tt; wants = tt; answered = refl; stands = stands }

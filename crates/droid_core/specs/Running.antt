@@ -1,0 +1,36 @@
+-- What handling a list of requests gives.
+use Rattle.std.specs.Prelude.{◌≡◌, if◌then◌else◌, not, List, [], ◌∷◌, length, filter, MatchBool, IsSome, ⊤}
+use Rattle.std.specs.List.{AllByRecursion}
+use Rattle.droid_frame.specs.types.frame.Frame.{Frame}
+use Rattle.droid_frame.specs.types.reply.Reply.{Reply}
+use Rattle.droid_frame.specs.Replies.{HasReplySpelling}
+use Rattle.droid_core.specs.declared.service.Service.{Service}
+use Rattle.droid_core.specs.declared.service.limits.Limits.{Limits}
+use Rattle.droid_core.specs.Histories.{History, command, answers, history_from}
+use Rattle.droid_core.specs.Standing.{StandsFor}
+use Rattle.droid_core.specs.Wants.{is_want}
+
+-- the requests, without those that were refused for want of memory
+abbrev pub without_wants : List Frame → List Reply → List Frame
+without_wants [] replies = []
+without_wants (frame ∷ frames) [] = []
+without_wants (frame ∷ frames) (reply ∷ replies) = if is_want reply then without_wants frames replies else frame ∷ without_wants frames replies
+
+-- the replies, without the refusals for want of memory
+abbrev pub other_replies : List Reply → List Reply
+other_replies replies = filter (λ reply. not (is_want reply)) replies
+
+-- want of memory is never said of a malformed request
+abbrev pub NoWantOfMalformed : List Frame → List Reply → Type 0
+NoWantOfMalformed [] replies = Unit {0}
+NoWantOfMalformed (frame ∷ frames) [] = Unit {0}
+NoWantOfMalformed (frame ∷ frames) (reply ∷ replies) = MatchBool (is_want reply) (IsSome (command frame)) ⊤ × NoWantOfMalformed frames replies
+
+-- One reply for each request, each with a spelling. Along the requests that weren't refused for want of memory the replies
+-- are the answers, and the service then stands for the history after these requests.
+pub record Runs (limits : Limits) (history : History) (frames : List Frame) (replies : List Reply) (after : Service) : Type 0 where
+  pub count : length replies ≡ length frames
+  pub spelled : AllByRecursion HasReplySpelling replies
+  pub wants : NoWantOfMalformed frames replies
+  pub answered : other_replies replies ≡ answers limits history (without_wants frames replies)
+  pub stands : StandsFor after (history_from limits history (without_wants frames replies))

@@ -1,0 +1,7 @@
+//! The submission service for DROID profiles: it judges requests, changes by the accepted ones, and keeps
+//! their replies for good.
+#![tactic(auto)]
+
+mod service;
+
+pub use service::{Limits, Service};

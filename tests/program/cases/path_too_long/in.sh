@@ -1,0 +1,7 @@
+# sixteen folders in one another with names of 255 bytes: the last one's path has 4,096 bytes
+awk 'BEGIN {
+    name = sprintf("%255s", ""); gsub(" ", "n", name)
+    print "1 1 create 65536 0"
+    for (parent = 0; parent < 16; parent++) print "1", parent + 2, "folder 1", parent, 0, name
+    print "1 18 folder 1 16 0 a"
+}'
