@@ -1,0 +1,5 @@
+pub mod Changes
+pub mod Encoded
+pub mod Kept
+pub mod Rows
+pub mod Tables

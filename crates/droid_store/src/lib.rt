@@ -1,0 +1,14 @@
+//! Records and kept replies in a database in memory, one transaction for each accepted command.
+//!
+//! Callers and contracts see a [`Store`] as its rows: profiles, nodes and replies in order of
+//! acceptance. That they lie in tables of SQL is this crate's own affair.
+#![tactic(auto)]
+
+mod fault;
+mod rows;
+mod statements;
+mod store;
+
+pub use fault::StoreFault;
+pub use rows::{Counts, Entry, NodeRow, NodeState, ProfileRow};
+pub use store::Store;
