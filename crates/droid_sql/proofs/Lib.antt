@@ -1,0 +1,5 @@
+pub mod Parts
+pub mod Inserts
+pub mod Creates
+pub mod Changes
+pub mod Transactions
