@@ -42,3 +42,8 @@ pub record AreApart (rows : Rows) : Type 0 where
 
 abbrev pub kept : Held MemStore → Rows
 kept c = rows_in (state over_memory c).now
+
+-- while the tables are made: this schema, and these trees have no row
+pub record HasEmpty (wanted : Schema) (trees : List ℕ) (db : Database) : Type 0 where
+  pub schema : db.schema ≡ wanted
+  pub empty : AllByRecursion (λ tree. db.trees tree ≡ []) trees

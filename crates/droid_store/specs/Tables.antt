@@ -58,7 +58,7 @@ nodes = record {
       ∷ column_named (codes "md5") Blob
       ∷ [];
   key = None;
-  primary = 0 ∷ 1 ∷ [];
+  primary = 1 ∷ 2 ∷ [];
   uniques = (1 ∷ 2 ∷ []) ∷ (1 ∷ 3 ∷ 10 ∷ []) ∷ [];
   orders = plain ∷ plain ∷ [];
   checks = [];

@@ -5,6 +5,7 @@
 #![tactic(auto)]
 
 mod fault;
+mod making;
 mod rows;
 mod statements;
 mod store;

@@ -1,0 +1,4 @@
+pub mod Closed
+pub mod Decoded
+pub mod Makes
+pub mod Meanings
