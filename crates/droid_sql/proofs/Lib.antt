@@ -3,3 +3,7 @@ pub mod Inserts
 pub mod Creates
 pub mod Changes
 pub mod Transactions
+pub mod Selects
+pub mod Comparisons
+pub mod LookUps
+pub mod Values

@@ -1,1 +1,2 @@
+pub mod Queries
 pub mod Transactions
