@@ -7,3 +7,4 @@ pub mod Selects
 pub mod Comparisons
 pub mod LookUps
 pub mod Values
+pub mod RowOrder
