@@ -8,3 +8,5 @@ pub mod Comparisons
 pub mod LookUps
 pub mod Values
 pub mod RowOrder
+pub mod RowEdits
+pub mod Rising
