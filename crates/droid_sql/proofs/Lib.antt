@@ -3,3 +3,10 @@ pub mod Inserts
 pub mod Creates
 pub mod Changes
 pub mod Transactions
+pub mod Selects
+pub mod Comparisons
+pub mod LookUps
+pub mod Values
+pub mod RowOrder
+pub mod RowEdits
+pub mod Rising
