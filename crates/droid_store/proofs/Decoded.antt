@@ -4,6 +4,7 @@ use Rattle.std.specs.List.{AllByRecursion, slice_split}
 use Rattle.std.proofs.lemmas.List.Splits.{slice_split_at, slice_split_none}
 use Rattle.std.proofs.lemmas.Bool.Decides.{nat_tests}
 use Rattle.sqlite.specs.Effect.{Database}
+use Rattle.droid_sql.specs.KeyedRows.{numbered_from}
 use Rattle.droid_frame.specs.declared.method.Method.{Method}
 use Rattle.droid_frame.specs.declared.method.Method.TheVariants.{Unidentified, Signature, Extension}
 use Rattle.droid_store.specs.declared.rows.Entry.{Entry}
@@ -11,7 +12,7 @@ use Rattle.droid_store.specs.declared.rows.NodeState.{NodeState}
 use Rattle.droid_store.specs.declared.rows.NodeState.TheVariants.{Folder, Unfinished, Finished}
 use Rattle.droid_store.specs.declared.rows.ProfileRow.{ProfileRow}
 use Rattle.droid_store.specs.Changes.{IsWord}
-use Rattle.droid_store.specs.Encoded.{number, flag, flag_in, state_number, state_in, method_number, method_in, joined, words_of, profile_row, profile_in, node_row, node_in, reply_row, entry_in, numbered_from, rows_in}
+use Rattle.droid_store.specs.Encoded.{number, flag, flag_in, state_number, state_in, method_number, method_in, joined, words_of, profile_row, profile_in, node_row, node_in, reply_row, entry_in, rows_in}
 use Rattle.droid_store.specs.Kept.{Holds}
 use Rattle.droid_store.specs.Rows.{Node, Rows}
 

@@ -1,4 +1,5 @@
 pub mod Closed
 pub mod Decoded
+pub mod Effects
 pub mod Makes
 pub mod Meanings

@@ -36,7 +36,6 @@ makes_replies old new (Ok count) has h =
         nodes = [];
         nodes_are = refl;
         rising = tt;
-        positive = tt;
         node_rows = it.2.1.0 ∙ has.holds.empty.1.0;
         replies = it.1;
         words = tt;

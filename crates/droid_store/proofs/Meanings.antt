@@ -2,7 +2,7 @@
 use Rattle.std.proofs.Common.{◌≡◌, ℕ, List, [], ◌∷◌, codes, pos, negsuc, false, true, Some, None, Ok, refl}
 use Rattle.sqlite.specs.declared.types.Value.TheVariants.{Null, Int, Text, Blob}
 use Rattle.sqlite.specs.Term.{Term, lit, col, op2}
-use Rattle.sqlite.specs.Query.{Query, inner, end}
+use Rattle.sqlite.specs.Query.{Query}
 use Rattle.sqlite.specs.Source.TheVariants.{Values}
 use Rattle.sqlite.specs.Command.TheVariants.{Insert, Select, Update, Delete, CreateTable}
 use Rattle.sqlite.specs.Collation.TheVariants.{Binary}
@@ -12,6 +12,7 @@ use Rattle.sqlite.specs.Compile.{table_defined_by}
 use Rattle.sqlite_tied.specs.Compute.{everything}
 use Rattle.sqlite.specs.Listing.{understood, reads_listing}
 use Rattle.sqlite.proofs.Callers.{IsPlain, command_of, statement_of}
+use Rattle.droid_sql.specs.Queries.{select, equals, differs, rising_by}
 use Rattle.droid_store.specs.declared.statements.TheConstants.{MAKE_PROFILES, MAKE_NODES, MAKE_REPLIES, ADD_PROFILE, ADD_NODE, ADD_REPLY, COUNT_NODES, FINISH_NODE, REMOVE_NODE, FIND_PROFILE, FIND_NODE, FIND_CHILD, FIND_REPLY, LIST_RECORDS}
 use Rattle.droid_store.specs.Tables.{profiles, nodes, replies, no_schema, first_schema, second_schema, store_schema}
 
@@ -78,29 +79,16 @@ pub add_reply_plain : IsPlain (understood store_schema ADD_REPLY.now)
 unfolding understood everything
 add_reply_plain = (refl, refl)
 
--- ---- queries over one table
+-- ---- changes by number
 
-abbrev pub query : ℕ → List Term → List Term → Query
-query tree filter project = record {
-  from = inner tree end;
-  filter = filter;
-  group = None;
-  project = project;
-  distinct = false;
-  collations = [];
-  order = [];
-  limit = lit (Int (negsuc 0));
-  offset = lit (Int (pos 0));
-}
-
-abbrev pub equals : Term → Term → Term
-equals a b = op2 (Compare Eq Binary) a b
+abbrev pub by_id : List Term
+by_id = equals (col 1 0) (col 0 0) ∷ []
 
 abbrev pub by_number : List Term
 by_number = equals (col 1 1) (col 0 0) ∷ equals (col 1 2) (col 0 1) ∷ []
 
 abbrev pub count_query : Query
-count_query = query 0 (equals (col 1 0) (col 0 0) ∷ []) (col 1 0 ∷ col 1 0 ∷ lit Null ∷ col 1 2 ∷ col 1 3 ∷ col 0 1 ∷ [])
+count_query = select 0 by_id (col 1 0 ∷ col 1 0 ∷ lit Null ∷ col 1 2 ∷ col 1 3 ∷ col 0 1 ∷ []) []
 
 pub count_is : command_of (understood store_schema COUNT_NODES.now) ≡ Update 0 (record { lets = []; body = count_query })
 unfolding understood everything
@@ -110,9 +98,12 @@ pub count_plain : IsPlain (understood store_schema COUNT_NODES.now)
 unfolding understood everything
 count_plain = (refl, refl)
 
+abbrev pub finished_columns : List Term
+finished_columns =
+    col 1 0 ∷ col 1 0 ∷ col 1 1 ∷ col 1 2 ∷ col 1 3 ∷ col 1 4 ∷ lit (Int (pos 2)) ∷ col 1 6 ∷ col 1 7 ∷ col 0 2 ∷ col 0 3 ∷ col 1 10 ∷ col 1 11 ∷ col 0 4 ∷ col 0 5 ∷ []
+
 abbrev pub finish_query : Query
-finish_query = query 1 by_number
-    (col 1 0 ∷ col 1 0 ∷ col 1 1 ∷ col 1 2 ∷ col 1 3 ∷ col 1 4 ∷ lit (Int (pos 2)) ∷ col 1 6 ∷ col 1 7 ∷ col 0 2 ∷ col 0 3 ∷ col 1 10 ∷ col 1 11 ∷ col 0 4 ∷ col 0 5 ∷ [])
+finish_query = select 1 by_number finished_columns []
 
 pub finish_is : command_of (understood store_schema FINISH_NODE.now) ≡ Update 1 (record { lets = []; body = finish_query })
 unfolding understood everything
@@ -123,7 +114,7 @@ unfolding understood everything
 finish_plain = (refl, refl)
 
 abbrev pub remove_query : Query
-remove_query = query 1 by_number (col 1 0 ∷ [])
+remove_query = select 1 by_number (col 1 0 ∷ []) []
 
 pub remove_is : command_of (understood store_schema REMOVE_NODE.now) ≡ Delete 1 (record { lets = []; body = remove_query })
 unfolding understood everything
@@ -136,7 +127,7 @@ remove_plain = (refl, refl)
 -- ---- look-ups
 
 abbrev pub find_profile_query : Query
-find_profile_query = query 0 (equals (col 1 0) (col 0 0) ∷ []) (col 1 2 ∷ col 1 3 ∷ col 1 4 ∷ [])
+find_profile_query = select 0 by_id (col 1 2 ∷ col 1 3 ∷ col 1 4 ∷ []) []
 
 pub find_profile_is : (command_of (understood store_schema FIND_PROFILE.now) ≡ Select (record { lets = []; body = find_profile_query }) (codes "scan_limit" ∷ codes "match_all" ∷ codes "nodes" ∷ [])) × (reads_listing store_schema FIND_PROFILE.now ≡ false)
 unfolding understood everything
@@ -154,7 +145,7 @@ node_names =
     codes "id" ∷ codes "parent" ∷ codes "modified" ∷ codes "state" ∷ codes "size" ∷ codes "piece_size" ∷ codes "method" ∷ codes "mismatch" ∷ codes "name" ∷ codes "path" ∷ codes "formats" ∷ codes "md5" ∷ []
 
 abbrev pub find_node_query : Query
-find_node_query = query 1 by_number node_columns
+find_node_query = select 1 by_number node_columns []
 
 pub find_node_is : (command_of (understood store_schema FIND_NODE.now) ≡ Select (record { lets = []; body = find_node_query }) node_names) × (reads_listing store_schema FIND_NODE.now ≡ false)
 unfolding understood everything
@@ -164,8 +155,11 @@ pub find_node_plain : IsPlain (understood store_schema FIND_NODE.now)
 unfolding understood everything
 find_node_plain = (refl, refl)
 
+abbrev pub by_name : List Term
+by_name = equals (col 1 1) (col 0 0) ∷ equals (col 1 3) (col 0 1) ∷ equals (col 1 10) (col 0 2) ∷ []
+
 abbrev pub find_child_query : Query
-find_child_query = query 1 (equals (col 1 1) (col 0 0) ∷ equals (col 1 3) (col 0 1) ∷ equals (col 1 10) (col 0 2) ∷ []) (col 1 2 ∷ [])
+find_child_query = select 1 by_name (col 1 2 ∷ []) []
 
 pub find_child_is : (command_of (understood store_schema FIND_CHILD.now) ≡ Select (record { lets = []; body = find_child_query }) (codes "id" ∷ [])) × (reads_listing store_schema FIND_CHILD.now ≡ false)
 unfolding understood everything
@@ -175,8 +169,11 @@ pub find_child_plain : IsPlain (understood store_schema FIND_CHILD.now)
 unfolding understood everything
 find_child_plain = (refl, refl)
 
+abbrev pub by_sender : List Term
+by_sender = equals (col 1 2) (col 0 0) ∷ equals (col 1 3) (col 0 1) ∷ []
+
 abbrev pub find_reply_query : Query
-find_reply_query = query 4 (equals (col 1 2) (col 0 0) ∷ equals (col 1 3) (col 0 1) ∷ []) (col 1 4 ∷ col 1 5 ∷ col 1 6 ∷ [])
+find_reply_query = select 4 by_sender (col 1 4 ∷ col 1 5 ∷ col 1 6 ∷ []) []
 
 pub find_reply_is : (command_of (understood store_schema FIND_REPLY.now) ≡ Select (record { lets = []; body = find_reply_query }) (codes "kind" ∷ codes "mark" ∷ codes "body" ∷ [])) × (reads_listing store_schema FIND_REPLY.now ≡ false)
 unfolding understood everything
@@ -186,11 +183,11 @@ pub find_reply_plain : IsPlain (understood store_schema FIND_REPLY.now)
 unfolding understood everything
 find_reply_plain = (refl, refl)
 
+abbrev pub listed : List Term
+listed = equals (col 1 1) (col 0 0) ∷ differs (col 1 5) (lit (Int (pos 1))) ∷ []
+
 abbrev pub records_query : Query
-records_query = record find_node_query {
-  filter = equals (col 1 1) (col 0 0) ∷ op2 (Compare Ne Binary) (col 1 5) (lit (Int (pos 1))) ∷ [];
-  order = (col 1 2, record { descending = false; collation = Binary }) ∷ [];
-}
+records_query = select 1 listed node_columns (rising_by (col 1 2))
 
 pub records_is : (command_of (understood store_schema LIST_RECORDS.now) ≡ Select (record { lets = []; body = records_query }) node_names) × (reads_listing store_schema LIST_RECORDS.now ≡ false)
 unfolding understood everything

@@ -28,33 +28,14 @@ counted (suc (suc profile)) nodes (p ∷ ps) = p ∷ counted (suc profile) nodes
 abbrev pub with_node : Node → Rows → Rows
 with_node n rows = record rows { profiles = counted n.profile n.id rows.profiles; nodes = rows.nodes ++ n ∷ [] }
 
-abbrev pub zeros : List ℕ
-zeros = replicate 16 0
-
-abbrev pub new_folder : ℕ → ℕ → ℕ → ℤ → List ℕ → List ℕ → Node
-new_folder profile id parent modified name path = record {
+-- a node as it is accepted: nothing is known of its bytes yet
+abbrev pub new_node : ℕ → ℕ → ℕ → ℤ → NodeState → ℕ → ℕ → List ℕ → List ℕ → Node
+new_node profile id parent modified state size piece_size name path = record {
   profile = profile;
   id = id;
   parent = parent;
   modified = modified;
-  state = Folder;
-  size = 0;
-  piece_size = 0;
-  method = Unidentified;
-  mismatch = false;
-  name = name;
-  path = path;
-  puids = [];
-  md5 = zeros;
-}
-
-abbrev pub new_file : ℕ → ℕ → ℕ → ℤ → ℕ → ℕ → List ℕ → List ℕ → Node
-new_file profile id parent modified size piece_size name path = record {
-  profile = profile;
-  id = id;
-  parent = parent;
-  modified = modified;
-  state = Unfinished;
+  state = state;
   size = size;
   piece_size = piece_size;
   method = Unidentified;
@@ -62,8 +43,14 @@ new_file profile id parent modified size piece_size name path = record {
   name = name;
   path = path;
   puids = [];
-  md5 = zeros;
+  md5 = replicate 16 0;
 }
+
+abbrev pub new_folder : ℕ → ℕ → ℕ → ℤ → List ℕ → List ℕ → Node
+new_folder profile id parent modified name path = new_node profile id parent modified Folder 0 0 name path
+
+abbrev pub new_file : ℕ → ℕ → ℕ → ℤ → ℕ → ℕ → List ℕ → List ℕ → Node
+new_file profile id parent modified size piece_size name path = new_node profile id parent modified Unfinished size piece_size name path
 
 abbrev pub finished : Method → Bool → List ℕ → List (List ℕ) → Node → Node
 finished method mismatch md5 puids n = record n { state = Finished; method = method; mismatch = mismatch; md5 = md5; puids = puids }

@@ -91,11 +91,6 @@ abbrev pub reply_row : ℕ × Entry → Row
 reply_row e =
     number e.0 ∷ Null ∷ number e.1.client ∷ number e.1.number ∷ number e.1.kind ∷ Blob e.1.mark ∷ Blob e.1.body ∷ []
 
--- each with its place, from this number on
-abbrev pub numbered_from : {X : Type 0} → ℕ → List X → List (ℕ × X)
-numbered_from first [] = []
-numbered_from first (x ∷ xs) = (first, x) ∷ numbered_from (suc first) xs
-
 -- ---- and back
 
 abbrev pub profile_in : Row → ProfileRow

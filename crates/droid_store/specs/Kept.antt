@@ -1,5 +1,6 @@
 -- How the tables hold the rows.
-use Rattle.std.specs.Prelude.{◌≡◌, ◌≤◌, ◌<◌, ℕ, false, List, [], ◌∷◌, map, filter, length}
+use Rattle.std.specs.Prelude.{◌≡◌, ◌≤◌, ◌<◌, ℕ, List, [], ◌∷◌, map, filter, length, Result, OnOk, OnErr}
+use Rattle.sqlite.specs.declared.error.Error.{Error}
 use Rattle.std.specs.List.{AllByRecursion}
 use Rattle.sqlite.specs.Effect.{Database}
 use Rattle.sqlite.specs.Held.{Held, state}
@@ -8,14 +9,11 @@ use Rattle.sqlite.specs.State.{State}
 use Rattle.sqlite.specs.Steps.{over_memory}
 use Rattle.sqlite_trees.specs.declared.memory.MemStore.{MemStore}
 use Rattle.droid_store.specs.Changes.{IsWord}
-use Rattle.droid_store.specs.Encoded.{profile_row, node_row, reply_row, numbered_from, rows_in}
+use Rattle.droid_sql.specs.KeyedRows.{numbered_from, AreRising}
+use Rattle.droid_sql.specs.Transactions.{Within}
+use Rattle.droid_store.specs.Encoded.{profile_row, node_row, reply_row, rows_in}
 use Rattle.droid_store.specs.Rows.{Node, Rows, is_child, is_for}
 use Rattle.droid_store.specs.Tables.{store_schema}
-
--- the numbers rise
-abbrev pub IsRising : {X : Type 0} → List (ℕ × X) → Type 0
-IsRising [] = Unit {0}
-IsRising (x ∷ xs) = AllByRecursion (λ y. x.0 < y.0) xs × IsRising xs
 
 -- the trees have the rows and nothing else; the rows of nodes have numbers of the database's own choice
 pub record Holds (rows : Rows) (db : Database) : Type 0 where
@@ -23,8 +21,7 @@ pub record Holds (rows : Rows) (db : Database) : Type 0 where
   pub profiles : db.trees 0 ≡ map profile_row (numbered_from 1 rows.profiles)
   pub nodes : List (ℕ × Node)
   pub nodes_are : map (λ n. n.1) nodes ≡ rows.nodes
-  pub rising : IsRising nodes
-  pub positive : AllByRecursion (λ n. 0 < n.0) nodes
+  pub rising : AreRising (λ n. n.0) nodes
   pub node_rows : db.trees 1 ≡ map node_row nodes
   pub replies : db.trees 4 ≡ map reply_row (numbered_from 1 rows.replies)
   pub words : AllByRecursion (λ (n : Node). AllByRecursion IsWord n.puids) rows.nodes
@@ -47,3 +44,8 @@ kept c = rows_in (state over_memory c).now
 pub record HasEmpty (wanted : Schema) (trees : List ℕ) (db : Database) : Type 0 where
   pub schema : db.schema ≡ wanted
   pub empty : AllByRecursion (λ tree. db.trees tree ≡ []) trees
+
+-- a step in a transaction: where it succeeds these rows are seen, and where it fails a rollback still goes back to what it did
+abbrev pub Steps : {U : Type 0} → State → State → Result U Error → Rows → Rows → Type 0
+Steps old new r before after =
+    (saved : Rows) → Within old (Holds before) (Holds saved) → OnOk r (Within new (Holds after) (Holds saved)) × OnErr r (Holds saved new.committed)

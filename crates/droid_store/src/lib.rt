@@ -4,6 +4,7 @@
 //! acceptance. That they lie in tables of SQL is this crate's own affair.
 #![tactic(auto)]
 
+mod changes;
 mod fault;
 mod making;
 mod rows;

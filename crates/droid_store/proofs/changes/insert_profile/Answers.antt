@@ -1,0 +1,16 @@
+use Rattle.std.proofs.Common.{refl}
+use Rattle.sqlite.specs.Held.{state}
+use Rattle.sqlite.specs.Steps.{over_memory}
+use Rattle.sqlite.proofs.Callers.{memory_is_clean}
+use Rattle.droid_store.specs.declared.statements.TheConstants.{ADD_PROFILE}
+use Rattle.droid_store.specs.Changes.{with_profile}
+use Rattle.droid_store.proofs.Effects.{stepped, adds_profile}
+use Rattle.droid_store.proofs.changes.insert_profile.Goals as goal
+
+pub returns-clause-steps : goal.returns-clause-steps
+returns-clause-steps c rows next =
+    let old = state over_memory c.args.tx.now.conn.now in
+    let new = state over_memory c.execute.new.self.conn.now in
+    stepped ADD_PROFILE.now _ old new c.execute.result rows (with_profile c.args.scan_limit c.args.match_all rows) refl
+    (rw (c.params-to_sql.ensures, c.params-to_sql-2.ensures, c.params-to_sql-3.ensures) at (c.execute.ensures.runs (memory_is_clean c.execute.new.self.conn.now)))
+    (adds_profile old new c.args.profile c.args.scan_limit c.args.match_all rows next)

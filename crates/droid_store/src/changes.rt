@@ -1,0 +1,69 @@
+//! Single statements in a transaction.
+
+ghost use Rattle.std.specs.Prelude.{◌≡◌, ◌+◌, ◌<◌, ◌^◌, ◌≤◌, length, filter, pos};
+ghost use Rattle.std.specs.List.{AllByRecursion, join_with_byte};
+ghost use Rattle.sqlite.specs.Held.{state};
+ghost use Rattle.sqlite.specs.Steps.{over_memory};
+ghost use Rattle.droid_store.specs.Changes.{with_profile, with_reply, counted, new_node, with_finished, without_node, IsWord};
+ghost use Rattle.droid_store.specs.Encoded.{joined};
+ghost use Rattle.droid_store.specs.Kept.{Steps};
+ghost use Rattle.droid_store.specs.Rows.{Rows, Node, is_node};
+
+use crate::rows::{Entry, NodeState};
+use crate::statements::{ADD_NODE, ADD_PROFILE, ADD_REPLY, COUNT_NODES, REMOVE_NODE};
+use sqlite::{Error, MemStore, Transaction, params};
+
+/// A node as it is accepted.
+#[derive(Clone, Copy)]
+pub(crate) struct NewNode<'a> {
+    pub profile: u32,
+    pub id: u32,
+    pub parent: u32,
+    pub state: NodeState,
+    pub size: u64,
+    pub piece_size: u32,
+    pub name: &'a str,
+    pub path: &'a str,
+}
+
+/// The number as the database takes it.
+pub(crate) fn signed(number: u64) -> i64
+    requires { number < 2 ^ 63 }
+    ensures { result ≡ pos number }
+{
+    number.cast_signed()
+}
+
+pub(crate) fn insert_profile(
+    tx: &mut Transaction<'_, MemStore>,
+    profile: u32,
+    scan_limit: u32,
+    match_all: bool,
+) -> Result<usize, Error>
+    ensures same_reference { tx.new.conn.ghost_name ≡ tx.old.conn.ghost_name }
+    ensures steps { (rows : Rows) → profile ≡ length rows.profiles + 1 → Steps (state over_memory tx.old.conn.now) (state over_memory tx.new.conn.now) result rows (with_profile scan_limit match_all rows) }
+{
+    tx.execute(ADD_PROFILE, params![profile, scan_limit, match_all])
+}
+
+pub(crate) fn insert_reply(
+    tx: &mut Transaction<'_, MemStore>,
+    entry: &Entry,
+) -> Result<usize, Error>
+    requires small { entry.now.number < 2 ^ 63 }
+    ensures same_reference { tx.new.conn.ghost_name ≡ tx.old.conn.ghost_name }
+    ensures steps { (rows : Rows) → Steps (state over_memory tx.old.conn.now) (state over_memory tx.new.conn.now) result rows (with_reply entry.now rows) }
+{
+    let mark = entry.mark.as_slice();
+    let body = entry.body.as_slice();
+    tx.execute(
+        ADD_REPLY,
+        params![
+            entry.client,
+            signed(entry.number),
+            u32::from(entry.kind),
+            mark,
+            body
+        ],
+    )
+}
