@@ -17,18 +17,22 @@ use Rattle.droid_store.specs.declared.rows.ProfileRow.{ProfileRow}
 use Rattle.droid_store.specs.declared.statements.TheConstants.{ADD_PROFILE, ADD_REPLY}
 use Rattle.droid_store.specs.Changes.{with_profile, with_reply}
 use Rattle.droid_store.specs.Encoded.{number, flag, profile_row, reply_row}
-use Rattle.droid_store.specs.Kept.{Holds, Steps}
+use Rattle.droid_store.specs.Kept.{Holds, Steps, Saves}
 use Rattle.droid_store.specs.Rows.{Rows}
 use Rattle.droid_store.specs.Tables.{profiles, replies, store_schema}
 use Rattle.droid_store.proofs.Meanings.{add_profile_is, add_profile_plain, profile_terms, add_reply_is, add_reply_plain, reply_terms}
 
 -- a statement in a transaction is a step, if it does to the rows what it should where it succeeds
-pub stepped : (sql : List ℕ) (params : Row) (old new : State) (r : Result ℕ Error) (before after : Rows) → IsTrue new.is_open → (IsTrue old.in_transaction → ExecutesInside 0 sql params old new r)
+pub stepped : (sql : List ℕ) (params : Row) (old new : State) (r : Result ℕ Error) (before after : Rows) → (IsTrue old.in_transaction → ExecutesInside 0 sql params old new r)
     → ((count : ℕ) → Holds before old.now → Executes sql params old new (Ok count) → Holds after new.now) → Steps old new r before after
-stepped sql params old new (Ok count) before after live ran does saved has = (steps sql params old new count (Holds before) (Holds saved) (Holds after) has (ran has.within) (does count), tt)
-stepped sql params old new (Err e) before after live ran does saved has = (tt, subst (Holds saved) (sym (committed_kept sql params old new (Err e) live (ran has.within))) has.saved)
+stepped sql params old new (Ok count) before after ran does saved has = steps sql params old new count (Holds before) (Holds saved) (Holds after) has (ran has.within) (does count)
+stepped sql params old new (Err e) before after ran does saved has = tt
 
-abbrev profile_tail : ℕ × ProfileRow → Row
+pub kept_safe : (sql : List ℕ) (params : Row) (old new : State) (r : Result ℕ Error) (before : Rows) → IsTrue new.is_open → (IsTrue old.in_transaction → ExecutesInside 0 sql params old new r) → Saves old new r before
+kept_safe sql params old new (Ok count) before live ran saved has = tt
+kept_safe sql params old new (Err e) before live ran saved has = subst (Holds saved) (sym (committed_kept sql params old new (Err e) live (ran has.within))) has.saved
+
+abbrev pub profile_tail : ℕ × ProfileRow → Row
 profile_tail p = Null ∷ number p.1.scan_limit ∷ flag p.1.match_all ∷ number p.1.nodes ∷ []
 
 pub adds_profile : (old new : State) (profile limit : ℕ) (all : Bool) (rows : Rows) → profile ≡ length rows.profiles + 1 → (count : ℕ) → Holds rows old.now

@@ -3,3 +3,5 @@ pub mod Decoded
 pub mod Effects
 pub mod Makes
 pub mod Meanings
+pub mod NodeEffects
+pub mod Started

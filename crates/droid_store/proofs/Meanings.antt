@@ -87,8 +87,11 @@ by_id = equals (col 1 0) (col 0 0) ∷ []
 abbrev pub by_number : List Term
 by_number = equals (col 1 1) (col 0 0) ∷ equals (col 1 2) (col 0 1) ∷ []
 
+abbrev pub count_columns : List Term
+count_columns = col 1 0 ∷ col 1 0 ∷ lit Null ∷ col 1 2 ∷ col 1 3 ∷ col 0 1 ∷ []
+
 abbrev pub count_query : Query
-count_query = select 0 by_id (col 1 0 ∷ col 1 0 ∷ lit Null ∷ col 1 2 ∷ col 1 3 ∷ col 0 1 ∷ []) []
+count_query = select 0 by_id count_columns []
 
 pub count_is : command_of (understood store_schema COUNT_NODES.now) ≡ Update 0 (record { lets = []; body = count_query })
 unfolding understood everything

@@ -45,7 +45,10 @@ pub record HasEmpty (wanted : Schema) (trees : List ℕ) (db : Database) : Type 
   pub schema : db.schema ≡ wanted
   pub empty : AllByRecursion (λ tree. db.trees tree ≡ []) trees
 
--- a step in a transaction: where it succeeds these rows are seen, and where it fails a rollback still goes back to what it did
+-- a step in a transaction: where it succeeds, these rows are seen in the place of those
 abbrev pub Steps : {U : Type 0} → State → State → Result U Error → Rows → Rows → Type 0
-Steps old new r before after =
-    (saved : Rows) → Within old (Holds before) (Holds saved) → OnOk r (Within new (Holds after) (Holds saved)) × OnErr r (Holds saved new.committed)
+Steps old new r before after = (saved : Rows) → Within old (Holds before) (Holds saved) → OnOk r (Within new (Holds after) (Holds saved))
+
+-- and where it fails, a rollback still goes back to what it did
+abbrev pub Saves : {U : Type 0} → State → State → Result U Error → Rows → Type 0
+Saves old new r before = (saved : Rows) → Within old (Holds before) (Holds saved) → OnErr r (Holds saved new.committed)

@@ -1,16 +1,15 @@
 //! Single statements in a transaction.
 
-ghost use Rattle.std.specs.Prelude.{◌≡◌, ◌+◌, ◌<◌, ◌^◌, ◌≤◌, length, filter, pos};
-ghost use Rattle.std.specs.List.{AllByRecursion, join_with_byte};
+ghost use Rattle.std.specs.Prelude.{◌≡◌, ◌+◌, ◌<◌, ◌^◌, ◌++◌, ◌∷◌, [], length, pos};
 ghost use Rattle.sqlite.specs.Held.{state};
 ghost use Rattle.sqlite.specs.Steps.{over_memory};
-ghost use Rattle.droid_store.specs.Changes.{with_profile, with_reply, counted, new_node, with_finished, without_node, IsWord};
-ghost use Rattle.droid_store.specs.Encoded.{joined};
-ghost use Rattle.droid_store.specs.Kept.{Steps};
-ghost use Rattle.droid_store.specs.Rows.{Rows, Node, is_node};
+ghost use Rattle.droid_store.specs.Changes.{with_profile, with_reply, with_node, counted};
+ghost use Rattle.droid_store.specs.Kept.{Steps, Saves};
+ghost use Rattle.droid_store.specs.Rows.{Rows};
+ghost use Rattle.droid_store.specs.Nodes.{node_of};
 
 use crate::rows::{Entry, NodeState};
-use crate::statements::{ADD_NODE, ADD_PROFILE, ADD_REPLY, COUNT_NODES, REMOVE_NODE};
+use crate::statements::{ADD_NODE, ADD_PROFILE, ADD_REPLY, COUNT_NODES};
 use sqlite::{Error, MemStore, Transaction, params};
 
 /// A node as it is accepted.
@@ -41,7 +40,8 @@ pub(crate) fn insert_profile(
     match_all: bool,
 ) -> Result<usize, Error>
     ensures same_reference { tx.new.conn.ghost_name ≡ tx.old.conn.ghost_name }
-    ensures steps { (rows : Rows) → profile ≡ length rows.profiles + 1 → Steps (state over_memory tx.old.conn.now) (state over_memory tx.new.conn.now) result rows (with_profile scan_limit match_all rows) }
+    ensures ok { (rows : Rows) → profile ≡ length rows.profiles + 1 → Steps (state over_memory tx.old.conn.now) (state over_memory tx.new.conn.now) result rows (with_profile scan_limit match_all rows) }
+    ensures err { (rows : Rows) → Saves (state over_memory tx.old.conn.now) (state over_memory tx.new.conn.now) result rows }
 {
     tx.execute(ADD_PROFILE, params![profile, scan_limit, match_all])
 }
@@ -52,7 +52,8 @@ pub(crate) fn insert_reply(
 ) -> Result<usize, Error>
     requires small { entry.now.number < 2 ^ 63 }
     ensures same_reference { tx.new.conn.ghost_name ≡ tx.old.conn.ghost_name }
-    ensures steps { (rows : Rows) → Steps (state over_memory tx.old.conn.now) (state over_memory tx.new.conn.now) result rows (with_reply entry.now rows) }
+    ensures ok { (rows : Rows) → Steps (state over_memory tx.old.conn.now) (state over_memory tx.new.conn.now) result rows (with_reply entry.now rows) }
+    ensures err { (rows : Rows) → Saves (state over_memory tx.old.conn.now) (state over_memory tx.new.conn.now) result rows }
 {
     let mark = entry.mark.as_slice();
     let body = entry.body.as_slice();
@@ -66,4 +67,57 @@ pub(crate) fn insert_reply(
             body
         ],
     )
+}
+
+fn insert_node(
+    tx: &mut Transaction<'_, MemStore>,
+    node: &NewNode<'_>,
+    modified: i64,
+) -> Result<usize, Error>
+    requires small { node.now.size < 2 ^ 63 }
+    ensures same_reference { tx.new.conn.ghost_name ≡ tx.old.conn.ghost_name }
+    ensures ok { (rows : Rows) → Steps (state over_memory tx.old.conn.now) (state over_memory tx.new.conn.now) result rows (record rows { nodes = rows.nodes ++ node_of node.now modified ∷ [] }) }
+    ensures err { (rows : Rows) → Saves (state over_memory tx.old.conn.now) (state over_memory tx.new.conn.now) result rows }
+{
+    tx.execute(
+        ADD_NODE,
+        params![
+            node.profile,
+            node.id,
+            node.parent,
+            modified,
+            node.state.number(),
+            signed(node.size),
+            node.piece_size,
+            node.name,
+            node.path
+        ],
+    )
+}
+
+fn count_nodes(
+    tx: &mut Transaction<'_, MemStore>,
+    profile: u32,
+    nodes: u32,
+) -> Result<usize, Error>
+    ensures same_reference { tx.new.conn.ghost_name ≡ tx.old.conn.ghost_name }
+    ensures ok { (rows : Rows) → Steps (state over_memory tx.old.conn.now) (state over_memory tx.new.conn.now) result rows (record rows { profiles = counted profile nodes rows.profiles }) }
+    ensures err { (rows : Rows) → Saves (state over_memory tx.old.conn.now) (state over_memory tx.new.conn.now) result rows }
+{
+    tx.execute(COUNT_NODES, params![profile, nodes])
+}
+
+/// Adds the node, and has its profile count it.
+pub(crate) fn add_node(
+    tx: &mut Transaction<'_, MemStore>,
+    node: &NewNode<'_>,
+    modified: i64,
+) -> Result<usize, Error>
+    requires small { node.now.size < 2 ^ 63 }
+    ensures same_reference { tx.new.conn.ghost_name ≡ tx.old.conn.ghost_name }
+    ensures ok { (rows : Rows) → Steps (state over_memory tx.old.conn.now) (state over_memory tx.new.conn.now) result rows (with_node (node_of node.now modified) rows) }
+    ensures err { (rows : Rows) → Saves (state over_memory tx.old.conn.now) (state over_memory tx.new.conn.now) result rows }
+{
+    insert_node(tx, node, modified)?;
+    count_nodes(tx, node.profile, node.id)
 }

@@ -5,6 +5,7 @@
 #![tactic(auto)]
 
 mod changes;
+mod commits;
 mod fault;
 mod making;
 mod rows;

@@ -1,5 +1,8 @@
 //! What the store keeps, and what its reading calls answer.
 
+ghost use Rattle.std.specs.Prelude.{◌≡◌};
+ghost use Rattle.droid_store.specs.Encoded.{state_number};
+
 use droid_frame::{Blob, Record};
 
 /// An accepted command's reply, kept for good under its client and number.
@@ -37,6 +40,19 @@ pub enum NodeState {
     Unfinished,
     /// It is a file that was identified.
     Finished,
+}
+
+impl NodeState {
+    /// The number that the database keeps for it.
+    pub(crate) fn number(self) -> u32
+        ensures { result ≡ state_number self }
+    {
+        match self {
+            NodeState::Folder => 0,
+            NodeState::Unfinished => 1,
+            NodeState::Finished => 2,
+        }
+    }
 }
 
 /// A node that was not abandoned.
