@@ -10,3 +10,4 @@ pub mod Values
 pub mod RowOrder
 pub mod RowEdits
 pub mod Rising
+pub mod SortedOnce
