@@ -11,3 +11,4 @@ pub mod RowOrder
 pub mod RowEdits
 pub mod Rising
 pub mod SortedOnce
+pub mod Listings
