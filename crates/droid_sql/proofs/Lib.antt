@@ -12,3 +12,4 @@ pub mod RowEdits
 pub mod Rising
 pub mod SortedOnce
 pub mod Listings
+pub mod AtMostOne
