@@ -13,3 +13,5 @@ pub mod Rising
 pub mod SortedOnce
 pub mod Listings
 pub mod AtMostOne
+pub mod SeenRows
+pub mod Numbered
