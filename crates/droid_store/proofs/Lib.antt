@@ -3,3 +3,8 @@ pub mod Decoded
 pub mod Effects
 pub mod Makes
 pub mod Meanings
+pub mod FindsNodes
+pub mod FindsProfiles
+pub mod FindsReplies
+pub mod ListsRecords
+pub mod NodeOrder
