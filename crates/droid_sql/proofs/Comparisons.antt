@@ -1,5 +1,5 @@
 -- What `=` and `<>` say of whole numbers and of texts.
-use Rattle.std.proofs.Common.{◌≡◌, ℕ, ℤ, pos, List, Bool, true, false, not, Some, ◌==◌, bytes_eq, refl, sym, ap, ◌∙◌, arith}
+use Rattle.std.proofs.Common.{◌≡◌, ℕ, ℤ, pos, List, Bool, true, false, not, Some, ◌==◌, ◌&&◌, bytes_eq, refl, sym, ap, ◌∙◌, arith}
 use Rattle.std.proofs.lemmas.Int.{ints}
 use Rattle.std.proofs.lemmas.Bool.Decides.{nat_tests}
 use Rattle.std.proofs.lemmas.Map.Text.{is_eq-slice_cmp}
@@ -33,3 +33,17 @@ different_numbers a b = rw (value_cmp-Int (pos a) (pos b), is_ne_nat a b) (by_tr
 pub equal_texts : (a b : List ℕ) → is_true (binary (Compare Eq Binary) (Text a) (Text b)) ≡ bytes_eq a b
 unfolding binary
 equal_texts a b = rw (value_cmp-Text a b, is_eq-slice_cmp a b) (by_truth (bytes_eq a b))
+
+-- ---- all of some tests, as WHERE has them
+
+pub all_of_one : (a : Bool) → (a && true) ≡ a
+all_of_one true = refl
+all_of_one false = refl
+
+pub all_of_two : (a b : Bool) → (a && (b && true)) ≡ (a && b)
+all_of_two true b = all_of_one b
+all_of_two false b = refl
+
+pub all_of_three : (a b c : Bool) → (a && (b && (c && true))) ≡ (a && (b && c))
+all_of_three true b c = all_of_two b c
+all_of_three false b c = refl

@@ -10,3 +10,8 @@ pub mod Values
 pub mod RowOrder
 pub mod RowEdits
 pub mod Rising
+pub mod SortedOnce
+pub mod Listings
+pub mod AtMostOne
+pub mod SeenRows
+pub mod Numbered

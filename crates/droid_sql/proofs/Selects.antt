@@ -1,5 +1,5 @@
 -- What a SELECT of one table answers: of each row that meets the tests its columns, in some order.
-use Rattle.std.proofs.Common.{◌≡◌, inl, inr, ℕ, ◌≤◌, ◌^◌, List, [], ◌∷◌, length, map, find, filter, nat_le, Bool, true, false, Some, None, Option, refl, ap, subst, ◌∙◌, arith}
+use Rattle.std.proofs.Common.{◌≡◌, inl, inr, ℕ, ◌≤◌, ◌^◌, List, [], ◌∷◌, length, map, find, filter, nat_le, Bool, true, false, Some, None, Option, option_map, refl, ap, subst, ◌∙◌, arith}
 use Rattle.std.proofs.lemmas.Bool.{cases_Bool}
 use Rattle.std.proofs.lemmas.List.{length-map}
 use Rattle.std.proofs.lemmas.List.Sorted.{length_permutation}
@@ -36,6 +36,11 @@ filter_few p (x ∷ xs) few = elim (cases_Bool (p x)) [
   | inl is ↦ let rest = rw is at few in rw is (ap (λ ys. x ∷ ys) (nothing_in (filter p xs) (omega arith)))
   | inr isnt ↦ rw isnt (filter_few p xs (rw isnt at few))
 ]
+
+-- the row that is shown of the first that passes
+pub shown_option : {X : Type 0} (shown : X → Row) (o : Option X) → map shown (option_to_list o) ≡ option_to_list (option_map shown o)
+shown_option shown None = refl
+shown_option shown (Some x) = refl
 
 -- no table is computed first
 pub overlay_none : (db : Trees) (t : ℕ) → overlay db [] t ≡ db t

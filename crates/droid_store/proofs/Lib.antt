@@ -1,7 +1,12 @@
 pub mod Closed
 pub mod Decoded
 pub mod Effects
+pub mod FindsNodes
+pub mod FindsProfiles
+pub mod FindsReplies
+pub mod ListsRecords
 pub mod Makes
 pub mod Meanings
 pub mod NodeEffects
+pub mod NodeOrder
 pub mod Started

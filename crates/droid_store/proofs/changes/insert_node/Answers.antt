@@ -1,4 +1,4 @@
-use Rattle.std.proofs.Common.{refl, [], ◌∷◌}
+use Rattle.std.proofs.Common.{refl, [], ◌∷◌, pos, FitsSigned, rules}
 use Rattle.sqlite.specs.declared.types.Value.TheVariants.{Int, Text}
 use Rattle.droid_store.specs.Encoded.{number, state_number}
 use Rattle.sqlite.specs.Held.{state}
@@ -17,9 +17,10 @@ returns-clause-ok c rows =
     let old = state over_memory c.args.tx.now.conn.now in
     let new = state over_memory c.execute.new.self.conn.now in
     let n = c.args.node.now in
+    let fits : FitsSigned w64 (pos n.size) = search rules in
     stepped ADD_NODE.now
     (number n.profile ∷ number n.id ∷ number n.parent ∷ Int c.args.modified ∷ number (state_number n.state) ∷ number n.size ∷ number n.piece_size ∷ Text n.name.now ∷ Text n.path.now ∷ [])
-    old new c.execute.result rows (with_last_node (node_of c.args.node.now c.args.modified) rows) (rw (c.params-to_sql.ensures, c.params-to_sql-2.ensures, c.params-to_sql-3.ensures, c.params-to_sql-4.ensures, c.params-to_sql-5.ensures, c.params-to_sql-6.ensures, c.params-to_sql-7.ensures, c.params-to_sql-8.ensures, c.params-to_sql-9.ensures, c.signed.ensures, c.number.ensures, to_z-of_z w64 c.args.modified c.ranges.modified) at (c.execute.ensures.runs (memory_is_clean c.execute.new.self.conn.now)))
+    old new c.execute.result rows (with_last_node (node_of c.args.node.now c.args.modified) rows) (rw (c.params-to_sql.ensures, c.params-to_sql-2.ensures, c.params-to_sql-3.ensures, c.params-to_sql-4.ensures, c.params-to_sql-5.ensures, c.params-to_sql-6.ensures, c.params-to_sql-7.ensures, c.params-to_sql-8.ensures, c.params-to_sql-9.ensures, c.signed.ensures, to_z-of_z w64 (pos n.size) fits, c.number.ensures, to_z-of_z w64 c.args.modified c.ranges.modified) at (c.execute.ensures.runs (memory_is_clean c.execute.new.self.conn.now)))
     (adds_node old new c.args.node.now.profile c.args.node.now.id c.args.node.now.parent c.args.modified c.args.node.now.state c.args.node.now.size c.args.node.now.piece_size c.args.node.now.name.now c.args.node.now.path.now rows)
 
 pub returns-clause-err : goal.returns-clause-err

@@ -6,6 +6,8 @@ use Rattle.droid_sql.specs.Transactions.{Settled}
 use Rattle.droid_sql.proofs.Transactions.{on_err, rolled_back, ends_ok, ends_err}
 use Rattle.droid_store.specs.Changes.{with_reply, with_node}
 use Rattle.droid_store.specs.Kept.{kept, Holds}
+use Rattle.std.proofs.lemmas.Int.{to_z-of_z}
+use Rattle.std.specs.Int.{w64}
 use Rattle.droid_store.specs.Nodes.{node_of}
 use Rattle.droid_store.proofs.Started.{started}
 use Rattle.droid_store.proofs.commits.write_node.Goals as goal
@@ -24,7 +26,7 @@ pub returns-in_err-insert_reply-clause-err : goal.returns-in_err-insert_reply-cl
 returns-in_err-insert_reply-clause-err c =
     let rows = kept c.args.conn.now in
     let begun = started c.args.conn.now c.transaction-tx.result.conn.now rows c.transaction-tx.ensures.begun c.requires.holds in
-    let first = c.in_ok-add_node.ensures.ok rows rows begun in
+    let first = rw (to_z-of_z w64 c.args.modified c.ranges.modified) at (c.in_ok-add_node.ensures.ok rows rows begun) in
     let changed = with_node (node_of c.args.node.now c.args.modified) rows in
     let mid = state over_memory c.insert_reply.new.tx.conn.now in
     let end = c.drop-tx-in_err-insert_reply.new.self.0 in
@@ -36,7 +38,7 @@ pub returns-clause-ok : goal.returns-clause-ok
 returns-clause-ok c =
     let rows = kept c.args.conn.now in
     let begun = started c.args.conn.now c.transaction-tx.result.conn.now rows c.transaction-tx.ensures.begun c.requires.holds in
-    let first = c.in_ok-add_node.ensures.ok rows rows begun in
+    let first = rw (to_z-of_z w64 c.args.modified c.ranges.modified) at (c.in_ok-add_node.ensures.ok rows rows begun) in
     let changed = with_node (node_of c.args.node.now c.args.modified) rows in
     let last = state over_memory c.insert_reply.new.tx.conn.now in
     let after = with_reply c.args.entry.now changed in
@@ -49,7 +51,7 @@ pub returns-clause-err : goal.returns-clause-err
 returns-clause-err c =
     let rows = kept c.args.conn.now in
     let begun = started c.args.conn.now c.transaction-tx.result.conn.now rows c.transaction-tx.ensures.begun c.requires.holds in
-    let first = c.in_ok-add_node.ensures.ok rows rows begun in
+    let first = rw (to_z-of_z w64 c.args.modified c.ranges.modified) at (c.in_ok-add_node.ensures.ok rows rows begun) in
     let changed = with_node (node_of c.args.node.now c.args.modified) rows in
     let last = state over_memory c.insert_reply.new.tx.conn.now in
     let after = with_reply c.args.entry.now changed in
