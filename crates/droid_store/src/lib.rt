@@ -7,7 +7,9 @@
 mod changes;
 mod commits;
 mod fault;
+mod look_ups;
 mod making;
+mod read_rows;
 mod rows;
 mod statements;
 mod store;
