@@ -10,3 +10,5 @@ pub mod Meanings
 pub mod NodeEffects
 pub mod NodeOrder
 pub mod Started
+pub mod ApartAfter
+pub mod ChangesNodes
