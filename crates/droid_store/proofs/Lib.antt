@@ -12,3 +12,4 @@ pub mod NodeOrder
 pub mod Started
 pub mod ApartAfter
 pub mod ChangesNodes
+pub mod CountsAfter
