@@ -12,3 +12,6 @@ pub mod Meanings
 pub mod NodeEffects
 pub mod NodeOrder
 pub mod Started
+pub mod ApartAfter
+pub mod ChangesNodes
+pub mod CountsAfter
