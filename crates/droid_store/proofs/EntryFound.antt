@@ -9,8 +9,8 @@ use Rattle.droid_store.specs.Shown.{shown_reply}
 passes : (p : Entry → Bool) (es : List Entry) (e : Entry) → find p es ≡ Some e → p e ≡ true
 passes p [] e is = absurd cc
 passes p (x ∷ es) e is = elim (cases_Bool (p x)) [
-  | inl yes ↦ let same : x ≡ e = (let it = rw yes at is in cc) in subst (λ y. p y ≡ true) same yes
-  | inr no ↦ passes p es e (rw no at is)
+  | inl passed ↦ let same : x ≡ e = (let it = rw passed at is in cc) in subst (λ y. p y ≡ true) same passed
+  | inr failed ↦ passes p es e (rw failed at is)
 ]
 
 pub entry_found : (client number : ℕ) (rows : Rows) (row : Row) (read : Entry) → Some row ≡ option_map shown_reply (reply_for client number rows)

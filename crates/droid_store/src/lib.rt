@@ -6,6 +6,7 @@
 
 mod changes;
 mod commits;
+mod counting;
 mod fault;
 mod look_ups;
 mod making;
