@@ -1,4 +1,7 @@
+pub mod ApartAfter
+pub mod ChangesNodes
 pub mod Closed
+pub mod CountsAfter
 pub mod Decoded
 pub mod Effects
 pub mod EntryFound
@@ -6,12 +9,10 @@ pub mod FindsNodes
 pub mod FindsProfiles
 pub mod FindsReplies
 pub mod FoundRows
+pub mod Listed
 pub mod ListsRecords
 pub mod Makes
 pub mod Meanings
 pub mod NodeEffects
 pub mod NodeOrder
 pub mod Started
-pub mod ApartAfter
-pub mod ChangesNodes
-pub mod CountsAfter

@@ -14,6 +14,7 @@ mod read_rows;
 mod rows;
 mod statements;
 mod store;
+mod words;
 
 pub use fault::StoreFault;
 pub use rows::{Counts, Entry, NodeRow, NodeState, ProfileRow};

@@ -1,17 +1,20 @@
 //! One call for each kind of accepted command: a change of the rows and its entry, both or neither.
 
 ghost use Rattle.std.specs.Prelude.{◌≡◌, ◌+◌, ◌<◌, ◌^◌, None, length, OnOk, OnErr};
-ghost use Rattle.droid_store.specs.Changes.{IsNext, IsOpen, new_folder, new_file, with_node, with_profile, with_reply, without_node};
+ghost use Rattle.std.specs.List.{AllByRecursion};
+ghost use Rattle.droid_store.specs.Changes.{IsNext, IsOpen, IsWord, new_folder, new_file, with_finished, with_node, with_profile, with_reply, without_node};
 ghost use Rattle.droid_store.specs.Rows.{child_at, reply_for};
 
-use crate::changes::NewNode;
-use crate::commits::{write_abandon, write_node, write_profile, write_reply};
+use crate::changes::{Findings, NewNode};
+use crate::commits::{write_abandon, write_finish, write_node, write_profile, write_reply};
 use crate::counting::{
     one_less_unfinished, one_more_profile, one_more_reply, one_more_unfinished,
 };
 use crate::fault::StoreFault;
 use crate::rows::{Entry, NodeState};
 use crate::store::Store;
+use crate::words::join;
+use droid_frame::{Method, Texts};
 
 impl Store {
     /// Makes the profile with the next number.
@@ -117,6 +120,39 @@ impl Store {
     {
         let counts = one_more_reply(self.counts)?;
         write_reply(&mut self.conn, entry)?;
+        self.counts = counts;
+        Ok(())
+    }
+
+    /// Finishes an unfinished file with what was found of its bytes. Each identifier has a byte, and
+    /// none of its bytes is a space.
+    pub fn commit_finish(
+        &mut self,
+        entry: &Entry,
+        profile: u32,
+        file: u32,
+        method: Method,
+        mismatch: bool,
+        md5: [u8; 16],
+        puids: &Texts,
+    ) -> Result<(), StoreFault>
+        requires new { reply_for entry.now.client entry.now.number self.old ≡ None }
+        requires small { entry.now.number < 2 ^ 63 }
+        requires file { IsOpen profile file self.old }
+        requires puids { AllByRecursion IsWord puids.now }
+        ensures ok { OnOk result (self.new ≡ with_reply entry.now (with_finished profile file method mismatch md5 puids.now self.old)) }
+        ensures err { OnErr result (self.new ≡ self.old) }
+    {
+        let changed = one_less_unfinished(self.counts);
+        let counts = one_more_reply(changed)?;
+        let formats = join(self.alloc, puids)?;
+        let findings = Findings {
+            method,
+            mismatch,
+            md5: md5.as_slice(),
+            formats: formats.as_str(),
+        };
+        write_finish(&mut self.conn, entry, profile, file, &findings)?;
         self.counts = counts;
         Ok(())
     }

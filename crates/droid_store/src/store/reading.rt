@@ -4,10 +4,11 @@ ghost use Rattle.std.specs.Prelude.{◌≡◌, ◌<◌, ◌^◌, IfOk, Ok, optio
 ghost use Rattle.droid_store.specs.Rows.{profile_at, node_at, child_at, reply_for, records_of, counts_of, row_of};
 
 use crate::fault::StoreFault;
-use crate::look_ups::{find_child, find_profile, find_reply};
-use crate::read_rows::{entry_of, profile_of};
-use crate::rows::{Counts, Entry, ProfileRow};
+use crate::look_ups::{find_child, find_node, find_profile, find_reply, list_nodes};
+use crate::read_rows::{entry_of, node_of, profile_of, records_in};
+use crate::rows::{Counts, Entry, NodeRow, ProfileRow};
 use crate::store::Store;
+use droid_frame::Record;
 
 impl Store {
     /// What is kept under this client and number.
@@ -33,6 +34,17 @@ impl Store {
         Ok(Some(profile_of(&row)?))
     }
 
+    /// The node with this number in this profile, unless it was abandoned.
+    pub fn node(&mut self, profile: u32, id: u32) -> Result<Option<NodeRow>, StoreFault>
+        ensures same { self.new ≡ self.old }
+        ensures found { IfOk result (λ found. found ≡ option_map row_of (node_at profile id self.old)) }
+    {
+        let Some(row) = find_node(&mut self.conn, profile, id)? else {
+            return Ok(None);
+        };
+        Ok(Some(node_of(self.alloc, &row)?))
+    }
+
     /// The number of the node that lies in this folder under this name, byte for byte. The top is
     /// folder 0.
     pub fn child(
@@ -48,6 +60,15 @@ impl Store {
             return Ok(None);
         };
         Ok(Some(row.get(0)?))
+    }
+
+    /// The folders and finished files of the profile, by number.
+    pub fn records(&mut self, profile: u32) -> Result<Vec<Record>, StoreFault>
+        ensures same { self.new ≡ self.old }
+        ensures found { IfOk result (λ found. found.items ≡ records_of profile self.old) }
+    {
+        let rows = list_nodes(&mut self.conn, profile)?;
+        records_in(self.alloc, &rows)
     }
 
     /// How much there is. It goes through no table and always answers.
