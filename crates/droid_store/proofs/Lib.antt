@@ -13,3 +13,4 @@ pub mod Started
 pub mod ApartAfter
 pub mod ChangesNodes
 pub mod CountsAfter
+pub mod Joined
