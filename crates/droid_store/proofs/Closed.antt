@@ -17,3 +17,6 @@ pub closed : (c : Held MemStore) (rows : Rows) (counts : Counts) → Settled (st
 closed c rows counts has apart are =
     let same = sym (kept_is c rows has) in
     (subst (λ r. Settled (state over_memory c) (Holds r)) same has, subst AreApart same apart, are ∙ ap counts_of same)
+
+pub kept_still : (c : Held MemStore) (rows : Rows) → Settled (state over_memory c) (Holds rows) → Settled (state over_memory c) (Holds (kept c))
+kept_still c rows has = subst (λ r. Settled (state over_memory c) (Holds r)) (sym (kept_is c rows has)) has

@@ -18,26 +18,7 @@ use Rattle.droid_store.specs.Rows.{Node, Rows, is_node, node_at, is_child, child
 use Rattle.droid_store.specs.Tables.{store_schema}
 use Rattle.droid_store.proofs.Meanings.{by_number, by_name, find_node_query, find_node_is, find_node_plain, find_child_query, find_child_is, find_child_plain}
 use Rattle.droid_store.proofs.NodeOrder.{few_numbered}
-
--- the columns that the look-up of a node shows
-abbrev pub shown_node : Node → Row
-shown_node n =
-    number n.id
-    ∷ number n.parent
-    ∷ Int n.modified
-    ∷ number (state_number n.state)
-    ∷ number n.size
-    ∷ number n.piece_size
-    ∷ number (method_number n.method)
-    ∷ flag n.mismatch
-    ∷ Text n.name
-    ∷ Text n.path
-    ∷ Text (joined n.puids)
-    ∷ Blob n.md5
-    ∷ []
-
-abbrev pub shown_id : Node → Row
-shown_id n = number n.id ∷ []
+pub use Rattle.droid_store.specs.Shown.{shown_node, shown_id}
 
 pub passes_number : (profile id : ℕ) (x : ℕ × Node) → list_all (holds ((number profile ∷ number id ∷ []) ∷ node_row x ∷ [])) by_number ≡ is_node profile id x.1
 passes_number profile id x = rw (equal_numbers x.1.profile profile, equal_numbers x.1.id id) (all_of_two (x.1.profile == profile) (x.1.id == id))

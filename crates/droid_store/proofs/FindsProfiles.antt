@@ -24,9 +24,7 @@ use Rattle.droid_store.specs.Kept.{Holds}
 use Rattle.droid_store.specs.Rows.{Rows, profile_at}
 use Rattle.droid_store.specs.Tables.{store_schema}
 use Rattle.droid_store.proofs.Meanings.{by_id, find_profile_query, find_profile_is, find_profile_plain}
-
-abbrev pub shown_profile : ProfileRow → Row
-shown_profile p = number p.scan_limit ∷ flag p.match_all ∷ number p.nodes ∷ []
+pub use Rattle.droid_store.specs.Shown.{shown_profile}
 
 abbrev pub has_number : ℕ → ℕ × ProfileRow → Bool
 has_number profile x = x.0 == profile

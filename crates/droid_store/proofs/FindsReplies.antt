@@ -20,9 +20,7 @@ use Rattle.droid_store.specs.Kept.{Holds, AreApart}
 use Rattle.droid_store.specs.Rows.{Rows, is_for, reply_for}
 use Rattle.droid_store.specs.Tables.{store_schema}
 use Rattle.droid_store.proofs.Meanings.{by_sender, find_reply_query, find_reply_is, find_reply_plain}
-
-abbrev pub shown_reply : Entry → Row
-shown_reply e = number e.kind ∷ Blob e.mark ∷ Blob e.body ∷ []
+pub use Rattle.droid_store.specs.Shown.{shown_reply}
 
 passes : (client sent : ℕ) (x : ℕ × Entry) → list_all (holds ((number client ∷ number sent ∷ []) ∷ reply_row x ∷ [])) by_sender ≡ is_for client sent x.1
 passes client sent x = rw (equal_numbers x.1.client client, equal_numbers x.1.number sent) (all_of_two (x.1.client == client) (x.1.number == sent))

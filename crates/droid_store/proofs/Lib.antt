@@ -1,9 +1,11 @@
 pub mod Closed
 pub mod Decoded
 pub mod Effects
+pub mod EntryFound
 pub mod FindsNodes
 pub mod FindsProfiles
 pub mod FindsReplies
+pub mod FoundRows
 pub mod ListsRecords
 pub mod Makes
 pub mod Meanings

@@ -3,4 +3,5 @@ pub mod Encoded
 pub mod Kept
 pub mod Nodes
 pub mod Rows
+pub mod Shown
 pub mod Tables

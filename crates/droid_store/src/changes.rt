@@ -1,15 +1,20 @@
 //! Single statements in a transaction.
 
-ghost use Rattle.std.specs.Prelude.{◌≡◌, ◌+◌, ◌<◌, ◌^◌, ◌++◌, ◌∷◌, [], length, pos};
+ghost use Rattle.std.specs.Prelude.{◌≡◌, ◌+◌, ◌<◌, ◌^◌, ◌++◌, ◌∷◌, [], List, ℕ, length, pos};
 ghost use Rattle.sqlite.specs.Held.{state};
 ghost use Rattle.sqlite.specs.Steps.{over_memory};
-ghost use Rattle.droid_store.specs.Changes.{with_profile, with_reply, with_node, counted};
-ghost use Rattle.droid_store.specs.Kept.{Steps, Saves};
+ghost use Rattle.std.specs.List.{AllByRecursion};
+ghost use Rattle.droid_store.specs.Changes.{with_profile, with_reply, with_node, with_finished, without_node, counted, IsWord};
+ghost use Rattle.droid_store.specs.Encoded.{joined, method_number};
+ghost use Rattle.droid_store.specs.Kept.{AreApart, Steps, Saves};
 ghost use Rattle.droid_store.specs.Rows.{Rows};
 ghost use Rattle.droid_store.specs.Nodes.{node_of};
 
 use crate::rows::{Entry, NodeState};
-use crate::statements::{ADD_NODE, ADD_PROFILE, ADD_REPLY, COUNT_NODES};
+use crate::statements::{
+    ADD_NODE, ADD_PROFILE, ADD_REPLY, COUNT_NODES, FINISH_NODE, REMOVE_NODE,
+};
+use droid_frame::Method;
 use sqlite::{Error, MemStore, Transaction, params};
 
 /// A node as it is accepted.
@@ -120,4 +125,61 @@ pub(crate) fn add_node(
 {
     insert_node(tx, node, modified)?;
     count_nodes(tx, node.profile, node.id)
+}
+
+/// What a file that was identified is given.
+#[derive(Clone, Copy)]
+pub(crate) struct Findings<'a> {
+    pub method: Method,
+    pub mismatch: bool,
+    pub md5: &'a [u8],
+    /// The formats' identifiers joined by a space.
+    pub formats: &'a str,
+}
+
+pub(crate) fn finish_node(
+    tx: &mut Transaction<'_, MemStore>,
+    profile: u32,
+    file: u32,
+    findings: &Findings<'_>,
+) -> Result<usize, Error>
+    ensures same_reference { tx.new.conn.ghost_name ≡ tx.old.conn.ghost_name }
+    ensures ok { (rows : Rows) → AreApart rows → (puids : List (List ℕ)) → AllByRecursion IsWord puids → findings.now.formats.now ≡ joined puids
+        → Steps (state over_memory tx.old.conn.now) (state over_memory tx.new.conn.now) result rows (with_finished profile file findings.now.method findings.now.mismatch findings.now.md5.now puids rows) }
+    ensures err { (rows : Rows) → Saves (state over_memory tx.old.conn.now) (state over_memory tx.new.conn.now) result rows }
+{
+    tx.execute(
+        FINISH_NODE,
+        params![
+            profile,
+            file,
+            number_of(findings.method),
+            findings.mismatch,
+            findings.formats,
+            findings.md5
+        ],
+    )
+}
+
+/// The number that the database keeps for it.
+fn number_of(method: Method) -> u32
+    ensures { result ≡ method_number method }
+{
+    match method {
+        Method::Unidentified => 0,
+        Method::Signature => 1,
+        Method::Extension => 2,
+    }
+}
+
+pub(crate) fn delete_node(
+    tx: &mut Transaction<'_, MemStore>,
+    profile: u32,
+    file: u32,
+) -> Result<usize, Error>
+    ensures same_reference { tx.new.conn.ghost_name ≡ tx.old.conn.ghost_name }
+    ensures ok { (rows : Rows) → AreApart rows → Steps (state over_memory tx.old.conn.now) (state over_memory tx.new.conn.now) result rows (without_node profile file rows) }
+    ensures err { (rows : Rows) → Saves (state over_memory tx.old.conn.now) (state over_memory tx.new.conn.now) result rows }
+{
+    tx.execute(REMOVE_NODE, params![profile, file])
 }

@@ -6,8 +6,11 @@
 
 mod changes;
 mod commits;
+mod counting;
 mod fault;
+mod look_ups;
 mod making;
+mod read_rows;
 mod rows;
 mod statements;
 mod store;

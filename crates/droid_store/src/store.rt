@@ -10,6 +10,9 @@ use sqlite::{Connection, MemStore};
 use std::alloc::Global;
 use std::marker::Model;
 
+mod committing;
+mod reading;
+
 /// The rows of a service: profiles, nodes and kept replies. It keeps the allocator that it was
 /// made with.
 #[derive(Drop)]
