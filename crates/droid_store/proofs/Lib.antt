@@ -9,6 +9,7 @@ pub mod FindsNodes
 pub mod FindsProfiles
 pub mod FindsReplies
 pub mod FoundRows
+pub mod Joined
 pub mod Listed
 pub mod ListsRecords
 pub mod Makes
