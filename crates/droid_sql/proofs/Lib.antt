@@ -1,0 +1,17 @@
+pub mod Parts
+pub mod Inserts
+pub mod Creates
+pub mod Changes
+pub mod Transactions
+pub mod Selects
+pub mod Comparisons
+pub mod LookUps
+pub mod Values
+pub mod RowOrder
+pub mod RowEdits
+pub mod Rising
+pub mod SortedOnce
+pub mod Listings
+pub mod AtMostOne
+pub mod SeenRows
+pub mod Numbered

@@ -1,0 +1,3 @@
+pub mod KeyedRows
+pub mod Queries
+pub mod Transactions

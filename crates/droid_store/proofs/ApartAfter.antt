@@ -1,0 +1,102 @@
+-- No two rows come under one key, also after each change.
+use Rattle.std.proofs.Common.{◌≡◌, inl, inr, ℕ, ◌<◌, ◌≤◌, ◌==◌, ◌&&◌, List, [], ◌∷◌, ◌++◌, length, map, find, filter, Bool, true, false, not, None, if◌then◌else◌, bytes_eq, refl, sym, ap, subst, ◌∙◌, arith}
+use Rattle.std.proofs.lemmas.Bool.{cases_Bool, and_parts, eqb-true}
+use Rattle.std.proofs.lemmas.Slice.Eq.{bytes_eq-Decides}
+use Rattle.std.specs.List.{AllByRecursion}
+use Rattle.droid_frame.specs.declared.method.Method.{Method}
+use Rattle.droid_sql.specs.KeyedRows.{changed_where}
+use Rattle.droid_sql.proofs.AtMostOne.{one_after_none, fewer, as_many}
+use Rattle.droid_store.specs.declared.rows.Entry.{Entry}
+use Rattle.droid_store.specs.Changes.{with_reply, with_profile, with_node, finished, with_finished, without_node, IsNext}
+use Rattle.droid_store.specs.Kept.{AreInOrder, AreApart}
+use Rattle.droid_store.specs.Rows.{Node, Rows, is_node, is_child, is_for, child_at, reply_for}
+
+-- ---- one row more
+
+pub apart_with_profile : (scan_limit : ℕ) (match_all : Bool) (rows : Rows) → AreApart rows → AreApart (with_profile scan_limit match_all rows)
+apart_with_profile scan_limit match_all rows apart = record { replies = apart.replies; children = apart.children; numbers = apart.numbers }
+
+pub apart_with_reply : (e : Entry) (rows : Rows) → reply_for e.client e.number rows ≡ None → AreApart rows → AreApart (with_reply e rows)
+apart_with_reply e rows none apart = record {
+  replies = λ client number. one_after_none (is_for client number) rows.replies e (λ is.
+      let both = and_parts (e.client == client) (e.number == number) is in
+      subst (λ c. find (is_for c number) rows.replies ≡ None) (eqb-true e.client client both.0) (subst (λ n. find (is_for e.client n) rows.replies ≡ None) (eqb-true e.number number both.1) none)) (apart.replies client number);
+  children = apart.children;
+  numbers = apart.numbers;
+}
+
+last_in_order : (n : Node) (ns : List Node) → AllByRecursion (λ m. m.profile ≡ n.profile → m.id < n.id) ns → AreInOrder ns → AreInOrder (ns ++ n ∷ [])
+last_in_order n [] below rise = (tt, tt)
+last_in_order n (m ∷ ms) below rise = (above_last m ms (λ at. below.0 (sym at)) rise.0, last_in_order n ms below.1 rise.1)
+  where
+    above_last : (low : Node) (xs : List Node) → (n.profile ≡ low.profile → low.id < n.id) → AllByRecursion (λ x. x.profile ≡ low.profile → low.id < x.id) xs → AllByRecursion (λ x. x.profile ≡ low.profile → low.id < x.id) (xs ++ n ∷ [])
+    above_last low [] less above = (less, tt)
+    above_last low (x ∷ xs) less above = (above.0, above_last low xs less above.1)
+
+child_key : (profile parent : ℕ) (name : List ℕ) (n : Node) (rows : Rows) → is_child profile parent name n ≡ true → child_at n.profile n.parent n.name rows ≡ None → child_at profile parent name rows ≡ None
+child_key profile parent name n rows is none =
+    let first = and_parts (n.profile == profile) ((n.parent == parent) && bytes_eq n.name name) is in
+    let rest = and_parts (n.parent == parent) (bytes_eq n.name name) first.1 in
+    subst (λ p. child_at p parent name rows ≡ None) (eqb-true n.profile profile first.0)
+    (subst (λ q. child_at n.profile q name rows ≡ None) (eqb-true n.parent parent rest.0) (subst (λ t. child_at n.profile n.parent t rows ≡ None) ((bytes_eq-Decides n.name name).0 rest.1) none))
+
+pub apart_with_node : (n : Node) (rows : Rows) → IsNext n.profile n.id rows → child_at n.profile n.parent n.name rows ≡ None → AreApart rows → AreApart (with_node n rows)
+apart_with_node n rows next free apart = record {
+  replies = apart.replies;
+  children = λ profile parent name. one_after_none (is_child profile parent name) rows.nodes n (λ is. child_key profile parent name n rows is free) (apart.children profile parent name);
+  numbers = last_in_order n rows.nodes next.above apart.numbers;
+}
+
+-- ---- a row changed, which keeps its keys
+
+module _ (profile file : ℕ) (method : Method) (mismatch : Bool) (md5 : List ℕ) (puids : List (List ℕ)) where
+  abbrev change : Node → Node
+  change = changed_where (is_node profile file) (finished method mismatch md5 puids)
+
+  same_keys : (n : Node) → ((change n).profile ≡ n.profile) × ((change n).id ≡ n.id) × ((change n).parent ≡ n.parent) × ((change n).name ≡ n.name)
+  same_keys n = elim (cases_Bool (is_node profile file n)) [ inl is ↦ rw is (refl, refl, refl, refl) | inr isnt ↦ rw isnt (refl, refl, refl, refl) ]
+
+  same_child : (at parent : ℕ) (name : List ℕ) (n : Node) → is_child at parent name (change n) ≡ is_child at parent name n
+  same_child at parent name n =
+      let same = same_keys n in
+      ap (λ p. (p == at) && (((change n).parent == parent) && bytes_eq (change n).name name)) same.0 ∙ ap (λ q. (n.profile == at) && ((q == parent) && bytes_eq (change n).name name)) same.2
+      ∙ ap (λ t. (n.profile == at) && ((n.parent == parent) && bytes_eq t name)) same.3
+
+  above_changed : (low : Node) (ns : List Node) → AllByRecursion (λ m. m.profile ≡ low.profile → low.id < m.id) ns → AllByRecursion (λ m. m.profile ≡ (change low).profile → (change low).id < m.id) (map change ns)
+  above_changed low [] above = tt
+  above_changed low (n ∷ ns) above =
+      (λ at. let here = same_keys low in let there = same_keys n in let less = above.0 (sym there.0 ∙ at ∙ here.0) in omega (arith, less, here.1, there.1), above_changed low ns above.1)
+
+  order_changed : (ns : List Node) → AreInOrder ns → AreInOrder (map change ns)
+  order_changed [] rise = tt
+  order_changed (n ∷ ns) rise = (above_changed n ns rise.0, order_changed ns rise.1)
+
+  pub apart_with_finished : (rows : Rows) → AreApart rows → AreApart (with_finished profile file method mismatch md5 puids rows)
+  apart_with_finished rows apart = record {
+    replies = apart.replies;
+    children = λ at parent name. let few = apart.children at parent name in let same = as_many (is_child at parent name) change (same_child at parent name) rows.nodes in omega (arith, few, same);
+    numbers = order_changed rows.nodes apart.numbers;
+  }
+
+-- ---- a row taken out
+
+above_left : (p : Node → Bool) (low : Node) (ns : List Node) → AllByRecursion (λ m. m.profile ≡ low.profile → low.id < m.id) ns → AllByRecursion (λ m. m.profile ≡ low.profile → low.id < m.id) (filter p ns)
+above_left p low [] above = tt
+above_left p low (n ∷ ns) above = elim (cases_Bool (p n)) [
+  | inl is ↦ rw is (above.0, above_left p low ns above.1)
+  | inr isnt ↦ rw isnt (above_left p low ns above.1)
+]
+
+order_left : (p : Node → Bool) (ns : List Node) → AreInOrder ns → AreInOrder (filter p ns)
+order_left p [] rise = tt
+order_left p (n ∷ ns) rise = elim (cases_Bool (p n)) [
+  | inl is ↦ rw is (above_left p n ns rise.0, order_left p ns rise.1)
+  | inr isnt ↦ rw isnt (order_left p ns rise.1)
+]
+
+pub apart_without_node : (profile file : ℕ) (rows : Rows) → AreApart rows → AreApart (without_node profile file rows)
+apart_without_node profile file rows apart = record {
+  replies = apart.replies;
+  children = λ at parent name. let few = apart.children at parent name in let less = fewer (is_child at parent name) (λ n. not (is_node profile file n)) rows.nodes in omega (arith, few, less);
+  numbers = order_left (λ n. not (is_node profile file n)) rows.nodes apart.numbers;
+}

@@ -1,0 +1,12 @@
+-- A transaction begins with what was there.
+use Rattle.std.proofs.Common.{◌≡◌, true, sym, subst}
+use Rattle.sqlite_trees.specs.declared.memory.MemStore.{MemStore}
+use Rattle.sqlite.specs.Held.{Held, state}
+use Rattle.sqlite.specs.Steps.{over_memory}
+use Rattle.droid_sql.specs.Transactions.{Settled, Within}
+use Rattle.droid_sql.proofs.Transactions.{begins}
+use Rattle.droid_store.specs.Kept.{Holds}
+use Rattle.droid_store.specs.Rows.{Rows}
+
+pub started : (old tx : Held MemStore) (rows : Rows) → tx ≡ record old { in_transaction = true } → Settled (state over_memory old) (Holds rows) → Within (state over_memory tx) (Holds rows) (Holds rows)
+started old tx rows begun has = subst (λ h. Within (state over_memory h) (Holds rows) (Holds rows)) (sym begun) (begins (state over_memory old) (Holds rows) has)

@@ -1,0 +1,21 @@
+use Rattle.std.proofs.Common.{refl}
+use Rattle.sqlite.specs.Held.{state}
+use Rattle.sqlite.specs.Steps.{over_memory}
+use Rattle.sqlite.proofs.Callers.{memory_is_clean}
+use Rattle.droid_store.specs.declared.statements.TheConstants.{COUNT_NODES}
+use Rattle.droid_store.proofs.Effects.{stepped, kept_safe}
+use Rattle.droid_store.proofs.NodeEffects.{counts_nodes, with_counted}
+use Rattle.droid_store.proofs.changes.count_nodes.Goals as goal
+
+pub returns-clause-ok : goal.returns-clause-ok
+returns-clause-ok c rows =
+    let old = state over_memory c.args.tx.now.conn.now in
+    let new = state over_memory c.execute.new.self.conn.now in
+    stepped COUNT_NODES.now _ old new c.execute.result rows (with_counted c.args.profile c.args.nodes rows) (rw (c.params-to_sql.ensures, c.params-to_sql-2.ensures) at (c.execute.ensures.runs (memory_is_clean c.execute.new.self.conn.now)))
+    (counts_nodes old new c.args.profile c.args.nodes rows)
+
+pub returns-clause-err : goal.returns-clause-err
+returns-clause-err c rows =
+    let old = state over_memory c.args.tx.now.conn.now in
+    let new = state over_memory c.execute.new.self.conn.now in
+    kept_safe COUNT_NODES.now _ old new c.execute.result rows refl (c.execute.ensures.runs (memory_is_clean c.execute.new.self.conn.now))

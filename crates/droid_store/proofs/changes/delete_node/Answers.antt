@@ -1,0 +1,24 @@
+use Rattle.std.proofs.Common.{refl, [], ◌∷◌}
+use Rattle.sqlite.specs.Held.{state}
+use Rattle.sqlite.specs.Steps.{over_memory}
+use Rattle.sqlite.proofs.Callers.{memory_is_clean}
+use Rattle.droid_store.specs.declared.statements.TheConstants.{REMOVE_NODE}
+use Rattle.droid_store.specs.Changes.{without_node}
+use Rattle.droid_store.specs.Encoded.{number}
+use Rattle.droid_store.proofs.ChangesNodes.{removes_node}
+use Rattle.droid_store.proofs.Effects.{stepped, kept_safe}
+use Rattle.droid_store.proofs.changes.delete_node.Goals as goal
+
+pub returns-clause-ok : goal.returns-clause-ok
+returns-clause-ok c rows apart =
+    let old = state over_memory c.args.tx.now.conn.now in
+    let new = state over_memory c.execute.new.self.conn.now in
+    stepped REMOVE_NODE.now (number c.args.profile ∷ number c.args.file ∷ []) old new c.execute.result rows (without_node c.args.profile c.args.file rows)
+    (rw (c.params-to_sql.ensures, c.params-to_sql-2.ensures) at (c.execute.ensures.runs (memory_is_clean c.execute.new.self.conn.now)))
+    (λ count has h. removes_node old new c.args.profile c.args.file rows count has apart h)
+
+pub returns-clause-err : goal.returns-clause-err
+returns-clause-err c rows =
+    let old = state over_memory c.args.tx.now.conn.now in
+    let new = state over_memory c.execute.new.self.conn.now in
+    kept_safe REMOVE_NODE.now _ old new c.execute.result rows refl (c.execute.ensures.runs (memory_is_clean c.execute.new.self.conn.now))

@@ -1,0 +1,22 @@
+use Rattle.std.proofs.Common.{refl}
+use Rattle.sqlite.specs.Held.{state}
+use Rattle.sqlite.specs.Steps.{over_memory}
+use Rattle.sqlite.proofs.Callers.{memory_is_clean}
+use Rattle.droid_store.specs.declared.statements.TheConstants.{ADD_PROFILE}
+use Rattle.droid_store.proofs.Effects.{stepped, kept_safe}
+use Rattle.droid_store.specs.Changes.{with_profile}
+use Rattle.droid_store.proofs.Effects.{adds_profile}
+use Rattle.droid_store.proofs.changes.insert_profile.Goals as goal
+
+pub returns-clause-ok : goal.returns-clause-ok
+returns-clause-ok c rows next =
+    let old = state over_memory c.args.tx.now.conn.now in
+    let new = state over_memory c.execute.new.self.conn.now in
+    stepped ADD_PROFILE.now _ old new c.execute.result rows (with_profile c.args.scan_limit c.args.match_all rows) (rw (c.params-to_sql.ensures, c.params-to_sql-2.ensures, c.params-to_sql-3.ensures) at (c.execute.ensures.runs (memory_is_clean c.execute.new.self.conn.now)))
+    (adds_profile old new c.args.profile c.args.scan_limit c.args.match_all rows next)
+
+pub returns-clause-err : goal.returns-clause-err
+returns-clause-err c rows =
+    let old = state over_memory c.args.tx.now.conn.now in
+    let new = state over_memory c.execute.new.self.conn.now in
+    kept_safe ADD_PROFILE.now _ old new c.execute.result rows refl (c.execute.ensures.runs (memory_is_clean c.execute.new.self.conn.now))

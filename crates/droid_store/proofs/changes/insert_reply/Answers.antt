@@ -1,0 +1,28 @@
+use Rattle.std.proofs.Common.{refl, [], ◌∷◌, pos, FitsSigned, rules}
+use Rattle.std.proofs.lemmas.Int.{to_z-of_z}
+use Rattle.std.specs.Int.{w64}
+use Rattle.sqlite.specs.declared.types.Value.TheVariants.{Blob}
+use Rattle.droid_store.specs.Encoded.{number}
+use Rattle.sqlite.specs.Held.{state}
+use Rattle.sqlite.specs.Steps.{over_memory}
+use Rattle.sqlite.proofs.Callers.{memory_is_clean}
+use Rattle.droid_store.specs.declared.statements.TheConstants.{ADD_REPLY}
+use Rattle.droid_store.proofs.Effects.{stepped, kept_safe}
+use Rattle.droid_store.specs.Changes.{with_reply}
+use Rattle.droid_store.proofs.Effects.{adds_reply}
+use Rattle.droid_store.proofs.changes.insert_reply.Goals as goal
+
+pub returns-clause-ok : goal.returns-clause-ok
+returns-clause-ok c rows =
+    let old = state over_memory c.args.tx.now.conn.now in
+    let new = state over_memory c.execute.new.self.conn.now in
+    let e = c.args.entry.now in
+    let fits : FitsSigned w64 (pos e.number) = search rules in
+    stepped ADD_REPLY.now (number e.client ∷ number e.number ∷ number e.kind ∷ Blob e.mark ∷ Blob e.body ∷ []) old new c.execute.result rows (with_reply c.args.entry.now rows) (rw (c.params-to_sql.ensures, c.params-to_sql-2.ensures, c.params-to_sql-3.ensures, c.params-to_sql-4.ensures, c.params-to_sql-5.ensures, c.signed.ensures, to_z-of_z w64 (pos e.number) fits, c.from.ensures, c.as_slice-mark.ensures, c.as_slice-body.ensures.value) at (c.execute.ensures.runs (memory_is_clean c.execute.new.self.conn.now)))
+    (adds_reply old new c.args.entry.now rows)
+
+pub returns-clause-err : goal.returns-clause-err
+returns-clause-err c rows =
+    let old = state over_memory c.args.tx.now.conn.now in
+    let new = state over_memory c.execute.new.self.conn.now in
+    kept_safe ADD_REPLY.now _ old new c.execute.result rows refl (c.execute.ensures.runs (memory_is_clean c.execute.new.self.conn.now))

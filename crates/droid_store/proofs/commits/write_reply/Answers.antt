@@ -1,0 +1,48 @@
+use Rattle.std.proofs.Common.{◌≡◌, OnOk, OnErr, refl, subst, rules}
+use Rattle.sqlite.specs.Held.{state}
+use Rattle.sqlite.specs.Steps.{over_memory}
+use Rattle.sqlite.proofs.Callers.{memory_is_clean}
+use Rattle.droid_sql.specs.Transactions.{Settled}
+use Rattle.droid_sql.proofs.Transactions.{on_err, rolled_back, ends_ok, ends_err}
+use Rattle.droid_store.specs.Changes.{with_reply}
+use Rattle.droid_store.specs.Kept.{kept, Holds}
+use Rattle.droid_store.proofs.Started.{started}
+use Rattle.droid_store.proofs.commits.write_reply.Goals as goal
+
+pub returns-in_err-insert_reply-clause-err : goal.returns-in_err-insert_reply-clause-err
+returns-in_err-insert_reply-clause-err c =
+    let rows = kept c.args.conn.now in
+    let begun = started c.args.conn.now c.transaction-tx.result.conn.now rows c.transaction-tx.ensures.begun c.requires.holds in
+    let first = begun in
+    let changed = rows in
+    let mid = state over_memory c.insert_reply.new.tx.conn.now in
+    let end = c.drop-tx.new.self.0 in
+    let same : end ≡ c.conn-1.given.0 = search rules in
+    on_err c.from_residual.result _ (subst (λ h. Settled (state over_memory h) (Holds rows)) same
+    (rolled_back mid (state over_memory end) (Holds rows) refl (c.in_err-insert_reply.ensures.err changed rows first) (c.drop-tx.ensures.undone (memory_is_clean end))))
+
+pub returns-clause-ok : goal.returns-clause-ok
+returns-clause-ok c =
+    let rows = kept c.args.conn.now in
+    let begun = started c.args.conn.now c.transaction-tx.result.conn.now rows c.transaction-tx.ensures.begun c.requires.holds in
+    let first = begun in
+    let changed = rows in
+    let last = state over_memory c.insert_reply.new.tx.conn.now in
+    let after = with_reply c.args.entry.now changed in
+    let end = c.commit.new.self.0 in
+    let same : end ≡ c.conn-2-1.given.0 = search rules in
+    subst (λ h. OnOk c.commit.result (Settled (state over_memory h) (Holds after))) same
+    (ends_ok last (state over_memory end) c.commit.result (Holds after) (Holds rows) (c.in_ok-insert_reply.ensures.ok changed rows first) (c.commit.ensures.ok (memory_is_clean end)))
+
+pub returns-clause-err : goal.returns-clause-err
+returns-clause-err c =
+    let rows = kept c.args.conn.now in
+    let begun = started c.args.conn.now c.transaction-tx.result.conn.now rows c.transaction-tx.ensures.begun c.requires.holds in
+    let first = begun in
+    let changed = rows in
+    let last = state over_memory c.insert_reply.new.tx.conn.now in
+    let after = with_reply c.args.entry.now changed in
+    let end = c.commit.new.self.0 in
+    let same : end ≡ c.conn-2-1.given.0 = search rules in
+    subst (λ h. OnErr c.commit.result (Settled (state over_memory h) (Holds rows))) same
+    (ends_err last (state over_memory end) c.commit.result (Holds after) (Holds rows) refl (c.in_ok-insert_reply.ensures.ok changed rows first) (c.commit.ensures.err (memory_is_clean end)))

@@ -1,0 +1,81 @@
+-- What each command makes of the rows (this project's own).
+use Rattle.std.specs.Prelude.{◌≡◌, ◌≢◌, ◌≤◌, ◌<◌, ℕ, zero, suc, ℤ, ◌+◌, Bool, false, not, if◌then◌else◌, List, [], ◌∷◌, ◌++◌, map, filter, replicate, All, Option, Some, None, option_map}
+use Rattle.std.specs.List.{AllByRecursion}
+use Rattle.droid_frame.specs.declared.method.Method.{Method}
+use Rattle.droid_frame.specs.declared.method.Method.TheVariants.{Unidentified}
+use Rattle.droid_store.specs.declared.rows.Entry.{Entry}
+use Rattle.droid_store.specs.declared.rows.NodeState.{NodeState}
+use Rattle.droid_store.specs.declared.rows.NodeState.TheVariants.{Folder, Unfinished, Finished}
+use Rattle.droid_store.specs.declared.rows.ProfileRow.{ProfileRow}
+use Rattle.droid_store.specs.Rows.{Node, Rows, is_node, profile_at, node_at}
+
+-- the newest entry
+abbrev pub with_reply : Entry → Rows → Rows
+with_reply e rows = record rows { replies = rows.replies ++ e ∷ [] }
+
+abbrev pub with_profile : ℕ → Bool → Rows → Rows
+with_profile scan_limit match_all rows =
+    record rows { profiles = rows.profiles ++ record { scan_limit = scan_limit; match_all = match_all; nodes = 0 } ∷ [] }
+
+-- the profile with this number counts so many nodes
+abbrev pub counted : ℕ → ℕ → List ProfileRow → List ProfileRow
+counted profile nodes [] = []
+counted zero nodes (p ∷ ps) = p ∷ ps
+counted (suc zero) nodes (p ∷ ps) = record p { nodes = nodes } ∷ ps
+counted (suc (suc profile)) nodes (p ∷ ps) = p ∷ counted (suc profile) nodes ps
+
+-- the newest node, whose number is how many its profile has had
+abbrev pub with_node : Node → Rows → Rows
+with_node n rows = record rows { profiles = counted n.profile n.id rows.profiles; nodes = rows.nodes ++ n ∷ [] }
+
+-- a node as it is accepted: nothing is known of its bytes yet
+abbrev pub new_node : ℕ → ℕ → ℕ → ℤ → NodeState → ℕ → ℕ → List ℕ → List ℕ → Node
+new_node profile id parent modified state size piece_size name path = record {
+  profile = profile;
+  id = id;
+  parent = parent;
+  modified = modified;
+  state = state;
+  size = size;
+  piece_size = piece_size;
+  method = Unidentified;
+  mismatch = false;
+  name = name;
+  path = path;
+  puids = [];
+  md5 = replicate 16 0;
+}
+
+abbrev pub new_folder : ℕ → ℕ → ℕ → ℤ → List ℕ → List ℕ → Node
+new_folder profile id parent modified name path = new_node profile id parent modified Folder 0 0 name path
+
+abbrev pub new_file : ℕ → ℕ → ℕ → ℤ → ℕ → ℕ → List ℕ → List ℕ → Node
+new_file profile id parent modified size piece_size name path = new_node profile id parent modified Unfinished size piece_size name path
+
+abbrev pub finished : Method → Bool → List ℕ → List (List ℕ) → Node → Node
+finished method mismatch md5 puids n = record n { state = Finished; method = method; mismatch = mismatch; md5 = md5; puids = puids }
+
+-- this node is finished, and no other is changed
+abbrev pub with_finished : ℕ → ℕ → Method → Bool → List ℕ → List (List ℕ) → Rows → Rows
+with_finished profile file method mismatch md5 puids rows =
+    record rows { nodes = map (λ n. if is_node profile file n then finished method mismatch md5 puids n else n) rows.nodes }
+
+-- this node's row is no more; its profile still counts it
+abbrev pub without_node : ℕ → ℕ → Rows → Rows
+without_node profile file rows = record rows { nodes = filter (λ n. not (is_node profile file n)) rows.nodes }
+
+-- ---- what the layer above sees to
+
+-- the number is the next one of the profile, and above those of its nodes
+pub record IsNext (profile id : ℕ) (rows : Rows) : Type 0 where
+  pub counted : option_map (λ p. p.nodes + 1) (profile_at profile rows) ≡ Some id
+  pub above : AllByRecursion (λ n. n.profile ≡ profile → n.id < id) rows.nodes
+
+-- the node is a file whose pieces still come
+abbrev pub IsOpen : ℕ → ℕ → Rows → Type 0
+IsOpen profile file rows = option_map (λ n. n.state) (node_at profile file rows) ≡ Some Unfinished
+
+-- some bytes, none of which is a space
+pub record IsWord (text : List ℕ) : Type 0 where
+  pub some : text ≢ []
+  pub no_space : All (λ byte. byte ≢ 32) text

@@ -1,0 +1,54 @@
+-- How the tables hold the rows.
+use Rattle.std.specs.Prelude.{◌≡◌, ◌≤◌, ◌<◌, ℕ, List, [], ◌∷◌, map, filter, length, Result, OnOk, OnErr}
+use Rattle.sqlite.specs.declared.error.Error.{Error}
+use Rattle.std.specs.List.{AllByRecursion}
+use Rattle.sqlite.specs.Effect.{Database}
+use Rattle.sqlite.specs.Held.{Held, state}
+use Rattle.sqlite.specs.Schema.{Schema}
+use Rattle.sqlite.specs.State.{State}
+use Rattle.sqlite.specs.Steps.{over_memory}
+use Rattle.sqlite_trees.specs.declared.memory.MemStore.{MemStore}
+use Rattle.droid_store.specs.Changes.{IsWord}
+use Rattle.droid_sql.specs.KeyedRows.{numbered_from, AreRising}
+use Rattle.droid_sql.specs.Transactions.{Within}
+use Rattle.droid_store.specs.Encoded.{profile_row, node_row, reply_row, rows_in}
+use Rattle.droid_store.specs.Rows.{Node, Rows, is_child, is_for}
+use Rattle.droid_store.specs.Tables.{store_schema}
+
+-- the trees have the rows and nothing else; the rows of nodes have numbers of the database's own choice
+pub record Holds (rows : Rows) (db : Database) : Type 0 where
+  pub schema : db.schema ≡ store_schema
+  pub profiles : db.trees 0 ≡ map profile_row (numbered_from 1 rows.profiles)
+  pub nodes : List (ℕ × Node)
+  pub nodes_are : map (λ n. n.1) nodes ≡ rows.nodes
+  pub rising : AreRising (λ n. n.0) nodes
+  pub node_rows : db.trees 1 ≡ map node_row nodes
+  pub replies : db.trees 4 ≡ map reply_row (numbered_from 1 rows.replies)
+  pub words : AllByRecursion (λ (n : Node). AllByRecursion IsWord n.puids) rows.nodes
+
+-- of two nodes of one profile the later one has the greater number
+abbrev pub AreInOrder : List Node → Type 0
+AreInOrder [] = Unit {0}
+AreInOrder (n ∷ ns) = AllByRecursion (λ m. m.profile ≡ n.profile → n.id < m.id) ns × AreInOrder ns
+
+-- no two rows under one key
+pub record AreApart (rows : Rows) : Type 0 where
+  pub replies : (client number : ℕ) → length (filter (is_for client number) rows.replies) ≤ 1
+  pub children : (profile parent : ℕ) (name : List ℕ) → length (filter (is_child profile parent name) rows.nodes) ≤ 1
+  pub numbers : AreInOrder rows.nodes
+
+abbrev pub kept : Held MemStore → Rows
+kept c = rows_in (state over_memory c).now
+
+-- while the tables are made: this schema, and these trees have no row
+pub record HasEmpty (wanted : Schema) (trees : List ℕ) (db : Database) : Type 0 where
+  pub schema : db.schema ≡ wanted
+  pub empty : AllByRecursion (λ tree. db.trees tree ≡ []) trees
+
+-- a step in a transaction: where it succeeds, these rows are seen in the place of those
+abbrev pub Steps : {U : Type 0} → State → State → Result U Error → Rows → Rows → Type 0
+Steps old new r before after = (saved : Rows) → Within old (Holds before) (Holds saved) → OnOk r (Within new (Holds after) (Holds saved))
+
+-- and where it fails, a rollback still goes back to what it did
+abbrev pub Saves : {U : Type 0} → State → State → Result U Error → Rows → Type 0
+Saves old new r before = (saved : Rows) → Within old (Holds before) (Holds saved) → OnErr r (Holds saved new.committed)

@@ -1,0 +1,7 @@
+pub mod Changes
+pub mod Encoded
+pub mod Kept
+pub mod Nodes
+pub mod Rows
+pub mod Shown
+pub mod Tables

@@ -1,0 +1,8 @@
+-- A new node as the code hands it on.
+use Rattle.std.specs.Prelude.{ℤ}
+use Rattle.droid_store.specs.declared.changes.NewNode.{NewNode}
+use Rattle.droid_store.specs.Changes.{new_node}
+use Rattle.droid_store.specs.Rows.{Node}
+
+abbrev pub node_of : NewNode → ℤ → Node
+node_of n modified = new_node n.profile n.id n.parent modified n.state n.size n.piece_size n.name.now n.path.now

@@ -1,0 +1,185 @@
+//! Single statements in a transaction.
+
+ghost use Rattle.std.specs.Prelude.{◌≡◌, ◌+◌, ◌<◌, ◌^◌, ◌++◌, ◌∷◌, [], List, ℕ, length, pos};
+ghost use Rattle.sqlite.specs.Held.{state};
+ghost use Rattle.sqlite.specs.Steps.{over_memory};
+ghost use Rattle.std.specs.List.{AllByRecursion};
+ghost use Rattle.droid_store.specs.Changes.{with_profile, with_reply, with_node, with_finished, without_node, counted, IsWord};
+ghost use Rattle.droid_store.specs.Encoded.{joined, method_number};
+ghost use Rattle.droid_store.specs.Kept.{AreApart, Steps, Saves};
+ghost use Rattle.droid_store.specs.Rows.{Rows};
+ghost use Rattle.droid_store.specs.Nodes.{node_of};
+
+use crate::rows::{Entry, NodeState};
+use crate::statements::{
+    ADD_NODE, ADD_PROFILE, ADD_REPLY, COUNT_NODES, FINISH_NODE, REMOVE_NODE,
+};
+use droid_frame::Method;
+use sqlite::{Error, MemStore, Transaction, params};
+
+/// A node as it is accepted.
+#[derive(Clone, Copy)]
+pub(crate) struct NewNode<'a> {
+    pub profile: u32,
+    pub id: u32,
+    pub parent: u32,
+    pub state: NodeState,
+    pub size: u64,
+    pub piece_size: u32,
+    pub name: &'a str,
+    pub path: &'a str,
+}
+
+/// The number as the database takes it.
+pub(crate) fn signed(number: u64) -> i64
+    requires { number < 2 ^ 63 }
+    ensures { result ≡ pos number }
+{
+    number.cast_signed()
+}
+
+pub(crate) fn insert_profile(
+    tx: &mut Transaction<'_, MemStore>,
+    profile: u32,
+    scan_limit: u32,
+    match_all: bool,
+) -> Result<usize, Error>
+    ensures same_reference { tx.new.conn.ghost_name ≡ tx.old.conn.ghost_name }
+    ensures ok { (rows : Rows) → profile ≡ length rows.profiles + 1 → Steps (state over_memory tx.old.conn.now) (state over_memory tx.new.conn.now) result rows (with_profile scan_limit match_all rows) }
+    ensures err { (rows : Rows) → Saves (state over_memory tx.old.conn.now) (state over_memory tx.new.conn.now) result rows }
+{
+    tx.execute(ADD_PROFILE, params![profile, scan_limit, match_all])
+}
+
+pub(crate) fn insert_reply(
+    tx: &mut Transaction<'_, MemStore>,
+    entry: &Entry,
+) -> Result<usize, Error>
+    requires small { entry.now.number < 2 ^ 63 }
+    ensures same_reference { tx.new.conn.ghost_name ≡ tx.old.conn.ghost_name }
+    ensures ok { (rows : Rows) → Steps (state over_memory tx.old.conn.now) (state over_memory tx.new.conn.now) result rows (with_reply entry.now rows) }
+    ensures err { (rows : Rows) → Saves (state over_memory tx.old.conn.now) (state over_memory tx.new.conn.now) result rows }
+{
+    let mark = entry.mark.as_slice();
+    let body = entry.body.as_slice();
+    tx.execute(
+        ADD_REPLY,
+        params![
+            entry.client,
+            signed(entry.number),
+            u32::from(entry.kind),
+            mark,
+            body
+        ],
+    )
+}
+
+fn insert_node(
+    tx: &mut Transaction<'_, MemStore>,
+    node: &NewNode<'_>,
+    modified: i64,
+) -> Result<usize, Error>
+    requires small { node.now.size < 2 ^ 63 }
+    ensures same_reference { tx.new.conn.ghost_name ≡ tx.old.conn.ghost_name }
+    ensures ok { (rows : Rows) → Steps (state over_memory tx.old.conn.now) (state over_memory tx.new.conn.now) result rows (record rows { nodes = rows.nodes ++ node_of node.now modified ∷ [] }) }
+    ensures err { (rows : Rows) → Saves (state over_memory tx.old.conn.now) (state over_memory tx.new.conn.now) result rows }
+{
+    tx.execute(
+        ADD_NODE,
+        params![
+            node.profile,
+            node.id,
+            node.parent,
+            modified,
+            node.state.number(),
+            signed(node.size),
+            node.piece_size,
+            node.name,
+            node.path
+        ],
+    )
+}
+
+fn count_nodes(
+    tx: &mut Transaction<'_, MemStore>,
+    profile: u32,
+    nodes: u32,
+) -> Result<usize, Error>
+    ensures same_reference { tx.new.conn.ghost_name ≡ tx.old.conn.ghost_name }
+    ensures ok { (rows : Rows) → Steps (state over_memory tx.old.conn.now) (state over_memory tx.new.conn.now) result rows (record rows { profiles = counted profile nodes rows.profiles }) }
+    ensures err { (rows : Rows) → Saves (state over_memory tx.old.conn.now) (state over_memory tx.new.conn.now) result rows }
+{
+    tx.execute(COUNT_NODES, params![profile, nodes])
+}
+
+/// Adds the node, and has its profile count it.
+pub(crate) fn add_node(
+    tx: &mut Transaction<'_, MemStore>,
+    node: &NewNode<'_>,
+    modified: i64,
+) -> Result<usize, Error>
+    requires small { node.now.size < 2 ^ 63 }
+    ensures same_reference { tx.new.conn.ghost_name ≡ tx.old.conn.ghost_name }
+    ensures ok { (rows : Rows) → Steps (state over_memory tx.old.conn.now) (state over_memory tx.new.conn.now) result rows (with_node (node_of node.now modified) rows) }
+    ensures err { (rows : Rows) → Saves (state over_memory tx.old.conn.now) (state over_memory tx.new.conn.now) result rows }
+{
+    insert_node(tx, node, modified)?;
+    count_nodes(tx, node.profile, node.id)
+}
+
+/// What a file that was identified is given.
+#[derive(Clone, Copy)]
+pub(crate) struct Findings<'a> {
+    pub method: Method,
+    pub mismatch: bool,
+    pub md5: &'a [u8],
+    /// The formats' identifiers joined by a space.
+    pub formats: &'a str,
+}
+
+pub(crate) fn finish_node(
+    tx: &mut Transaction<'_, MemStore>,
+    profile: u32,
+    file: u32,
+    findings: &Findings<'_>,
+) -> Result<usize, Error>
+    ensures same_reference { tx.new.conn.ghost_name ≡ tx.old.conn.ghost_name }
+    ensures ok { (rows : Rows) → AreApart rows → (puids : List (List ℕ)) → AllByRecursion IsWord puids → findings.now.formats.now ≡ joined puids
+        → Steps (state over_memory tx.old.conn.now) (state over_memory tx.new.conn.now) result rows (with_finished profile file findings.now.method findings.now.mismatch findings.now.md5.now puids rows) }
+    ensures err { (rows : Rows) → Saves (state over_memory tx.old.conn.now) (state over_memory tx.new.conn.now) result rows }
+{
+    tx.execute(
+        FINISH_NODE,
+        params![
+            profile,
+            file,
+            number_of(findings.method),
+            findings.mismatch,
+            findings.formats,
+            findings.md5
+        ],
+    )
+}
+
+/// The number that the database keeps for it.
+fn number_of(method: Method) -> u32
+    ensures { result ≡ method_number method }
+{
+    match method {
+        Method::Unidentified => 0,
+        Method::Signature => 1,
+        Method::Extension => 2,
+    }
+}
+
+pub(crate) fn delete_node(
+    tx: &mut Transaction<'_, MemStore>,
+    profile: u32,
+    file: u32,
+) -> Result<usize, Error>
+    ensures same_reference { tx.new.conn.ghost_name ≡ tx.old.conn.ghost_name }
+    ensures ok { (rows : Rows) → AreApart rows → Steps (state over_memory tx.old.conn.now) (state over_memory tx.new.conn.now) result rows (without_node profile file rows) }
+    ensures err { (rows : Rows) → Saves (state over_memory tx.old.conn.now) (state over_memory tx.new.conn.now) result rows }
+{
+    tx.execute(REMOVE_NODE, params![profile, file])
+}

@@ -1,0 +1,99 @@
+//! Look-ups of one row by its key. They change nothing, also where they fail.
+
+ghost use Rattle.std.specs.Prelude.{◌≡◌, ◌<◌, ◌^◌, IfOk, MatchOption, Ok, Err, map, filter, option_map};
+ghost use Rattle.sqlite.specs.Held.{state};
+ghost use Rattle.sqlite.specs.Steps.{over_memory};
+ghost use Rattle.sqlite.specs.declared.error.Error.TheVariants.{QueryReturnedNoRows};
+ghost use Rattle.droid_sql.specs.Transactions.{Settled};
+ghost use Rattle.droid_store.specs.Kept.{kept, Holds, AreApart};
+ghost use Rattle.droid_store.specs.Rows.{profile_at, node_at, child_at, reply_for, is_listed};
+ghost use Rattle.droid_store.specs.Shown.{shown_profile, shown_node, shown_id, shown_reply};
+
+use crate::changes::signed;
+use crate::statements::{FIND_CHILD, FIND_NODE, FIND_PROFILE, FIND_REPLY, LIST_RECORDS};
+use sqlite::{Connection, Error, MemStore, Row, params};
+
+/// The row, or `None` where the answer has none.
+fn or_none(answer: Result<Row, Error>) -> Result<Option<Row>, Error>
+    ensures { IfOk result (λ found. MatchOption found (answer ≡ Err QueryReturnedNoRows) (λ row. answer ≡ Ok row)) }
+{
+    match answer {
+        Ok(row) => Ok(Some(row)),
+        Err(Error::QueryReturnedNoRows) => Ok(None),
+        Err(error) => Err(error),
+    }
+}
+
+pub(crate) fn find_profile(
+    conn: &mut Connection<MemStore>,
+    profile: u32,
+) -> Result<Option<Row>, Error>
+    requires holds { Settled (state over_memory conn.old) (Holds (kept conn.old)) }
+    ensures same { kept conn.new ≡ kept conn.old }
+    ensures holds { Settled (state over_memory conn.new) (Holds (kept conn.new)) }
+    ensures found { IfOk result (λ found. found ≡ option_map shown_profile (profile_at profile (kept conn.old))) }
+{
+    let answer = conn.query_row(FIND_PROFILE, params![profile]);
+    or_none(answer)
+}
+
+pub(crate) fn find_node(
+    conn: &mut Connection<MemStore>,
+    profile: u32,
+    id: u32,
+) -> Result<Option<Row>, Error>
+    requires holds { Settled (state over_memory conn.old) (Holds (kept conn.old)) }
+    requires apart { AreApart (kept conn.old) }
+    ensures same { kept conn.new ≡ kept conn.old }
+    ensures holds { Settled (state over_memory conn.new) (Holds (kept conn.new)) }
+    ensures found { IfOk result (λ found. found ≡ option_map shown_node (node_at profile id (kept conn.old))) }
+{
+    let answer = conn.query_row(FIND_NODE, params![profile, id]);
+    or_none(answer)
+}
+
+pub(crate) fn find_child(
+    conn: &mut Connection<MemStore>,
+    profile: u32,
+    parent: u32,
+    name: &str,
+) -> Result<Option<Row>, Error>
+    requires holds { Settled (state over_memory conn.old) (Holds (kept conn.old)) }
+    requires apart { AreApart (kept conn.old) }
+    ensures same { kept conn.new ≡ kept conn.old }
+    ensures holds { Settled (state over_memory conn.new) (Holds (kept conn.new)) }
+    ensures found { IfOk result (λ found. found ≡ option_map shown_id (child_at profile parent name.now (kept conn.old))) }
+{
+    let answer = conn.query_row(FIND_CHILD, params![profile, parent, name]);
+    or_none(answer)
+}
+
+pub(crate) fn find_reply(
+    conn: &mut Connection<MemStore>,
+    client: u32,
+    number: u64,
+) -> Result<Option<Row>, Error>
+    requires holds { Settled (state over_memory conn.old) (Holds (kept conn.old)) }
+    requires apart { AreApart (kept conn.old) }
+    requires small { number < 2 ^ 63 }
+    ensures same { kept conn.new ≡ kept conn.old }
+    ensures holds { Settled (state over_memory conn.new) (Holds (kept conn.new)) }
+    ensures found { IfOk result (λ found. found ≡ option_map shown_reply (reply_for client number (kept conn.old))) }
+{
+    let answer = conn.query_row(FIND_REPLY, params![client, signed(number)]);
+    or_none(answer)
+}
+
+/// The folders and finished files of the profile, by number.
+pub(crate) fn list_nodes(
+    conn: &mut Connection<MemStore>,
+    profile: u32,
+) -> Result<Vec<Row>, Error>
+    requires holds { Settled (state over_memory conn.old) (Holds (kept conn.old)) }
+    requires apart { AreApart (kept conn.old) }
+    ensures same { kept conn.new ≡ kept conn.old }
+    ensures holds { Settled (state over_memory conn.new) (Holds (kept conn.new)) }
+    ensures found { IfOk result (λ rows. rows.items ≡ map shown_node (filter (is_listed profile) (kept conn.old).nodes)) }
+{
+    conn.query_all(LIST_RECORDS, params![profile])
+}

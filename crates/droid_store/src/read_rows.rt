@@ -1,0 +1,232 @@
+//! Rows that a look-up shows, read as what they stand for.
+
+ghost use Rattle.std.specs.Prelude.{◌≡◌, List, ℕ, IfOk, Some, map};
+ghost use Rattle.std.specs.List.{AllByRecursion};
+ghost use Rattle.sqlite.specs.Order.{column};
+ghost use Rattle.sqlite.specs.declared.types.Value.TheVariants.{Blob as BlobValue};
+ghost use Rattle.droid_frame.specs.declared.method.Method.{Method as MethodValue};
+ghost use Rattle.droid_store.specs.declared.rows.Entry.{Entry as EntryValue};
+ghost use Rattle.droid_store.specs.declared.rows.NodeState.{NodeState as NodeStateValue};
+ghost use Rattle.droid_store.specs.declared.rows.ProfileRow.{ProfileRow as ProfileRowValue};
+ghost use Rattle.droid_store.specs.Changes.{IsWord};
+ghost use Rattle.droid_store.specs.Encoded.{state_number, method_number};
+ghost use Rattle.droid_store.specs.Rows.{Node, row_of, record_of, kind_of};
+ghost use Rattle.droid_store.specs.Shown.{shown_profile, shown_node, shown_reply};
+
+use crate::fault::StoreFault;
+use crate::rows::{Entry, NodeRow, NodeState, ProfileRow};
+use crate::words::words;
+use droid_frame::{Blob, Method, NodeKind, Record, Text, Texts};
+use sqlite::Row;
+use std::alloc::Global;
+
+pub(crate) fn profile_of(row: &Row) -> Result<ProfileRow, StoreFault>
+    ensures { IfOk result (λ read. (p : ProfileRowValue) → row.now ≡ shown_profile p → read ≡ p) }
+{
+    let scan_limit = row.get(0)?;
+    let match_all = row.get(1)?;
+    let nodes = row.get(2)?;
+    Ok(ProfileRow {
+        scan_limit,
+        match_all,
+        nodes,
+    })
+}
+
+/// The 16 bytes in this column.
+fn digest_in(row: &Row, at: usize) -> Result<[u8; 16], StoreFault>
+    ensures { IfOk result (λ read. (bytes : List ℕ) → column row.now at ≡ BlobValue bytes → read ≡ bytes) }
+{
+    let bytes: Vec<u8> = row.get(at)?;
+    match <[u8; 16]>::try_from(bytes.as_slice()) {
+        Ok(digest) => Ok(digest),
+        Err(_) => Err(StoreFault::Refused),
+    }
+}
+
+/// The reply that is kept under this client and number.
+pub(crate) fn entry_of(row: &Row, client: u32, number: u64) -> Result<Entry, StoreFault>
+    ensures { IfOk result (λ read. (e : EntryValue) → e.client ≡ client → e.number ≡ number → row.now ≡ shown_reply e → read ≡ e) }
+{
+    let kind = kind_in(row)?;
+    let mark = digest_in(row, 1)?;
+    let body: Vec<u8> = row.get(2)?;
+    let body = Blob::from(body);
+    Ok(Entry {
+        client,
+        number,
+        mark,
+        kind,
+        body,
+    })
+}
+
+fn kind_in(row: &Row) -> Result<u8, StoreFault>
+    ensures { IfOk result (λ read. (e : EntryValue) → row.now ≡ shown_reply e → read ≡ e.kind) }
+{
+    let kind: u32 = row.get(0)?;
+    match u8::try_from(kind) {
+        Ok(kind) => Ok(kind),
+        Err(_) => Err(StoreFault::Refused),
+    }
+}
+
+/// Where a node lies and what has become of it.
+#[derive(Clone, Copy)]
+struct Head {
+    id: u32,
+    parent: u32,
+    modified: i64,
+    state: NodeState,
+    size: u64,
+    piece_size: u32,
+}
+
+fn head_of(row: &Row) -> Result<Head, StoreFault>
+    ensures { IfOk result (λ read. (n : Node) → row.now ≡ shown_node n → read ≡ record { id = n.id; parent = n.parent; modified = n.modified; state = n.state; size = n.size; piece_size = n.piece_size }) }
+{
+    let id = row.get(0)?;
+    let parent = row.get(1)?;
+    let modified = row.get(2)?;
+    let state = state_in(row)?;
+    let size = row.get(4)?;
+    let piece_size = row.get(5)?;
+    Ok(Head {
+        id,
+        parent,
+        modified,
+        state,
+        size,
+        piece_size,
+    })
+}
+
+/// How a file was identified.
+#[derive(Drop)]
+struct Findings {
+    method: Method,
+    mismatch: bool,
+    md5: [u8; 16],
+    puids: Texts,
+}
+
+fn findings_of(alloc: Global, row: &Row) -> Result<Findings, StoreFault>
+    ensures { IfOk result (λ read. (n : Node) → AllByRecursion IsWord n.puids → row.now ≡ shown_node n → read ≡ record { method = n.method; mismatch = n.mismatch; md5 = n.md5; puids = n.puids }) }
+{
+    let method = method_in(row)?;
+    let mismatch = row.get(7)?;
+    let formats: String = row.get(10)?;
+    let md5 = digest_in(row, 11)?;
+    let puids = words(alloc, formats.as_str())?;
+    Ok(Findings {
+        method,
+        mismatch,
+        md5,
+        puids,
+    })
+}
+
+fn kind_of(state: NodeState) -> NodeKind
+    ensures { result ≡ kind_of state }
+{
+    match state {
+        NodeState::Folder => NodeKind::Folder,
+        NodeState::Unfinished => NodeKind::File,
+        NodeState::Finished => NodeKind::File,
+    }
+}
+
+pub(crate) fn node_of(alloc: Global, row: &Row) -> Result<NodeRow, StoreFault>
+    ensures { IfOk result (λ read. (n : Node) → AllByRecursion IsWord n.puids → row.now ≡ shown_node n → read ≡ row_of n) }
+{
+    let head = head_of(row)?;
+    let name: String = row.get(8)?;
+    let path: String = row.get(9)?;
+    let findings = findings_of(alloc, row)?;
+    let md5 = findings.md5;
+    let item = Record {
+        id: head.id,
+        parent: head.parent,
+        path: Text::from(path),
+        name: Text::from(name),
+        kind: kind_of(head.state),
+        size: head.size,
+        modified: head.modified,
+        method: findings.method,
+        mismatch: findings.mismatch,
+        md5,
+        puids: findings.puids,
+    };
+    Ok(NodeRow {
+        state: head.state,
+        piece_size: head.piece_size,
+        item,
+    })
+}
+
+fn state_in(row: &Row) -> Result<NodeState, StoreFault>
+    ensures { IfOk result (λ read. (n : Node) → row.now ≡ shown_node n → read ≡ n.state) }
+{
+    let number: u32 = row.get(3)?;
+    match state_of(number) {
+        Some(state) => Ok(state),
+        None => Err(StoreFault::Refused),
+    }
+}
+
+fn method_in(row: &Row) -> Result<Method, StoreFault>
+    ensures { IfOk result (λ read. (n : Node) → row.now ≡ shown_node n → read ≡ n.method) }
+{
+    let number: u32 = row.get(6)?;
+    match method_of(number) {
+        Some(method) => Ok(method),
+        None => Err(StoreFault::Refused),
+    }
+}
+
+fn state_of(number: u32) -> Option<NodeState>
+    ensures { (s : NodeStateValue) → number ≡ state_number s → result ≡ Some s }
+{
+    match number {
+        0 => Some(NodeState::Folder),
+        1 => Some(NodeState::Unfinished),
+        2 => Some(NodeState::Finished),
+        _ => None,
+    }
+}
+
+fn method_of(number: u32) -> Option<Method>
+    ensures { (m : MethodValue) → number ≡ method_number m → result ≡ Some m }
+{
+    match number {
+        0 => Some(Method::Unidentified),
+        1 => Some(Method::Signature),
+        2 => Some(Method::Extension),
+        _ => None,
+    }
+}
+
+/// The records of these rows, in order.
+pub(crate) fn records_in(alloc: Global, rows: &[Row]) -> Result<Vec<Record>, StoreFault>
+    ensures { IfOk result (λ records. (ns : List Node) → AllByRecursion (λ (n : Node). AllByRecursion IsWord n.puids) ns → rows.now ≡ map shown_node ns → records.items ≡ map record_of ns) }
+{
+    let mut records = Vec::with_capacity(alloc, rows.len())?;
+    for row in rows {
+        let record = record_in(alloc, row)?;
+        if records.push(record).is_err() {
+            return Err(StoreFault::Memory);
+        }
+    }
+    Ok(records)
+}
+
+fn record_in(alloc: Global, row: &Row) -> Result<Record, StoreFault>
+    ensures { IfOk result (λ read. (n : Node) → AllByRecursion IsWord n.puids → row.now ≡ shown_node n → read ≡ record_of n) }
+{
+    let NodeRow {
+        state: _,
+        piece_size: _,
+        item,
+    } = node_of(alloc, row)?;
+    Ok(item)
+}

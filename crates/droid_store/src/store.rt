@@ -1,0 +1,58 @@
+//! The store: its reading calls, and one call for each kind of accepted command.
+
+ghost use Rattle.std.specs.Prelude.{◌≡◌, IfOk};
+ghost use Rattle.droid_store.specs.Rows.{no_rows};
+
+use crate::fault::StoreFault;
+use crate::making::make_tables;
+use crate::rows::Counts;
+use sqlite::{Connection, MemStore};
+use std::alloc::Global;
+use std::marker::Model;
+
+mod committing;
+mod reading;
+
+/// The rows of a service: profiles, nodes and kept replies. It keeps the allocator that it was
+/// made with.
+#[derive(Drop)]
+pub struct Store {
+    conn: Connection<MemStore>,
+    alloc: Global,
+    counts: Counts,
+}
+
+impl Model for Store {
+    ghost use Rattle.std.specs.Prelude.{◌≡◌};
+    ghost use Rattle.sqlite.specs.Held.{state};
+    ghost use Rattle.sqlite.specs.Steps.{over_memory};
+    ghost use Rattle.droid_sql.specs.Transactions.{Settled};
+    ghost use Rattle.droid_store.specs.Kept.{kept, Holds, AreApart};
+    ghost use Rattle.droid_store.specs.Rows.{Rows, counts_of};
+
+    ghost Value = { Rows };
+
+    ghost view = { λ s. kept s.conn };
+
+    ghost invariant = { λ s. Settled (state over_memory s.conn) (Holds (kept s.conn)) × AreApart (kept s.conn) × (s.counts ≡ counts_of (kept s.conn)) };
+}
+
+impl Store {
+    /// A store with no rows.
+    pub fn in_memory(alloc: Global) -> Result<Store, StoreFault>
+        ensures { IfOk result (λ store. store ≡ no_rows) }
+    {
+        let mut conn = Connection::open_in_memory(alloc)?;
+        make_tables(&mut conn)?;
+        let counts = Counts {
+            profiles: 0,
+            unfinished: 0,
+            accepted: 0,
+        };
+        Ok(Store {
+            conn,
+            alloc,
+            counts,
+        })
+    }
+}

@@ -1,0 +1,179 @@
+//! One call for each kind of accepted command: a change of the rows and its entry, both or neither.
+
+ghost use Rattle.std.specs.Prelude.{◌≡◌, ◌+◌, ◌<◌, ◌^◌, None, length, OnOk, OnErr};
+ghost use Rattle.std.specs.List.{AllByRecursion};
+ghost use Rattle.droid_store.specs.Changes.{IsNext, IsOpen, IsWord, new_folder, new_file, with_finished, with_node, with_profile, with_reply, without_node};
+ghost use Rattle.droid_store.specs.Rows.{child_at, reply_for};
+
+use crate::changes::{Findings, NewNode};
+use crate::commits::{write_abandon, write_finish, write_node, write_profile, write_reply};
+use crate::counting::{
+    one_less_unfinished, one_more_profile, one_more_reply, one_more_unfinished,
+};
+use crate::fault::StoreFault;
+use crate::rows::{Entry, NodeState};
+use crate::store::Store;
+use crate::words::join;
+use droid_frame::{Method, Texts};
+
+impl Store {
+    /// Makes the profile with the next number.
+    pub fn commit_profile(
+        &mut self,
+        entry: &Entry,
+        profile: u32,
+        scan_limit: u32,
+        match_all: bool,
+    ) -> Result<(), StoreFault>
+        requires new { reply_for entry.now.client entry.now.number self.old ≡ None }
+        requires small { entry.now.number < 2 ^ 63 }
+        requires next { profile ≡ length self.old.profiles + 1 }
+        ensures ok { OnOk result (self.new ≡ with_reply entry.now (with_profile scan_limit match_all self.old)) }
+        ensures err { OnErr result (self.new ≡ self.old) }
+    {
+        let changed = one_more_profile(self.counts)?;
+        let counts = one_more_reply(changed)?;
+        write_profile(&mut self.conn, entry, profile, scan_limit, match_all)?;
+        self.counts = counts;
+        Ok(())
+    }
+
+    /// Adds a folder under the profile's next number. `parent` is 0 at the top, and `path` is `/`
+    /// and the names from the top joined by `/`.
+    pub fn commit_folder(
+        &mut self,
+        entry: &Entry,
+        profile: u32,
+        id: u32,
+        parent: u32,
+        modified: i64,
+        name: &str,
+        path: &str,
+    ) -> Result<(), StoreFault>
+        requires new { reply_for entry.now.client entry.now.number self.old ≡ None }
+        requires small { entry.now.number < 2 ^ 63 }
+        requires next { IsNext profile id self.old }
+        requires free { child_at profile parent name.now self.old ≡ None }
+        ensures ok { OnOk result (self.new ≡ with_reply entry.now (with_node (new_folder profile id parent modified name.now path.now) self.old)) }
+        ensures err { OnErr result (self.new ≡ self.old) }
+    {
+        let counts = one_more_reply(self.counts)?;
+        let node = NewNode {
+            profile,
+            id,
+            parent,
+            state: NodeState::Folder,
+            size: 0,
+            piece_size: 0,
+            name,
+            path,
+        };
+        write_node(&mut self.conn, entry, &node, modified)?;
+        self.counts = counts;
+        Ok(())
+    }
+
+    /// Adds a file, whose pieces are still to come, under the profile's next number.
+    pub fn commit_file(
+        &mut self,
+        entry: &Entry,
+        profile: u32,
+        id: u32,
+        parent: u32,
+        modified: i64,
+        size: u64,
+        piece_size: u32,
+        name: &str,
+        path: &str,
+    ) -> Result<(), StoreFault>
+        requires new { reply_for entry.now.client entry.now.number self.old ≡ None }
+        requires small { entry.now.number < 2 ^ 63 }
+        requires size { size < 2 ^ 63 }
+        requires next { IsNext profile id self.old }
+        requires free { child_at profile parent name.now self.old ≡ None }
+        ensures ok { OnOk result (self.new ≡ with_reply entry.now (with_node (new_file profile id parent modified size piece_size name.now path.now) self.old)) }
+        ensures err { OnErr result (self.new ≡ self.old) }
+    {
+        let changed = one_more_unfinished(self.counts)?;
+        let counts = one_more_reply(changed)?;
+        let node = NewNode {
+            profile,
+            id,
+            parent,
+            state: NodeState::Unfinished,
+            size,
+            piece_size,
+            name,
+            path,
+        };
+        write_node(&mut self.conn, entry, &node, modified)?;
+        self.counts = counts;
+        Ok(())
+    }
+
+    /// Keeps the reply to a piece: the pieces themselves lie elsewhere.
+    pub fn commit_piece(&mut self, entry: &Entry) -> Result<(), StoreFault>
+        requires new { reply_for entry.now.client entry.now.number self.old ≡ None }
+        requires small { entry.now.number < 2 ^ 63 }
+        ensures ok { OnOk result (self.new ≡ with_reply entry.now self.old) }
+        ensures err { OnErr result (self.new ≡ self.old) }
+    {
+        let counts = one_more_reply(self.counts)?;
+        write_reply(&mut self.conn, entry)?;
+        self.counts = counts;
+        Ok(())
+    }
+
+    /// Finishes an unfinished file with what was found of its bytes. Each identifier has a byte, and
+    /// none of its bytes is a space.
+    pub fn commit_finish(
+        &mut self,
+        entry: &Entry,
+        profile: u32,
+        file: u32,
+        method: Method,
+        mismatch: bool,
+        md5: [u8; 16],
+        puids: &Texts,
+    ) -> Result<(), StoreFault>
+        requires new { reply_for entry.now.client entry.now.number self.old ≡ None }
+        requires small { entry.now.number < 2 ^ 63 }
+        requires file { IsOpen profile file self.old }
+        requires puids { AllByRecursion IsWord puids.now }
+        ensures ok { OnOk result (self.new ≡ with_reply entry.now (with_finished profile file method mismatch md5 puids.now self.old)) }
+        ensures err { OnErr result (self.new ≡ self.old) }
+    {
+        let changed = one_less_unfinished(self.counts);
+        let counts = one_more_reply(changed)?;
+        let formats = join(self.alloc, puids)?;
+        let findings = Findings {
+            method,
+            mismatch,
+            md5: md5.as_slice(),
+            formats: formats.as_str(),
+        };
+        write_finish(&mut self.conn, entry, profile, file, &findings)?;
+        self.counts = counts;
+        Ok(())
+    }
+
+    /// Takes an unfinished file out. Its profile still counts it, so its number isn't used again.
+    pub fn commit_abandon(
+        &mut self,
+        entry: &Entry,
+        profile: u32,
+        file: u32,
+    ) -> Result<(), StoreFault>
+        requires new { reply_for entry.now.client entry.now.number self.old ≡ None }
+        requires small { entry.now.number < 2 ^ 63 }
+        requires file { IsOpen profile file self.old }
+        ensures ok { OnOk result (self.new ≡ with_reply entry.now (without_node profile file self.old)) }
+        ensures err { OnErr result (self.new ≡ self.old) }
+    {
+        let changed = one_less_unfinished(self.counts);
+        let counts = one_more_reply(changed)?;
+        write_abandon(&mut self.conn, entry, profile, file)?;
+        self.counts = counts;
+        Ok(())
+    }
+}

@@ -1,0 +1,81 @@
+//! The calls that read. They leave the rows as they are, also where they fail.
+
+ghost use Rattle.std.specs.Prelude.{◌≡◌, ◌<◌, ◌^◌, IfOk, Ok, option_map};
+ghost use Rattle.droid_store.specs.Rows.{profile_at, node_at, child_at, reply_for, records_of, counts_of, row_of};
+
+use crate::fault::StoreFault;
+use crate::look_ups::{find_child, find_node, find_profile, find_reply, list_nodes};
+use crate::read_rows::{entry_of, node_of, profile_of, records_in};
+use crate::rows::{Counts, Entry, NodeRow, ProfileRow};
+use crate::store::Store;
+use droid_frame::Record;
+
+impl Store {
+    /// What is kept under this client and number.
+    pub fn reply_of(&mut self, client: u32, number: u64) -> Result<Option<Entry>, StoreFault>
+        requires small { number < 2 ^ 63 }
+        ensures same { self.new ≡ self.old }
+        ensures found { IfOk result (λ found. found ≡ reply_for client number self.old) }
+    {
+        let Some(row) = find_reply(&mut self.conn, client, number)? else {
+            return Ok(None);
+        };
+        Ok(Some(entry_of(&row, client, number)?))
+    }
+
+    /// The profile with this number.
+    pub fn profile(&mut self, profile: u32) -> Result<Option<ProfileRow>, StoreFault>
+        ensures same { self.new ≡ self.old }
+        ensures found { IfOk result (λ found. found ≡ profile_at profile self.old) }
+    {
+        let Some(row) = find_profile(&mut self.conn, profile)? else {
+            return Ok(None);
+        };
+        Ok(Some(profile_of(&row)?))
+    }
+
+    /// The node with this number in this profile, unless it was abandoned.
+    pub fn node(&mut self, profile: u32, id: u32) -> Result<Option<NodeRow>, StoreFault>
+        ensures same { self.new ≡ self.old }
+        ensures found { IfOk result (λ found. found ≡ option_map row_of (node_at profile id self.old)) }
+    {
+        let Some(row) = find_node(&mut self.conn, profile, id)? else {
+            return Ok(None);
+        };
+        Ok(Some(node_of(self.alloc, &row)?))
+    }
+
+    /// The number of the node that lies in this folder under this name, byte for byte. The top is
+    /// folder 0.
+    pub fn child(
+        &mut self,
+        profile: u32,
+        parent: u32,
+        name: &str,
+    ) -> Result<Option<u32>, StoreFault>
+        ensures same { self.new ≡ self.old }
+        ensures found { IfOk result (λ found. found ≡ option_map (λ n. n.id) (child_at profile parent name.now self.old)) }
+    {
+        let Some(row) = find_child(&mut self.conn, profile, parent, name)? else {
+            return Ok(None);
+        };
+        Ok(Some(row.get(0)?))
+    }
+
+    /// The folders and finished files of the profile, by number.
+    pub fn records(&mut self, profile: u32) -> Result<Vec<Record>, StoreFault>
+        ensures same { self.new ≡ self.old }
+        ensures found { IfOk result (λ found. found.items ≡ records_of profile self.old) }
+    {
+        let rows = list_nodes(&mut self.conn, profile)?;
+        records_in(self.alloc, &rows)
+    }
+
+    /// How much there is. It goes through no table and always answers.
+    pub fn counts(&mut self) -> Result<Counts, StoreFault>
+        ensures same { self.new ≡ self.old }
+        ensures found { result ≡ Ok (counts_of self.old) }
+    {
+        Ok(self.counts)
+    }
+}

@@ -1,0 +1,50 @@
+//! The identifiers of a file's formats, joined by a space as the database keeps them.
+
+ghost use Rattle.std.specs.Prelude.{◌≡◌, ◌++◌, ◌∷◌, IfOk, OnOk, if◌then◌else◌, string_bytes};
+ghost use Rattle.std.specs.Prelude.{◌==◌};
+ghost use Rattle.std.specs.List.{slice_split};
+ghost use Rattle.droid_store.specs.Encoded.{joined, words_of};
+
+use droid_frame::{Text, Texts};
+use std::alloc::{AllocError, Global};
+
+/// The words, with one space between each two. Only want of memory refuses it.
+pub(crate) fn join(alloc: Global, words: &Texts) -> Result<String, AllocError>
+    ensures { IfOk result (λ text. string_bytes text ≡ joined words.now) }
+{
+    let mut text = String::new(alloc);
+    for place in 0..words.len() {
+        let word = words.get(place).unwrap();
+        append(&mut text, word.as_str(), place == 0)?;
+    }
+    Ok(text)
+}
+
+fn append(text: &mut String, word: &str, is_first: bool) -> Result<(), AllocError>
+    ensures { OnOk result (string_bytes text.new ≡ string_bytes text.old ++ (if is_first then word.now else 32 ∷ word.now)) }
+{
+    if !is_first {
+        text.push(' ')?;
+    }
+    text.push_str(word)
+}
+
+/// The words of such a text. Only want of memory refuses it.
+pub(crate) fn words(alloc: Global, text: &str) -> Result<Texts, AllocError>
+    ensures { IfOk result (λ words. words ≡ words_of text.now) }
+{
+    if text.is_empty() {
+        return Ok(Texts::new(alloc));
+    }
+    split(alloc, text)
+}
+
+fn split(alloc: Global, text: &str) -> Result<Texts, AllocError>
+    ensures { IfOk result (λ words. words ≡ slice_split (λ byte. byte == 32) text.now) }
+{
+    let mut words = Texts::new(alloc);
+    for word in text.split(' ') {
+        words.push(Text::copy_of(alloc, word)?)?;
+    }
+    Ok(words)
+}
