@@ -17,7 +17,7 @@ use Rattle.droid_sql.proofs.Rising.{rising_filter, rising_map, changed_keeps}
 use Rattle.droid_sql.proofs.SeenRows.{few_seen}
 use Rattle.droid_sql.proofs.Selects.{selects}
 use Rattle.droid_sql.proofs.Values.{cast_int}
-use Rattle.droid_frame.specs.declared.method.Method.{Method}
+use Rattle.droid_frame.specs.types.method.Method.{Method}
 use Rattle.droid_store.specs.declared.statements.TheConstants.{FINISH_NODE, REMOVE_NODE}
 use Rattle.droid_store.specs.Changes.{IsWord, finished, with_finished, without_node}
 use Rattle.droid_store.specs.Encoded.{number, flag, state_number, method_number, joined, node_row}

@@ -1,8 +1,8 @@
 -- What each command makes of the rows (this project's own).
 use Rattle.std.specs.Prelude.{◌≡◌, ◌≢◌, ◌≤◌, ◌<◌, ℕ, zero, suc, ℤ, ◌+◌, Bool, false, not, if◌then◌else◌, List, [], ◌∷◌, ◌++◌, map, filter, replicate, All, Option, Some, None, option_map}
 use Rattle.std.specs.List.{AllByRecursion}
-use Rattle.droid_frame.specs.declared.method.Method.{Method}
-use Rattle.droid_frame.specs.declared.method.Method.TheVariants.{Unidentified}
+use Rattle.droid_frame.specs.types.method.Method.{Method}
+use Rattle.droid_frame.specs.types.method.Method.TheVariants.{Unidentified}
 use Rattle.droid_store.specs.declared.rows.Entry.{Entry}
 use Rattle.droid_store.specs.declared.rows.NodeState.{NodeState}
 use Rattle.droid_store.specs.declared.rows.NodeState.TheVariants.{Folder, Unfinished, Finished}

@@ -2,10 +2,10 @@
 use Rattle.std.specs.Prelude.{ℕ, zero, suc, ℤ, ◌==◌, ◌&&◌, Bool, true, false, not, List, [], ◌∷◌, map, filter, find, length, Option, None, option_map}
 use Rattle.std.specs.List.{slice_get, count_by}
 use Rattle.std.specs.Str.{bytes_eq}
-use Rattle.droid_frame.specs.declared.method.Method.{Method}
-use Rattle.droid_frame.specs.declared.node_kind.NodeKind.{NodeKind}
-use Rattle.droid_frame.specs.declared.node_kind.NodeKind.TheVariants as kind
-use Rattle.droid_frame.specs.declared.record.Record.{Record}
+use Rattle.droid_frame.specs.types.method.Method.{Method}
+use Rattle.droid_frame.specs.types.node_kind.NodeKind.{NodeKind}
+use Rattle.droid_frame.specs.types.node_kind.NodeKind.TheVariants as kind
+use Rattle.droid_frame.specs.types.record.Record.{Record}
 use Rattle.droid_store.specs.declared.rows.Counts.{Counts}
 use Rattle.droid_store.specs.declared.rows.Entry.{Entry}
 use Rattle.droid_store.specs.declared.rows.NodeRow.{NodeRow}

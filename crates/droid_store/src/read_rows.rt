@@ -4,7 +4,7 @@ ghost use Rattle.std.specs.Prelude.{◌≡◌, List, ℕ, IfOk, Some, map};
 ghost use Rattle.std.specs.List.{AllByRecursion};
 ghost use Rattle.sqlite.specs.Order.{column};
 ghost use Rattle.sqlite.specs.declared.types.Value.TheVariants.{Blob as BlobValue};
-ghost use Rattle.droid_frame.specs.declared.method.Method.{Method as MethodValue};
+ghost use Rattle.droid_frame.specs.types.method.Method.{Method as MethodValue};
 ghost use Rattle.droid_store.specs.declared.rows.Entry.{Entry as EntryValue};
 ghost use Rattle.droid_store.specs.declared.rows.NodeState.{NodeState as NodeStateValue};
 ghost use Rattle.droid_store.specs.declared.rows.ProfileRow.{ProfileRow as ProfileRowValue};
