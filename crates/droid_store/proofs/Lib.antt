@@ -16,4 +16,5 @@ pub mod Makes
 pub mod Meanings
 pub mod NodeEffects
 pub mod NodeOrder
+pub mod RecordsSoFar
 pub mod Started

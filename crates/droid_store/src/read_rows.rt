@@ -213,8 +213,9 @@ pub(crate) fn records_in(alloc: Global, rows: &[Row]) -> Result<Vec<Record>, Sto
     let mut records = Vec::with_capacity(alloc, rows.len())?;
     for row in rows {
         let record = record_in(alloc, row)?;
-        if records.push(record).is_err() {
-            return Err(StoreFault::Memory);
+        match records.push(record) {
+            Ok(()) => {}
+            Err(_) => return Err(StoreFault::Memory),
         }
     }
     Ok(records)

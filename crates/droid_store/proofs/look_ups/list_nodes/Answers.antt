@@ -12,6 +12,6 @@ pub returns : goal.returns
 returns c =
     let rows = kept c.args.conn.now in
     let clean = memory_is_clean c.query_all.new.self in
-    let it = listed (state over_memory c.args.conn.now) (state over_memory c.query_all.new.self) c.args.profile rows c.query_all.result refl c.requires.holds c.requires.apart
+    let it = listed (λ v. v.items) (state over_memory c.args.conn.now) (state over_memory c.query_all.new.self) c.args.profile rows c.query_all.result refl c.requires.holds c.requires.apart
     (rw c.params-to_sql.ensures at (c.query_all.ensures.ok clean)) (rw c.params-to_sql.ensures at (c.query_all.ensures.err clean)) in
     record { same = kept_is c.query_all.new.self rows it.0; holds = kept_still c.query_all.new.self rows it.0; found = it.1 }

@@ -7,4 +7,4 @@ use Rattle.droid_store.specs.Shown.{shown_node}
 use Rattle.droid_store.proofs.read_rows.records_in.Given as goal
 
 abbrev pub invariant-loop-row : goal.invariant-loop-row
-invariant-loop-row l = (ns : List Node) → AllByRecursion (λ (n : Node). AllByRecursion IsWord n.puids) ns → l.row-items ≡ map shown_node ns → l.records.items ≡ map record_of (take l.row-index ns)
+invariant-loop-row l = (ns : List Node) → AllByRecursion (λ (n : Node). AllByRecursion IsWord n.puids) ns → l.rows ≡ map shown_node ns → l.records.items ≡ map record_of (take l.row-index ns)

@@ -1,0 +1,11 @@
+use Rattle.std.proofs.Common.{◌≡◌, Some, option_map, subst, rules}
+use Rattle.droid_store.specs.Kept.{kept}
+use Rattle.droid_store.specs.Rows.{row_of, node_at}
+use Rattle.droid_store.proofs.EntryFound.{node_found}
+use Rattle.droid_store.proofs.store.Store.node.Goals as goal
+
+pub returns-clause-found : goal.returns-clause-found
+returns-clause-found c =
+    let rows = kept c.self.inside.conn in
+    subst (λ r. Some c.in_ok-node_of.field-0 ≡ option_map row_of (node_at c.args.profile c.args.id r)) c.self.view_is
+    (node_found c.args.profile c.args.id rows c.in-Some.row c.in_ok-node_of.field-0 c.self.invariant.0.holds.words (search rules) c.in_ok-node_of.ensures)
