@@ -2,7 +2,7 @@
 use Rattle.std.proofs.Common.{◌≡◌, ℕ, Bool, List, [], ◌∷◌, map, filter, Ok, Err, Result, IfOk, IfErr, IsTrue, sym, subst, ◌⊎◌, inl, inr}
 use Rattle.std.proofs.lemmas.Bool.{cases_Bool}
 use Rattle.std.specs.List.{AllByRecursion}
-use Rattle.droid_frame.specs.declared.record.Record.{Record}
+use Rattle.droid_frame.specs.types.record.Record.{Record}
 use Rattle.droid_store.specs.Changes.{IsWord}
 use Rattle.sqlite.specs.Order.{Row}
 use Rattle.sqlite.specs.declared.error.Error.{Error}

@@ -3,7 +3,7 @@ use Rattle.std.proofs.Common.{◌≡◌, ◌<◌, ◌+◌, ℕ, zero, suc, List,
 use Rattle.std.proofs.lemmas.List.{length-map}
 use Rattle.std.specs.List.{AllByRecursion}
 use Rattle.sqlite.specs.Order.{Row}
-use Rattle.droid_frame.specs.declared.record.Record.{Record}
+use Rattle.droid_frame.specs.types.record.Record.{Record}
 use Rattle.droid_store.specs.Changes.{IsWord}
 use Rattle.droid_store.specs.Rows.{Node, record_of}
 use Rattle.droid_store.specs.Shown.{shown_node}
