@@ -1,6 +1,7 @@
-pub mod Joined
-pub mod Listed
-pub mod Settling
-pub mod Whole
-pub mod SpentPieces
+pub mod Along
+pub mod Ends
 pub mod Fresh
+pub mod Indexes
+pub mod Settling
+pub mod SpentPieces
+pub mod Whole

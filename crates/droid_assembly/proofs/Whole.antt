@@ -1,92 +1,109 @@
--- A whole file in the places of an assembly, and how many bytes they can have.
-use Rattle.std.proofs.Common.{◌≡◌, ℕ, zero, suc, ◌+◌, ◌-◌, ◌*◌, ◌^◌, ◌<◌, ◌≤◌, List, length, take, drop, get_or, min, Option, None, Some, IsSome, IfSome, sym, ap, ◌∙◌, arith, add-one}
-use Rattle.std.specs.List.{range_with_len, sum_by}
-use Rattle.std.proofs.lemmas.List.{get_or_default, length-take, length-drop}
-use Rattle.std.proofs.lemmas.Grind.{div_ceil_times}
-use Rattle.std.proofs.lemmas.List.Concat.{length-flat_map}
-use Rattle.std.proofs.lemmas.List.Folds.{flat_map-map}
-use Rattle.std.proofs.lemmas.List.FromFn.{fill_by_all}
-use Rattle.std.proofs.lemmas.List.Sums.{sum_by_more, sum_by-le}
-use Rattle.std.proofs.Math.Seq.{take-length}
-use Rattle.droid_assembly.specs.Pieces.{Piece, bytes_at, file_bytes, due_length, first_window, last_window}
-use Rattle.droid_assembly.specs.State.{State, StandsFor, IsComplete, count_of}
-use Rattle.droid_assembly.specs.Kept.{bytes_of, joined, weight, width_of, IsSound, IsFree}
-use Rattle.droid_assembly.proofs.Joined.{take-min}
+-- A whole file in an assembly, and how many bytes are kept of it.
+use Rattle.std.proofs.Common.{◌≡◌, ℕ, ◌+◌, ◌-◌, ◌*◌, ◌<◌, ◌≤◌, ◌%◌, List, length, take, drop, set, min, get_or, Option, None, Some, IfSome, sym, ap, ◌∙◌, arith, length-set}
+use Rattle.std.specs.List.{All, sum_by}
+use Rattle.std.specs.Option.{MatchOption}
+use Rattle.std.specs.Bool.{⊤}
+use Rattle.std.proofs.lemmas.List.{length-take, length-drop}
+use Rattle.std.proofs.lemmas.List.Elements.{All-from_get_or, All-set}
+use Rattle.std.proofs.lemmas.List.Sums.{sum_by-set, sum_by-le}
+use Rattle.droid_assembly.specs.Pieces.{Piece, bytes_at, file_bytes, first_window, last_window, IsDue}
+use Rattle.droid_assembly.specs.State.{State, StandsFor, IsComplete, count_of, width_of, pending_bytes}
+use Rattle.droid_assembly.specs.Kept.{weight, IsSound, IsFree}
+use Rattle.droid_assembly.specs.declared.front.Front.{Front}
+use Rattle.droid_assembly.proofs.Indexes.{missing_before, bytes_at-all, length-file_bytes, length-whole}
+use Rattle.droid_assembly.proofs.Ends.{take-min}
 
--- the places of an assembly join to the bytes of the pieces that it stands for
-pub joined-file_bytes : (a : State) (pieces : List Piece) → length a.places ≡ count_of a → StandsFor a pieces → joined a.places ≡ file_bytes (count_of a) pieces
-unfolding file_bytes
-joined-file_bytes a pieces one_each stands =
-    ap joined (fill_by_all (λ i. bytes_at pieces i) a.places (count_of a) None one_each stands.placed)
-    ∙ flat_map-map bytes_of (λ i. bytes_at pieces i) (range_with_len 0 (count_of a))
+-- the pieces of a complete assembly have as many bytes as the file
+pub length-complete : (a : State) (front : Front) (pieces : List Piece) → IsSound a front → IsComplete a → StandsFor a pieces → length (file_bytes (count_of a) pieces) ≡ a.size
+length-complete a front pieces sound complete stands =
+    length-whole a.size a.piece_size pieces sound.sizes.piece_size_positive stands.are_due
+    (λ k below. missing_before (count_of a) pieces k (omega (arith, below, complete, stands.least)))
 
--- a piece of the due length has it
-weight_is : (place : Option (List ℕ)) (n : ℕ) → IsSome place → IfSome place (λ bytes. length bytes ≡ n) → weight place ≡ n
-weight_is None n some due = absurd (cc)
-weight_is (Some bytes) n some due = due
+-- those before the first missing one have so many
+pub length-before : (a : State) (front : Front) (pieces : List Piece) → StandsFor a pieces → length (file_bytes a.first_missing pieces) ≡ min a.size (a.first_missing * a.piece_size)
+length-before a front pieces stands =
+    length-file_bytes a.size a.piece_size a.first_missing pieces stands.are_due
+    (λ k below. missing_before (count_of a) pieces k (omega (arith, below, stands.least)))
 
--- a place has at most the due length
-weight_le : (place : Option (List ℕ)) (n : ℕ) → IfSome place (λ bytes. length bytes ≡ n) → weight place ≤ n
-weight_le None n due = omega arith
-weight_le (Some bytes) n due = omega arith
+-- the first window is that of the whole file
+pub first-whole : (a : State) (front : Front) (pieces : List Piece) → IsSound a front → IsComplete a → StandsFor a pieces → a.first ≡ first_window a.limit (file_bytes (count_of a) pieces)
+first-whole a front pieces sound complete stands =
+    let bytes = file_bytes (count_of a) pieces in
+    let long = length-complete a front pieces sound complete stands in
+    let width : width_of a ≡ min a.limit (length bytes) = omega (arith, long) in
+    stands.begun
+    ∙ ap (λ n. take (width_of a) (file_bytes n pieces)) complete
+    ∙ ap (λ n. take n bytes) width
+    ∙ take-min a.limit bytes
 
--- where no piece is missing, the first i of them have as many bytes as i whole ones, or all bytes of the file
-weights : (a : State) (first_room last_room : ℕ) → IsSound a first_room last_room → IsComplete a → (i : ℕ) → i ≤ count_of a → sum_by weight (take i a.places) ≡ min a.size (i * a.piece_size)
-weights a first_room last_room sound complete zero h = omega arith
-weights a first_room last_room sound complete (suc i) h =
-    let before = weights a first_room last_room sound complete i (omega arith) in
-    let below : i < length a.places = omega (arith, sound.one_place_each) in
-    let here = weight_is (get_or a.places i None) (due_length a.size a.piece_size i) (sound.no_gap i (omega (arith, complete))) (sound.due i) in
-    let more = sum_by_more weight a.places i None below in
-    ap (λ n. sum_by weight (take n a.places)) (sym (add-one i)) ∙ more ∙ omega (arith, before, here)
+-- and so is the last
+pub last-whole : (a : State) (front : Front) (pieces : List Piece) → IsSound a front → IsComplete a → StandsFor a pieces → a.last ≡ last_window a.limit (file_bytes (count_of a) pieces)
+last-whole a front pieces sound complete stands =
+    let bytes = file_bytes (count_of a) pieces in
+    let long = length-complete a front pieces sound complete stands in
+    let skip : length bytes - width_of a ≡ length bytes - a.limit = omega (arith, long) in
+    stands.ended
+    ∙ ap (λ n. last_window (width_of a) (file_bytes n pieces)) complete
+    ∙ ap (λ n. drop n bytes) skip
 
-pub length-joined : (a : State) (first_room last_room : ℕ) → IsSound a first_room last_room → IsComplete a → length (joined a.places) ≡ a.size
-length-joined a first_room last_room sound complete =
-    let all = weights a first_room last_room sound complete (count_of a) (omega arith) in
-    let enough = div_ceil_times a.size a.piece_size (omega (arith, sound.sizes.piece_size_positive)) in
-    length-flat_map bytes_of a.places
-    ∙ ap (sum_by weight) (sym (take-length a.places) ∙ ap (λ n. take n a.places) sound.one_place_each)
-    ∙ all ∙ omega (arith, enough.0)
+-- they have as many bytes as are scanned, or all
+pub length-first : (a : State) (front : Front) → IsSound a front → IsComplete a → length a.first ≡ min a.limit a.size
+length-first a front sound complete =
+    let bytes = file_bytes (count_of a) sound.pieces in
+    omega (arith, ap length (first-whole a front sound.pieces sound complete sound.stands), length-take a.limit bytes, length-complete a front sound.pieces sound complete sound.stands)
 
--- the pieces have no more bytes than their number allows
-pub weights_fit : (a : State) (first_room last_room : ℕ) → IsSound a first_room last_room → sum_by weight a.places ≤ 2 ^ 40
-weights_fit a first_room last_room sound =
-    let each = sum_by-le weight (2 ^ 20) a.places (λ k d below.
-    let at = weight_le (get_or a.places k None) (due_length a.size a.piece_size k) (sound.due k) in
-    rw (get_or_default a.places k d None below) (omega (arith, at, sound.sizes.piece_size_fits))) in
-    omega (arith, each, sound.one_place_each, sound.sizes.count_fits)
+pub length-last : (a : State) (front : Front) → IsSound a front → IsComplete a → length a.last ≡ min a.limit a.size
+length-last a front sound complete =
+    let bytes = file_bytes (count_of a) sound.pieces in
+    omega (arith, ap length (last-whole a front sound.pieces sound complete sound.stands), length-drop (length bytes - a.limit) bytes, length-complete a front sound.pieces sound complete sound.stands)
 
--- and a pending piece adds no more than a piece's size
-pub fits_with : (a : State) (first_room last_room : ℕ) (piece : Piece) → IsSound a first_room last_room → IsFree a piece → a.settled_bytes + length piece.1 ≤ 2 ^ 41
-fits_with a first_room last_room piece sound free =
-    omega (arith, weights_fit a first_room last_room sound, sound.weighed, free.is_due.1, sound.sizes.piece_size_fits)
+-- Of the pieces that wait.
 
--- the first bytes of the places, as many as a window has
-pub first-file_bytes : (a : State) (first_room last_room : ℕ) (pieces : List Piece) → IsSound a first_room last_room → IsComplete a → StandsFor a pieces → take (width_of a) (joined a.places) ≡ first_window a.limit (file_bytes (count_of a) pieces)
-first-file_bytes a first_room last_room pieces sound complete stands =
-    let whole = length-joined a first_room last_room sound complete in
-    let width : width_of a ≡ min a.limit (length (joined a.places)) = omega (arith, whole) in
-    ap (λ n. take n (joined a.places)) width ∙ take-min a.limit (joined a.places)
-    ∙ ap (take a.limit) (joined-file_bytes a pieces sound.one_place_each stands)
+-- a due piece is no longer than a piece's size
+weight_le : (size piece_size index : ℕ) (place : Option (List ℕ)) → IfSome place (λ bytes. IsDue size piece_size (index, bytes)) → weight place ≤ piece_size
+weight_le size piece_size index None due = omega arith
+weight_le size piece_size index (Some bytes) due = omega (arith, due.1)
 
--- and the last
-pub last-file_bytes : (a : State) (first_room last_room : ℕ) (pieces : List Piece) → IsSound a first_room last_room → IsComplete a → StandsFor a pieces → drop (a.size - width_of a) (joined a.places) ≡ last_window a.limit (file_bytes (count_of a) pieces)
-last-file_bytes a first_room last_room pieces sound complete stands =
-    let whole = length-joined a first_room last_room sound complete in
-    let start : a.size - width_of a ≡ length (joined a.places) - a.limit = omega (arith, whole) in
-    ap (λ n. drop n (joined a.places)) start
-    ∙ ap (λ bytes. drop (length bytes - a.limit) bytes) (joined-file_bytes a pieces sound.one_place_each stands)
+-- each place is that of one index near enough
+near : ℕ → ℕ → ℕ
+near from place = from + (place + 16 - from % 16) % 16
 
--- the windows have room for them
-pub window_fits : (a : State) (first_room last_room : ℕ) → IsSound a first_room last_room → IsComplete a → length (joined a.places) - (a.size - width_of a) ≤ last_room
-window_fits a first_room last_room sound complete =
-    omega (arith, length-joined a first_room last_room sound complete, sound.room_at_back)
+near_is : (from place : ℕ) → place < 16 → (from ≤ near from place) × (near from place < from + 16) × (near from place % 16 ≡ place)
+unfolding near
+near_is from place low = (omega arith, omega arith, omega (arith, low))
 
--- a window has as many bytes as are scanned, or all
-pub length-first : (a : State) (first_room last_room : ℕ) → IsSound a first_room last_room → IsComplete a → length (take (width_of a) (joined a.places)) ≡ min a.limit a.size
-length-first a first_room last_room sound complete =
-    omega (arith, length-take (width_of a) (joined a.places), length-joined a first_room last_room sound complete)
+-- so no place has more
+pub each_waiting : (a : State) (front : Front) → IsSound a front → All (λ place. weight place ≤ a.piece_size) a.waiting
+each_waiting a front sound =
+    All-from_get_or (λ place. weight place ≤ a.piece_size) a.waiting None (λ place below.
+    let low : place < 16 = omega (arith, below, sound.places) in
+    let index = near a.first_missing place in
+    let is = near_is a.first_missing place low in
+    let at : get_or a.waiting place None ≡ bytes_at sound.pieces index =
+    ap (λ n. get_or a.waiting n None) (sym is.2) ∙ sound.stands.waits index is.0 is.1 in
+    rw at (weight_le a.size a.piece_size index (bytes_at sound.pieces index) (bytes_at-all (IsDue a.size a.piece_size) sound.pieces index sound.stands.are_due)))
 
-pub length-last : (a : State) (first_room last_room : ℕ) → IsSound a first_room last_room → IsComplete a → length (drop (a.size - width_of a) (joined a.places)) ≡ min a.limit a.size
-length-last a first_room last_room sound complete =
-    omega (arith, length-drop (a.size - width_of a) (joined a.places), length-joined a first_room last_room sound complete)
+-- the waiting pieces have at most so many bytes
+pub waiting_le : (a : State) (front : Front) → IsSound a front → sum_by weight a.waiting ≤ 16 * a.piece_size
+waiting_le a front sound =
+    omega (arith, sum_by-le weight a.piece_size a.waiting (each_waiting a front sound), ap (λ n. n * a.piece_size) sound.places)
+
+-- and so many with the pending one, which has one of their places
+with_pending_le : (a : State) (front : Front) (piece : Piece) → IsSound a front → IsFree a piece → sum_by weight a.waiting + length piece.1 ≤ 16 * a.piece_size
+with_pending_le a front piece sound free =
+    let none : Option (List ℕ) = None in
+    let place = piece.0 % 16 in
+    let full = set a.waiting place (Some piece.1) in
+    let long : length full ≡ 16 = length-set a.waiting place (Some piece.1) ∙ sound.places in
+    let fits : weight (Some piece.1) ≤ a.piece_size = omega (arith, free.is_due.1) in
+    let all = All-set (λ at. weight at ≤ a.piece_size) a.waiting place (Some piece.1) fits (each_waiting a front sound) in
+    let one = sum_by-set weight a.waiting place (Some piece.1) none (omega (arith, sound.places)) in
+    omega (arith, sum_by-le weight a.piece_size full all, ap (λ n. n * a.piece_size) long, one, ap weight free.free)
+
+pub pending_le : (a : State) (front : Front) (pending : Option Piece) → IsSound a front → MatchOption pending ⊤ (IsFree a) → sum_by weight a.waiting + pending_bytes pending ≤ 16 * a.piece_size
+pending_le a front None sound free = omega (arith, waiting_le a front sound)
+pending_le a front (Some piece) sound free = with_pending_le a front piece sound free
+
+-- what was settled is what was passed and what waits
+pub settled_is : (a : State) (front : Front) → IsSound a front → a.settled_bytes ≡ min a.size (a.first_missing * a.piece_size) + sum_by weight a.waiting
+settled_is a front sound = omega (arith, sound.weighed, length-before a front sound.pieces sound.stands)

@@ -1,16 +1,14 @@
 -- What holds of the parts that an assembly keeps.
-use Rattle.std.specs.Prelude.{◌≡◌, ℕ, ◌<◌, ◌≤◌, min, List, [], length, Option, None, unwrap_or, IsSome, IfSome, MatchOption, ⊤, is_some, slice_index_or, sum_by, count_by}
-use Rattle.std.specs.List.{flat_map}
-use Rattle.droid_assembly.specs.Pieces.{Piece, AreSizes, due_length, IsDue}
-use Rattle.droid_assembly.specs.State.{State, count_of}
+use Rattle.std.specs.Prelude.{◌≡◌, ℕ, ◌+◌, ◌<◌, ◌≤◌, List, [], length, Option, None, unwrap_or, IsSome, MatchOption, ⊤, is_some, slice_index_or, sum_by, count_by, map}
+use Rattle.std.specs.List.{range_with_len}
+use Rattle.droid_assembly.specs.Pieces.{Piece, AreSizes, IsDue, bytes_at, file_bytes}
+use Rattle.droid_assembly.specs.State.{State, StandsFor, IsComplete, count_of, width_of, slot}
+use Rattle.droid_assembly.specs.Fronts.{IsFront, FrontKnows}
+use Rattle.droid_assembly.specs.declared.front.Front.{Front}
 
 -- the bytes at a place: none where no piece is
 abbrev pub bytes_of : Option (List ℕ) → List ℕ
 bytes_of place = unwrap_or place []
-
--- what the pieces at some places join to
-abbrev pub joined : List (Option (List ℕ)) → List ℕ
-joined places = flat_map bytes_of places
 
 -- how many bytes are at a place
 abbrev pub weight : Option (List ℕ) → ℕ
@@ -21,25 +19,37 @@ pub record HasPieces (places : List (Option (List ℕ))) (count : ℕ) : Type 0 
   pub within : count ≤ length places
   pub each : (index : ℕ) → index < count → IsSome (slice_index_or places index None)
 
--- the piece may be settled: it is due, and its place is free
+-- the bytes of so many pieces, from an index on
+abbrev pub pieces_from : ℕ → ℕ → List Piece → List (List ℕ)
+pieces_from from count pieces = map (λ index. bytes_of (bytes_at pieces index)) (range_with_len from count)
+
+-- the pieces before an index are all there, and the front knows their bytes; those from there on wait
+-- in their places, and none lies 16 or more past it. They have so many bytes and are so many.
+pub record IsAlong (front : Front) (waiting : List (Option (List ℕ))) (from : ℕ) (pieces : List Piece) (total count : ℕ) : Type 0 where
+  pub no_gap : (index : ℕ) → index < from → IsSome (bytes_at pieces index)
+  pub knows : FrontKnows front (file_bytes from pieces)
+  pub waits : (index : ℕ) → from ≤ index → index < from + 16 → slot waiting index ≡ bytes_at pieces index
+  pub none_beyond : (index : ℕ) → from + 16 ≤ index → bytes_at pieces index ≡ None
+  pub weighed : total ≡ length (file_bytes from pieces) + sum_by weight waiting
+  pub counted : count ≡ from + count_by is_some waiting
+
+-- the piece may be settled: it is due, near enough, and its place is free
 pub record IsFree (assembly : State) (piece : Piece) : Type 0 where
   pub is_due : IsDue assembly.size assembly.piece_size piece
-  pub free : slice_index_or assembly.places piece.0 None ≡ None
+  pub not_passed : assembly.first_missing ≤ piece.0
+  pub near : piece.0 < assembly.first_missing + 16
+  pub free : slot assembly.waiting piece.0 ≡ None
 
--- how many bytes a window of it has
-abbrev pub width_of : State → ℕ
-width_of assembly = min assembly.size assembly.limit
-
--- the parts of an assembly belong together, and its windows have room for so many bytes
-pub record IsSound (assembly : State) (first_room last_room : ℕ) : Type 0 where
+-- the parts of an assembly belong together, and it stands for some pieces
+pub record IsSound (assembly : State) (kept : Front) : Type 0 where
   pub sizes : AreSizes assembly.size assembly.piece_size assembly.limit
-  pub one_place_each : length assembly.places ≡ count_of assembly
-  pub due : (index : ℕ) → IfSome (slice_index_or assembly.places index None) (λ bytes. length bytes ≡ due_length assembly.size assembly.piece_size index)
   pub within : assembly.first_missing ≤ count_of assembly
-  pub no_gap : (index : ℕ) → index < assembly.first_missing → IsSome (slice_index_or assembly.places index None)
-  pub least : assembly.first_missing < count_of assembly → slice_index_or assembly.places assembly.first_missing None ≡ None
-  pub counted : assembly.held_count ≡ count_by is_some assembly.places
-  pub weighed : assembly.settled_bytes ≡ sum_by weight assembly.places
+  pub places : length assembly.waiting ≡ 16
+  pub front : IsFront kept
+  pub width : kept.width ≡ width_of assembly
+  pub pieces : List Piece
+  pub stands : StandsFor assembly pieces
+  pub weighed : assembly.settled_bytes ≡ length (file_bytes assembly.first_missing pieces) + sum_by weight assembly.waiting
+  pub counted : assembly.held_count ≡ assembly.first_missing + count_by is_some assembly.waiting
   pub pending : MatchOption assembly.pending ⊤ (IsFree assembly)
-  pub room_at_front : width_of assembly ≤ first_room
-  pub room_at_back : width_of assembly ≤ last_room
+  pub sealed : IsSome assembly.digest → IsComplete assembly

@@ -1,5 +1,7 @@
+pub mod Fronts
 pub mod Kept
 pub mod Lending
 pub mod Parts
 pub mod Pieces
+pub mod Rings
 pub mod State

@@ -1,8 +1,9 @@
 -- What contracts see of the parts of an assembly.
 use Rattle.droid_assembly.specs.State.{State}
+use Rattle.droid_assembly.specs.Rings.{ring_items}
 use Rattle.droid_assembly.specs.declared.assembly.Assembly.TheInside.{Inside}
 
--- all of them but the two windows, whose bytes follow from the pieces
+-- all of them, but how the last bytes lie in their block
 abbrev pub state_of : Inside → State
 state_of parts = record {
   size = parts.size;
@@ -11,6 +12,10 @@ state_of parts = record {
   held_count = parts.held;
   first_missing = parts.missing;
   settled_bytes = parts.settled_bytes;
-  places = parts.places.items;
+  first = parts.front.first.items;
+  last = ring_items parts.front.last;
+  hash = parts.front.hash;
+  digest = parts.digest;
+  waiting = parts.waiting.items;
   pending = parts.pending;
 }

@@ -1,6 +1,8 @@
 -- An assembly as contracts see it, and the settled pieces that it stands for.
-use Rattle.std.specs.Prelude.{◌≡◌, ◌≢◌, ℕ, ◌<◌, List, length, Option, None, Some, slice_index_or, All, AllPairs}
-use Rattle.droid_assembly.specs.Pieces.{Piece, piece_count, IsDue, bytes_at, held, bytes_held, missing}
+use Rattle.std.specs.Prelude.{◌≡◌, ◌≢◌, ℕ, ◌+◌, ◌%◌, ◌<◌, ◌≤◌, min, List, length, Option, None, Some, slice_index_or, All, AllPairs}
+use Rattle.md5.specs.Md5.{md5, Holds}
+use Rattle.md5.specs.declared.Md5.{Md5}
+use Rattle.droid_assembly.specs.Pieces.{Piece, piece_count, IsDue, bytes_at, held, bytes_held, missing, file_bytes, first_window, last_window}
 
 -- an assembly: the sizes that it was made for, and what it keeps
 pub record State : Type 0 where
@@ -11,8 +13,14 @@ pub record State : Type 0 where
   pub held_count : ℕ
   pub first_missing : ℕ
   pub settled_bytes : ℕ
-  -- what was settled, by index
-  pub places : List (Option (List ℕ))
+  -- of the bytes before the first missing piece the first and the last, and a hash of them all
+  pub first : List ℕ
+  pub last : List ℕ
+  pub hash : Md5
+  -- the digest, once it was asked for
+  pub digest : Option (List ℕ)
+  -- the settled pieces past the first missing one, each at the rest of its index by 16
+  pub waiting : List (Option (List ℕ))
   pub pending : Option Piece
 
 -- how many pieces its file has
@@ -27,6 +35,19 @@ IsComplete assembly = assembly.first_missing ≡ count_of assembly
 abbrev pub with_pending : State → Option Piece → State
 with_pending assembly pending = record assembly { pending = pending }
 
+-- how many bytes a window of it has at most
+abbrev pub width_of : State → ℕ
+width_of assembly = min assembly.size assembly.limit
+
+-- the place of the piece of this index among those that wait
+abbrev pub slot : List (Option (List ℕ)) → ℕ → Option (List ℕ)
+slot waiting index = slice_index_or waiting (index % 16) None
+
+-- a kept digest is that of the bytes; before one is kept, the hash holds the bytes
+abbrev pub IsDigestOf : Option (List ℕ) → Md5 → List ℕ → Type 0
+IsDigestOf None hash bytes = Holds hash bytes
+IsDigestOf (Some digest) hash bytes = digest ≡ md5 bytes
+
 -- the assembly's settled pieces are these, of distinct indexes and due lengths, in whatever order they came
 pub record StandsFor (assembly : State) (pieces : List Piece) : Type 0 where
   pub are_due : All (IsDue assembly.size assembly.piece_size) pieces
@@ -34,7 +55,14 @@ pub record StandsFor (assembly : State) (pieces : List Piece) : Type 0 where
   pub counted : assembly.held_count ≡ held pieces
   pub least : assembly.first_missing ≡ missing (count_of assembly) pieces
   pub weighed : assembly.settled_bytes ≡ bytes_held pieces
-  pub placed : (index : ℕ) → index < count_of assembly → slice_index_or assembly.places index None ≡ bytes_at pieces index
+  -- its windows are the ends of the bytes before the first missing piece
+  pub begun : assembly.first ≡ first_window (width_of assembly) (file_bytes assembly.first_missing pieces)
+  pub ended : assembly.last ≡ last_window (width_of assembly) (file_bytes assembly.first_missing pieces)
+  -- its hash or its digest is of these bytes
+  pub hashed : IsDigestOf assembly.digest assembly.hash (file_bytes assembly.first_missing pieces)
+  -- its waiting pieces are the others
+  pub waits : (index : ℕ) → assembly.first_missing ≤ index → index < assembly.first_missing + 16 → slot assembly.waiting index ≡ bytes_at pieces index
+  pub none_beyond : (index : ℕ) → assembly.first_missing + 16 ≤ index → bytes_at pieces index ≡ None
 
 -- how many bytes a pending piece has
 abbrev pub pending_bytes : Option Piece → ℕ

@@ -1,42 +1,44 @@
 //! One unfinished file.
 
-ghost use Rattle.std.specs.Prelude.{◌≡◌, ◌+◌, ◌<◌, ◌≤◌, ◌↔◌, ◌++◌, ◌∷◌, [], List, length, min, IsOk, IfOk, IfErr, OnOk, OnErr, IsErrOf, IsTrue, IsSome, None, Some, option_map};
+ghost use Rattle.std.specs.Prelude.{◌≡◌, ◌+◌, ◌-◌, ◌*◌, ◌<◌, ◌≤◌, ◌↔◌, ◌++◌, ◌∷◌, [], ℕ, List, length, min, IsOk, IfOk, IfErr, OnOk, OnErr, IsErrOf, IsTrue, IsSome, None, Some, option_map, MatchBool};
+ghost use Rattle.std.specs.Bool.{OnFalse};
 ghost use Rattle.droid_assembly.specs.Pieces.{Piece, AreSizes, IsDue, HasIndex, LacksIndex, held as held_of, bytes_held, missing as missing_of, file_bytes, first_window, last_window};
-ghost use Rattle.droid_assembly.specs.State.{StandsFor, IsComplete, IsOfSameFile, IsUnchanged, count_of, with_pending, pending_bytes};
+ghost use Rattle.droid_assembly.specs.State.{StandsFor, IsComplete, IsOfSameFile, IsUnchanged, IsDigestOf, count_of, with_pending, pending_bytes as pending_len, slot};
+ghost use Rattle.droid_assembly.specs.Kept.{pieces_from};
 ghost use Rattle.md5.specs.Md5.{md5};
 ghost use Rattle.std.specs.Borrow.{sem};
 
 use crate::fault::{Incomplete, PutFault};
-use crate::places::{empty_places, next_missing};
-use crate::sealed::{Sealed, digest_of};
+use crate::front::Front;
+use crate::places::{AHEAD, empty_places, pass};
+use crate::sealed::Sealed;
 use crate::spent::Spent;
-use crate::windows::{Ends, Windows};
+use crate::windows::Windows;
 use droid_frame::Blob;
 use std::alloc::{AllocError, Global};
 use std::marker::Model;
 
-/// A piece is taken only less than so many places past the first missing one.
-const AHEAD: u32 = 16;
-
 /// The pieces of one unfinished file, put together whatever order they come in.
 ///
 /// One piece at a time is pending: a caller that has to commit elsewhere first settles it
-/// afterwards, or takes it back.
+/// afterwards, or takes it back. No piece before the first missing one is kept: of these the two
+/// windows and a running MD5 remain.
 #[derive(Debug, Drop)]
 pub struct Assembly {
     size: u64,
     piece_size: u32,
     limit: u32,
-    held: usize,
-    missing: usize,
+    held: u32,
+    missing: u32,
     settled_bytes: u64,
-    places: Vec<Option<Blob>>,
+    front: Front,
+    digest: Option<[u8; 16]>,
+    // The settled pieces past the first missing one, each at the rest of its index by their number.
+    waiting: Vec<Option<Blob>>,
     pending: Option<(u32, Blob)>,
-    ends: Ends,
 }
 
 impl Model for Assembly {
-    ghost use Rattle.std.specs.Prelude.{vec_capacity};
     ghost use Rattle.droid_assembly.specs.State.{State};
 
     ghost Value = { State };
@@ -46,7 +48,7 @@ impl Model for Assembly {
 
     ghost view = { state_of };
 
-    ghost invariant = { λ a. IsSound (state_of a) (vec_capacity a.ends.first) (vec_capacity a.ends.last) };
+    ghost invariant = { λ a. IsSound (state_of a) a.front };
 }
 
 impl Assembly {
@@ -68,7 +70,6 @@ impl Assembly {
         ensures none_pending { IfOk result (λ assembly. assembly.pending ≡ None) }
         ensures stands { IfOk result (λ assembly. StandsFor assembly []) }
     {
-        let count = size.div_ceil(u64::from(piece_size)) as usize;
         let width = size.min(u64::from(limit)) as usize;
         Ok(Assembly {
             size,
@@ -77,9 +78,10 @@ impl Assembly {
             held: 0,
             missing: 0,
             settled_bytes: 0,
-            places: empty_places(alloc, count)?,
+            front: Front::with_room(alloc, width)?,
+            digest: None,
+            waiting: empty_places(alloc)?,
             pending: None,
-            ends: Ends::with_room(alloc, width)?,
         })
     }
 
@@ -109,7 +111,7 @@ impl Assembly {
         if !self.is_due(index, &bytes) {
             return Err(PutFault::BadPiece { bytes });
         }
-        if self.places[index as usize].is_some() {
+        if self.is_held(index) {
             return Err(PutFault::PieceHeld { bytes });
         }
         let missing = self.missing();
@@ -144,15 +146,20 @@ impl Assembly {
         ensures same_file { IsOfSameFile self.old self.new }
         ensures none_pending { self.new.pending ≡ None }
 
-        // Every piece is kept.
-        ensures spent { result ≡ [] }
+        // Those from the missing one to the new missing one come back, in order of index.
+        ensures spent { (pieces : List Piece) (piece : Piece) → StandsFor self.old pieces → self.old.pending ≡ Some piece
+            → let before = missing_of (count_of self.old) pieces in
+            let after = missing_of (count_of self.old) (pieces ++ piece ∷ []) in
+            result ≡ pieces_from before (after - before) (pieces ++ piece ∷ []) }
+        ensures few { length result ≤ 16 }
     {
         let (index, bytes) = self.pending.take().unwrap();
         self.held += 1;
         self.settled_bytes += bytes.len() as u64;
-        self.places[index as usize] = Some(bytes);
-        self.missing = next_missing(&self.places, self.missing);
-        Spent::none()
+        self.waiting[(index % AHEAD) as usize] = Some(bytes);
+        let spent = pass(&mut self.waiting, &mut self.front, self.missing);
+        self.missing += spent.len() as u32;
+        spent
     }
 
     /// How many pieces are settled.
@@ -162,7 +169,7 @@ impl Assembly {
         // Each assembly stands for some list of pieces.
         ensures stands { (pieces : List Piece) × StandsFor self.now pieces }
     {
-        self.held as u32
+        self.held
     }
 
     /// The smallest index that is not settled, or the number of pieces where all are.
@@ -171,19 +178,21 @@ impl Assembly {
         ensures within { result ≤ count_of self.now }
         ensures complete { IsComplete self.now ↔ (result ≡ count_of self.now) }
     {
-        self.missing as u32
+        self.missing
     }
 
-    /// How many bytes of pieces are kept, those of the pending one included.
+    /// How many bytes are kept: in the two windows, and of the pieces that wait and the pending one.
     pub fn kept_bytes(&self) -> u64
-        // Every piece is kept.
-        ensures { (pieces : List Piece) → StandsFor self.now pieces
-            → result ≡ bytes_held pieces + pending_bytes self.now.pending }
+        ensures kept { (pieces : List Piece) → StandsFor self.now pieces
+            → let before = length (file_bytes (missing_of (count_of self.now) pieces) pieces) in
+            result ≡ 2 * min self.now.limit before + (bytes_held pieces - before) + pending_len self.now.pending }
+        ensures bound { result ≤ 2 * min self.now.limit self.now.size + 16 * self.now.piece_size }
     {
-        match &self.pending {
-            Some((_, bytes)) => self.settled_bytes + bytes.len() as u64,
-            None => self.settled_bytes,
-        }
+        let passed = self
+            .size
+            .min(u64::from(self.missing) * u64::from(self.piece_size));
+        let windows = 2 * passed.min(u64::from(self.limit));
+        windows + (self.settled_bytes - passed) + self.pending_bytes()
     }
 
     /// The size and the MD5 (RFC 1321) of the whole file, or which piece is missing first. It may be
@@ -208,14 +217,14 @@ impl Assembly {
         ensures unchanged { IsUnchanged self.old self.new }
         ensures err { OnErr result (self.new ≡ self.old) }
     {
-        if self.missing < self.places.len() {
+        if self.missing() < self.count() {
             return Err(Incomplete {
                 missing: self.missing(),
             });
         }
         Ok(Sealed {
             size: self.size,
-            md5: digest_of(&self.places),
+            md5: digest_of(&mut self.digest, &mut self.front),
         })
     }
 
@@ -232,20 +241,65 @@ impl Assembly {
         ensures first_len { length result.first.now ≡ min self.old.limit self.old.size }
         ensures last_len { length result.last.now ≡ min self.old.limit self.old.size }
     {
-        let width = self.size.min(u64::from(self.limit));
-        let start = self.size - width;
-        self.ends.fill(&self.places, width as usize, start as usize);
-        self.ends.windows()
+        self.front.straighten();
+        self.front.windows()
     }
+
     /// Whether the file has a piece of this index and of this length.
     fn is_due(&self, index: u32, bytes: &Blob) -> bool
         ensures { IsTrue result ↔ IsDue self.now.size self.now.piece_size (index, bytes.now) }
     {
-        if index as usize >= self.places.len() {
+        if index >= self.count() {
             return false;
         }
         let piece_size = u64::from(self.piece_size);
         let due = piece_size.min(self.size - u64::from(index) * piece_size);
         bytes.len() as u64 == due
     }
+
+    /// Whether the piece of this index is settled.
+    fn is_held(&self, index: u32) -> bool
+        ensures held { (pieces : List Piece) → StandsFor self.now pieces
+            → MatchBool result (HasIndex pieces index) (LacksIndex pieces index) }
+        ensures free { OnFalse result (self.now.first_missing ≤ index) }
+        ensures place { OnFalse result (index < self.now.first_missing + 16 → slot self.now.waiting index ≡ None) }
+    {
+        if index < self.missing {
+            return true;
+        }
+        index - self.missing < AHEAD && self.waiting[(index % AHEAD) as usize].is_some()
+    }
+
+    /// How many pieces the file has.
+    fn count(&self) -> u32
+        ensures { result ≡ count_of self.now }
+    {
+        self.size.div_ceil(u64::from(self.piece_size)) as u32
+    }
+
+    /// How many bytes the pending piece has.
+    fn pending_bytes(&self) -> u64
+        ensures { result ≡ pending_len self.now.pending }
+    {
+        match &self.pending {
+            Some((_, bytes)) => bytes.len() as u64,
+            None => 0,
+        }
+    }
+}
+
+// The digest of the bytes so far, which is kept from then on.
+fn digest_of(kept: &mut Option<[u8; 16]>, front: &mut Front) -> [u8; 16]
+    ensures digest { (before : List ℕ) → IsDigestOf kept.old front.old.hash before → result ≡ md5 before }
+    ensures kept { kept.new ≡ Some result }
+    ensures first { front.new.first ≡ front.old.first }
+    ensures last { front.new.last ≡ front.old.last }
+    ensures width { front.new.width ≡ front.old.width }
+{
+    if let Some(digest) = *kept {
+        return digest;
+    }
+    let digest = front.finish();
+    *kept = Some(digest);
+    digest
 }

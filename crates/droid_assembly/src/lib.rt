@@ -3,7 +3,9 @@
 
 mod assembly;
 mod fault;
+mod front;
 mod places;
+mod ring;
 mod sealed;
 mod spent;
 mod windows;

@@ -1,44 +1,64 @@
-//! The places of settled pieces, one for each index.
+//! The places of pieces that wait for an earlier one.
 
-ghost use Rattle.std.specs.Prelude.{◌≡◌, ◌<◌, ◌≤◌, ℕ, length, None, IfOk, IsSome, replicate, slice_index_or};
-ghost use Rattle.droid_assembly.specs.Kept.{bytes_of};
+ghost use Rattle.std.specs.Prelude.{◌≡◌, ◌<◌, ◌≤◌, ◌+◌, ◌%◌, ◌^◌, ℕ, List, length, None, IfOk, replicate, slice_set};
+ghost use Rattle.droid_assembly.specs.Pieces.{Piece};
+ghost use Rattle.droid_assembly.specs.State.{slot};
+ghost use Rattle.droid_assembly.specs.Fronts.{IsFront};
+ghost use Rattle.droid_assembly.specs.Kept.{IsAlong, pieces_from};
 
+use crate::front::Front;
+use crate::spent::Spent;
 use droid_frame::Blob;
 use std::alloc::{AllocError, Global};
 
-/// So many places, none with a piece. Only want of memory refuses them.
-pub(crate) fn empty_places(alloc: Global, count: usize) -> Result<Vec<Option<Blob>>, AllocError>
-    ensures { IfOk result (λ places. places.items ≡ replicate count None) }
+/// A piece is taken only less than so many places past the first missing one, so each of those that
+/// wait has a place of its own.
+pub(crate) const AHEAD: u32 = 16;
+
+/// The places, none with a piece. Only want of memory refuses them.
+pub(crate) fn empty_places(alloc: Global) -> Result<Vec<Option<Blob>>, AllocError>
+    ensures { IfOk result (λ places. places.items ≡ replicate 16 None) }
 {
-    let mut places = Vec::with_capacity(alloc, count)?;
-    for _ in 0..count {
+    let mut places = Vec::with_capacity(alloc, AHEAD as usize)?;
+    for _ in 0..AHEAD {
         places.push(None)?;
     }
     Ok(places)
 }
 
-/// The bytes at a place: none where no piece is.
-pub(crate) fn content(place: &Option<Blob>) -> &[u8]
-    ensures { result.now ≡ bytes_of place.now }
+/// Takes the pieces that follow one another from this index on out of their places, shows them to the
+/// front, and hands them back.
+pub(crate) fn pass(waiting: &mut [Option<Blob>], front: &mut Front, from: u32) -> Spent
+    requires places { length waiting.old ≡ 16 }
+    requires sound { IsFront front.old }
+    requires small { from + 16 < 2 ^ 32 }
+    ensures sound { IsFront front.new }
+    ensures width { front.new.width ≡ front.old.width }
+    ensures along { (pieces : List Piece) (total count : ℕ) → IsAlong front.old waiting.old from pieces total count
+        → IsAlong front.new waiting.new (from + length result) pieces total count }
+    ensures passed { (pieces : List Piece) (total count : ℕ) → IsAlong front.old waiting.old from pieces total count
+        → result ≡ pieces_from from (length result) pieces }
+    ensures stopped { slot waiting.new (from + length result) ≡ None }
+    ensures few { length result ≤ 16 }
 {
-    match place {
-        Some(bytes) => bytes.as_slice(),
-        None => &[],
-    }
-}
-
-/// The first place from `start` on that has no piece, or the number of places.
-pub(crate) fn next_missing(places: &[Option<Blob>], start: usize) -> usize
-    requires { start ≤ length places.now }
-    ensures from_start { start ≤ result }
-    ensures within { result ≤ length places.now }
-    ensures no_gap { (index : ℕ) → start ≤ index → index < result → IsSome (slice_index_or places.now index None) }
-    ensures least { result < length places.now → slice_index_or places.now result None ≡ None }
-{
-    for index in start..places.len() {
-        if places[index].is_none() {
-            return index;
+    let mut spent = Spent::none();
+    for index in from..from + AHEAD {
+        match take_out(waiting, index) {
+            Some(bytes) => {
+                front.take(bytes.as_slice());
+                spent.push(bytes);
+            }
+            None => return spent,
         }
     }
-    places.len()
+    spent
+}
+
+// Takes the piece of this index out of its place.
+fn take_out(waiting: &mut [Option<Blob>], index: u32) -> Option<Blob>
+    requires { length waiting.old ≡ 16 }
+    ensures piece { result ≡ slot waiting.old index }
+    ensures places { waiting.new ≡ slice_set waiting.old (index % 16) None }
+{
+    waiting[(index % AHEAD) as usize].take()
 }

@@ -1,6 +1,6 @@
 //! Pieces that an assembly needs no longer.
 
-ghost use Rattle.std.specs.Prelude.{◌≡◌, ◌↔◌, [], IsTrue, length};
+ghost use Rattle.std.specs.Prelude.{◌≡◌, ◌↔◌, ◌<◌, ◌++◌, ◌∷◌, [], IsTrue, length};
 ghost use Rattle.std.specs.Option.{option_copied};
 ghost use Rattle.std.specs.List.{slice_get};
 
@@ -39,6 +39,15 @@ impl Spent {
             blobs: array::from_fn(|_| None),
             count: 0,
         }
+    }
+
+    /// Adds a piece, for which there is a place.
+    pub(crate) fn push(&mut self, bytes: Blob)
+        requires { length self.old < 16 }
+        ensures { self.new ≡ self.old ++ bytes ∷ [] }
+    {
+        self.blobs[self.count] = Some(bytes);
+        self.count += 1;
     }
 
     /// How many pieces were handed back.

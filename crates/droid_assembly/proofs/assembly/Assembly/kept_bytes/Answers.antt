@@ -1,11 +1,58 @@
-use Rattle.std.proofs.Common.{arith}
+use Rattle.std.proofs.Common.{◌≡◌, ◌*◌, ◌∙◌, length, min, arith, ap, sym}
+use Rattle.droid_assembly.specs.Pieces.{file_bytes, missing}
 use Rattle.droid_assembly.specs.Parts.{state_of}
-use Rattle.droid_assembly.proofs.Whole.{fits_with}
-use Rattle.droid_assembly.proofs.Settling.{free_of}
+use Rattle.droid_assembly.specs.State.{StandsFor, count_of}
+use Rattle.droid_assembly.proofs.Whole.{settled_is, waiting_le, pending_le, length-before}
 use Rattle.droid_assembly.proofs.assembly.Assembly.kept_bytes.Goals as goal
+use Rattle.droid_assembly.proofs.assembly.Assembly.kept_bytes.Goals.{After-min-windows, After-pending_bytes}
+
+-- so many bytes were passed
+passed_is : (c : After-min-windows) → c.min-passed.result ≡ min c.self.inside.size (c.self.inside.missing * c.self.inside.piece_size)
+passed_is c =
+    let size = c.self.inside.size in
+    c.min-passed.ensures
+    ∙ ap (λ n. min size (n * c.from-2.result)) c.from.ensures
+    ∙ ap (λ n. min size (c.self.inside.missing * n)) c.from-2.ensures
+
+passed_was : (c : After-pending_bytes) → c.min-passed.result ≡ min c.self.inside.size (c.self.inside.missing * c.self.inside.piece_size)
+passed_was c =
+    let size = c.self.inside.size in
+    c.min-passed.ensures
+    ∙ ap (λ n. min size (n * c.from-2.result)) c.from.ensures
+    ∙ ap (λ n. min size (c.self.inside.missing * n)) c.from-2.ensures
+
+pub overflow_sub-result : goal.overflow_sub-result
+overflow_sub-result c =
+    let parts = c.self.inside in
+    omega (arith, passed_is c, settled_is (state_of parts) parts.front c.self.invariant)
 
 pub overflow_add-result : goal.overflow_add-result
 overflow_add-result c =
-    let a = state_of c.self.inside in
-    let free = free_of a (c.in-Some.field-0-0, c.in-Some.bytes) _ _ c.self.invariant c.in-Some.is in
-    omega (arith, fits_with a _ _ (c.in-Some.field-0-0, c.in-Some.bytes) c.self.invariant free, c.len.ensures)
+    let parts = c.self.inside in
+    let sound = c.self.invariant in
+    omega (arith, passed_is c, settled_is (state_of parts) parts.front sound, waiting_le (state_of parts) parts.front sound, sound.sizes.size_fits, sound.sizes.piece_size_fits)
+
+pub overflow_add-result-2 : goal.overflow_add-result-2
+overflow_add-result-2 c =
+    let parts = c.self.inside in
+    let sound = c.self.invariant in
+    let pending = rw (← c.self.view_is) at c.pending_bytes.ensures in
+    omega (arith, passed_was c, settled_is (state_of parts) parts.front sound, pending_le (state_of parts) parts.front parts.pending sound sound.pending, pending, sound.sizes.size_fits, sound.sizes.piece_size_fits)
+
+pub returns-clause-kept : goal.returns-clause-kept
+returns-clause-kept c pieces stands =
+    let parts = c.self.inside in
+    let a = state_of parts in
+    let before : StandsFor a pieces = rw c.self.view_is stands in
+    let pending = rw (← c.self.view_is) at c.pending_bytes.ensures in
+    let passed : length (file_bytes (missing (count_of a) pieces) pieces) ≡ min a.size (a.first_missing * a.piece_size) =
+    ap (λ n. length (file_bytes n pieces)) (sym before.least) ∙ length-before a parts.front pieces before in
+    rw (← c.self.view_is) (omega (arith, passed, passed_was c, pending, before.weighed, c.min-windows.ensures, c.from-3.ensures))
+
+pub returns-clause-bound : goal.returns-clause-bound
+returns-clause-bound c =
+    let parts = c.self.inside in
+    let sound = c.self.invariant in
+    let pending = rw (← c.self.view_is) at c.pending_bytes.ensures in
+    rw (← c.self.view_is)
+    (omega (arith, passed_was c, settled_is (state_of parts) parts.front sound, pending_le (state_of parts) parts.front parts.pending sound sound.pending, pending, c.min-windows.ensures, c.from-3.ensures))

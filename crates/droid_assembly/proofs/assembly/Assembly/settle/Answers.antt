@@ -1,45 +1,92 @@
-use Rattle.std.proofs.Common.{◌≡◌, ◌∙◌, arith, sym, Some, set}
+use Rattle.std.proofs.Common.{◌≡◌, ◌∙◌, ℕ, ◌+◌, ◌%◌, ◌++◌, ◌∷◌, [], List, length, take, drop, set, Option, Some, sym, ap, arith, refl}
+use Rattle.std.specs.List.{sum_by, count_by}
+use Rattle.std.specs.Option.{is_some}
+use Rattle.std.proofs.lemmas.List.{take_at}
 use Rattle.droid_assembly.specs.Parts.{state_of}
-use Rattle.droid_assembly.specs.State.{StandsFor}
-use Rattle.droid_assembly.proofs.Whole.{weights_fit}
-use Rattle.droid_assembly.proofs.Settling.{IsNext, settled-sound, settled-stands, free_of}
+use Rattle.droid_assembly.specs.State.{StandsFor, count_of}
+use Rattle.droid_assembly.specs.Pieces.{Piece, file_bytes}
+use Rattle.droid_assembly.specs.Kept.{weight, pieces_from}
+use Rattle.droid_assembly.proofs.Whole.{settled_is, waiting_le}
+use Rattle.droid_assembly.proofs.Settling.{Went, settled-sound, settled-stands, begun, spent_is, free_of}
 use Rattle.droid_assembly.proofs.assembly.Assembly.settle.Goals as goal
-use Rattle.droid_assembly.proofs.assembly.Assembly.settle.Goals.{After-unwrap-index, After-none}
-
--- the piece that was pending
-pending_is : (c : After-none) → c.self.inside.pending ≡ Some c.unwrap-index.result
-pending_is c = sym c.take.ensures.value ∙ c.unwrap-index.ensures
-
--- the next missing index is the first that is free now
-next : (c : After-none) → IsNext (set c.self.inside.places.items c.unwrap-index.result.0 (Some c.unwrap-index.result.1)) c.self.inside.missing c.next_missing-self-inside.result
-next c =
-    let now = c.deref.ensures.value in
-    let e = c.next_missing-self-inside.ensures in
-    record {
-      from_start = e.from_start;
-      within = rw now at e.within;
-      no_gap = rw now at e.no_gap;
-      least = rw now at e.least;
-    }
+use Rattle.droid_assembly.proofs.assembly.Assembly.settle.Goals.{After-self-5-1}
 
 pub overflow_add-self-2 : goal.overflow_add-self-2
 overflow_add-self-2 c =
-    let pending : c.self.inside.pending ≡ Some c.unwrap-index.result = sym c.take.ensures.value ∙ c.unwrap-index.ensures in
-    let free = free_of (state_of c.self.inside) c.unwrap-index.result _ _ c.self.invariant pending in
-    omega (arith, weights_fit (state_of c.self.inside) _ _ c.self.invariant, free.is_due.1, c.self.invariant.sizes.piece_size_fits, c.self.invariant.weighed, c.len.ensures)
+    let parts = c.self.inside in
+    let a = state_of parts in
+    let sound = c.self.invariant in
+    let pending : parts.pending ≡ Some c.unwrap-index.result = sym c.take.ensures.value ∙ c.unwrap-index.ensures in
+    let free = free_of a parts.front c.unwrap-index.result sound pending in
+    omega (arith, settled_is a parts.front sound, waiting_le a parts.front sound, free.is_due.1, sound.sizes.piece_size_fits, sound.sizes.size_fits, c.len.ensures)
+
+-- the places as they are lent
+abbrev lent : (c : After-self-5-1) → List (Option (List ℕ))
+lent c = set c.self.inside.waiting.items (c.unwrap-index.result.0 % 16) (Some c.unwrap-index.result.1)
+
+-- the piece that was pending
+pending_is : (c : After-self-5-1) → c.self.inside.pending ≡ Some c.unwrap-index.result
+pending_is c = sym c.take.ensures.value ∙ c.unwrap-index.ensures
+
+-- the places as they come back
+places_are : (c : After-self-5-1) → length c.pass-spent.new.waiting ≡ 16
+places_are c = omega (arith, c.pass-spent.auto.waiting, c.deref_mut.ensures.value, c.self.invariant.places)
+
+went : (c : After-self-5-1) → Went (state_of c.self.inside) c.self.inside.front c.pass-spent.new.front c.pass-spent.new.waiting c.len-2.result c.unwrap-index.result
+went c =
+    let parts = c.self.inside in
+    let a = state_of parts in
+    record {
+      sound = c.self.invariant;
+      same = record { first = refl; last = refl; hash = refl; width = c.self.invariant.width };
+      free = free_of a parts.front c.unwrap-index.result c.self.invariant (pending_is c);
+      still = c.pass-spent.ensures.sound;
+      width = c.pass-spent.ensures.width;
+      places = places_are c;
+      along = λ pieces total count h. rw c.len-2.ensures (c.pass-spent.ensures.along pieces total count (rw c.deref_mut.ensures.value h));
+      stopped = rw c.len-2.ensures c.pass-spent.ensures.stopped;
+    }
+
+-- the places are those that came back
+waiting_is : (c : After-self-5-1) → take c.self.inside.waiting.len (c.pass-spent.new.waiting ++ drop (length c.pass-spent.new.waiting) (lent c)) ≡ c.pass-spent.new.waiting
+waiting_is c =
+    take_at c.pass-spent.new.waiting (drop (length c.pass-spent.new.waiting) (lent c)) c.self.inside.waiting.len
+    (omega (arith, places_are c, c.self.invariant.places, c.self.inside.waiting.ok.0))
 
 pub invariant_of-self : goal.invariant_of-self
 invariant_of-self c =
-    let a = state_of c.self.inside in
-    let free = free_of a c.unwrap-index.result _ _ c.self.invariant (pending_is c) in
-    rw (c.take.ensures.after, c.len.ensures) (settled-sound a c.unwrap-index.result c.next_missing-self-inside.result _ _ c.self.invariant free (next c))
+    let parts = c.self.inside in
+    rw (c.take.ensures.after, c.len.ensures, waiting_is c)
+    (settled-sound (state_of parts) parts.front c.pass-spent.new.front c.pass-spent.new.waiting c.len-2.result c.unwrap-index.result (went c))
+
+-- the pending piece is the one that the clauses name
+named : (c : After-self-5-1) (piece : Piece) → c.args.self.now.pending ≡ Some piece → c.unwrap-index.result ≡ piece
+named c piece pending =
+    let was = rw (← c.self.view_is) at pending in
+    let both : Some c.unwrap-index.result ≡ Some piece = sym (pending_is c) ∙ was in
+    cc
 
 pub returns-clause-stands : goal.returns-clause-stands
 returns-clause-stands c pieces piece stands pending =
-    let a = state_of c.self.inside in
+    let parts = c.self.inside in
+    let a = state_of parts in
     let before : StandsFor a pieces = rw c.self.view_is stands in
-    let was = rw (← c.self.view_is) at pending in
-    let both : Some c.unwrap-index.result ≡ Some piece = sym (pending_is c) ∙ was in
-    let same : c.unwrap-index.result ≡ piece = cc in
-    rw (c.take.ensures.after, c.len.ensures, ← same)
-    (settled-stands a c.unwrap-index.result c.next_missing-self-inside.result _ _ pieces c.self.invariant (free_of a c.unwrap-index.result _ _ c.self.invariant (pending_is c)) (next c) before)
+    rw (c.take.ensures.after, c.len.ensures, waiting_is c, ← named c piece pending)
+    (settled-stands a parts.front c.pass-spent.new.front c.pass-spent.new.waiting c.len-2.result c.unwrap-index.result pieces (went c) before)
+
+pub returns-clause-spent : goal.returns-clause-spent
+returns-clause-spent c pieces piece stands pending =
+    let parts = c.self.inside in
+    let a = state_of parts in
+    let last = c.unwrap-index.result in
+    let after = pieces ++ last ∷ [] in
+    let before : StandsFor a pieces = rw c.self.view_is stands in
+    let total = length (file_bytes a.first_missing pieces) + sum_by weight a.waiting + length last.1 in
+    let count = a.first_missing + count_by is_some a.waiting + 1 in
+    let along = begun a parts.front c.pass-spent.new.front c.pass-spent.new.waiting c.len-2.result last pieces total count (went c) before refl refl in
+    let then = settled-stands a parts.front c.pass-spent.new.front c.pass-spent.new.waiting c.len-2.result last pieces (went c) before in
+    let passed : c.pass-spent.result ≡ pieces_from a.first_missing c.len-2.result after =
+    c.pass-spent.ensures.passed after total count (rw c.deref_mut.ensures.value along)
+    ∙ ap (λ n. pieces_from a.first_missing n after) (sym c.len-2.ensures) in
+    rw (← c.self.view_is, ← named c piece pending)
+    (spent_is (count_of a) a.first_missing c.len-2.result pieces after c.pass-spent.result before.least then.least passed)

@@ -1,0 +1,85 @@
+//! What is kept of the bytes before the first missing piece.
+
+ghost use Rattle.std.specs.Prelude.{◌≡◌, ◌++◌, [], ℕ, List, IfOk};
+ghost use Rattle.droid_assembly.specs.Fronts.{IsFront, FrontKnows};
+ghost use Rattle.droid_assembly.specs.Rings.{ring_items};
+ghost use Rattle.md5.specs.Md5.{md5, Holds};
+
+use crate::ring::{Ring, append};
+use crate::windows::Windows;
+use md5::{Digest, Md5};
+use std::alloc::{AllocError, Global};
+
+/// What is kept of the bytes before the first missing piece: the first and the last of them, and a
+/// running digest of all.
+#[derive(Debug, Drop)]
+pub(crate) struct Front {
+    first: Vec<u8>,
+    last: Ring,
+    hash: Md5,
+    width: usize,
+}
+
+impl Front {
+    /// What is kept of no byte, with room for `width` bytes in each window. Only want of memory
+    /// refuses it.
+    pub(crate) fn with_room(alloc: Global, width: usize) -> Result<Front, AllocError>
+        ensures sound { IfOk result IsFront }
+        ensures width { IfOk result (λ front. front.width ≡ width) }
+        ensures knows { IfOk result (λ front. FrontKnows front []) }
+    {
+        Ok(Front {
+            first: Vec::with_capacity(alloc, width)?,
+            last: Ring::with_room(alloc, width)?,
+            hash: Md5::new(),
+            width,
+        })
+    }
+
+    /// Takes the bytes that come next.
+    pub(crate) fn take(&mut self, bytes: &[u8])
+        requires { IsFront self.old }
+        ensures sound { IsFront self.new }
+        ensures width { self.new.width ≡ self.old.width }
+        ensures knows { (before : List ℕ) → FrontKnows self.old before → FrontKnows self.new (before ++ bytes.now) }
+    {
+        let count = bytes.len().min(self.width - self.first.len());
+        append(&mut self.first, &bytes[..count]);
+        self.last.extend(bytes);
+        self.hash.update(bytes);
+    }
+
+    /// The digest of the bytes so far. What is kept no longer holds them afterwards.
+    pub(crate) fn finish(&mut self) -> [u8; 16]
+        ensures digest { (before : List ℕ) → Holds self.old.hash before → result ≡ md5 before }
+        ensures first { self.new.first ≡ self.old.first }
+        ensures last { self.new.last ≡ self.old.last }
+        ensures width { self.new.width ≡ self.old.width }
+    {
+        self.hash.finalize_reset()
+    }
+
+    /// Turns the last bytes so that they lie in order.
+    pub(crate) fn straighten(&mut self)
+        requires { IsFront self.old }
+        ensures sound { IsFront self.new }
+        ensures first { self.new.first ≡ self.old.first }
+        ensures last { ring_items self.new.last ≡ ring_items self.old.last }
+        ensures straight { self.new.last.bytes.items ≡ ring_items self.old.last }
+        ensures hash { self.new.hash ≡ self.old.hash }
+        ensures width { self.new.width ≡ self.old.width }
+    {
+        self.last.straighten();
+    }
+
+    /// The two windows, where the last bytes lie in order.
+    pub(crate) fn windows(&self) -> Windows<'_>
+        ensures first { result.first.now ≡ self.now.first.items }
+        ensures last { result.last.now ≡ self.now.last.bytes.items }
+    {
+        Windows {
+            first: self.first.as_slice(),
+            last: self.last.block(),
+        }
+    }
+}

@@ -1,0 +1,112 @@
+//! The last bytes of what came so far.
+
+ghost use Rattle.std.specs.Prelude.{◌≡◌, ◌<◌, ◌≤◌, ◌+◌, ◌++◌, [], IfOk, length, drop, take, vec_len, vec_capacity};
+ghost use Rattle.droid_assembly.specs.Pieces.{last_window};
+ghost use Rattle.droid_assembly.specs.Rings.{IsRing, ring_items};
+
+use std::alloc::{AllocError, Global};
+
+/// The last bytes of what came so far, in a block that is written round and round.
+#[derive(Debug, Drop)]
+pub(crate) struct Ring {
+    bytes: Vec<u8>,
+    // The place of the oldest byte, where the next one goes once the block is full.
+    turn: usize,
+    width: usize,
+}
+
+impl Ring {
+    /// A ring of no bytes, with room for `width` of them. Only want of memory refuses it.
+    pub(crate) fn with_room(alloc: Global, width: usize) -> Result<Ring, AllocError>
+        ensures sound { IfOk result IsRing }
+        ensures width { IfOk result (λ ring. ring.width ≡ width) }
+        ensures empty { IfOk result (λ ring. ring_items ring ≡ []) }
+    {
+        Ok(Ring {
+            bytes: Vec::with_capacity(alloc, width)?,
+            turn: 0,
+            width,
+        })
+    }
+
+    /// Appends bytes. Where they don't fit, the oldest go.
+    pub(crate) fn extend(&mut self, bytes: &[u8])
+        requires { IsRing self.old }
+        ensures sound { IsRing self.new }
+        ensures width { self.new.width ≡ self.old.width }
+        ensures items { ring_items self.new ≡ last_window self.old.width (ring_items self.old ++ bytes.now) }
+    {
+        let bytes = &bytes[bytes.len().saturating_sub(self.width)..];
+        let count = bytes.len().min(self.width - self.bytes.len());
+        append(&mut self.bytes, &bytes[..count]);
+        self.replace(&bytes[count..]);
+    }
+
+    /// Turns the block so that it begins with the oldest byte.
+    pub(crate) fn straighten(&mut self)
+        requires { IsRing self.old }
+        ensures sound { IsRing self.new }
+        ensures width { self.new.width ≡ self.old.width }
+        ensures items { ring_items self.new ≡ ring_items self.old }
+        ensures straight { self.new.bytes.items ≡ ring_items self.old }
+    {
+        self.bytes.as_mut_slice().rotate_left(self.turn);
+        self.turn = 0;
+    }
+
+    /// The block, from its beginning.
+    pub(crate) fn block(&self) -> &[u8]
+        ensures { result.now ≡ self.now.bytes.items }
+    {
+        self.bytes.as_slice()
+    }
+
+    // Puts bytes in the place of the oldest ones.
+    fn replace(&mut self, bytes: &[u8])
+        requires sound { IsRing self.old }
+        requires fits { length bytes.now ≤ vec_len self.old.bytes }
+        requires full { 0 < length bytes.now → vec_len self.old.bytes ≡ self.old.width }
+        ensures sound { IsRing self.new }
+        ensures width { self.new.width ≡ self.old.width }
+        ensures items { ring_items self.new ≡ drop (length bytes.now) (ring_items self.old) ++ bytes.now }
+    {
+        let count = bytes.len().min(self.bytes.len() - self.turn);
+        self.write(&bytes[..count]);
+        if count < bytes.len() {
+            self.turn = 0;
+            self.write(&bytes[count..]);
+        }
+    }
+
+    // Puts bytes in the place of the oldest ones, where these lie before the block's end.
+    fn write(&mut self, bytes: &[u8])
+        requires sound { IsRing self.old }
+        requires fits { self.old.turn + length bytes.now ≤ vec_len self.old.bytes }
+        requires full { 0 < length bytes.now → vec_len self.old.bytes ≡ self.old.width }
+        ensures sound { IsRing self.new }
+        ensures width { self.new.width ≡ self.old.width }
+        ensures turn { self.new.turn ≡ self.old.turn + length bytes.now }
+        ensures len { vec_len self.new.bytes ≡ vec_len self.old.bytes }
+        ensures items { ring_items self.new ≡ drop (length bytes.now) (ring_items self.old) ++ bytes.now }
+    {
+        overwrite(self.bytes.as_mut_slice(), self.turn, bytes);
+        self.turn += bytes.len();
+    }
+}
+
+/// Appends bytes for which there is room.
+pub(crate) fn append(window: &mut Vec<u8>, bytes: &[u8])
+    requires { vec_len window.old + length bytes.now ≤ vec_capacity window.old }
+    ensures items { window.new.items ≡ window.old.items ++ bytes.now }
+    ensures capacity { vec_capacity window.old ≤ vec_capacity window.new }
+{
+    window.extend_from_slice(bytes).unwrap();
+}
+
+// Puts bytes in the place of those from `at` on.
+fn overwrite(block: &mut [u8], at: usize, bytes: &[u8])
+    requires { at + length bytes.now ≤ length block.old }
+    ensures { block.new ≡ take at block.old ++ bytes.now ++ drop (at + length bytes.now) block.old }
+{
+    block[at..at + bytes.len()].copy_from_slice(bytes);
+}
