@@ -1,9 +1,12 @@
-//! Measures what a large registry costs: reading it once, and identifying a file with it.
+//! Measures what a large registry costs: reading it once, and identifying a file with it; and what a large export
+//! costs.
 //!
-//! Without a word on the command line it prints what came out; with the word `times` how long it took too.
+//! Without a word on the command line it prints what came out; with the word `times` how long it took too; with the
+//! word `text` the text of the export alone.
 #![tactic(auto)]
 
 mod bytes;
+mod export;
 mod generated;
 
 ghost use Rattle.std.specs.Prelude.{◌≤◌, length};
@@ -20,11 +23,14 @@ use std::{env, io};
 const ROUNDS: u32 = 20;
 
 fn main(rt: HostRuntime) -> Result<(), Error> {
-    let with_times = wants_times(&rt)?;
+    let with_times = wants(&rt, "times")?;
     let text = generated::registry_text(rt.alloc())?;
     let start = Instant::now(&rt)?;
     let registry = Registry::parse(rt.alloc(), text.as_str().as_bytes()).context("the registry")?;
     let read = start.elapsed(&rt)?;
+    if wants(&rt, "text")? {
+        return print_export(&rt, &registry);
+    }
     println!(rt;
         "registry: {} bytes, {} formats, {} signatures",
         text.len(),
@@ -35,13 +41,40 @@ fn main(rt: HostRuntime) -> Result<(), Error> {
         println!(rt; "  read in {} microseconds", read.as_micros())?;
     }
     measure_file(&rt, &registry, "nothing.found", None, with_times)?;
-    measure_file(&rt, &registry, "begins.e1234", Some(1234), with_times)
+    measure_file(&rt, &registry, "begins.e1234", Some(1234), with_times)?;
+    measure_export(&rt, &registry, with_times)
 }
 
-/// Whether the command line has the one word `times`.
-fn wants_times<R: Env + AllocGlobal>(rt: &R) -> io::Result<bool> {
+/// Makes the text of an export, and prints how long it is.
+fn measure_export<R: Print + Clock + AllocGlobal>(
+    rt: &R,
+    registry: &Registry,
+    with_times: bool,
+) -> Result<(), Error> {
+    let alloc = rt.alloc();
+    let records = export::records(alloc)?;
+    let start = Instant::now(rt)?;
+    let text = export::text(alloc, records.as_slice(), registry)?;
+    let took = start.elapsed(rt)?;
+    println!(rt; "export: {} records, {} bytes", records.len(), text.len())?;
+    if with_times {
+        println!(rt; "  written in {} microseconds", took.as_micros())?;
+    }
+    Ok(())
+}
+
+/// Prints the text of the export itself, for another program to write it too.
+fn print_export<R: Print + AllocGlobal>(rt: &R, registry: &Registry) -> Result<(), Error> {
+    let records = export::records(rt.alloc())?;
+    let text = export::text(rt.alloc(), records.as_slice(), registry)?;
+    rt.write_all(text.as_slice())?;
+    Ok(())
+}
+
+/// Whether the command line has this word.
+fn wants<R: Env + AllocGlobal>(rt: &R, wanted: &str) -> io::Result<bool> {
     let words: Vec<String> = env::args(rt)?.collect(rt.alloc())?;
-    Ok(words.iter().any(|word| word.as_str() == "times"))
+    Ok(words.iter().any(|word| word.as_str() == wanted))
 }
 
 /// Identifies one file some times over, and prints what was found.

@@ -163,6 +163,8 @@ fn method_name(node: &Record) -> &str
     }
 }
 
+/// The status of every record, which is of a folder or a finished file. It takes the record, since all texts of a row
+/// have one lifetime.
 fn status(_node: &Record) -> &str
     ensures { result.now ≡ codes "Done" }
 {

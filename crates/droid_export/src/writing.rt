@@ -3,7 +3,7 @@
 ghost use Rattle.std.specs.Prelude.{◌≡◌, ◌<◌, ◌^◌, IfErr, OnOk, IsErrOf, OnErr, length};
 ghost use Rattle.std.specs.Io.KnownBytes.{Appends};
 ghost use Rattle.droid_stream.specs.Seen.{IsSound, Lasts};
-ghost use Rattle.droid_stream.specs.Writes.{Stops, StopsWithin, Takes};
+ghost use Rattle.droid_stream.specs.Writes.{StopsWithin, Takes, WriterStops};
 ghost use Rattle.droid_export.specs.Exporting.{GoesOut, SaysStopped, UsesRoom};
 ghost use Rattle.droid_export.specs.Text.{HaveMoments, text};
 
@@ -35,7 +35,7 @@ pub fn export<W: SteadyWrite>(
     ensures room { UsesRoom (W.room writer.old) (W.room writer.new) (text registry.now filter.now records.now) result }
     // The writer is said to have stopped exactly where it did: it failed, was interrupted for the 65th time, or
     // had no room for the rest.
-    ensures stopped { IsSound (W.seen writer.old) → SaysStopped result → Stops (W.seen writer.old).interruptions (W.seen writer.new) (W.room writer.new) }
+    ensures stopped { IsSound (W.seen writer.old) → SaysStopped result → WriterStops (W.seen writer.old).interruptions (W.seen writer.new) (W.room writer.new) }
     ensures steady { IsSound (W.seen writer.old) → (SaysStopped result → ⊥) → Lasts (W.seen writer.old).interruptions (W.seen writer.new) }
 {
     let text = export_text(alloc, records, registry, filter)?;
@@ -50,7 +50,7 @@ fn write_text<W: SteadyWrite>(writer: &mut W, bytes: &[u8]) -> Result<(), WriteF
     ensures err { IfErr result (λ fault. StopsWithin (W.contents writer.old) (W.contents writer.new) bytes.now 0 fault.written) }
     ensures room { OnOk result (Takes (W.room writer.old) (W.room writer.new) (length bytes.now)) }
     ensures room_err { IfErr result (λ fault. Takes (W.room writer.old) (W.room writer.new) fault.written) }
-    ensures stopped { IsSound (W.seen writer.old) → OnErr result (Stops (W.seen writer.old).interruptions (W.seen writer.new) (W.room writer.new)) }
+    ensures stopped { IsSound (W.seen writer.old) → OnErr result (WriterStops (W.seen writer.old).interruptions (W.seen writer.new) (W.room writer.new)) }
     ensures steady { IsSound (W.seen writer.old) → OnOk result (Lasts (W.seen writer.old).interruptions (W.seen writer.new)) }
 {
     let mut progress = Progress::new();
