@@ -1,10 +1,10 @@
 -- What the edit of a statement makes of a table's rows: one more at the end, one written again, one taken out.
-use Rattle.std.proofs.Common.{◌≡◌, ℕ, ◌/◌, ◌<◌, ◌≤◌, pos, List, [], ◌∷◌, ◌++◌, length, map, filter, Bool, not, refl, sym, ap, subst, ◌∙◌, arith}
+use Rattle.std.proofs.Common.{◌≡◌, ℕ, ◌/◌, ◌≤◌, pos, List, [], ◌∷◌, ◌++◌, length, map, filter, Bool, not, refl, sym, ap, subst, ◌∙◌, arith}
 use Rattle.sqlite.specs.declared.types.Value.TheVariants.{Null, Int}
 use Rattle.sqlite.specs.Order.{Row}
 use Rattle.sqlite.specs.Term.{Term}
 use Rattle.sqlite.specs.Table.{Table}
-use Rattle.sqlite.specs.Tree.{Trees, put_row, without_rowid}
+use Rattle.sqlite.specs.Tree.{Trees, put_row}
 use Rattle.sqlite.specs.Cast.{cast_row}
 use Rattle.sqlite.specs.Edit.{edit_of, edited}
 use Rattle.sqlite.specs.Effect.{value_rows}

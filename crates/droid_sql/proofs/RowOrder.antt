@@ -1,5 +1,5 @@
 -- Where a row with a rowid stands among rows whose rowids rise.
-use Rattle.std.proofs.Common.{◌≡◌, inl, inr, ℕ, suc, ◌+◌, ◌<◌, ◌≤◌, ◌==◌, pos, ℤ, ◌+ℤ◌, List, [], ◌∷◌, ◌++◌, map, filter, fold, Bool, true, false, not, refl, sym, ap, subst, ◌∙◌, arith}
+use Rattle.std.proofs.Common.{◌≡◌, inl, inr, ℕ, ◌+◌, ◌<◌, ◌==◌, pos, ◌+ℤ◌, List, [], ◌∷◌, ◌++◌, map, filter, fold, Bool, true, false, not, refl, sym, ap, subst, ◌∙◌, arith}
 use Rattle.std.proofs.lemmas.Int.{ints}
 use Rattle.std.proofs.lemmas.Bool.{cases_Bool}
 use Rattle.std.proofs.lemmas.Bool.Decides.{nat_tests}
