@@ -20,6 +20,10 @@ still_accepted : (before after : Rows) (ns : List Node) → ((m : ℕ) → accep
 still_accepted before after [] more all = tt
 still_accepted before after (n ∷ ns) more all = (let room = more n.profile in let here = all.0 in omega arith, still_accepted before after ns more all.1)
 
+as_before : (before after : Rows) → after.profiles ≡ before.profiles → (m : ℕ) → accepted_in m before ≤ accepted_in m after
+as_before before after same zero = omega arith
+as_before before after same (suc m) = rw same (omega arith)
+
 abbrev rows_of : List ProfileRow → List Node → List Entry → Rows
 rows_of ps ns es = record { profiles = ps; nodes = ns; replies = es }
 
@@ -76,7 +80,7 @@ apart_with_reply e rows none apart = record {
       subst (λ c. find (is_for c number) rows.replies ≡ None) (eqb-true e.client client both.0) (subst (λ n. find (is_for e.client n) rows.replies ≡ None) (eqb-true e.number number both.1) none)) (apart.replies client number);
   children = apart.children;
   numbers = apart.numbers;
-  accepted = apart.accepted;
+  accepted = still_accepted rows (with_reply e rows) rows.nodes (as_before rows (with_reply e rows) refl) apart.accepted;
 }
 
 last_in_order : (n : Node) (ns : List Node) → AllByRecursion (λ m. m.profile ≡ n.profile → m.id < n.id) ns → AreInOrder ns → AreInOrder (ns ++ n ∷ [])
@@ -140,7 +144,7 @@ module _ (profile file : ℕ) (method : Method) (mismatch : Bool) (md5 : List �
     replies = apart.replies;
     children = λ at parent name. let few = apart.children at parent name in let same = as_many (is_child at parent name) change (same_child at parent name) rows.nodes in omega (arith, few, same);
     numbers = order_changed rows.nodes apart.numbers;
-    accepted = accepted_changed rows rows.nodes apart.accepted;
+    accepted = still_accepted rows (with_finished profile file method mismatch md5 puids rows) (map change rows.nodes) (as_before rows (with_finished profile file method mismatch md5 puids rows) refl) (accepted_changed rows rows.nodes apart.accepted);
   }
 
 -- ---- a row taken out
@@ -171,5 +175,5 @@ apart_without_node profile file rows apart = record {
   replies = apart.replies;
   children = λ at parent name. let few = apart.children at parent name in let less = fewer (is_child at parent name) (λ n. not (is_node profile file n)) rows.nodes in omega (arith, few, less);
   numbers = order_left (λ n. not (is_node profile file n)) rows.nodes apart.numbers;
-  accepted = accepted_left (λ n. not (is_node profile file n)) rows rows.nodes apart.accepted;
+  accepted = still_accepted rows (without_node profile file rows) (without_node profile file rows).nodes (as_before rows (without_node profile file rows) refl) (accepted_left (λ n. not (is_node profile file n)) rows rows.nodes apart.accepted);
 }
