@@ -1,8 +1,12 @@
 -- Lists in which at most one element passes a test, and lists that are seen through a function.
-use Rattle.std.proofs.Common.{◌≡◌, inl, inr, ℕ, suc, ◌+◌, ◌≤◌, List, [], ◌∷◌, ◌++◌, length, map, find, filter, Bool, true, false, Some, None, Option, option_map, refl, sym, ap, subst, ◌∙◌, arith, length-append}
+use Rattle.std.proofs.Common.{◌≡◌, inl, inr, ℕ, suc, ◌+◌, ◌≤◌, List, [], ◌∷◌, ◌++◌, length, map, find, filter, Bool, true, not, Some, None, option_map, refl, sym, ap, ◌∙◌, arith, length-append}
 use Rattle.std.proofs.lemmas.Bool.{cases_Bool}
 use Rattle.std.proofs.lemmas.List.Elements.{filter-append}
 use Rattle.droid_sql.specs.KeyedRows.{changed_where}
+
+pub nothing_in : {X : Type 0} (xs : List X) → length xs ≤ 0 → xs ≡ []
+nothing_in [] few = refl
+nothing_in (x ∷ xs) few = absurd (omega arith)
 
 module _ {X : Type 0} (p : X → Bool) where
   pub none_found : (xs : List X) → find p xs ≡ None → filter p xs ≡ []
@@ -17,6 +21,21 @@ module _ {X : Type 0} (p : X → Bool) where
   found_passes (y ∷ ys) x is = elim (cases_Bool (p y)) [
     | inl passes ↦ let same : y ≡ x = (let it = rw passes at is in cc) in rw (sym same) passes
     | inr fails ↦ found_passes ys x (rw fails at is)
+  ]
+
+  -- where none passes, taking out those that pass leaves all, and so does changing them
+  pub none_goes : (xs : List X) → filter p xs ≡ [] → filter (λ x. not (p x)) xs ≡ xs
+  none_goes [] none = refl
+  none_goes (x ∷ xs) none = elim (cases_Bool (p x)) [
+    | inl is ↦ absurd (let it = rw is at none in cc)
+    | inr isnt ↦ rw isnt (ap (λ ys. x ∷ ys) (none_goes xs (rw isnt at none)))
+  ]
+
+  pub none_changes : (change : X → X) (xs : List X) → filter p xs ≡ [] → map (changed_where p change) xs ≡ xs
+  none_changes change [] none = refl
+  none_changes change (x ∷ xs) none = elim (cases_Bool (p x)) [
+    | inl is ↦ absurd (let it = rw is at none in cc)
+    | inr isnt ↦ rw isnt (ap (λ ys. x ∷ ys) (none_changes change xs (rw isnt at none)))
   ]
 
   -- one element more, where none passed that passes as it does

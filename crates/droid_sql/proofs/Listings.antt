@@ -1,11 +1,11 @@
 -- What a SELECT .. ORDER BY a whole number answers: the rows that meet the tests, in the order of that number.
-use Rattle.std.proofs.Common.{◌≡◌, ℕ, ◌+◌, ◌<◌, ◌≤◌, pos, List, [], ◌∷◌, length, map, filter, Bool, false, Some, None, Ok, Result, IsTrue, refl, sym, ap, subst, ◌∙◌, arith}
+use Rattle.std.proofs.Common.{◌≡◌, ℕ, ◌+◌, ◌<◌, pos, List, [], ◌∷◌, map, filter, Bool, false, refl, sym, ap, subst, ◌∙◌, arith}
 use Rattle.std.proofs.lemmas.Int.{ints}
 use Rattle.std.proofs.lemmas.Bool.Decides.{nat_tests}
 use Rattle.std.proofs.lemmas.List.{length-map}
 use Rattle.std.proofs.Math.ListN.{get_or-map}
 use Rattle.std.specs.List.{list_all, slice_index_or}
-use Rattle.std.specs.List.Sorted.{IsPermutation, IsSorted, IsSortedByKey}
+use Rattle.std.specs.List.Sorted.{IsSorted, IsSortedByKey}
 use Rattle.std.specs.Ordering.{is_lt, int_cmp, nat_cmp}
 use Rattle.sqlite.specs.declared.types.Value.TheVariants.{Int}
 use Rattle.sqlite.specs.Order.{Row, value_cmp}
@@ -63,6 +63,7 @@ module _ {X : Type 0} (enc : X → Row) (test : X → Bool) (shown : X → Row) 
 pub reads_rows : (sql : List ℕ) (params : Row) (old new : State) (P : Database → Type 0) (schema : Schema) (q : Query) (names : List (List ℕ)) (wanted : List Row) → Settled old P → old.now.schema ≡ schema
     → command_of (understood schema sql) ≡ Select (record { lets = []; body = q }) names → IsPlain (understood schema sql) → reads_listing schema sql ≡ false
     → ((out : List Row) → IsSureAnswer q (overlay old.now.trees []) params out → out ≡ wanted) → (rows : List Row) → Shown sql params old new rows → Settled new P × (rows ≡ wanted)
-reads_rows sql params old new P schema q names wanted has schema_is command plain unlisted answer rows shown =
-    (settled_unchanged old new P has (shown_unchanged sql params old new rows (subst (λ s. IsPlain (understood s sql)) (sym schema_is) plain) shown),
-    answer rows (reads_as sql params old new schema schema_is _ command plain unlisted rows shown).answer)
+reads_rows sql params old new P schema q names wanted has schema_is command plain unlisted answer rows shown = (
+  settled_unchanged old new P has (shown_unchanged sql params old new rows (subst (λ s. IsPlain (understood s sql)) (sym schema_is) plain) shown),
+  answer rows (reads_as sql params old new schema schema_is _ command plain unlisted rows shown).answer,
+)

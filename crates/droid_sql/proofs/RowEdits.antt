@@ -1,10 +1,10 @@
 -- What the edit of a statement makes of a table's rows: one more at the end, one written again, one taken out.
-use Rattle.std.proofs.Common.{◌≡◌, ℕ, ◌/◌, ◌<◌, ◌≤◌, pos, List, [], ◌∷◌, ◌++◌, length, map, filter, Bool, not, refl, sym, ap, subst, ◌∙◌, arith}
+use Rattle.std.proofs.Common.{◌≡◌, ℕ, ◌/◌, ◌≤◌, pos, List, [], ◌∷◌, ◌++◌, length, map, filter, Bool, not, refl, sym, ap, subst, ◌∙◌, arith}
 use Rattle.sqlite.specs.declared.types.Value.TheVariants.{Null, Int}
 use Rattle.sqlite.specs.Order.{Row}
 use Rattle.sqlite.specs.Term.{Term}
 use Rattle.sqlite.specs.Table.{Table}
-use Rattle.sqlite.specs.Tree.{Trees, put_row, without_rowid}
+use Rattle.sqlite.specs.Tree.{Trees, put_row}
 use Rattle.sqlite.specs.Cast.{cast_row}
 use Rattle.sqlite.specs.Edit.{edit_of, edited}
 use Rattle.sqlite.specs.Effect.{value_rows}
@@ -12,8 +12,9 @@ use Rattle.sqlite.specs.Rowids.TheVariants.{Chosen, Given}
 use Rattle.sqlite_rules.specs.Calls.{ids_of}
 use Rattle.sqlite_rules.specs.Edit.{with_rowid}
 use Rattle.droid_sql.specs.KeyedRows.{AreRising, AreBelow, next_key, changed_where}
+use Rattle.droid_sql.proofs.AtMostOne.{none_goes, none_changes}
 use Rattle.droid_sql.proofs.Inserts.{insert_edit}
-use Rattle.droid_sql.proofs.RowOrder.{put_last, next_is, below_next, one_goes, none_goes, one_changes, none_changes}
+use Rattle.droid_sql.proofs.RowOrder.{put_last, next_is, below_next, one_goes, one_changes}
 
 module _ {X : Type 0} (key : X → ℕ) (tail : X → Row) (db : Trees) (table : Table) (xs : List X) where
   abbrev enc : X → Row
@@ -42,7 +43,7 @@ module _ {X : Type 0} (key : X → ℕ) (tail : X → Row) (db : Trees) (table :
       -- a DELETE of the row that the test finds, if there is one
       gone : (found : List X) → filter test xs ≡ found → length found ≤ 1 → (rows : List Row) → rows ≡ map (λ x. Int (pos (key x)) ∷ []) found
           → edited db (edit_of db table (ids_of rows) Given 0 []) ≡ map enc (filter (λ x. not (test x)) xs)
-      gone [] is few-1 rows rows_are = rw rows_are (has ∙ sym (ap (map enc) (none_goes key tail test xs is)))
+      gone [] is few-1 rows rows_are = rw rows_are (has ∙ sym (ap (map enc) (none_goes test xs is)))
       gone (x ∷ []) is few-1 rows rows_are = rw (rows_are, has) (one_goes key tail test x xs rise is)
       gone (x ∷ y ∷ more) is few-1 rows rows_are = absurd (omega arith)
 
@@ -54,7 +55,7 @@ module _ {X : Type 0} (key : X → ℕ) (tail : X → Row) (db : Trees) (table :
       module _ (change : X → X) (keeps : (x : X) → key (change x) ≡ key x) (stored : (x : X) → cast_row table (enc x) ≡ enc x) where
         again : (found : List X) → filter test xs ≡ found → length found ≤ 1 → (rows : List Row) → rows ≡ map (λ x. Int (pos (key x)) ∷ enc (change x)) found
             → edited db (edit_of db table (ids_of rows) Given 1 rows) ≡ map enc (map (changed_where test change) xs)
-        again [] is few-1 rows rows_are = rw rows_are (has ∙ sym (ap (map enc) (none_changes key tail test change keeps xs is)))
+        again [] is few-1 rows rows_are = rw rows_are (has ∙ sym (ap (map enc) (none_changes test change xs is)))
         again (x ∷ []) is few-1 rows rows_are = rw (rows_are, stored (change x), has) (one_changes key tail test change keeps x xs rise is)
         again (x ∷ y ∷ more) is few-1 rows rows_are = absurd (omega arith)
 

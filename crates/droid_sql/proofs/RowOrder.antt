@@ -1,5 +1,5 @@
 -- Where a row with a rowid stands among rows whose rowids rise.
-use Rattle.std.proofs.Common.{◌≡◌, inl, inr, ℕ, suc, ◌+◌, ◌<◌, ◌≤◌, ◌==◌, pos, ℤ, ◌+ℤ◌, List, [], ◌∷◌, ◌++◌, map, filter, fold, Bool, true, false, not, refl, sym, ap, subst, ◌∙◌, arith}
+use Rattle.std.proofs.Common.{◌≡◌, inl, inr, ℕ, ◌+◌, ◌<◌, ◌==◌, pos, ◌+ℤ◌, List, [], ◌∷◌, ◌++◌, map, filter, fold, Bool, true, false, not, refl, sym, ap, subst, ◌∙◌, arith}
 use Rattle.std.proofs.lemmas.Int.{ints}
 use Rattle.std.proofs.lemmas.Bool.{cases_Bool}
 use Rattle.std.proofs.lemmas.Bool.Decides.{nat_tests}
@@ -12,6 +12,7 @@ use Rattle.sqlite.specs.Tree.{put_row, has_rowid, without_rowid, rowid}
 use Rattle.sqlite_rules.specs.Edit.{next_rowid, id_in}
 use Rattle.sqlite_value.proofs.OrderLemmas.{value_cmp-Int}
 use Rattle.droid_sql.specs.KeyedRows.{AreRising, AreBelow, next_key, changed_where}
+use Rattle.droid_sql.proofs.AtMostOne.{none_goes, none_changes}
 
 pub lower : (m n : ℕ) → m < n → value_cmp (Int (pos m)) (Int (pos n)) ≡ Less
 lower m n h = value_cmp-Int (pos m) (pos n) ∙ grind (arith, ints, nat_tests)
@@ -73,13 +74,6 @@ module _ {X : Type 0} (key : X → ℕ) (tail : X → Row) where
     above_has_none n [] above = refl
     above_has_none n (x ∷ xs) above = rw (has_id (key x) n (tail x), above_differs (key x) n above.0) (ap (λ rs. enc x ∷ rs) (above_has_none n xs above.1))
 
-    pub none_goes : (xs : List X) → filter test xs ≡ [] → filter (λ x. not (test x)) xs ≡ xs
-    none_goes [] none = refl
-    none_goes (x ∷ xs) none = elim (cases_Bool (test x)) [
-      | inl is ↦ absurd (let it = rw is at none in cc)
-      | inr isnt ↦ rw isnt (ap (λ ys. x ∷ ys) (none_goes xs (rw isnt at none)))
-    ]
-
     low_key : (low : ℕ) (x : X) (xs : List X) → AllByRecursion (λ y. low < key y) xs → filter test xs ≡ x ∷ [] → low < key x
     low_key low x [] above one = absurd cc
     low_key low x (y ∷ ys) above one = elim (cases_Bool (test y)) [
@@ -95,20 +89,13 @@ module _ {X : Type 0} (key : X → ℕ) (tail : X → Row) where
           let same : y ≡ x = cc in
           let none : filter test ys ≡ [] = cc in
           subst (λ z. without_rowid (pos (key z)) (map enc (y ∷ ys)) ≡ map enc (filter (λ w. not (test w)) (y ∷ ys))) same
-          (rw (has_id (key y) (key y) (tail y), same_is (key y), is, none_goes ys none) (above_has_none (key y) ys rise.0))
+          (rw (has_id (key y) (key y) (tail y), same_is (key y), is, none_goes test ys none) (above_has_none (key y) ys rise.0))
       | inr isnt ↦
           let rest = rw isnt at one in
           rw (has_id (key y) (key x) (tail y), below_differs (key y) (key x) (low_key (key y) x ys rise.0 rest), isnt) (ap (λ rs. enc y ∷ rs) (one_goes x ys rise.1 rest))
     ]
 
     module _ (change : X → X) (keeps : (x : X) → key (change x) ≡ key x) where
-      pub none_changes : (xs : List X) → filter test xs ≡ [] → map (changed_where test change) xs ≡ xs
-      none_changes [] none = refl
-      none_changes (x ∷ xs) none = elim (cases_Bool (test x)) [
-        | inl is ↦ absurd (let it = rw is at none in cc)
-        | inr isnt ↦ rw isnt (ap (λ ys. x ∷ ys) (none_changes xs (rw isnt at none)))
-      ]
-
       pub one_changes : (x : X) (xs : List X) → AreRising key xs → filter test xs ≡ x ∷ []
           → put_row (enc (change x)) (without_rowid (pos (key x)) (map enc xs)) ≡ map enc (map (changed_where test change) xs)
       one_changes x [] rise one = absurd cc
@@ -118,7 +105,7 @@ module _ {X : Type 0} (key : X → ℕ) (tail : X → Row) where
             let same : y ≡ x = cc in
             let none : filter test ys ≡ [] = cc in
             subst (λ z. put_row (enc (change z)) (without_rowid (pos (key z)) (map enc (y ∷ ys))) ≡ map enc (map (changed_where test change) (y ∷ ys))) same
-            (rw (has_id (key y) (key y) (tail y), same_is (key y), is, none_changes ys none, above_has_none (key y) ys rise.0) (put_first (change y) ys (subst (λ n. AllByRecursion (λ z. n < key z) ys) (sym (keeps y)) rise.0)))
+            (rw (has_id (key y) (key y) (tail y), same_is (key y), is, none_changes test change ys none, above_has_none (key y) ys rise.0) (put_first (change y) ys (subst (λ n. AllByRecursion (λ z. n < key z) ys) (sym (keeps y)) rise.0)))
         | inr isnt ↦
             let rest = rw isnt at one in
             let less = low_key (key y) x ys rise.0 rest in

@@ -1,5 +1,5 @@
 -- A SELECT of a table whose rows are seen without their rowids.
-use Rattle.std.proofs.Common.{◌≡◌, inl, inr, ℕ, ◌<◌, ◌≤◌, pos, List, [], ◌∷◌, length, map, find, filter, Bool, Some, None, Option, option_map, refl, sym, ap, subst, ◌∙◌}
+use Rattle.std.proofs.Common.{◌≡◌, ℕ, ◌<◌, ◌≤◌, pos, List, [], ◌∷◌, length, map, find, filter, Bool, Some, None, Option, option_map, refl, sym, ap, subst, ◌∙◌}
 use Rattle.std.proofs.lemmas.List.{length-map}
 use Rattle.std.specs.List.{list_all, AllByRecursion}
 use Rattle.std.specs.Option.{option_to_list}
@@ -9,12 +9,11 @@ use Rattle.sqlite.specs.Term.{Term, holds, eval, eval_all}
 use Rattle.sqlite.specs.Query.{IsSureAnswer}
 use Rattle.sqlite.specs.Program.{overlay}
 use Rattle.sqlite.specs.Tree.{Trees}
-use Rattle.sqlite_value.specs.declared.keys.Key.{Key}
 use Rattle.droid_sql.specs.KeyedRows.{AreRising}
 use Rattle.droid_sql.specs.Queries.{select, rising_by}
 use Rattle.droid_sql.proofs.AtMostOne.{filter_seen, find_seen}
 use Rattle.droid_sql.proofs.Listings.{lists}
-use Rattle.droid_sql.proofs.Selects.{selects, selects_first}
+use Rattle.droid_sql.proofs.Selects.{selects_first}
 
 pub none_shown : {R : Type 0} (shown : R → Row) (o : Option R) → option_map shown o ≡ None → o ≡ None
 none_shown shown None is = refl

@@ -1,5 +1,5 @@
 -- What a SELECT of one table answers: of each row that meets the tests its columns, in some order.
-use Rattle.std.proofs.Common.{◌≡◌, inl, inr, ℕ, ◌≤◌, ◌^◌, List, [], ◌∷◌, length, map, find, filter, nat_le, Bool, true, false, Some, None, Option, option_map, refl, ap, subst, ◌∙◌, arith}
+use Rattle.std.proofs.Common.{◌≡◌, inl, inr, ℕ, ◌≤◌, ◌^◌, List, [], ◌∷◌, length, map, find, filter, nat_le, Bool, Some, None, Option, option_map, refl, ap, subst, ◌∙◌, arith}
 use Rattle.std.proofs.lemmas.Bool.{cases_Bool}
 use Rattle.std.proofs.lemmas.List.{length-map}
 use Rattle.std.proofs.lemmas.List.Sorted.{length_permutation}
@@ -16,6 +16,7 @@ use Rattle.sqlite.specs.Tree.{Trees}
 use Rattle.sqlite.proofs.Callers.{one_permutation}
 use Rattle.sqlite_value.specs.declared.keys.Key.{Key}
 use Rattle.droid_sql.specs.Queries.{select}
+use Rattle.droid_sql.proofs.AtMostOne.{nothing_in}
 
 -- ---- lists
 
@@ -24,10 +25,6 @@ few_permutation [] [] few h = refl
 few_permutation [] (y ∷ ys) few h = absurd (omega (arith, length_permutation [] (y ∷ ys) h))
 few_permutation (x ∷ []) ys few h = one_permutation x ys h
 few_permutation (x ∷ z ∷ xs) ys few h = absurd (omega (arith))
-
-nothing_in : {X : Type 0} (xs : List X) → length xs ≤ 0 → xs ≡ []
-nothing_in [] few = refl
-nothing_in (x ∷ xs) few = absurd (omega arith)
 
 -- where at most one passes, the first that passes is all that pass
 pub filter_few : {X : Type 0} (p : X → Bool) (xs : List X) → length (filter p xs) ≤ 1 → filter p xs ≡ option_to_list (find p xs)

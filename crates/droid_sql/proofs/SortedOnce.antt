@@ -1,5 +1,5 @@
 -- A list that is in order by a key, and has the elements of a list whose keys rise, is that list.
-use Rattle.std.proofs.Common.{◌≡◌, ◌⊎◌, inl, inr, ℕ, zero, suc, ◌+◌, ◌<◌, ◌≤◌, List, [], ◌∷◌, length, map, Bool, true, false, refl, sym, ap, subst, ◌∙◌, arith, if◌then◌else◌, nat_lt, sum_by}
+use Rattle.std.proofs.Common.{◌≡◌, inl, inr, ℕ, zero, suc, ◌+◌, ◌<◌, ◌≤◌, List, [], ◌∷◌, length, map, true, false, refl, sym, ap, subst, ◌∙◌, arith, if◌then◌else◌, nat_lt, sum_by}
 use Rattle.std.proofs.lemmas.Bool.{cases_Bool}
 use Rattle.std.proofs.lemmas.Bool.Decides.{nat_tests}
 use Rattle.std.proofs.lemmas.List.{map-set, length-map}
@@ -69,12 +69,12 @@ module _ {X : Type 0} (key : X → ℕ) where
   same_key : (x y : X) (xs ys : List X) → AllByRecursion (λ z. key x < key z) xs → AllByRecursion (λ z. key y ≤ key z) ys → ((t : ℕ) → below t (y ∷ ys) ≡ below t (x ∷ xs)) → key y ≡ key x
   same_key x y xs ys rise sorted same = elim (cases_Bool (nat_lt (key y) (key x))) [
     | inl is ↦
-      let low : key y < key x = grind (arith, nat_tests) in
-      absurd (omega (arith, parts (key x) y ys, parts (key x) x xs, same (key x), is_low (key x) y low, is_high (key x) x (omega arith), none_below (key x) xs (weaker (key x) (suc (key x)) xs (omega arith) (at_least (key x) xs rise))))
+        let low : key y < key x = grind (arith, nat_tests) in
+        absurd (omega (arith, parts (key x) y ys, parts (key x) x xs, same (key x), is_low (key x) y low, is_high (key x) x (omega arith), none_below (key x) xs (weaker (key x) (suc (key x)) xs (omega arith) (at_least (key x) xs rise))))
     | inr isnt ↦ elim (cases_Bool (nat_lt (key x) (key y))) [
       | inl more ↦
-        let high : key x < key y = grind (arith, nat_tests) in
-        absurd (omega (arith, parts (key y) y ys, parts (key y) x xs, same (key y), is_low (key y) x high, is_high (key y) y (omega arith), none_below (key y) ys sorted))
+          let high : key x < key y = grind (arith, nat_tests) in
+          absurd (omega (arith, parts (key y) y ys, parts (key y) x xs, same (key y), is_low (key y) x high, is_high (key y) y (omega arith), none_below (key y) ys sorted))
       | inr nor ↦ grind (arith, nat_tests)
     ]
   ]

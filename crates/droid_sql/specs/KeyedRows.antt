@@ -1,8 +1,6 @@
 -- Rows of a table by their rowids, which are whole numbers here.
-use Rattle.std.specs.Prelude.{ℕ, suc, ◌+◌, ◌<◌, pos, Bool, if◌then◌else◌, List, [], ◌∷◌, fold}
+use Rattle.std.specs.Prelude.{ℕ, suc, ◌+◌, ◌<◌, Bool, if◌then◌else◌, List, [], ◌∷◌, fold}
 use Rattle.std.specs.List.{AllByRecursion}
-use Rattle.sqlite.specs.declared.types.Value.TheVariants.{Int}
-use Rattle.sqlite.specs.Order.{Row}
 use Rattle.sqlite.specs.Tree.{IsAscending}
 
 -- the rows with their numbers, from this one on

@@ -66,10 +66,9 @@ without_node profile file rows = record rows { nodes = filter (λ n. not (is_nod
 
 -- ---- what the layer above sees to
 
--- the number is the next one of the profile, and above those of its nodes
-pub record IsNext (profile id : ℕ) (rows : Rows) : Type 0 where
-  pub counted : option_map (λ p. p.nodes + 1) (profile_at profile rows) ≡ Some id
-  pub above : AllByRecursion (λ n. n.profile ≡ profile → n.id < id) rows.nodes
+-- the number is the next one of the profile
+abbrev pub IsNext : ℕ → ℕ → Rows → Type 0
+IsNext profile id rows = option_map (λ p. p.nodes + 1) (profile_at profile rows) ≡ Some id
 
 -- the node is a file whose pieces still come
 abbrev pub IsOpen : ℕ → ℕ → Rows → Type 0

@@ -1,5 +1,5 @@
 -- How the tables hold the rows.
-use Rattle.std.specs.Prelude.{◌≡◌, ◌≤◌, ◌<◌, ℕ, List, [], ◌∷◌, map, filter, length, Result, OnOk, OnErr}
+use Rattle.std.specs.Prelude.{◌≡◌, ◌≤◌, ◌<◌, ℕ, List, [], ◌∷◌, map, filter, length, Result, OnOk, OnErr, option_map, unwrap_or}
 use Rattle.sqlite.specs.declared.error.Error.{Error}
 use Rattle.std.specs.List.{AllByRecursion}
 use Rattle.sqlite.specs.Effect.{Database}
@@ -12,7 +12,7 @@ use Rattle.droid_store.specs.Changes.{IsWord}
 use Rattle.droid_sql.specs.KeyedRows.{numbered_from, AreRising}
 use Rattle.droid_sql.specs.Transactions.{Within}
 use Rattle.droid_store.specs.Encoded.{profile_row, node_row, reply_row, rows_in}
-use Rattle.droid_store.specs.Rows.{Node, Rows, is_child, is_for}
+use Rattle.droid_store.specs.Rows.{Node, Rows, is_child, is_for, profile_at}
 use Rattle.droid_store.specs.Tables.{store_schema}
 
 -- the trees have the rows and nothing else; the rows of nodes have numbers of the database's own choice
@@ -31,11 +31,16 @@ abbrev pub AreInOrder : List Node → Type 0
 AreInOrder [] = Unit {0}
 AreInOrder (n ∷ ns) = AllByRecursion (λ m. m.profile ≡ n.profile → n.id < m.id) ns × AreInOrder ns
 
--- no two rows under one key
+-- how many nodes the profile with this number has accepted, and 0 where there is no such profile
+abbrev pub accepted_in : ℕ → Rows → ℕ
+accepted_in profile rows = unwrap_or (option_map (λ p. p.nodes) (profile_at profile rows)) 0
+
+-- no two rows under one key, and no node above what its profile counts
 pub record AreApart (rows : Rows) : Type 0 where
   pub replies : (client number : ℕ) → length (filter (is_for client number) rows.replies) ≤ 1
   pub children : (profile parent : ℕ) (name : List ℕ) → length (filter (is_child profile parent name) rows.nodes) ≤ 1
   pub numbers : AreInOrder rows.nodes
+  pub accepted : AllByRecursion (λ (n : Node). n.id ≤ accepted_in n.profile rows) rows.nodes
 
 abbrev pub kept : Held MemStore → Rows
 kept c = rows_in (state over_memory c).now
