@@ -2,7 +2,7 @@
 
 ghost use Rattle.std.specs.Prelude.{◌≡◌, IfOk, None};
 
-use crate::files::{SUITE, expect_file, take};
+use crate::files::{SUITE, Views, expect_file, put, seal, settle, take, take_back, views_of};
 use droid_assembly::{Assembly, Sealed};
 use droid_frame::Blob;
 use std::alloc::{AllocError, Global};
@@ -31,17 +31,21 @@ fn call_each(
     requires { assembly.old.pending ≡ None }
 {
     take(assembly, 1, last)?;
-    assembly.put(0, first)?;
+    put(assembly, 0, first)?;
     assert_eq!(rt; assembly.pending(), Some(0));
-    assembly.take_back();
-    assert_eq!(rt; assembly.seal().is_err(), true);
-    assert!(rt; assembly.put(0, again).is_ok());
-    let spent = assembly.settle();
-    assert_eq!(rt; spent.len(), 0);
-    assert!(rt; spent.get(0).is_none());
-    assert_eq!(rt; assembly.held(), 2);
-    assert_eq!(rt; assembly.missing(), 2);
-    assert_eq!(rt; assembly.kept_bytes(), 3);
+    take_back(assembly);
+    assert!(rt; seal(assembly).is_err());
+    put(assembly, 0, again)?;
+    let spent = settle(assembly);
+    assert_eq!(rt; spent.len(), 2);
+    assert!(rt; spent.get(0).is_some());
+    assert!(rt; spent.get(2).is_none());
+    let told = Views {
+        held: 2,
+        missing: 2,
+        kept_bytes: 4,
+    };
+    assert_eq!(rt; views_of(assembly), told);
     let sealed = Sealed {
         size: 3,
         md5: SUITE[2].1,
@@ -67,7 +71,7 @@ fn growths_without_calls(rt: HostRuntime) -> Result<(), Fail> {
     let alloc = rt.alloc();
     let assembly = empty_assembly(alloc)?;
     let (first, again, last) = (blob(alloc, b"ab")?, blob(alloc, b"ab")?, blob(alloc, b"c")?);
-    assert_eq!(rt; assembly.held(), 0);
+    assert_eq!(rt; views_of(&assembly).held, 0);
     assert_eq!(rt; first.len(), 2);
     assert_eq!(rt; again.len(), 2);
     assert_eq!(rt; last.len(), 1);
@@ -78,7 +82,7 @@ fn growths_without_calls(rt: HostRuntime) -> Result<(), Fail> {
 fn files_of_many_pieces(rt: HostRuntime) -> Result<(), Fail> {
     for (size, piece_size) in [(1 << 20, 1), (1 << 40, 1 << 20), ((1 << 40) - 1, 1 << 20)] {
         let assembly = Assembly::new(rt.alloc(), size, piece_size, 65_536)?;
-        assert_eq!(rt; assembly.missing(), 0);
+        assert_eq!(rt; views_of(&assembly).missing, 0);
     }
     Ok(())
 }

@@ -1,0 +1,195 @@
+//! Files in orders by chance, beside a plain program that keeps every piece: each answer of each call.
+
+ghost use Rattle.std.specs.Prelude.{◌≡◌, OnOk, None};
+
+use crate::chance::Chance;
+use crate::files::{expect_file, put, seal, settle, take_back, views_of};
+use crate::plain::{Plain, Put, md5_of};
+use droid_assembly::{Assembly, Incomplete, PutFault, Sealed, Spent};
+use droid_frame::Blob;
+use std::alloc::Global;
+use std::process::Abort;
+use std::test::Fail;
+
+/// How many files are put together.
+const FILES: usize = 2000;
+
+/// How a refusal of the assembly is told by the plain program.
+fn told(fault: &PutFault) -> Put {
+    match fault {
+        PutFault::BadPiece { .. } => Put::BadPiece,
+        PutFault::PieceHeld { .. } => Put::PieceHeld,
+        PutFault::TooFarAhead { missing, .. } => Put::TooFarAhead(*missing as usize),
+    }
+}
+
+// What both answer to calls that change nothing.
+fn same_views(rt: &impl Abort, assembly: &Assembly, plain: &Plain) {
+    let told = views_of(assembly);
+    assert_eq!(rt; told.held as usize, plain.held());
+    assert_eq!(rt; told.missing as usize, plain.missing());
+    assert_eq!(rt; told.kept_bytes, plain.kept_bytes() as u64);
+}
+
+// What was handed back, piece by piece.
+fn same_spent(rt: &impl Abort, spent: &Spent, plain: &Plain, from: usize, end: usize) {
+    assert_eq!(rt; spent.len(), end.saturating_sub(from));
+    for place in 0..spent.len() {
+        let piece = plain.piece(from.saturating_add(place));
+        assert!(rt; spent.get(place).is_some_and(|bytes| bytes.as_slice() == piece));
+    }
+}
+
+// Puts this piece into both, and settles it or takes it back.
+fn turn(
+    rt: &impl Abort,
+    alloc: Global,
+    assembly: &mut Assembly,
+    plain: &mut Plain,
+    index: u32,
+    bytes: &[u8],
+    is_settled: bool,
+) -> Result<(), Fail>
+    requires { assembly.old.pending ≡ None }
+    ensures { OnOk result (assembly.new.pending ≡ None) }
+{
+    let wanted = plain.put(alloc, index as usize, bytes)?;
+    match put(assembly, index, Blob::copy_of(alloc, bytes)?) {
+        Err(fault) => {
+            assert_eq!(rt; told(&fault), wanted);
+            same_views(rt, assembly, plain);
+            return Ok(());
+        }
+        Ok(()) => assert_eq!(rt; wanted, Put::Taken),
+    }
+    assert_eq!(rt; assembly.pending(), Some(index));
+    same_views(rt, assembly, plain);
+    if is_settled {
+        let (from, end) = plain.settle();
+        let spent = settle(assembly);
+        same_spent(rt, &spent, plain, from, end);
+    } else {
+        plain.take_back();
+        take_back(assembly);
+    }
+    same_views(rt, assembly, plain);
+    Ok(())
+}
+
+// What both are sealed to, and the windows of a whole file.
+fn same_end(
+    rt: &impl Abort,
+    alloc: Global,
+    assembly: &mut Assembly,
+    plain: &Plain,
+    count: usize,
+    limit: usize,
+) -> Result<(), Fail>
+    requires { assembly.old.pending ≡ None }
+    ensures { OnOk result (assembly.new.pending ≡ None) }
+{
+    let missing = plain.missing();
+    if missing < count {
+        let fault = seal(assembly);
+        assert_eq!(rt; fault, Err(Incomplete { missing: missing.min(1 << 20) as u32 }));
+        return Ok(());
+    }
+    let bytes = plain.joined(alloc)?;
+    let sealed = Sealed {
+        size: bytes.len() as u64,
+        md5: md5_of(&bytes),
+    };
+    let width = bytes.len().min(limit);
+    let start = bytes.len() - width;
+    expect_file(rt, assembly, sealed, &bytes[..width], &bytes[start..]);
+    Ok(())
+}
+
+// A file of this size, its pieces by chance until it is whole.
+fn same_file(
+    rt: &impl Abort,
+    alloc: Global,
+    chance: &mut Chance,
+    size: usize,
+    piece_size: usize,
+    limit: usize,
+) -> Result<(), Fail> {
+    assert!(rt; size <= 480 && 1 <= piece_size && piece_size <= 8 && 1 <= limit && limit <= 500);
+    let count = size.div_ceil(piece_size);
+    assert!(rt; count <= 60);
+    let mut assembly = Assembly::new(alloc, size as u64, piece_size as u32, limit as u32)?;
+    let mut plain = Plain::new(alloc, size, piece_size, limit, count)?;
+    same_end(rt, alloc, &mut assembly, &plain, count, limit)?;
+    for round in 0..count.saturating_mul(3).saturating_add(4) {
+        let index = chosen(chance, &plain, count);
+        let mut len = plain.due(index);
+        if chance.below(12) == 0 {
+            len = chance.below(10);
+        }
+        let bytes = piece_bytes(chance);
+        turn(rt, alloc, &mut assembly, &mut plain, index as u32, &bytes[..len.min(16)], chance.below(8) != 0)?;
+        if round % 4 == 0 {
+            same_end(rt, alloc, &mut assembly, &plain, count, limit)?;
+        }
+    }
+    for index in 0..count {
+        let len = plain.due(index).min(16);
+        let bytes = piece_bytes(chance);
+        turn(rt, alloc, &mut assembly, &mut plain, index as u32, &bytes[..len], true)?;
+    }
+    same_end(rt, alloc, &mut assembly, &plain, count, limit)?;
+    same_end(rt, alloc, &mut assembly, &plain, count, limit)
+}
+
+// The index of the next piece: mostly near the missing one, sometimes anywhere or past the end.
+fn chosen(chance: &mut Chance, plain: &Plain, count: usize) -> usize {
+    let near = plain.missing().saturating_add(chance.below(18));
+    let index = if chance.below(4) == 0 {
+        chance.below(count.saturating_add(2))
+    } else {
+        near.min(count)
+    };
+    index.min(100)
+}
+
+// Bytes of a piece.
+fn piece_bytes(chance: &mut Chance) -> [u8; 16] {
+    let mut bytes = [0; 16];
+    for byte in bytes.iter_mut() {
+        *byte = (chance.below(256) % 256) as u8;
+    }
+    bytes
+}
+
+// A scan limit at or beside an edge of a file of this size.
+fn limit_for(chance: &mut Chance, size: usize) -> usize {
+    let limit = match chance.below(7) {
+        0 => size.saturating_add(1),
+        1 => size,
+        2 => size.saturating_sub(1),
+        3 => size / 2,
+        4 => (size / 2).saturating_add(1),
+        5 => 1,
+        _ => chance.below(size.saturating_add(3)),
+    };
+    limit.clamp(1, 500)
+}
+
+#[test]
+fn as_a_plain_program(rt: HostRuntime) -> Result<(), Fail> {
+    let mut chance = Chance::new(20_260_722);
+    for _ in 0..FILES {
+        let piece_size = chance.below(8).saturating_add(1).min(8);
+        let count = chance.below(61);
+        let whole = count.saturating_mul(piece_size);
+        let less = match chance.below(3) {
+            0 => 0,
+            1 => piece_size.saturating_sub(1),
+            _ => chance.below(piece_size),
+        };
+        let size = whole.saturating_sub(less).min(480);
+        let limit = limit_for(&mut chance, size);
+        same_file(&rt, rt.alloc(), &mut chance, size, piece_size, limit)?;
+    }
+    Ok(())
+}
