@@ -36,7 +36,11 @@ fn same_spent(rt: &impl Abort, spent: &Spent, plain: &Plain, from: usize, end: u
     assert_eq!(rt; spent.len(), end.saturating_sub(from));
     for place in 0..spent.len() {
         let piece = plain.piece(from.saturating_add(place));
-        assert!(rt; spent.get(place).is_some_and(|bytes| bytes.as_slice() == piece));
+        assert!(rt;
+            spent
+                .get(place)
+                .is_some_and(|bytes| bytes.as_slice() == piece)
+        );
     }
 }
 
@@ -91,7 +95,12 @@ fn same_end(
     let missing = plain.missing();
     if missing < count {
         let fault = seal(assembly);
-        assert_eq!(rt; fault, Err(Incomplete { missing: missing.min(1 << 20) as u32 }));
+        assert_eq!(rt;
+            fault,
+            Err(Incomplete {
+                missing: missing.min(1 << 20) as u32
+            })
+        );
         return Ok(());
     }
     let bytes = plain.joined(alloc)?;
@@ -127,7 +136,15 @@ fn same_file(
             len = chance.below(10);
         }
         let bytes = piece_bytes(chance);
-        turn(rt, alloc, &mut assembly, &mut plain, index as u32, &bytes[..len.min(16)], chance.below(8) != 0)?;
+        turn(
+            rt,
+            alloc,
+            &mut assembly,
+            &mut plain,
+            index as u32,
+            &bytes[..len.min(16)],
+            chance.below(8) != 0,
+        )?;
         if round % 4 == 0 {
             same_end(rt, alloc, &mut assembly, &plain, count, limit)?;
         }
@@ -135,7 +152,15 @@ fn same_file(
     for index in 0..count {
         let len = plain.due(index).min(16);
         let bytes = piece_bytes(chance);
-        turn(rt, alloc, &mut assembly, &mut plain, index as u32, &bytes[..len], true)?;
+        turn(
+            rt,
+            alloc,
+            &mut assembly,
+            &mut plain,
+            index as u32,
+            &bytes[..len],
+            true,
+        )?;
     }
     same_end(rt, alloc, &mut assembly, &plain, count, limit)?;
     same_end(rt, alloc, &mut assembly, &plain, count, limit)

@@ -2,7 +2,9 @@
 
 ghost use Rattle.std.specs.Prelude.{◌≡◌, OnOk, None};
 
-use crate::files::{Order, SUITE, assembled, expect_file, put, seal, settle, take, take_back, views_of};
+use crate::files::{
+    Order, SUITE, assembled, expect_file, put, seal, settle, take, take_back, views_of,
+};
 use droid_assembly::{Assembly, Incomplete, PutFault, Sealed};
 use droid_frame::Blob;
 use std::process::Abort;
@@ -113,7 +115,11 @@ fn step(
     assert_eq!(rt; spent.len(), handed_back.len());
     assert_eq!(rt; spent.is_empty(), handed_back.is_empty());
     for (place, text) in handed_back.iter().enumerate() {
-        assert!(rt; spent.get(place).is_some_and(|bytes| bytes.as_slice() == text.as_bytes()));
+        assert!(rt;
+            spent
+                .get(place)
+                .is_some_and(|bytes| bytes.as_slice() == text.as_bytes())
+        );
     }
     assert!(rt; spent.get(handed_back.len()).is_none());
     Ok(())

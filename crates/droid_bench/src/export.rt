@@ -45,10 +45,18 @@ fn record(alloc: Global, id: u32) -> Result<Record, AllocError>
         parent: 2,
         path: Text::from(path),
         name: Text::from(name),
-        kind: if is_file { NodeKind::File } else { NodeKind::Folder },
+        kind: if is_file {
+            NodeKind::File
+        } else {
+            NodeKind::Folder
+        },
         size: if is_file { u64::from(id) * 1_000 } else { 0 },
         modified: i64::from(id),
-        method: if is_file { Method::Signature } else { Method::Unidentified },
+        method: if is_file {
+            Method::Signature
+        } else {
+            Method::Unidentified
+        },
         mismatch: false,
         md5: [0xd4; 16],
         puids: formats(alloc, if is_file { id / 2 % 3 + 1 } else { 0 })?,

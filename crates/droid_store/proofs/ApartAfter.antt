@@ -107,7 +107,7 @@ apart_with_node n rows next free apart =
       children = λ profile parent name. one_after_none (is_child profile parent name) rows.nodes n (λ is. child_key profile parent name n rows is free) (apart.children profile parent name);
       numbers = last_in_order n rows.nodes (above_all n.profile n.id rows rows.nodes one apart.accepted) apart.numbers;
       accepted = all_last (λ (m : Node). m.id ≤ accepted_in m.profile (with_node n rows)) rows.nodes n
-      (still_accepted rows (with_node n rows) rows.nodes (λ m. more_counted n.profile n.id m rows.profiles rows.nodes (rows.nodes ++ n ∷ []) rows.replies (omega (arith, one))) apart.accepted) (omega (arith, here));
+          (still_accepted rows (with_node n rows) rows.nodes (λ m. more_counted n.profile n.id m rows.profiles rows.nodes (rows.nodes ++ n ∷ []) rows.replies (omega (arith, one))) apart.accepted) (omega (arith, here));
     }
 
 -- ---- a row changed, which keeps its keys

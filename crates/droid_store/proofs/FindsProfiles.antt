@@ -46,7 +46,7 @@ finds_profile old new profile rows r live has ran =
     let params = number profile ∷ [] in
     let xs = numbered_from 1 rows.profiles in
     let answer : (out : List Row) → IsSureAnswer find_profile_query (overlay old.now.trees []) params out → out ≡ option_to_list (option_map shown_profile (profile_at profile rows)) = λ out sure.
-        selects_first profile_row (has_number profile) (λ x. shown_profile x.1) 0 by_id _ [] params (passes_id profile []) (λ x. refl) old.now.trees xs out has.holds.profiles (few_with_key (λ x. x.0) profile xs (rising_numbered 1 rows.profiles)) sure
-        ∙ shown_at (find (has_number profile) xs) ∙ ap (λ o. option_to_list (option_map shown_profile o)) (found_at profile rows) in
+    selects_first profile_row (has_number profile) (λ x. shown_profile x.1) 0 by_id _ [] params (passes_id profile []) (λ x. refl) old.now.trees xs out has.holds.profiles (few_with_key (λ x. x.0) profile xs (rising_numbered 1 rows.profiles)) sure
+    ∙ shown_at (find (has_number profile) xs) ∙ ap (λ o. option_to_list (option_map shown_profile o)) (found_at profile rows) in
     let it = looks_up FIND_PROFILE.now params old new (Holds rows) store_schema find_profile_query _ (option_map shown_profile (profile_at profile rows)) live has has.holds.schema find_profile_is.0 find_profile_plain find_profile_is.1 answer r ran in
     (it.0, it.1, λ none. none_shown shown_profile (profile_at profile rows) (it.2 none))

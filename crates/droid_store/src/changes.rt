@@ -11,9 +11,7 @@ ghost use Rattle.droid_store.specs.Rows.{Rows};
 ghost use Rattle.droid_store.specs.Nodes.{node_of};
 
 use crate::rows::{Entry, NodeState};
-use crate::statements::{
-    ADD_NODE, ADD_PROFILE, ADD_REPLY, COUNT_NODES, FINISH_NODE, REMOVE_NODE,
-};
+use crate::statements::{ADD_NODE, ADD_PROFILE, ADD_REPLY, COUNT_NODES, FINISH_NODE, REMOVE_NODE};
 use droid_frame::Method;
 use sqlite::{Error, MemStore, Transaction, params};
 
@@ -100,11 +98,7 @@ fn insert_node(
     )
 }
 
-fn count_nodes(
-    tx: &mut Transaction<'_, MemStore>,
-    profile: u32,
-    nodes: u32,
-) -> Result<usize, Error>
+fn count_nodes(tx: &mut Transaction<'_, MemStore>, profile: u32, nodes: u32) -> Result<usize, Error>
     ensures same_reference { tx.new.conn.ghost_name ≡ tx.old.conn.ghost_name }
     ensures ok { (rows : Rows) → Steps (state over_memory tx.old.conn.now) (state over_memory tx.new.conn.now) result rows (record rows { profiles = counted profile nodes rows.profiles }) }
     ensures err { (rows : Rows) → Saves (state over_memory tx.old.conn.now) (state over_memory tx.new.conn.now) result rows }

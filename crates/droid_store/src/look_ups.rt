@@ -85,10 +85,7 @@ pub(crate) fn find_reply(
 }
 
 /// The folders and finished files of the profile, by number.
-pub(crate) fn list_nodes(
-    conn: &mut Connection<MemStore>,
-    profile: u32,
-) -> Result<Vec<Row>, Error>
+pub(crate) fn list_nodes(conn: &mut Connection<MemStore>, profile: u32) -> Result<Vec<Row>, Error>
     requires holds { Settled (state over_memory conn.old) (Holds (kept conn.old)) }
     requires apart { AreApart (kept conn.old) }
     ensures same { kept conn.new ≡ kept conn.old }

@@ -7,9 +7,7 @@ ghost use Rattle.droid_store.specs.Rows.{child_at, reply_for};
 
 use crate::changes::{Findings, NewNode};
 use crate::commits::{write_abandon, write_finish, write_node, write_profile, write_reply};
-use crate::counting::{
-    one_less_unfinished, one_more_profile, one_more_reply, one_more_unfinished,
-};
+use crate::counting::{one_less_unfinished, one_more_profile, one_more_reply, one_more_unfinished};
 use crate::fault::StoreFault;
 use crate::rows::{Entry, NodeState};
 use crate::store::Store;
