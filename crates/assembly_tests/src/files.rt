@@ -160,7 +160,13 @@ pub fn assembled(
 }
 
 /// What the file is sealed to, and its windows.
-pub fn expect_file(rt: &impl Abort, assembly: &mut Assembly, sealed: Sealed, first: &[u8], last: &[u8])
+pub fn expect_file(
+    rt: &impl Abort,
+    assembly: &mut Assembly,
+    sealed: Sealed,
+    first: &[u8],
+    last: &[u8],
+)
     requires { assembly.old.pending ≡ None }
     ensures { assembly.new.pending ≡ None }
 {

@@ -36,7 +36,11 @@ fn same_spent(rt: &impl Abort, spent: &Spent, plain: &Plain, from: usize, end: u
     assert_eq!(rt; spent.len(), end.saturating_sub(from));
     for place in 0..spent.len() {
         let piece = plain.piece(from.saturating_add(place));
-        assert!(rt; spent.get(place).is_some_and(|bytes| bytes.as_slice() == piece));
+        assert!(rt;
+            spent
+                .get(place)
+                .is_some_and(|bytes| bytes.as_slice() == piece)
+        );
     }
 }
 
@@ -91,7 +95,12 @@ fn same_end(
     let missing = plain.missing();
     if missing < count {
         let fault = seal(assembly);
-        assert_eq!(rt; fault, Err(Incomplete { missing: missing.min(1 << 20) as u32 }));
+        assert_eq!(rt;
+            fault,
+            Err(Incomplete {
+                missing: missing.min(1 << 20) as u32
+            })
+        );
         return Ok(());
     }
     let bytes = plain.joined(alloc)?;
@@ -122,12 +131,20 @@ fn same_file(
     same_end(rt, alloc, &mut assembly, &plain, count, limit)?;
     for round in 0..count.saturating_mul(3).saturating_add(4) {
         let index = chosen(chance, &plain, count);
-        let mut len = plain.due(index);
+        let mut len = plain.due(index as usize);
         if chance.below(12) == 0 {
             len = chance.below(10);
         }
         let bytes = piece_bytes(chance);
-        turn(rt, alloc, &mut assembly, &mut plain, index as u32, &bytes[..len.min(16)], chance.below(8) != 0)?;
+        turn(
+            rt,
+            alloc,
+            &mut assembly,
+            &mut plain,
+            index,
+            &bytes[..len.min(16)],
+            chance.below(8) != 0,
+        )?;
         if round % 4 == 0 {
             same_end(rt, alloc, &mut assembly, &plain, count, limit)?;
         }
@@ -135,21 +152,29 @@ fn same_file(
     for index in 0..count {
         let len = plain.due(index).min(16);
         let bytes = piece_bytes(chance);
-        turn(rt, alloc, &mut assembly, &mut plain, index as u32, &bytes[..len], true)?;
+        turn(
+            rt,
+            alloc,
+            &mut assembly,
+            &mut plain,
+            index as u32,
+            &bytes[..len],
+            true,
+        )?;
     }
     same_end(rt, alloc, &mut assembly, &plain, count, limit)?;
     same_end(rt, alloc, &mut assembly, &plain, count, limit)
 }
 
 // The index of the next piece: mostly near the missing one, sometimes anywhere or past the end.
-fn chosen(chance: &mut Chance, plain: &Plain, count: usize) -> usize {
+fn chosen(chance: &mut Chance, plain: &Plain, count: usize) -> u32 {
     let near = plain.missing().saturating_add(chance.below(18));
     let index = if chance.below(4) == 0 {
         chance.below(count.saturating_add(2))
     } else {
         near.min(count)
     };
-    index.min(100)
+    index.min(100) as u32
 }
 
 // Bytes of a piece.

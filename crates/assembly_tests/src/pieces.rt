@@ -2,7 +2,9 @@
 
 ghost use Rattle.std.specs.Prelude.{◌≡◌, OnOk, None};
 
-use crate::files::{Order, SUITE, assembled, expect_file, put, seal, settle, take, take_back, views_of};
+use crate::files::{
+    Order, SUITE, assembled, expect_file, put, seal, settle, take, take_back, views_of,
+};
 use droid_assembly::{Assembly, Incomplete, PutFault, Sealed};
 use droid_frame::Blob;
 use std::process::Abort;
@@ -113,7 +115,11 @@ fn step(
     assert_eq!(rt; spent.len(), handed_back.len());
     assert_eq!(rt; spent.is_empty(), handed_back.is_empty());
     for (place, text) in handed_back.iter().enumerate() {
-        assert!(rt; spent.get(place).is_some_and(|bytes| bytes.as_slice() == text.as_bytes()));
+        assert!(rt;
+            spent
+                .get(place)
+                .is_some_and(|bytes| bytes.as_slice() == text.as_bytes())
+        );
     }
     assert!(rt; spent.get(handed_back.len()).is_none());
     Ok(())
@@ -167,8 +173,8 @@ fn every_order_of_four_pieces(rt: HostRuntime) -> Result<(), Fail> {
     for order in ORDERS {
         let mut assembly = Assembly::new(alloc, 14, 4, 5)?;
         for index in order {
-            let start = index as usize * 4;
-            let bytes = Blob::copy_of(alloc, &message[start..message.len().min(start + 4)])?;
+            let chunk = message.chunks(4).nth(index as usize);
+            let bytes = Blob::copy_of(alloc, chunk.unwrap_or(b""))?;
             take(&mut assembly, index, bytes)?;
         }
         expect_file(&rt, &mut assembly, sealed, b"messa", b"igest");
