@@ -131,7 +131,7 @@ fn same_file(
     same_end(rt, alloc, &mut assembly, &plain, count, limit)?;
     for round in 0..count.saturating_mul(3).saturating_add(4) {
         let index = chosen(chance, &plain, count);
-        let mut len = plain.due(index);
+        let mut len = plain.due(index as usize);
         if chance.below(12) == 0 {
             len = chance.below(10);
         }
@@ -141,7 +141,11 @@ fn same_file(
             alloc,
             &mut assembly,
             &mut plain,
+<<<<<<< HEAD
             index as u32,
+=======
+            index,
+>>>>>>> 0acac35f89d7a4a02cedfa2bc9d39fe2bd87d5fc
             &bytes[..len.min(16)],
             chance.below(8) != 0,
         )?;
@@ -167,14 +171,14 @@ fn same_file(
 }
 
 // The index of the next piece: mostly near the missing one, sometimes anywhere or past the end.
-fn chosen(chance: &mut Chance, plain: &Plain, count: usize) -> usize {
+fn chosen(chance: &mut Chance, plain: &Plain, count: usize) -> u32 {
     let near = plain.missing().saturating_add(chance.below(18));
     let index = if chance.below(4) == 0 {
         chance.below(count.saturating_add(2))
     } else {
         near.min(count)
     };
-    index.min(100)
+    index.min(100) as u32
 }
 
 // Bytes of a piece.

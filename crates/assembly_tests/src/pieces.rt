@@ -173,8 +173,8 @@ fn every_order_of_four_pieces(rt: HostRuntime) -> Result<(), Fail> {
     for order in ORDERS {
         let mut assembly = Assembly::new(alloc, 14, 4, 5)?;
         for index in order {
-            let start = index as usize * 4;
-            let bytes = Blob::copy_of(alloc, &message[start..message.len().min(start + 4)])?;
+            let chunk = message.chunks(4).nth(index as usize);
+            let bytes = Blob::copy_of(alloc, chunk.unwrap_or(b""))?;
             take(&mut assembly, index, bytes)?;
         }
         expect_file(&rt, &mut assembly, sealed, b"messa", b"igest");
