@@ -141,11 +141,7 @@ fn same_file(
             alloc,
             &mut assembly,
             &mut plain,
-<<<<<<< HEAD
-            index as u32,
-=======
             index,
->>>>>>> 0acac35f89d7a4a02cedfa2bc9d39fe2bd87d5fc
             &bytes[..len.min(16)],
             chance.below(8) != 0,
         )?;

@@ -1,3 +1,5 @@
+//! Values: copies, lists and numbers.
+
 use droid_frame::*;
 use std::test::Fail;
 
@@ -9,6 +11,7 @@ fn texts(rt: HostRuntime) -> Result<(), Fail> {
     let copy = texts.try_clone(rt.alloc())?;
     assert_eq!(rt; copy.len(), 1);
     assert_eq!(rt; copy.get(0).map(|text| text.len()), Some(5));
+    assert_eq!(rt; copy.as_slice().len(), 1);
     assert!(rt; copy.get(1).is_none());
     Ok(())
 }
@@ -32,6 +35,7 @@ fn criteria(rt: HostRuntime) -> Result<(), Fail> {
     let copy = criteria.try_clone(rt.alloc())?;
     assert_eq!(rt; copy.len(), 1);
     assert!(rt; !copy.is_empty());
+    assert_eq!(rt; copy.as_slice().len(), 1);
     assert!(rt; matches!(copy.get(0), Some(Criterion::MismatchIs(true))));
     assert!(rt; copy.get(1).is_none());
     let filter = Filter {
@@ -48,4 +52,6 @@ fn criteria(rt: HostRuntime) -> Result<(), Fail> {
 fn numbers(rt: HostRuntime) {
     assert_eq!(rt; Refusal::LimitReached(Limit::Nodes).number(), 17);
     assert_eq!(rt; Limit::Nodes.number(), 2);
+    assert_eq!(rt; Method::Extension.number(), 2);
+    assert_eq!(rt; NodeKind::Folder.number(), 1);
 }

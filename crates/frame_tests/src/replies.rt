@@ -2,8 +2,8 @@
 
 use crate::shaky::{BYTE_BY_BYTE, STEADY, ShakyWriter};
 use droid_frame::{
-    Arrival, Blob, Frame, Limit, Method, NodeKind, Record, Refusal, Reply, Text, Texts, Unsteady,
-    WriteFault, read_frame, reply_body, reply_of, write_reply,
+    Arrival, Blob, Frame, Method, NodeKind, Record, Reply, Text, Texts, Unsteady, WriteFault,
+    read_frame, reply_body, reply_of, write_reply,
 };
 use std::alloc::Global;
 use std::process::Abort;
@@ -75,22 +75,15 @@ fn read_and_written(
             let copy = reply.try_clone(alloc)?;
             let body = reply_body(alloc, &copy)?;
             assert_eq!(rt; Some(body.as_slice()), bytes.get(HEADER..), "{kind}");
-            let mut written = Unsteady::new(Vec::new(alloc));
-            assert_eq!(rt; write_reply(client, number, &reply, &mut written), Ok(()));
-            assert_eq!(rt; written.stream.as_slice(), bytes, "{kind}");
+            let mut written = vec![in alloc; 0u8; bytes.len()]?;
+            let mut room = written.as_mut_slice();
+            assert_eq!(rt; write_reply(client, number, &reply, &mut room), Ok(()));
+            assert_eq!(rt; room.len(), 0);
+            assert_eq!(rt; written.as_slice(), bytes, "{kind}");
             Ok(copy)
         }
         Err(fault) => panic!(rt; "{kind}: {fault:?}"),
     }
-}
-
-/// The reply of a body of this kind, which is written again.
-pub fn reply_with(rt: &impl Abort, alloc: Global, kind: u8, body: &[u8]) -> Result<Reply, Fail> {
-    let mut bytes = Vec::from_slice(alloc, &[1, kind, 0, 0, 0, 1, 0, 0, 0, 0, 0, 0, 0, 1])?;
-    let length = u32::try_from(body.len()).unwrap_or(0);
-    bytes.extend_from_slice(&length.to_be_bytes())?;
-    bytes.extend_from_slice(body)?;
-    read_and_written(rt, alloc, frame_of(alloc, kind, body)?, bytes.as_slice())
 }
 
 /// The reply of a stream of one frame, which is written again.
@@ -102,110 +95,93 @@ fn reply_in(rt: &impl Abort, alloc: Global, bytes: &[u8]) -> Result<Reply, Fail>
     }
 }
 
+/// The reply of a body of this kind, which is written again.
+pub fn reply_with(rt: &impl Abort, alloc: Global, kind: u8, body: &[u8]) -> Result<Reply, Fail> {
+    let mut bytes = Vec::from_slice(alloc, &[1, kind, 0, 0, 0, 1, 0, 0, 0, 0, 0, 0, 0, 1])?;
+    let length = u32::try_from(body.len()).unwrap_or(0);
+    bytes.extend_from_slice(&length.to_be_bytes())?;
+    bytes.extend_from_slice(body)?;
+    reply_in(rt, alloc, bytes.as_slice())
+}
+
+// Whole frames: what they are read as, and the same frames written of it.
 #[test]
 fn vectors(rt: HostRuntime) -> Result<(), Fail> {
-    let alloc = rt.alloc();
-    assert!(rt; matches!(reply_in(&rt, alloc, &MADE)?, Reply::Made { profile: 1 }));
-    assert!(rt; matches!(reply_in(&rt, alloc, &NODE)?, Reply::Node { id: 1 }));
-    for (bytes, refusal) in [
-        (NUMBER_REUSED.as_slice(), Refusal::NumberReused),
-        (MALFORMED.as_slice(), Refusal::Malformed),
-        (INCOMPLETE.as_slice(), Refusal::Incomplete { missing: 1 }),
+    let cases: [(&[u8], &str); 7] = [
+        (&MADE, "Made { profile: 1 }"),
+        (&NODE, "Node { id: 1 }"),
+        (&NUMBER_REUSED, "Refused(NumberReused)"),
+        (&MALFORMED, "Refused(Malformed)"),
+        (&INCOMPLETE, "Refused(Incomplete { missing: 1 })"),
+        (&NODES_REACHED, "Refused(LimitReached(Nodes))"),
         (
-            NODES_REACHED.as_slice(),
-            Refusal::LimitReached(Limit::Nodes),
+            &FINISHED,
+            "Finished { method: Extension, mismatch: false, md5: [212, 29, 140, 217, 143, 0, 178, 4, 233, 128, 9, 152, 236, 248, 66, 126], puids: Texts { items: [Text { text: \"dev/4\" }] } }",
         ),
-    ] {
-        match reply_in(&rt, alloc, bytes)? {
-            Reply::Refused(read) => assert_eq!(rt; read, refusal),
-            other => panic!(rt; "{other:?}"),
-        }
-    }
-    match reply_in(&rt, alloc, &FINISHED)? {
-        Reply::Finished {
-            method,
-            mismatch,
-            md5,
-            puids,
-        } => {
-            assert_eq!(rt; (method, mismatch), (Method::Extension, false));
-            assert_eq!(rt; md5, MD5_OF_NOTHING);
-            assert_eq!(rt; puids.len(), 1);
-            assert_eq!(rt; puids.get(0).map(|puid| puid.as_str()), Some("dev/4"));
-        }
-        other => panic!(rt; "{other:?}"),
-    }
-    Ok(())
-}
-
-// Each kind that no vector above has.
-#[test]
-fn other_kinds(rt: HostRuntime) -> Result<(), Fail> {
-    let alloc = rt.alloc();
-    let taken = reply_with(&rt, alloc, 131, &[0xff, 0, 0, 0x10])?;
-    assert!(rt; matches!(taken, Reply::Taken { held: 0xff00_0010 }));
-    let abandoned = reply_with(&rt, alloc, 133, &[])?;
-    assert!(rt; matches!(abandoned, Reply::Abandoned));
-    let progress = reply_with(&rt, alloc, 134, &[0, 0, 0, 3, 0, 0, 1, 2])?;
-    assert!(rt;
-        matches!(
-            progress,
-            Reply::Progress {
-                held: 3,
-                missing: 258
-            }
-        )
-    );
-    let head = [0, 0, 0, 0, 0, 0, 0, 5, 0x80, 0, 0, 0, 0, 0, 0, 1];
-    let mut body = Vec::from_slice(alloc, &head)?;
-    body.extend_from_slice(b"\"ID\"")?;
-    match reply_with(&rt, alloc, 135, body.as_slice())? {
-        Reply::Part {
-            as_of,
-            total,
-            bytes,
-        } => {
-            assert_eq!(rt; (as_of, total), (5, 0x8000_0000_0000_0001));
-            assert_eq!(rt; bytes.as_slice(), b"\"ID\"".as_slice());
-        }
-        other => panic!(rt; "{other:?}"),
-    }
-    let nothing = reply_with(&rt, alloc, 135, &head)?;
-    assert!(rt; matches!(&nothing, Reply::Part { bytes, .. } if bytes.is_empty()));
-    Ok(())
-}
-
-// Each number from 1 to 19 and each limit, as the list of refusals has them.
-#[test]
-fn refusals(rt: HostRuntime) -> Result<(), Fail> {
-    let cases: [(&[u8], Refusal); 21] = [
-        (&[1], Refusal::Malformed),
-        (&[2], Refusal::NumberReused),
-        (&[3], Refusal::NoSuchProfile),
-        (&[4], Refusal::NoSuchNode),
-        (&[5], Refusal::NotAFolder),
-        (&[6], Refusal::NotAFile),
-        (&[7], Refusal::BadName),
-        (&[8], Refusal::PathTooLong),
-        (&[9], Refusal::NameTaken),
-        (&[10], Refusal::BadOption),
-        (&[11], Refusal::TooLarge),
-        (&[12], Refusal::AlreadyFinished),
-        (&[13], Refusal::BadPiece),
-        (&[14], Refusal::PieceHeld),
-        (&[15, 0, 0, 0, 7], Refusal::TooFarAhead { missing: 7 }),
-        (&[16, 0, 1, 0, 0], Refusal::Incomplete { missing: 65_536 }),
-        (&[17, 1], Refusal::LimitReached(Limit::Profiles)),
-        (&[17, 2], Refusal::LimitReached(Limit::Nodes)),
-        (&[17, 3], Refusal::LimitReached(Limit::Unfinished)),
-        (&[18], Refusal::Memory),
-        (&[19], Refusal::Store),
     ];
-    for (body, refusal) in cases {
-        match reply_with(&rt, rt.alloc(), 136, body)? {
-            Reply::Refused(read) => assert_eq!(rt; read, refusal),
-            other => panic!(rt; "{body:?}: {other:?}"),
-        }
+    for (bytes, shown) in cases {
+        let reply = reply_in(&rt, rt.alloc(), bytes)?;
+        assert_eq!(rt; format!(in rt.alloc(); "{reply:?}")?.as_str(), shown);
+    }
+    Ok(())
+}
+
+// Each kind that no vector above has, each number from 1 to 19 and each limit, as the list of refusals has them.
+#[test]
+fn bodies(rt: HostRuntime) -> Result<(), Fail> {
+    let cases: [(u8, &[u8], &str); 26] = [
+        (131, &[0xff, 0, 0, 0x10], "Taken { held: 4278190096 }"),
+        (133, &[], "Abandoned"),
+        (
+            134,
+            &[0, 0, 0, 3, 0, 0, 1, 2],
+            "Progress { held: 3, missing: 258 }",
+        ),
+        (
+            135,
+            &[
+                0, 0, 0, 0, 0, 0, 0, 5, 0x80, 0, 0, 0, 0, 0, 0, 1, b'"', b'I', b'D', b'"',
+            ],
+            "Part { as_of: 5, total: 9223372036854775809, bytes: Blob { bytes: [34, 73, 68, 34] } }",
+        ),
+        (
+            135,
+            &[0, 0, 0, 0, 0, 0, 0, 5, 0x80, 0, 0, 0, 0, 0, 0, 1],
+            "Part { as_of: 5, total: 9223372036854775809, bytes: Blob { bytes: [] } }",
+        ),
+        (136, &[1], "Refused(Malformed)"),
+        (136, &[2], "Refused(NumberReused)"),
+        (136, &[3], "Refused(NoSuchProfile)"),
+        (136, &[4], "Refused(NoSuchNode)"),
+        (136, &[5], "Refused(NotAFolder)"),
+        (136, &[6], "Refused(NotAFile)"),
+        (136, &[7], "Refused(BadName)"),
+        (136, &[8], "Refused(PathTooLong)"),
+        (136, &[9], "Refused(NameTaken)"),
+        (136, &[10], "Refused(BadOption)"),
+        (136, &[11], "Refused(TooLarge)"),
+        (136, &[12], "Refused(AlreadyFinished)"),
+        (136, &[13], "Refused(BadPiece)"),
+        (136, &[14], "Refused(PieceHeld)"),
+        (
+            136,
+            &[15, 0, 0, 0, 7],
+            "Refused(TooFarAhead { missing: 7 })",
+        ),
+        (
+            136,
+            &[16, 0, 1, 0, 0],
+            "Refused(Incomplete { missing: 65536 })",
+        ),
+        (136, &[17, 1], "Refused(LimitReached(Profiles))"),
+        (136, &[17, 2], "Refused(LimitReached(Nodes))"),
+        (136, &[17, 3], "Refused(LimitReached(Unfinished))"),
+        (136, &[18], "Refused(Memory)"),
+        (136, &[19], "Refused(Store)"),
+    ];
+    for (kind, body, shown) in cases {
+        let reply = reply_with(&rt, rt.alloc(), kind, body)?;
+        assert_eq!(rt; format!(in rt.alloc(); "{reply:?}")?.as_str(), shown);
     }
     Ok(())
 }
@@ -237,7 +213,9 @@ fn writes_cut_short(rt: HostRuntime) -> Result<(), Fail> {
     for bytes in [MADE.as_slice(), &FINISHED, &NODES_REACHED] {
         for manner in [STEADY, BYTE_BY_BYTE] {
             for room in 0..=bytes.len() {
-                let mut writer = Unsteady::new(ShakyWriter::new(Vec::new(alloc), room, manner));
+                let mut writer = Unsteady {
+                    stream: ShakyWriter::new(Vec::new(alloc), room, manner),
+                };
                 let answer = written(&rt, alloc, bytes, &mut writer)?;
                 let want = if room < bytes.len() {
                     Err(WriteFault { written: room })
@@ -272,18 +250,8 @@ fn records(rt: HostRuntime) -> Result<(), Fail> {
     };
     let copy = record.try_clone(alloc)?;
     assert_eq!(rt;
-        (copy.id, copy.parent, copy.size, copy.modified),
-        (2, 1, 3, -1)
+        format!(in alloc; "{copy:?}")?.as_str(),
+        "Record { id: 2, parent: 1, path: Text { text: \"/in/a.txt\" }, name: Text { text: \"a.txt\" }, kind: File, size: 3, modified: -1, method: Extension, mismatch: true, md5: [212, 29, 140, 217, 143, 0, 178, 4, 233, 128, 9, 152, 236, 248, 66, 126], puids: Texts { items: [Text { text: \"dev/4\" }] } }"
     );
-    assert_eq!(rt;
-        (copy.path.as_str(), copy.name.as_str()),
-        ("/in/a.txt", "a.txt")
-    );
-    assert_eq!(rt;
-        (copy.kind, copy.method, copy.mismatch),
-        (NodeKind::File, Method::Extension, true)
-    );
-    assert_eq!(rt; copy.md5, MD5_OF_NOTHING);
-    assert_eq!(rt; copy.puids.get(0).map(|puid| puid.as_str()), Some("dev/4"));
     Ok(())
 }

@@ -1,5 +1,8 @@
+//! Requests: bytes to values and values to bytes, and what is no request.
+
 use droid_frame::*;
 use std::alloc::Global;
+use std::process::Abort;
 use std::test::Fail;
 
 // The bodies are written out by hand; the marks are from Python's hashlib.
@@ -28,6 +31,14 @@ const EXPORT: [u8; 20] = [
     0, 0, 0, 1, 0, 0, 0, 0, 0, 0, 0, 0, 0, 0x10, 0, 0, 1, 1, 7, 1,
 ];
 
+// Any of: method Signature; formats `dev/1` or the empty text; extension `msg`; a mismatch; at least
+// 15 bytes; at most 2^64 - 1 bytes; a file. Written out by hand.
+pub(crate) const EVERY_TAG: [u8; 57] = [
+    0, 0, 0, 1, 0, 0, 0, 0, 0, 0, 0, 9, 0, 0, 0, 1, 0, 7, 1, 1, 2, 2, 5, 0x64, 0x65, 0x76, 0x2f,
+    0x31, 0, 3, 1, 3, 0x6d, 0x73, 0x67, 4, 1, 5, 0, 0, 0, 0, 0, 0, 0, 15, 6, 255, 255, 255, 255,
+    255, 255, 255, 255, 7, 0,
+];
+
 /// A frame of client 1.
 pub(crate) fn frame(alloc: Global, kind: u8, number: u64, body: &[u8]) -> Result<Frame, Fail> {
     Ok(Frame {
@@ -39,200 +50,76 @@ pub(crate) fn frame(alloc: Global, kind: u8, number: u64, body: &[u8]) -> Result
     })
 }
 
-#[test]
-fn create_profile(rt: HostRuntime) -> Result<(), Fail> {
-    let request = Request::CreateProfile {
-        scan_limit: 65_536,
-        match_all: false,
+/// The request of the body, which is written again.
+fn read_and_written(
+    rt: &impl Abort,
+    alloc: Global,
+    kind: u8,
+    body: &[u8],
+) -> Result<Request, Fail> {
+    let read = match request_of(alloc, frame(alloc, kind, 9, body)?) {
+        Ok(request) => request,
+        Err(fault) => panic!(rt; "{kind}: {fault:?}"),
     };
-    assert!(rt; request.fits());
-    let frame = request_frame(rt.alloc(), 1, 1, &request)?;
+    assert!(rt; read.fits(), "{kind}");
+    let frame = request_frame(alloc, 7, 1, &read)?;
     assert_eq!(rt;
         (frame.version, frame.kind, frame.client, frame.number),
-        (1, 1, 1, 1)
+        (1, kind, 7, 1)
     );
-    assert_eq!(rt; frame.body.as_slice(), CREATE.as_slice());
-    assert_eq!(rt; mark(frame.kind, frame.body.as_slice()), CREATE_MARK);
-    match request_of(rt.alloc(), frame) {
-        Ok(
-            Request::CreateProfile {
-                scan_limit,
-                match_all,
-            },
-        ) => assert_eq!(rt; (scan_limit, match_all), (65_536, false)),
-        other => panic!(rt; "{other:?}"),
-    }
-    Ok(())
+    assert_eq!(rt; frame.body.as_slice(), body, "{kind}");
+    Ok(read)
 }
 
+// Each kind, and each tag of a filter: what the bytes are read as, and the same bytes written of it.
 #[test]
-fn add_folder(rt: HostRuntime) -> Result<(), Fail> {
-    let request = Request::AddFolder {
-        profile: 1,
-        parent: 0,
-        modified: 0,
-        name: Text::copy_of(rt.alloc(), "in")?,
-    };
-    assert!(rt; request.fits());
-    let frame = request_frame(rt.alloc(), 1, 2, &request)?;
-    assert_eq!(rt;
-        (frame.version, frame.kind, frame.client, frame.number),
-        (1, 2, 1, 2)
-    );
-    assert_eq!(rt; frame.body.as_slice(), FOLDER.as_slice());
-    assert_eq!(rt; mark(frame.kind, frame.body.as_slice()), FOLDER_MARK);
-    match request_of(rt.alloc(), frame) {
-        Ok(
-            Request::AddFolder {
-                profile,
-                parent,
-                modified,
-                name,
-            },
-        ) => {
-            assert_eq!(rt; (profile, parent, modified), (1, 0, 0));
-            assert_eq!(rt; name.as_str(), "in");
-        }
-        other => panic!(rt; "{other:?}"),
-    }
-    Ok(())
-}
-
-#[test]
-fn add_file(rt: HostRuntime) -> Result<(), Fail> {
-    let request = Request::AddFile {
-        profile: 1,
-        parent: 2,
-        modified: -1,
-        size: 14,
-        piece_size: 4,
-        name: Text::copy_of(rt.alloc(), "m.msg")?,
-    };
-    assert!(rt; request.fits());
-    let frame = request_frame(rt.alloc(), 1, 3, &request)?;
-    assert_eq!(rt; frame.kind, 3);
-    assert_eq!(rt; frame.body.as_slice(), FILE.as_slice());
-    match request_of(rt.alloc(), frame) {
-        Ok(
-            Request::AddFile {
-                profile,
-                parent,
-                modified,
-                size,
-                piece_size,
-                name,
-            },
-        ) => {
-            assert_eq!(rt; (profile, parent, modified), (1, 2, -1));
-            assert_eq!(rt; (size, piece_size), (14, 4));
-            assert_eq!(rt; name.as_str(), "m.msg");
-        }
-        other => panic!(rt; "{other:?}"),
-    }
-    Ok(())
-}
-
-#[test]
-fn piece(rt: HostRuntime) -> Result<(), Fail> {
-    let request = Request::Piece {
-        profile: 1,
-        file: 1,
-        index: 3,
-        bytes: Blob::copy_of(rt.alloc(), b"st")?,
-    };
-    assert!(rt; request.fits());
-    let frame = request_frame(rt.alloc(), 1, 4, &request)?;
-    assert_eq!(rt; frame.kind, 4);
-    assert_eq!(rt; frame.body.as_slice(), PIECE.as_slice());
-    match request_of(rt.alloc(), frame) {
-        Ok(
-            Request::Piece {
-                profile,
-                file,
-                index,
-                bytes,
-            },
-        ) => {
-            assert_eq!(rt; (profile, file, index), (1, 1, 3));
-            assert_eq!(rt; bytes.as_slice(), b"st".as_slice());
-        }
-        other => panic!(rt; "{other:?}"),
-    }
-    Ok(())
-}
-
-#[test]
-fn finish_abandon_status(rt: HostRuntime) -> Result<(), Fail> {
-    let requests = [
-        Request::Finish {
-            profile: 1,
-            file: 2,
-        },
-        Request::Abandon {
-            profile: 1,
-            file: 2,
-        },
-        Request::Status {
-            profile: 1,
-            file: 2,
-        },
+fn kinds(rt: HostRuntime) -> Result<(), Fail> {
+    let cases: [(u8, &[u8], &str); 9] = [
+        (
+            1,
+            &CREATE,
+            "CreateProfile { scan_limit: 65536, match_all: false }",
+        ),
+        (
+            2,
+            &FOLDER,
+            "AddFolder { profile: 1, parent: 0, modified: 0, name: Text { text: \"in\" } }",
+        ),
+        (
+            3,
+            &FILE,
+            "AddFile { profile: 1, parent: 2, modified: -1, size: 14, piece_size: 4, name: Text { text: \"m.msg\" } }",
+        ),
+        (
+            4,
+            &PIECE,
+            "Piece { profile: 1, file: 1, index: 3, bytes: Blob { bytes: [115, 116] } }",
+        ),
+        (5, &OF_FILE, "Finish { profile: 1, file: 2 }"),
+        (6, &OF_FILE, "Abandon { profile: 1, file: 2 }"),
+        (7, &OF_FILE, "Status { profile: 1, file: 2 }"),
+        (
+            8,
+            &EXPORT,
+            "Export { profile: 1, from: 0, max: 1048576, filter: Filter { all: true, criteria: Criteria { items: [KindIs(Folder)] } } }",
+        ),
+        (
+            8,
+            &EVERY_TAG,
+            "Export { profile: 1, from: 9, max: 1, filter: Filter { all: false, criteria: Criteria { items: [MethodIs(Signature), PuidIn(Texts { items: [Text { text: \"dev/1\" }, Text { text: \"\" }] }), ExtIn(Texts { items: [Text { text: \"msg\" }] }), MismatchIs(true), SizeAtLeast(15), SizeAtMost(18446744073709551615), KindIs(File)] } } }",
+        ),
     ];
-    let mut kind = 5;
-    for request in &requests {
-        assert!(rt; request.fits());
-        let frame = request_frame(rt.alloc(), 1, 5, request)?;
-        assert_eq!(rt; frame.kind, kind);
-        assert_eq!(rt; frame.body.as_slice(), OF_FILE.as_slice());
-        match (kind, request_of(rt.alloc(), frame)) {
-            (5, Ok(Request::Finish { profile, file })) => assert_eq!(rt; (profile, file), (1, 2)),
-            (6, Ok(Request::Abandon { profile, file })) => assert_eq!(rt; (profile, file), (1, 2)),
-            (7, Ok(Request::Status { profile, file })) => assert_eq!(rt; (profile, file), (1, 2)),
-            (_, other) => panic!(rt; "{other:?}"),
-        }
-        kind += 1;
+    for (kind, body, shown) in cases {
+        let request = read_and_written(&rt, rt.alloc(), kind, body)?;
+        assert_eq!(rt; format!(in rt.alloc(); "{request:?}")?.as_str(), shown);
     }
     Ok(())
 }
 
 #[test]
-fn export(rt: HostRuntime) -> Result<(), Fail> {
-    let mut criteria = Criteria::new(rt.alloc());
-    criteria.push(Criterion::KindIs(NodeKind::Folder))?;
-    let request = Request::Export {
-        profile: 1,
-        from: 0,
-        max: 1_048_576,
-        filter: Filter {
-            all: true,
-            criteria,
-        },
-    };
-    assert!(rt; request.fits());
-    let frame = request_frame(rt.alloc(), 1, 9, &request)?;
-    assert_eq!(rt; frame.kind, 8);
-    assert_eq!(rt; frame.body.as_slice(), EXPORT.as_slice());
-    match request_of(rt.alloc(), frame) {
-        Ok(
-            Request::Export {
-                profile,
-                from,
-                max,
-                filter,
-            },
-        ) => {
-            assert_eq!(rt; (profile, from, max), (1, 0, 1_048_576));
-            assert!(rt; filter.all);
-            assert_eq!(rt; filter.criteria.len(), 1);
-            assert!(rt;
-                matches!(
-                    filter.criteria.get(0),
-                    Some(Criterion::KindIs(NodeKind::Folder))
-                )
-            );
-        }
-        other => panic!(rt; "{other:?}"),
-    }
-    Ok(())
+fn marks(rt: HostRuntime) {
+    assert_eq!(rt; mark(1, &CREATE), CREATE_MARK);
+    assert_eq!(rt; mark(2, &FOLDER), FOLDER_MARK);
 }
 
 // Each kind with a byte less, and those that don't run to the end with a byte more; a truth value of 2;
