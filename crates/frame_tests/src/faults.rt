@@ -1,6 +1,6 @@
 //! What the faults say.
 
-use droid_frame::{FrameFault, WriteFault};
+use droid_frame::FrameFault;
 use std::test::Fail;
 
 #[test]
@@ -18,10 +18,5 @@ fn texts(rt: HostRuntime) -> Result<(), Fail> {
     for (fault, text) in cases {
         assert_eq!(rt; format!(in rt.alloc(); "{fault}")?.as_str(), text);
     }
-    let fault = WriteFault { written: 7 };
-    assert_eq!(rt;
-        format!(in rt.alloc(); "{fault}")?.as_str(),
-        "the frame could not be written past its first 7 bytes"
-    );
     Ok(())
 }

@@ -213,9 +213,7 @@ fn writes_cut_short(rt: HostRuntime) -> Result<(), Fail> {
     for bytes in [MADE.as_slice(), &FINISHED, &NODES_REACHED] {
         for manner in [STEADY, BYTE_BY_BYTE] {
             for room in 0..=bytes.len() {
-                let mut writer = Unsteady {
-                    stream: ShakyWriter::new(Vec::new(alloc), room, manner),
-                };
+                let mut writer = Unsteady::new(ShakyWriter::new(Vec::new(alloc), room, manner));
                 let answer = written(&rt, alloc, bytes, &mut writer)?;
                 let want = if room < bytes.len() {
                     Err(WriteFault { written: room })
