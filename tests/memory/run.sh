@@ -11,9 +11,10 @@ ${CC:-cc} -shared -fPIC -o "$work/refuse.so" "$top/tests/memory/refuse.c" -ldl |
 passed=0
 failed=0
 for test in core_tests:memory::one_after_the_other core_tests:memory::in_one_run \
-    droid_assembly:tests::each_growth_refused pronom_tests:memory::each_growth_of_a_registry \
+    assembly_tests:memory::each_growth_refused pronom_tests:memory::each_growth_of_a_registry \
     pronom_tests:memory::each_growth_of_a_search frame_tests:memory::each_growth_of_a_request \
-    frame_tests:memory::each_growth_of_a_reply frame_tests:streams::growths_refused; do
+    frame_tests:memory::each_growth_of_a_reply frame_tests:streams::growths_refused \
+    export_tests:memory::each_growth_of_small_texts export_tests:memory::each_growth_of_an_export; do
     crate=${test%%:*}
     name=${test#*:}
     tests=$top/crates/$crate/out/${crate}_tests
@@ -40,6 +41,20 @@ for test in core_tests:memory::one_after_the_other core_tests:memory::in_one_run
         number=$((number + 1))
     done
 done
+# An assembly takes no memory after it was made: the test that makes every call asks for it as often as the one
+# that makes none.
+growths_of() {
+    ALLOCATIONS=$work/count LD_PRELOAD=$work/refuse.so "$top/crates/assembly_tests/out/assembly_tests_tests" "$1" >/dev/null 2>&1
+    cat "$work/count" 2>/dev/null
+}
+with_calls=$(growths_of memory::each_growth_refused)
+without=$(growths_of memory::growths_without_calls)
+if [ -n "$with_calls" ] && [ "$with_calls" = "$without" ]; then
+    passed=$((passed + 1))
+else
+    failed=$((failed + 1))
+    echo "an assembly asked for memory '$with_calls' times with every call and '$without' times with none"
+fi
 sh "$top/tests/memory/program.sh" "$work/refuse.so" || failed=$((failed + 1))
 echo "$passed passed, $failed failed"
 [ "$failed" -eq 0 ]
