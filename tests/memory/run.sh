@@ -25,7 +25,7 @@ for test in core_tests:memory::one_after_the_other core_tests:memory::in_one_run
     fi
     ALLOCATIONS=$work/count LD_PRELOAD=$work/refuse.so "$tests" "$name" >"$work/said" 2>&1 || cat "$work/said"
     count=$(cat "$work/count" 2>/dev/null || echo 0)
-    if [ "$count" -lt 4 ]; then
+    if [ "$count" -lt 3 ]; then
         echo "$name: only $count allocations were seen"
         failed=$((failed + 1))
     fi
