@@ -1,6 +1,3 @@
-pub mod LineCuts
-pub mod LineNumbers
-pub mod LineWords
 pub mod ScriptEndings
 pub mod ScriptFaults
 pub mod ScriptRuns

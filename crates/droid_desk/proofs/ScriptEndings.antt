@@ -11,7 +11,7 @@ use Rattle.droid_desk.specs.declared.script.tally.Tally.{Tally}
 use Rattle.droid_core.specs.declared.service.Service.{Service}
 use Rattle.droid_core.specs.declared.service.limits.Limits.{Limits}
 use Rattle.droid_desk.specs.Endings.{ending_of, EndsAs, PrintsAll}
-use Rattle.droid_desk.specs.Lines.{lines_of}
+use Rattle.droid_lines.specs.Lines.{lines_of}
 use Rattle.droid_desk.specs.Scripts.{RunsAll, RunsFront, Counts, IsOfReading, IsOfHandling, IsTooLong}
 
 pub keeps_same : (old new : Option (List ℕ)) → new ≡ old → Keeps old new

@@ -10,13 +10,14 @@ use Rattle.droid_frame.specs.types.frame.Frame.{Frame}
 use Rattle.droid_frame.specs.Bodies.{SpellsRequest, request_kind, request_body}
 use Rattle.droid_frame.specs.Frames.{frame_bytes, spelling}
 use Rattle.droid_frame.specs.types.reply.Reply.{Reply}
-use Rattle.droid_desk.specs.declared.script.parse.Line.{Line}
+use Rattle.droid_lines.specs.declared.parse.Line.{Line}
 use Rattle.droid_desk.specs.declared.script.tally.Tally.{Tally}
 use Rattle.droid_core.specs.declared.service.Service.{Service}
 use Rattle.droid_core.specs.declared.service.limits.Limits.{Limits}
 use Rattle.droid_core.specs.Histories.{History, command, answer, next, Handles}
-use Rattle.droid_desk.specs.Lines.{lines_of, line_value}
-use Rattle.droid_desk.specs.Printed.{answer_line}
+use Rattle.droid_lines.specs.Lines.{lines_of}
+use Rattle.droid_desk.specs.Lines.{taken_line}
+use Rattle.droid_lines.specs.Printed.{answer_line}
 use Rattle.droid_desk.specs.Scripts.{frame_of, ScriptRun, script_text, LineAnswered, WritesFront, RunsAll, RunsFront, is_bad, Counts, StandsForSome}
 use Rattle.droid_core.specs.Standing.{StandsFor, limits_of}
 use Rattle.droid_core.specs.Wants.{is_want}
@@ -46,7 +47,7 @@ single_text : (reply : Option Reply) → script_text (reply ∷ []) ≡ answer_l
 single_text reply = append-nil (answer_line reply)
 
 pub line_runs : (limits : Limits) (history : History) (line : List ℕ) (reply : Option Reply) (service : Service) (old new : Option (List ℕ))
-    → LineAnswered limits history (line_value line) reply service → Appends old new (answer_line reply) → RunsAll limits history (line ∷ []) service old new
+    → LineAnswered limits history (taken_line line) reply service → Appends old new (answer_line reply) → RunsAll limits history (line ∷ []) service old new
 line_runs limits history line reply service old new answered writes = record {
   replies = reply ∷ [];
   after = answered.after;
@@ -57,7 +58,7 @@ line_runs limits history line reply service old new answered writes = record {
 
 -- the line was handled, and a front of what it prints was written
 pub line_runs_front : (limits : Limits) (history : History) (line : List ℕ) (reply : Option Reply) (service : Service) (old new : Option (List ℕ))
-    → LineAnswered limits history (line_value line) reply service → WritesFront old new (answer_line reply) → RunsFront limits history (line ∷ []) service old new
+    → LineAnswered limits history (taken_line line) reply service → WritesFront old new (answer_line reply) → RunsFront limits history (line ∷ []) service old new
 line_runs_front limits history line reply service old new answered wrote = record {
   front = line ∷ [];
   rest = [];

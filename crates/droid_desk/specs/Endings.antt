@@ -14,7 +14,7 @@ use Rattle.droid_desk.specs.declared.script.fault.ScriptFault.TheVariants.{TooLo
 use Rattle.droid_desk.specs.declared.script.tally.Tally.{Tally}
 use Rattle.droid_core.specs.declared.service.Service.{Service}
 use Rattle.droid_core.specs.declared.service.limits.Limits.{Limits}
-use Rattle.droid_desk.specs.Lines.{lines_of}
+use Rattle.droid_lines.specs.Lines.{lines_of}
 use Rattle.droid_desk.specs.Scripts.{RunsAll, RunsFront, IsTooLong, is_bad}
 
 -- the exit status

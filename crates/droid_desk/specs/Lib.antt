@@ -1,5 +1,4 @@
 pub mod Endings
 pub mod Lines
-pub mod Printed
 pub mod Sample
 pub mod Scripts

@@ -11,13 +11,13 @@ use Rattle.droid_stream.specs.declared.fault.InputFault.{InputFault}
 use Rattle.droid_stream.specs.declared.fault.InputFault.TheVariants as inputs
 use Rattle.droid_stream.specs.declared.seen.Seen.{Seen}
 use Rattle.droid_stream.specs.Seen.{GivesUp, IsSound}
-use Rattle.droid_desk.specs.declared.script.parse.Line.{Line}
+use Rattle.droid_lines.specs.declared.parse.Line.{Line}
 use Rattle.droid_desk.specs.declared.script.tally.Tally.{Tally}
 use Rattle.droid_core.specs.declared.service.Service.{Service}
 use Rattle.droid_core.specs.declared.service.limits.Limits.{Limits}
 use Rattle.droid_core.specs.Histories.{History, Handles}
-use Rattle.droid_desk.specs.Lines.{line_value}
-use Rattle.droid_desk.specs.Printed.{answer_line}
+use Rattle.droid_desk.specs.Lines.{taken_line}
+use Rattle.droid_lines.specs.Printed.{answer_line}
 use Rattle.droid_core.specs.Standing.{StandsFor}
 
 -- the frame of version 1 that a line sends
@@ -44,7 +44,7 @@ ScriptRun limits history [] [] after = after ≡ history
 ScriptRun limits history [] (reply ∷ replies) after = ⊥
 ScriptRun limits history (line ∷ lines) [] after = ⊥
 ScriptRun limits history (line ∷ lines) (reply ∷ replies) after =
-    (middle : History) × LineRun limits history (line_value line) reply middle × ScriptRun limits middle lines replies after
+    (middle : History) × LineRun limits history (taken_line line) reply middle × ScriptRun limits middle lines replies after
 
 -- what the replies print
 abbrev pub script_text : List (Option Reply) → List ℕ
@@ -121,7 +121,7 @@ pub record TellsFaultOver (start lines : ℕ) (seen : Seen) (is_fault : Type 0) 
 
 -- a line that asks for nothing
 abbrev pub is_bad : List ℕ → Bool
-is_bad line = is_none (line_value line)
+is_bad line = is_none (taken_line line)
 
 -- the lines, and the bad ones among them
 pub record Counts (tally : Tally) (script : List (List ℕ)) : Type 0 where

@@ -2,7 +2,7 @@
 
 ghost use Rattle.std.specs.Prelude.{◌≡◌, length, IfSome};
 ghost use Rattle.droid_stream.specs.Seen.{IsSound, TellsFault};
-ghost use Rattle.droid_desk.specs.Lines.{lines_of};
+ghost use Rattle.droid_lines.specs.Lines.{lines_of};
 ghost use Rattle.droid_desk.specs.Scripts.{TellsFaultOver};
 ghost use Rattle.clap.specs.Values.{kind_of};
 ghost use Rattle.std.specs.IoError.{error_kind};

@@ -1,5 +1,6 @@
 pub mod FaultLemmas
 pub mod FrontLemmas
+pub mod LangTests
 pub mod PathLemmas
 pub mod PositionLemmas
 pub mod RunLemmas

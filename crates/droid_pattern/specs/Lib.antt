@@ -1,6 +1,7 @@
 -- What the public calls promise: the language of patterns, and how they are written.
 pub mod PatternText
 pub mod Patterns
+pub mod LangTest
 -- What the steps of reading and matching promise each other.
 pub mod Fronts
 pub mod Parts

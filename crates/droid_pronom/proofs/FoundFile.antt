@@ -1,5 +1,5 @@
 -- Windows are enough: what hits in the first and last bytes is what hits in the file.
-use Rattle.std.proofs.Common.{◌≡◌, ◌↔◌, ℕ, ◌+◌, ◌-◌, ◌≤◌, Bool, List, [], length, ap, sym, ◌∙◌, inl, inr, arith, take, drop}
+use Rattle.std.proofs.Common.{◌≡◌, ◌↔◌, ℕ, ◌+◌, ◌-◌, ◌≤◌, min, Bool, List, [], length, ap, sym, ◌∙◌, inl, inr, arith, take, drop}
 use Rattle.std.proofs.lemmas.List.{drop-drop, take-take, drop-take}
 use Rattle.std.specs.List.{AllByRecursion}
 use Rattle.droid_pronom.specs.Registry.{Contents, Signed}
@@ -87,21 +87,24 @@ part_of_last file w o k inside fits =
     let e : (length file - w) + (w - (o + k)) ≡ length file - (o + k) = omega arith in
     ap (λ (xs : List ℕ). take k xs) (drop-drop (w - (o + k)) (length file - w) file ∙ ap (λ (n : ℕ). drop n file) e)
 
--- a file of that size that begins and ends with these bytes
-pub record Ends (file first last : List ℕ) : Type 0 where
+-- a file that begins and ends with these bytes, which are as many as the limit leaves of it
+pub record Ends (file first last : List ℕ) (limit : ℕ) : Type 0 where
   pub same : length first ≡ length last
-  pub inside : length first ≤ length file
+  pub reached : min limit (length file) ≡ length first
   pub begins : take (length first) file ≡ first
   pub ends : drop (length file - length first) file ≡ last
 
-module _ (file first last : List ℕ) (fits : Ends file first last) where
-  hits_from : (anchor : Anchor) (q : ByteSequence) → HitsWindowsFrom anchor first last q ↔ HitsFrom anchor q file (length first)
+module _ (file first last : List ℕ) (limit : ℕ) (fits : Ends file first last limit) where
+  inside_file : length first ≤ length file
+  inside_file = omega (arith, fits.reached)
+
+  hits_from : (anchor : Anchor) (q : ByteSequence) → HitsWindowsFrom anchor first last q ↔ HitsFrom anchor q file limit
   hits_from Bof q = (
     λ h.
         let e : take h.count (drop h.offset first) ≡ take h.count (drop h.offset file) = ap (λ (xs : List ℕ). take h.count (drop h.offset xs)) (sym fits.begins) ∙ part_of_first file (length first) h.offset h.count h.inside in
-        record { offset = h.offset; count = h.count; from_min = h.from_low; to_max = h.to_high; inside = omega (arith, h.inside, fits.inside); matched = rw e at h.matched },
+        record { offset = h.offset; count = h.count; from_min = h.from_low; to_max = h.to_high; inside = omega (arith, h.inside, fits.reached); matched = rw e at h.matched },
     λ h.
-        let inside : h.offset + h.count ≤ length first = omega (arith, h.inside) in
+        let inside : h.offset + h.count ≤ length first = omega (arith, h.inside, fits.reached) in
         let e : take h.count (drop h.offset first) ≡ take h.count (drop h.offset file) = ap (λ (xs : List ℕ). take h.count (drop h.offset xs)) (sym fits.begins) ∙ part_of_first file (length first) h.offset h.count inside in
         record { offset = h.offset; count = h.count; from_low = h.from_min; to_high = h.to_max; inside = inside; matched = rw (sym e) at h.matched },
   )
@@ -110,15 +113,15 @@ module _ (file first last : List ℕ) (fits : Ends file first last) where
         let inside : h.offset + h.count ≤ length first = omega (arith, h.inside, fits.same) in
         let e : take h.count (drop (length last - (h.offset + h.count)) last) ≡ take h.count (drop (length file - (h.offset + h.count)) file) =
         ap (λ (n : ℕ). take h.count (drop (n - (h.offset + h.count)) last)) (sym fits.same)
-        ∙ ap (λ (xs : List ℕ). take h.count (drop (length first - (h.offset + h.count)) xs)) (sym fits.ends) ∙ part_of_last file (length first) h.offset h.count inside fits.inside in
-        record { offset = h.offset; count = h.count; from_min = h.from_low; to_max = h.to_high; inside = omega (arith, inside, fits.inside); matched = rw e at h.matched },
+        ∙ ap (λ (xs : List ℕ). take h.count (drop (length first - (h.offset + h.count)) xs)) (sym fits.ends) ∙ part_of_last file (length first) h.offset h.count inside inside_file in
+        record { offset = h.offset; count = h.count; from_min = h.from_low; to_max = h.to_high; inside = omega (arith, inside, fits.reached); matched = rw e at h.matched },
     λ h.
-        let inside : h.offset + h.count ≤ length first = omega (arith, h.inside) in
+        let inside : h.offset + h.count ≤ length first = omega (arith, h.inside, fits.reached) in
         let e : take h.count (drop (length last - (h.offset + h.count)) last) ≡ take h.count (drop (length file - (h.offset + h.count)) file) =
         ap (λ (n : ℕ). take h.count (drop (n - (h.offset + h.count)) last)) (sym fits.same)
-        ∙ ap (λ (xs : List ℕ). take h.count (drop (length first - (h.offset + h.count)) xs)) (sym fits.ends) ∙ part_of_last file (length first) h.offset h.count inside fits.inside in
+        ∙ ap (λ (xs : List ℕ). take h.count (drop (length first - (h.offset + h.count)) xs)) (sym fits.ends) ∙ part_of_last file (length first) h.offset h.count inside inside_file in
         record { offset = h.offset; count = h.count; from_low = h.from_min; to_high = h.to_max; inside = omega (arith, inside, fits.same); matched = rw (sym e) at h.matched },
   )
 
-  pub found_in_file : (registry : Contents) (name : List ℕ) (match_all : Bool) (found : Found) → IsFoundBy (HitsWindows first last) registry name match_all found → IsFound registry name file (length first) match_all found
-  found_in_file registry name match_all found is = found_same (HitsWindows first last) (Hits file (length first)) (λ q. hits_from q.offsets.anchor q) registry name match_all found is
+  pub found_in_file : (registry : Contents) (name : List ℕ) (match_all : Bool) (found : Found) → IsFoundBy (HitsWindows first last) registry name match_all found → IsFound registry name file limit match_all found
+  found_in_file registry name match_all found is = found_same (HitsWindows first last) (Hits file limit) (λ q. hits_from q.offsets.anchor q) registry name match_all found is

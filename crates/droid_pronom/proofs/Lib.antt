@@ -2,7 +2,9 @@ pub mod Flags
 pub mod FoundExtension
 pub mod FoundFile
 pub mod FoundOnce
+mod FoundRows
 pub mod FoundSteps
+pub mod FoundTests
 pub mod MarkSteps
 pub mod Marks
 pub mod RegistryForms

@@ -2,7 +2,8 @@
 
 use crate::samples::{CHAIN, CYCLE, SAMPLE};
 use droid_frame::Method;
-use droid_pronom::{Registry, extension};
+use droid_pronom::{Found, Registry, extension};
+use std::alloc::{AllocError, Global};
 use std::test::Fail;
 
 const LETTERS: &[u8] = b"abcdefghijklmnopqrstuvwxyz";
@@ -158,39 +159,61 @@ const FILES: [Row; 17] = [
     ),
 ];
 
+/// What is found of a file under a limit: its windows have so many bytes, or all of them.
+fn found_under(
+    alloc: Global,
+    registry: &Registry,
+    name: &str,
+    bytes: &[u8],
+    limit: usize,
+    match_all: bool,
+) -> Result<Found, AllocError> {
+    let width = limit.min(65_536).min(bytes.len());
+    prove!(width <= 65_536);
+    let (first, _) = bytes.split_at(width);
+    let (_, last) = bytes.split_at(bytes.len() - width);
+    prove!(first.len() == width);
+    prove!(last.len() == width);
+    let size = bytes.len() as u64;
+    prove!(width as u64 <= size);
+    registry.identify(alloc, name, first, last, size, match_all)
+}
+
+/// The PUIDs that were found, with spaces between them.
+fn joined(alloc: Global, found: &Found) -> Result<String, Fail> {
+    let mut text = String::new(alloc);
+    for place in 0..found.puids.len() {
+        if place > 0 {
+            text.push(' ')?;
+        }
+        let puid = found.puids.get(place).ok_or("no PUID")?;
+        text.push_str(puid.as_str())?;
+    }
+    Ok(text)
+}
+
 #[test]
 fn files(rt: HostRuntime) -> Result<(), Fail> {
     let alloc = rt.alloc();
-    for (text, name, bytes, limit, match_all, want) in FILES {
+    for (text, name, bytes, limit, match_all, (method, mismatch, puids)) in FILES {
         let registry = Registry::parse(alloc, text.as_bytes())?;
-        let (method, mismatch, puids) = want;
-        let width = limit.min(bytes.len());
-        assert!(rt; width <= 65_536);
-        let (first, _) = bytes.split_at(width);
-        let (_, last) = bytes.split_at(bytes.len() - width);
-        let size = bytes.len() as u64;
-        assert!(rt; width as u64 <= size);
-        assert!(rt; first.len() == width);
-        assert!(rt; last.len() == width);
-        let found = registry.identify(alloc, name, first, last, size, match_all)?;
-        let mut joined = String::new(alloc);
-        for place in 0..found.puids.len() {
-            if place > 0 {
-                joined.push(' ')?;
-            }
-            let puid = found.puids.get(place).ok_or("no PUID")?;
-            joined.push_str(puid.as_str())?;
-        }
-        assert_eq!(rt; joined.as_str(), puids, "{name} under {limit}");
-        assert_eq!(rt; found.method, method, "{name} under {limit}");
-        assert_eq!(rt; found.mismatch, mismatch, "{name} under {limit}");
+        let found = found_under(alloc, &registry, name, bytes, limit, match_all)?;
+        assert_eq!(rt;
+            joined(alloc, &found)?.as_str(),
+            puids,
+            "{name} under {limit}"
+        );
+        assert!(rt;
+            found.method == method && found.mismatch == mismatch,
+            "{name} under {limit}"
+        );
     }
     Ok(())
 }
 
 #[test]
 fn extensions(rt: HostRuntime) {
-    for (name, want) in [
+    for (name, want) in &[
         ("a.txt", "txt"),
         ("a.tar.gz", "gz"),
         (".profile", ""),
@@ -200,6 +223,6 @@ fn extensions(rt: HostRuntime) {
         ("", ""),
         ("ä.öé", "öé"),
     ] {
-        assert_eq!(rt; extension(name), want, "of {name}");
+        assert_eq!(rt; extension(name), *want, "of {name}");
     }
 }

@@ -38,15 +38,15 @@ fn largest_registry(rt: HostRuntime) -> Result<(), Fail> {
     }
     name.push_str(".E4095")?;
     assert_eq!(rt; name.len(), 255);
-    for (bytes, match_all, method) in [
+    for (bytes, match_all, method) in &[
         (b"aaaa", true, Method::Extension),
         (b"aaaa", false, Method::Unidentified),
         (b"abyz", true, Method::Extension),
         (b"abyz", false, Method::Unidentified),
     ] {
-        let found = registry.identify(alloc, name.as_str(), bytes, bytes, 4, match_all)?;
-        assert_eq!(rt; found.method, method);
-        assert_eq!(rt; found.puids.is_empty(), !match_all);
+        let found = registry.identify(alloc, name.as_str(), *bytes, *bytes, 4, *match_all)?;
+        assert_eq!(rt; found.method, *method);
+        assert_eq!(rt; found.puids.is_empty(), !*match_all);
     }
     Ok(())
 }

@@ -22,7 +22,7 @@ fn hits(alloc: Global, sequence: &str, bytes: &[u8]) -> Result<bool, Fail>
 #[test]
 fn ranges_of_offsets(rt: HostRuntime) -> Result<(), Fail> {
     let alloc = rt.alloc();
-    for (low, high, from_beginning, from_end) in [
+    for (low, high, from_beginning, from_end) in &[
         (0u32, 0u32, false, false),
         (0, 1, false, false),
         (0, 2, true, false),
@@ -36,13 +36,13 @@ fn ranges_of_offsets(rt: HostRuntime) -> Result<(), Fail> {
         let sequence = format!(in alloc; "BOF,{low},{high},6162")?;
         assert_eq!(rt;
             hits(alloc, sequence.as_str(), b"zzabzzz")?,
-            from_beginning,
+            *from_beginning,
             "{low} to {high}"
         );
         let sequence = format!(in alloc; "EOF,{low},{high},6162")?;
         assert_eq!(rt;
             hits(alloc, sequence.as_str(), b"zzabzzz")?,
-            from_end,
+            *from_end,
             "{low} to {high}"
         );
     }

@@ -1,6 +1,7 @@
 //! Patterns alone.
 
 use droid_pronom::{Pattern, PatternFault};
+use std::alloc::Global;
 use std::test::Fail;
 
 /// Texts that are no pattern.
@@ -88,7 +89,7 @@ const MATCHES: [(&str, &[u8], bool, bool); 41] = [
 
 #[test]
 fn texts_that_are_no_pattern(rt: HostRuntime) {
-    for text in BAD {
+    for text in &BAD {
         assert!(rt;
             matches!(
                 Pattern::read(rt.alloc(), text),
@@ -99,19 +100,21 @@ fn texts_that_are_no_pattern(rt: HostRuntime) {
     }
 }
 
+/// Whether a match begins at the first byte, and whether one ends after the last.
+fn ends_of(alloc: Global, text: &str, bytes: &[u8]) -> Result<(bool, bool), PatternFault> {
+    let pattern = Pattern::read(alloc, text)?;
+    let from = pattern.matches_from(alloc, bytes, 0)?;
+    let to = pattern.matches_to(alloc, bytes, bytes.len())?;
+    Ok((from, to))
+}
+
 #[test]
 fn matches_from_the_first_and_to_the_last_byte(rt: HostRuntime) -> Result<(), Fail> {
-    for (text, bytes, from, to) in MATCHES {
-        let pattern = Pattern::read(rt.alloc(), text)?;
+    for (text, bytes, from, to) in &MATCHES {
         assert_eq!(rt;
-            pattern.matches_from(rt.alloc(), bytes, 0)?,
-            from,
-            "from, at {text}"
-        );
-        assert_eq!(rt;
-            pattern.matches_to(rt.alloc(), bytes, bytes.len())?,
-            to,
-            "to, at {text}"
+            ends_of(rt.alloc(), text, bytes)?,
+            (*from, *to),
+            "at {text}"
         );
     }
     Ok(())
@@ -130,22 +133,22 @@ const PLACES: [(&[u8], usize, bool, bool); 6] = [
 #[test]
 fn matches_at_other_places(rt: HostRuntime) -> Result<(), Fail> {
     let pattern = Pattern::read(rt.alloc(), "(61|6263)64")?;
-    for (bytes, place, from, to) in PLACES {
-        assert!(rt; place <= bytes.len());
-        assert_eq!(rt; pattern.matches_from(rt.alloc(), bytes, place)?, from);
-        assert_eq!(rt; pattern.matches_to(rt.alloc(), bytes, place)?, to);
+    for (bytes, place, from, to) in &PLACES {
+        assert!(rt; *place <= bytes.len());
+        assert_eq!(rt; pattern.matches_from(rt.alloc(), bytes, *place)?, *from);
+        assert_eq!(rt; pattern.matches_to(rt.alloc(), bytes, *place)?, *to);
     }
     Ok(())
 }
 
 #[test]
 fn texts_of_faults(rt: HostRuntime) -> Result<(), Fail> {
-    for (fault, want) in [
+    for (fault, want) in &[
         (PatternFault::BadPattern, "the text is no pattern"),
         (PatternFault::Memory, "memory ran out"),
     ] {
         let text = format!(in rt.alloc(); "{fault}")?;
-        assert_eq!(rt; text.as_str(), want);
+        assert_eq!(rt; text.as_str(), *want);
     }
     Ok(())
 }

@@ -8,6 +8,14 @@ use std::io;
 use std::io::{Error, ErrorKind, Read};
 use std::test::Fail;
 
+/// The first record, and what the file comes to.
+const FIRST_RECORDS: [(&[u8], &str); 4] = [
+    (b"", "0 formats"),
+    (b"E,dev/9,x,,,", "UnknownPuid at 1"),
+    (b"F,dev/1,\xff,,,\n", "NotUtf8 at 1"),
+    (b"F,dev/1,\xff,,\n", "BadRecord at 1"),
+];
+
 /// The records after `F,dev/1,A,,,`, and what the file comes to.
 const RECORDS: [(&str, &str); 40] = [
     ("", "1 formats"),
@@ -80,24 +88,14 @@ fn is_judged(outcome: &str) -> bool {
 #[test]
 fn registry_faults(rt: HostRuntime) -> Result<(), Fail> {
     let alloc = rt.alloc();
-    assert_eq!(rt; outcome(alloc, b"")?.as_str(), "0 formats");
-    assert_eq!(rt;
-        outcome(alloc, b"E,dev/9,x,,,")?.as_str(),
-        "UnknownPuid at 1"
-    );
-    assert_eq!(rt;
-        outcome(alloc, b"F,dev/1,\xff,,,\n")?.as_str(),
-        "NotUtf8 at 1"
-    );
-    assert_eq!(rt;
-        outcome(alloc, b"F,dev/1,\xff,,\n")?.as_str(),
-        "BadRecord at 1"
-    );
-    for (records, want) in RECORDS {
+    for (bytes, want) in &FIRST_RECORDS {
+        assert_eq!(rt; outcome(alloc, bytes)?.as_str(), *want);
+    }
+    for (records, want) in &RECORDS {
         let text = format!(in alloc; "F,dev/1,A,,,\n{records}")?;
         assert_eq!(rt;
             outcome(alloc, text.as_str().as_bytes())?.as_str(),
-            want,
+            *want,
             "after {records:?}"
         );
     }
@@ -171,7 +169,7 @@ fn repeated(alloc: Global, row: &str) -> Result<String, AllocError> {
 #[test]
 fn limits_of_rows(rt: HostRuntime) -> Result<(), Fail> {
     let alloc = rt.alloc();
-    for (row, last, at) in [
+    for (row, last, at) in &[
         ("E,a,x,,,\n", "E,a,x,,,\n", 16_387u64),
         ("P,a,b,,,\n", "P,b,a,,,\n", 16_387),
         ("S,a,BOF,0,0,61\n", "S,a,BOF,0,0,61\n", 16_387),
@@ -189,7 +187,7 @@ fn limits_of_rows(rt: HostRuntime) -> Result<(), Fail> {
             Err(RegistryFault::TooMany { at }) => at,
             _ => 0,
         };
-        assert_eq!(rt; found, at);
+        assert_eq!(rt; found, *at);
     }
     Ok(())
 }
@@ -245,12 +243,12 @@ const READERS: [(u32, Option<usize>, &str); 6] = [
 #[test]
 fn readers(rt: HostRuntime) -> Result<(), Fail> {
     let alloc = rt.alloc();
-    for (interruptions, fails_at, want) in READERS {
+    for (interruptions, fails_at, want) in &READERS {
         let mut reader = Unsteady::new(Halting {
             bytes: SAMPLE.as_bytes(),
-            interruptions,
+            interruptions: *interruptions,
             is_next: false,
-            fails_at,
+            fails_at: *fails_at,
         });
         let text = match Registry::read(alloc, &mut reader) {
             Ok(registry) => {
@@ -259,7 +257,7 @@ fn readers(rt: HostRuntime) -> Result<(), Fail> {
             }
             Err(fault) => format!(in alloc; "{fault}")?,
         };
-        assert_eq!(rt; text.as_str(), want, "after {interruptions} interruptions");
+        assert_eq!(rt; text.as_str(), *want, "after {interruptions} interruptions");
     }
     let lines = vec![in alloc; b'\n'; 16_777_217]?;
     let mut reader = lines.as_slice();

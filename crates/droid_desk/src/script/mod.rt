@@ -3,17 +3,14 @@
 ghost use Rattle.std.specs.Prelude.{◌≡◌, ◌≢◌, length, IfOk, IfSome, IfErr, OnOk, IsErrOf, IsErrAnd};
 ghost use Rattle.droid_stream.specs.Seen.{IsSound, TellsFault};
 ghost use Rattle.droid_core.specs.Histories.{History};
-ghost use Rattle.droid_desk.specs.Lines.{lines_of};
+ghost use Rattle.droid_lines.specs.Lines.{lines_of};
 ghost use Rattle.droid_desk.specs.Scripts.{RunsAll, RunsFront, Counts, IsOfHandling, IsOfReading, IsTooLong, StandsForSome, TellsFaultOver};
 ghost use Rattle.droid_core.specs.Standing.{StandsFor, limits_of};
 
-mod cut;
 mod fault;
-mod parse;
-mod print;
 mod run;
+mod taken;
 mod tally;
-mod words;
 
 use droid_core::Service;
 use droid_stream::{SteadyRead, SteadyWrite, read_to_end};

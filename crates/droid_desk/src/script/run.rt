@@ -3,17 +3,17 @@
 ghost use Rattle.std.specs.Prelude.{◌≡◌, ◌∷◌, [], IfOk, IfErr, IsErrOf, OnOk, OnErr, is_none, length};
 ghost use Rattle.droid_stream.specs.Seen.{IsSound, TellsFault};
 ghost use Rattle.droid_core.specs.Histories.{History};
-ghost use Rattle.droid_desk.specs.Lines.{lines_of, line_value};
+ghost use Rattle.droid_lines.specs.Lines.{lines_of};
+ghost use Rattle.droid_desk.specs.Lines.{taken_line};
 ghost use Rattle.droid_desk.specs.Scripts.{RunsAll, RunsFront, LineAnswered, Counts, IsOfHandling, TellsFaultOver, is_bad};
 ghost use Rattle.droid_core.specs.Standing.{StandsFor, limits_of};
 
-use super::cut::next_line;
 use super::fault::ScriptFault;
-use super::parse::parse_line;
-use super::print::print_answer;
+use super::taken::parse_taken;
 use super::tally::Tally;
 use droid_core::Service;
 use droid_frame::{Reply, request_frame};
+use droid_lines::{next_line, print_answer};
 use droid_stream::{Progress, SteadyWrite, write_all};
 use std::alloc::{AllocError, Global};
 
@@ -65,9 +65,8 @@ fn run_line<W: SteadyWrite>(
     ensures handling { IfErr result IsOfHandling }
 {
     let answer = handle_line(alloc, service, line)?;
-    let mut text = String::new(alloc);
-    print_answer(&mut text, &answer)?;
-    write_all(writer, text.as_str().as_bytes(), &mut Progress::new())?;
+    let printed = print_answer(alloc, &answer)?;
+    write_all(writer, printed.as_slice(), &mut Progress::new())?;
     Ok(answer.is_none())
 }
 
@@ -78,12 +77,12 @@ fn handle_line(
     line: &[u8],
 ) -> Result<Option<Reply>, AllocError>
     ensures ok { (history : History) → StandsFor service.old history →
-        IfOk result (λ answer. LineAnswered (limits_of service.old) history (line_value line.now) answer service.new) }
+        IfOk result (λ answer. LineAnswered (limits_of service.old) history (taken_line line.now) answer service.new) }
     ensures err { OnErr result (service.new ≡ service.old) }
     ensures bad { IfOk result (λ answer. is_none answer ≡ is_bad line.now) }
     ensures limits { limits_of service.new ≡ limits_of service.old }
 {
-    let Some(line) = parse_line(alloc, line)? else {
+    let Some(line) = parse_taken(alloc, line)? else {
         return Ok(None);
     };
     let frame = request_frame(alloc, line.client, line.number, &line.request)?;

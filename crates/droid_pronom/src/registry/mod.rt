@@ -1,6 +1,6 @@
 //! The registry: formats, and what tells them apart.
 
-ghost use Rattle.std.specs.Prelude.{◌≡◌, ◌≢◌, ℕ, List, ◌+◌, ◌-◌, ◌<◌, ◌≤◌, ◌++◌, ◌∷◌, [], length, take, drop, IsTrue, IfSome, option_map, Some, None, Err, IfOk, IsErrOf, OnOk, OnErr, slice_get, true, ◌↔◌};
+ghost use Rattle.std.specs.Prelude.{◌≡◌, ◌≢◌, ℕ, List, ◌+◌, ◌-◌, ◌<◌, ◌≤◌, ◌++◌, ◌∷◌, [], length, take, drop, min, IsTrue, IfSome, option_map, Some, None, Err, IfOk, IsErrOf, OnOk, OnErr, slice_get, true, ◌↔◌};
 ghost use Rattle.std.specs.Option.{option_copied};
 ghost use Rattle.std.specs.List.{AllByRecursion};
 ghost use Rattle.droid_pronom.specs.Found.{IsFound};
@@ -172,9 +172,9 @@ impl Registry {
         requires same { length first.now ≡ length last.now }
         requires few { length first.now ≤ 65536 }
         requires inside { length first.now ≤ size }
-        // What is found in every file of that size which begins and ends with these bytes, with
-        // their length as the limit.
-        ensures found { IfOk result (λ found. (file : List ℕ) → length file ≡ size → take (length first.now) file ≡ first.now → drop (size - length first.now) file ≡ last.now → IsFound self.now name.now file (length first.now) match_all found) }
+        // What is found in every file of that size which begins and ends with these bytes, under
+        // every limit that leaves so many of them.
+        ensures found { IfOk result (λ found. (file : List ℕ) (limit : ℕ) → length file ≡ size → min limit size ≡ length first.now → take (length first.now) file ≡ first.now → drop (size - length first.now) file ≡ last.now → IsFound self.now name.now file limit match_all found) }
         ensures few { IfOk result (λ found. length found.puids ≤ 4096) }
         ensures puids { IfOk result (λ found. AllByRecursion (λ puid. IsTrue (is_puid puid)) found.puids) }
     {

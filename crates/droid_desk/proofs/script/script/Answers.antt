@@ -1,6 +1,6 @@
 use Rattle.std.proofs.Common.{List, ℕ, IfSome}
 use Rattle.droid_desk.specs.declared.script.fault.ScriptFault.{ScriptFault}
-use Rattle.droid_desk.specs.Lines.{lines_of}
+use Rattle.droid_lines.specs.Lines.{lines_of}
 use Rattle.droid_desk.specs.Scripts.{RunsFront, IsOfHandling}
 use Rattle.droid_core.specs.Standing.{limits_of}
 use Rattle.droid_desk.proofs.ScriptRuns.{runs_nothing, kept_up}

@@ -1,7 +1,7 @@
-use Rattle.std.proofs.Common.{◌≡◌, List, [], ◌∷◌, ◌++◌, ℕ, sym, ap, subst, ◌∙◌}
+use Rattle.std.proofs.Common.{◌≡◌, [], ◌∷◌, sym, subst, ◌∙◌}
 use Rattle.std.specs.Io.KnownBytes.{Appends}
 use Rattle.droid_core.specs.declared.service.Service.{Service}
-use Rattle.droid_desk.specs.Printed.{answer_line}
+use Rattle.droid_lines.specs.Printed.{answer_line}
 use Rattle.droid_desk.specs.Scripts.{RunsFront, WritesFront}
 use Rattle.droid_core.specs.Standing.{limits_of}
 use Rattle.droid_desk.proofs.ScriptRuns.{line_runs, line_runs_front, writes_nothing, runs_nothing}
@@ -19,8 +19,8 @@ returns-in_err-answer-clause-front g c = λ history stands.
     on_err _ _ (subst (λ (s : Service). RunsFront (limits_of c.args.service.now) history (c.args.line.now ∷ []) s bytes bytes) (sym c.in_err-answer.ensures.err)
     (runs_nothing (limits_of c.args.service.now) history (c.args.line.now ∷ []) c.args.service.now bytes stands))
 
-pub returns-in_err-print_answer-clause-front : goal.returns-in_err-print_answer-clause-front
-returns-in_err-print_answer-clause-front g c = λ history stands.
+pub returns-in_err-printed-clause-front : goal.returns-in_err-printed-clause-front
+returns-in_err-printed-clause-front g c = λ history stands.
     let answer = c.in_ok-answer.answer in
     let bytes = g.W.Write.contents c.args.writer.now in
     on_err _ _ (line_runs_front (limits_of c.args.service.now) history c.args.line.now answer c.handle_line.new.service bytes bytes
@@ -31,8 +31,7 @@ returns-in_err-write_all-clause-front g c = λ history stands.
     let answer = c.in_ok-answer.answer in
     let old = g.W.Write.contents c.args.writer.now in
     let new = g.W.Write.contents c.write_all.new.writer in
-    let text : c.as_bytes.result.now ≡ answer_line answer =
-    c.as_bytes.ensures.value ∙ (c.as_str.ensures.value ∙ (c.in_ok-print_answer.ensures ∙ ap (λ (l : List ℕ). l ++ answer_line answer) c.new-text.ensures.bytes)) in
+    let text : c.as_slice.result.now ≡ answer_line answer = c.as_slice.ensures.value ∙ c.in_ok-printed.ensures in
     on_err _ _ (line_runs_front (limits_of c.args.service.now) history c.args.line.now answer c.handle_line.new.service old new
     (c.in_ok-answer.ensures.ok history stands) (subst (WritesFront old new) text (front_written _ _ _ _ _ c.in_err-write_all.ensures.err)))
 
@@ -41,8 +40,7 @@ returns-clause-all g c = λ history stands.
     let answer = c.in_ok-answer.answer in
     let old = g.W.Write.contents c.args.writer.now in
     let new = g.W.Write.contents c.write_all.new.writer in
-    let text : c.as_bytes.result.now ≡ answer_line answer =
-    c.as_bytes.ensures.value ∙ (c.as_str.ensures.value ∙ (c.in_ok-print_answer.ensures ∙ ap (λ (l : List ℕ). l ++ answer_line answer) c.new-text.ensures.bytes)) in
+    let text : c.as_slice.result.now ≡ answer_line answer = c.as_slice.ensures.value ∙ c.in_ok-printed.ensures in
     line_runs (limits_of c.args.service.now) history c.args.line.now answer c.handle_line.new.service old new
     (c.in_ok-answer.ensures.ok history stands) (subst (Appends old new) text c.in_ok-write_all.ensures.ok)
 

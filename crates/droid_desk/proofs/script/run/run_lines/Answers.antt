@@ -1,6 +1,6 @@
 use Rattle.std.proofs.Common.{rules, ◌≡◌, true, false, length, refl, arith}
 use Rattle.droid_desk.specs.Scripts.{is_bad}
-use Rattle.droid_desk.specs.Lines.{lines_of}
+use Rattle.droid_lines.specs.Lines.{lines_of}
 use Rattle.droid_desk.proofs.ScriptFaults.{lasts_once_more, told_none, told_over}
 use Rattle.droid_desk.proofs.ScriptRuns.{step, stop, line_is_left, lines_are_within}
 use Rattle.droid_desk.proofs.ScriptWrites.{on_err}

@@ -1,0 +1,11 @@
+pub mod Alone
+pub mod AnswersOnce
+pub mod Elements
+pub mod Hearing
+pub mod Held
+pub mod Invariant
+pub mod Judged
+pub mod PendingPlaces
+pub mod RequestKinds
+pub mod Stays
+pub mod Steps

@@ -1,0 +1,4 @@
+pub mod Cores
+pub mod Desks
+pub mod Places
+pub mod Schedules

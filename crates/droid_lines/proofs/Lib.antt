@@ -1,0 +1,6 @@
+pub mod Criteria
+pub mod Fitting
+pub mod LineCuts
+pub mod LineNumbers
+pub mod LineWords
+pub mod Printing

@@ -1,0 +1,5 @@
+pub mod Exports
+pub mod Lines
+pub mod Printed
+pub mod Requests
+pub mod Words

@@ -1,0 +1,16 @@
+//! The lines of a script, and how replies are printed.
+//!
+//! A line of text asks for what a request asks for, and each reply has a line of text. This crate reads the
+//! one and prints the other.
+#![tactic(auto)]
+
+mod cut;
+mod exports;
+mod parse;
+mod print;
+mod requests;
+mod words;
+
+pub use cut::next_line;
+pub use parse::{Line, parse_line};
+pub use print::print_answer;

@@ -1,0 +1,14 @@
+//! One unfinished file, and whose it is.
+
+use droid_assembly::Assembly;
+
+/// An unfinished file: its profile, its number there, and the pieces that were taken of it.
+#[derive(Debug, Drop)]
+pub struct UnfinishedFile {
+    /// The number of the profile.
+    pub profile: u32,
+    /// The number of the file in its profile.
+    pub file: u32,
+    /// The pieces of it.
+    pub assembly: Assembly,
+}
