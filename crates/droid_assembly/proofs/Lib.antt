@@ -1,4 +1,5 @@
 pub mod Along
+pub mod Digests
 pub mod Ends
 pub mod Fresh
 pub mod Indexes

@@ -1,10 +1,11 @@
 //! One unfinished file.
 
-ghost use Rattle.std.specs.Prelude.{◌≡◌, ◌+◌, ◌-◌, ◌*◌, ◌<◌, ◌≤◌, ◌↔◌, ◌++◌, ◌∷◌, [], ℕ, List, length, min, IsOk, IfOk, IfErr, OnOk, OnErr, IsErrOf, IsTrue, IsSome, None, Some, option_map, MatchBool};
+ghost use Rattle.std.specs.Prelude.{◌≡◌, ◌+◌, ◌-◌, ◌*◌, ◌^◌, ◌<◌, ◌≤◌, ◌↔◌, ◌++◌, ◌∷◌, [], ℕ, List, length, min, IsOk, IfOk, IfErr, OnOk, OnErr, IsErrOf, IsTrue, IsSome, None, Some, option_map, MatchBool};
 ghost use Rattle.std.specs.Bool.{OnFalse};
 ghost use Rattle.droid_assembly.specs.Pieces.{Piece, AreSizes, IsDue, HasIndex, LacksIndex, held as held_of, bytes_held, missing as missing_of, file_bytes, first_window, last_window};
 ghost use Rattle.droid_assembly.specs.State.{StandsFor, IsComplete, IsOfSameFile, IsUnchanged, IsDigestOf, count_of, with_pending, pending_bytes as pending_len, slot};
 ghost use Rattle.droid_assembly.specs.Kept.{pieces_from};
+ghost use Rattle.droid_frame.specs.Replies.{IsDigest};
 ghost use Rattle.md5.specs.Md5.{md5};
 ghost use Rattle.std.specs.Borrow.{sem};
 
@@ -168,6 +169,9 @@ impl Assembly {
 
         // Each assembly stands for some list of pieces.
         ensures stands { (pieces : List Piece) × StandsFor self.now pieces }
+
+        // At most 16 of them lie past the first missing one.
+        ensures few { result ≤ 2 ^ 20 + 16 }
     {
         self.held
     }
@@ -207,6 +211,7 @@ impl Assembly {
         ensures same_size { IfOk result (λ sealed. sealed.size ≡ self.old.size) }
         ensures digest { (pieces : List Piece) → StandsFor self.old pieces
             → IfOk result (λ sealed. sealed.md5 ≡ md5 (file_bytes (count_of self.old) pieces)) }
+        ensures sixteen { IfOk result (λ sealed. IsDigest sealed.md5) }
         ensures incomplete { (pieces : List Piece) → StandsFor self.old pieces
             → IfErr result (λ fault. fault.missing ≡ missing_of (count_of self.old) pieces) }
         ensures some_missing { (pieces : List Piece) → StandsFor self.old pieces

@@ -1,11 +1,12 @@
 //! The unfinished files of a service.
 
-ghost use Rattle.std.specs.Prelude.{◌≡◌, ◌≢◌, ◌+◌, ◌-◌, ◌*◌, ◌<◌, ◌≤◌, ◌↔◌, ◌++◌, ◌∷◌, [], ℕ, List, length, min, Ok, Err, Some, None, IsTrue, IsOk, IfOk, IfSome, OnOk, OnErr, IsErrOf, IsSome, is_some, false};
+ghost use Rattle.std.specs.Prelude.{◌≡◌, ◌≢◌, ◌+◌, ◌-◌, ◌*◌, ◌^◌, ◌<◌, ◌≤◌, ◌↔◌, ◌++◌, ◌∷◌, [], ℕ, List, length, min, Ok, Err, Some, None, IsTrue, IsOk, IfOk, IfSome, OnOk, OnErr, IsErrOf, IsSome, is_some, false};
 ghost use Rattle.std.specs.Bool.{OnFalse};
 ghost use Rattle.std.specs.List.{slice_get, AllByRecursion};
 ghost use Rattle.md5.specs.Md5.{md5};
 ghost use Rattle.droid_assembly.specs.Pieces.{Piece, IsDue, HasIndex, LacksIndex, held as held_of, bytes_held, missing as missing_of, file_bytes};
 ghost use Rattle.droid_assembly.specs.State.{StandsFor, IsComplete, IsOfSameFile, IsUnchanged, count_of, with_pending, pending_bytes};
+ghost use Rattle.droid_frame.specs.Replies.{IsDigest};
 ghost use Rattle.droid_pronom.specs.Found.{IsFound};
 ghost use Rattle.droid_pronom.specs.RegistryFields.{is_puid};
 
@@ -180,6 +181,7 @@ impl UnfinishedFiles {
 
         // Each of the files stands for some list of pieces.
         ensures stands { At self.now place (λ file. (pieces : List Piece) × StandsFor file pieces) }
+        ensures few { result ≤ 2 ^ 20 + 16 }
     {
         self.files[place].assembly.held()
     }
@@ -237,6 +239,7 @@ impl UnfinishedFiles {
             → IfOk result (λ finding. finding.sealed.size ≡ length (file_bytes (count_of file) pieces))) }
         ensures digest { At self.old place (λ file. (pieces : List Piece) → StandsFor file pieces
             → IfOk result (λ finding. finding.sealed.md5 ≡ md5 (file_bytes (count_of file) pieces))) }
+        ensures sixteen { IfOk result (λ finding. IsDigest finding.sealed.md5) }
         ensures found { At self.old place (λ file. (pieces : List Piece) → StandsFor file pieces
             → IfOk result (λ finding. IsFound registry.now name.now (file_bytes (count_of file) pieces) file.limit match_all finding.found)) }
         ensures few { IfOk result (λ finding. length finding.found.puids ≤ 4096) }

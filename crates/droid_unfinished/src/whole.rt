@@ -5,6 +5,7 @@ ghost use Rattle.std.specs.List.{AllByRecursion};
 ghost use Rattle.md5.specs.Md5.{md5};
 ghost use Rattle.droid_assembly.specs.Pieces.{Piece, missing as missing_of, file_bytes};
 ghost use Rattle.droid_assembly.specs.State.{StandsFor, IsComplete, IsUnchanged, count_of};
+ghost use Rattle.droid_frame.specs.Replies.{IsDigest};
 ghost use Rattle.droid_pronom.specs.Found.{IsFound};
 ghost use Rattle.droid_pronom.specs.RegistryFields.{is_puid};
 
@@ -32,6 +33,7 @@ pub(crate) fn identify_whole(
         → IfOk result (λ finding. finding.sealed.size ≡ length (file_bytes (count_of file.old) pieces)) }
     ensures digest { (pieces : List Piece) → StandsFor file.old pieces
         → IfOk result (λ finding. finding.sealed.md5 ≡ md5 (file_bytes (count_of file.old) pieces)) }
+    ensures sixteen { IfOk result (λ finding. IsDigest finding.sealed.md5) }
     ensures found { (pieces : List Piece) → StandsFor file.old pieces
         → IfOk result (λ finding. IsFound registry.now name.now (file_bytes (count_of file.old) pieces) file.old.limit match_all finding.found) }
     ensures few { IfOk result (λ finding. length finding.found.puids ≤ 4096) }
