@@ -1,1 +1,4 @@
 mod ByHand
+pub mod Each
+pub mod Counted
+pub mod Whole

@@ -8,4 +8,5 @@ pub mod Limits
 pub mod Records
 pub mod Setting
 pub mod Wants
+pub mod Whole
 pub mod World
