@@ -2,123 +2,91 @@
 //! Want of memory: a refused request is answered so, and the same request again is answered as it would
 //! have been.
 
-use droid_core::{Limits, Service};
-use droid_frame::{Frame, Refusal, Reply, Request, Text, request_frame};
+use crate::asking::{LARGEST, Step, ask_all, frame, is_wanting, printed, service};
+use droid_core::Service;
+use droid_frame::{Frame, Reply};
 use std::alloc::{AllocError, Global};
 use std::process::Abort;
 use std::test::Fail;
 
-const REQUESTS: usize = 4;
+/// The pieces of a file out of order, how far it is, its end, and its export.
+const OUT_OF_ORDER: &[Step] = &[
+    ("1 1 create 65536 0", "made 1\n"),
+    ("1 2 file 1 0 0 14 4 m.msg", "node 1\n"),
+    ("1 3 piece 1 1 3 7374", "taken 1\n"),
+    ("1 4 piece 1 1 1 61676520", "taken 2\n"),
+    ("1 5 piece 1 1 0 6d657373", "taken 3\n"),
+    ("1 6 piece 1 1 2 64696765", "taken 4\n"),
+    ("1 8 status 1 1", "progress 4 4\n"),
+    (
+        "1 7 finish 1 1",
+        "finished Signature false f96b697d7cb7938d525a2f31aaf161d0 dev/1,dev/3\n",
+    ),
+    ("1 4 piece 1 1 1 61676520", "taken 2\n"),
+    (
+        "1 7 finish 1 1",
+        "finished Signature false f96b697d7cb7938d525a2f31aaf161d0 dev/1,dev/3\n",
+    ),
+    ("1 9 file 1 0 0 14 4 other", "node 2\n"),
+    ("1 10 abandon 1 2", "abandoned\n"),
+    ("1 11 export 1 0 1", "part 9 530 1\n\""),
+];
 
-// Whether this is the reply to the request at this place.
-fn is_wanted(place: usize, reply: &Reply) -> bool {
-    match (place, reply) {
-        (0, Reply::Made { profile: 1 })
-        | (1 | 2, Reply::Node { id: 1 })
-        | (3, Reply::Refused(Refusal::NumberReused)) => true,
-        _ => false,
-    }
+#[test]
+fn one_after_the_other(rt: HostRuntime) -> Result<(), Fail> {
+    let mut service = service(&rt, rt.alloc(), LARGEST)?;
+    ask_all(&rt, rt.alloc(), &mut service, "out of order", OUT_OF_ORDER)
 }
 
-fn is_wanting(reply: &Reply) -> bool {
-    matches!(reply, Reply::Refused(Refusal::Memory))
-}
+/// The requests of the stored run: a profile, a folder, the same again, another folder under its number.
+const STORED: [Step; 4] = [
+    ("1 1 create 65536 0", "made 1\n"),
+    ("1 2 folder 1 0 0 in", "node 1\n"),
+    ("1 2 folder 1 0 0 in", "node 1\n"),
+    ("1 2 folder 1 0 0 out", "refused 2\n"),
+];
 
-fn are_wanted(replies: &[Reply]) -> bool {
-    let mut places = replies.iter().enumerate();
-    replies.len() == REQUESTS && places.all(|(place, reply)| is_wanted(place, reply))
-}
-
-// The requests of the stored run: a profile, a folder, the same again, another folder under its number.
-fn request(alloc: Global, place: usize) -> Result<Frame, AllocError> {
-    let folder = |name: &str| -> Result<Request, AllocError> {
-        Ok(Request::AddFolder {
-            profile: 1,
-            parent: 0,
-            modified: 0,
-            name: Text::copy_of(alloc, name)?,
-        })
-    };
-    match place {
-        0 => {
-            let request = Request::CreateProfile {
-                scan_limit: 65_536,
-                match_all: false,
-            };
-            Ok(made(alloc, 1, request)?)
-        }
-        1 | 2 => Ok(made(alloc, 2, folder("in")?)?),
-        _ => Ok(made(alloc, 2, folder("out")?)?),
-    }
-}
-
-fn made(alloc: Global, number: u64, request: Request) -> Result<Frame, AllocError> {
-    if !request.fits() {
-        return Err(AllocError);
-    }
-    request_frame(alloc, 1, number, &request)
-}
-
-fn requests(alloc: Global) -> Result<Vec<Frame>, AllocError> {
+fn requests(rt: &impl Abort, alloc: Global) -> Result<Vec<Frame>, AllocError> {
     let mut frames = Vec::new(alloc);
-    for place in 0..REQUESTS {
-        frames.push(request(alloc, place)?)?;
+    for (line, _) in STORED {
+        frames.push(frame(rt, alloc, line)?)?;
     }
     Ok(frames)
 }
 
-const LIMITS: Limits = Limits {
-    profiles: 64,
-    nodes: 100_000,
-    unfinished: 64,
-};
-
-fn service(alloc: Global) -> Result<Service, AllocError> {
-    Service::new(alloc, LIMITS).or_else(|_| Service::new(alloc, LIMITS))
-}
-
-// The reply to a request, which is sent again where memory was wanting.
-fn answer(
+/// The replies to the stored run, which is run again where there was no memory for the list of replies.
+fn replies(
     rt: &impl Abort,
     alloc: Global,
     service: &mut Service,
-    place: usize,
-) -> Result<Reply, AllocError> {
-    let frame = request(alloc, place).or_else(|_| request(alloc, place))?;
-    let reply = service.handle(frame);
-    if !is_wanting(&reply) {
-        return Ok(reply);
+) -> Result<Vec<Reply>, AllocError> {
+    let frames = requests(rt, alloc).or_else(|_| requests(rt, alloc))?;
+    match service.run(frames) {
+        Ok(replies) => Ok(replies),
+        Err(_) => service.run(requests(rt, alloc)?),
     }
-    let again = service.handle(request(alloc, place)?);
-    assert!(rt; !is_wanting(&again));
-    Ok(again)
 }
 
-#[test]
-fn one_after_the_other(rt: HostRuntime) -> Result<(), Fail> {
-    let mut service = service(rt.alloc())?;
-    for place in 0..REQUESTS {
-        let reply = answer(&rt, rt.alloc(), &mut service, place)?;
-        assert!(rt; is_wanted(place, &reply), "request {place}: {reply:?}");
+fn are_wanted(rt: &impl Abort, alloc: Global, replies: Vec<Reply>) -> Result<(), Fail> {
+    assert_eq!(rt; replies.len(), STORED.len());
+    for (reply, (line, wanted)) in replies.into_iter().zip(STORED) {
+        let printed = printed(alloc, reply)?;
+        assert!(rt;
+            printed.as_slice() == wanted.as_bytes(),
+            "{line}: {printed:?}"
+        );
     }
     Ok(())
 }
 
 #[test]
 fn in_one_run(rt: HostRuntime) -> Result<(), Fail> {
-    let mut service = service(rt.alloc())?;
-    let frames = requests(rt.alloc()).or_else(|_| requests(rt.alloc()))?;
-    if let Ok(replies) = service.run(frames) {
-        assert_eq!(rt; replies.len(), REQUESTS);
-        if !replies.iter().any(is_wanting) {
-            assert!(rt; are_wanted(replies.as_slice()), "{replies:?}");
-        }
+    let alloc = rt.alloc();
+    let mut service = service(&rt, alloc, LARGEST)?;
+    let first = replies(&rt, alloc, &mut service)?;
+    if !first.iter().any(is_wanting) {
+        are_wanted(&rt, alloc, first)?;
     }
-    let frames = requests(rt.alloc()).or_else(|_| requests(rt.alloc()))?;
-    let again = match service.run(frames) {
-        Ok(replies) => replies,
-        Err(_) => service.run(requests(rt.alloc())?)?,
-    };
-    assert!(rt; are_wanted(again.as_slice()), "{again:?}");
-    Ok(())
+    let again = replies(&rt, alloc, &mut service)?;
+    are_wanted(&rt, alloc, again)
 }

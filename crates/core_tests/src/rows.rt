@@ -1,141 +1,247 @@
-//! Requests and their replies, each row over a service of its own.
+//! Requests for folders and files, each row over a service of its own.
 
-use droid_core::{Limits, Service};
-use droid_frame::{Blob, Frame, Limit, Refusal, Reply, Request, Text, request_frame};
-use std::alloc::{AllocError, Global};
+use crate::asking::{LARGEST, Step, ask_all, service};
+use std::alloc::Global;
 use std::process::Abort;
 use std::test::Fail;
 
-/// What a request asks, and what it is answered.
-type Step<'a> = (u64, Ask<'a>, Answer);
+const CREATE: Step = ("1 1 create 65536 0", "made 1\n");
 
-#[derive(Clone, Copy)]
-enum Ask<'a> {
-    /// A profile of this scan limit.
-    Create(u32),
-    /// A folder of this profile, in this folder, of this moment and name.
-    Folder(u32, u32, i64, &'a str),
-}
-
-#[derive(Clone, Copy)]
-enum Answer {
-    Made(u32),
-    Node(u32),
-    No(Refusal),
-}
-
-fn frame(rt: &impl Abort, alloc: Global, number: u64, ask: Ask) -> Result<Frame, AllocError> {
-    let request = match ask {
-        Ask::Create(scan_limit) => Request::CreateProfile {
-            scan_limit,
-            match_all: false,
-        },
-        Ask::Folder(profile, parent, modified, name) => Request::AddFolder {
-            profile,
-            parent,
-            modified,
-            name: Text::copy_of(alloc, name)?,
-        },
-    };
-    assert!(rt; request.fits());
-    request_frame(alloc, 1, number, &request)
-}
-
-fn is_answer(reply: &Reply, answer: Answer) -> bool {
-    match (reply, answer) {
-        (Reply::Made { profile }, Answer::Made(wanted)) => *profile == wanted,
-        (Reply::Node { id }, Answer::Node(wanted)) => *id == wanted,
-        (Reply::Refused(refusal), Answer::No(wanted)) => *refusal == wanted,
-        _ => false,
-    }
-}
-
-fn service(rt: &impl Abort, alloc: Global, profiles: u32, nodes: u32) -> Result<Service, Fail> {
-    assert!(rt; profiles <= 64 && nodes <= 100_000);
-    let limits = Limits {
-        profiles,
-        nodes,
-        unfinished: 64,
-    };
-    Ok(Service::new(alloc, limits)?)
+fn check(rt: &impl Abort, alloc: Global, name: &str, steps: &[Step]) -> Result<(), Fail> {
+    let mut service = service(rt, alloc, LARGEST)?;
+    ask_all(rt, alloc, &mut service, name, steps)
 }
 
 #[test]
-fn rows(rt: HostRuntime) -> Result<(), Fail> {
-    let first = (1, Ask::Create(65_536), Answer::Made(1));
-    let rows: [(&str, u32, u32, &[Step]); 3] = [
+fn empty_file(rt: HostRuntime) -> Result<(), Fail> {
+    check(
+        &rt,
+        rt.alloc(),
+        "empty file",
+        &[
+            CREATE,
+            ("1 2 file 1 0 0 0 4 e.txt", "node 1\n"),
+            (
+                "1 3 finish 1 1",
+                "finished Extension false d41d8cd98f00b204e9800998ecf8427e dev/4\n",
+            ),
+        ],
+    )
+}
+
+#[test]
+fn incomplete_then_finished(rt: HostRuntime) -> Result<(), Fail> {
+    check(
+        &rt,
+        rt.alloc(),
+        "incomplete, then finished",
+        &[
+            CREATE,
+            ("1 2 file 1 0 0 14 4 m.msg", "node 1\n"),
+            ("1 3 piece 1 1 3 7374", "taken 1\n"),
+            ("1 5 piece 1 1 0 6d657373", "taken 2\n"),
+            ("1 6 piece 1 1 2 64696765", "taken 3\n"),
+            ("1 9 finish 1 1", "refused 16 1\n"),
+            ("1 4 piece 1 1 1 61676520", "taken 4\n"),
+            (
+                "1 9 finish 1 1",
+                "finished Signature false f96b697d7cb7938d525a2f31aaf161d0 dev/1,dev/3\n",
+            ),
+        ],
+    )
+}
+
+#[test]
+fn too_far_ahead(rt: HostRuntime) -> Result<(), Fail> {
+    check(
+        &rt,
+        rt.alloc(),
+        "too far ahead",
+        &[
+            CREATE,
+            ("1 2 file 1 0 0 20 1 w", "node 1\n"),
+            ("1 3 piece 1 1 15 70", "taken 1\n"),
+            ("1 4 piece 1 1 16 71", "refused 15 0\n"),
+            ("1 5 piece 1 1 0 61", "taken 2\n"),
+            ("1 4 piece 1 1 16 71", "taken 3\n"),
+            ("1 6 status 1 1", "progress 3 1\n"),
+        ],
+    )
+}
+
+#[test]
+fn bad_and_held_pieces(rt: HostRuntime) -> Result<(), Fail> {
+    check(
+        &rt,
+        rt.alloc(),
+        "bad and held pieces",
+        &[
+            CREATE,
+            ("1 2 file 1 0 0 14 4 m.msg", "node 1\n"),
+            ("1 3 piece 1 1 0 6d657373", "taken 1\n"),
+            ("1 4 piece 1 1 0 6d657373", "refused 14\n"),
+            ("1 5 piece 1 1 3 73", "refused 13\n"),
+            ("1 5 piece 1 1 3 737474", "refused 13\n"),
+            ("1 5 piece 1 1 4 73", "refused 13\n"),
+            ("1 5 piece 1 1 3 7374", "taken 2\n"),
+        ],
+    )
+}
+
+#[test]
+fn abandon(rt: HostRuntime) -> Result<(), Fail> {
+    check(
+        &rt,
+        rt.alloc(),
+        "abandon",
+        &[
+            CREATE,
+            ("1 2 file 1 0 0 4 4 x", "node 1\n"),
+            ("1 3 abandon 1 1", "abandoned\n"),
+            ("1 2 file 1 0 0 4 4 x", "node 1\n"),
+            ("1 4 piece 1 1 0 61616161", "refused 4\n"),
+            ("1 6 status 1 1", "refused 4\n"),
+            ("1 5 file 1 0 0 4 4 x", "node 2\n"),
+        ],
+    )
+}
+
+#[test]
+fn after_finish(rt: HostRuntime) -> Result<(), Fail> {
+    check(
+        &rt,
+        rt.alloc(),
+        "after finish",
+        &[
+            CREATE,
+            ("1 2 file 1 0 0 14 4 m.msg", "node 1\n"),
+            ("1 3 piece 1 1 3 7374", "taken 1\n"),
+            ("1 4 piece 1 1 1 61676520", "taken 2\n"),
+            ("1 5 piece 1 1 0 6d657373", "taken 3\n"),
+            ("1 6 piece 1 1 2 64696765", "taken 4\n"),
+            (
+                "1 7 finish 1 1",
+                "finished Signature false f96b697d7cb7938d525a2f31aaf161d0 dev/1,dev/3\n",
+            ),
+            ("1 8 piece 1 1 0 6d657373", "refused 12\n"),
+            ("1 8 finish 1 1", "refused 12\n"),
+            ("1 8 abandon 1 1", "refused 12\n"),
+            ("1 8 status 1 1", "progress 4 4\n"),
+            (
+                "1 7 finish 1 1",
+                "finished Signature false f96b697d7cb7938d525a2f31aaf161d0 dev/1,dev/3\n",
+            ),
+        ],
+    )
+}
+
+#[test]
+fn parents_and_names(rt: HostRuntime) -> Result<(), Fail> {
+    check(
+        &rt,
+        rt.alloc(),
+        "parents and names",
+        &[
+            CREATE,
+            ("1 2 folder 2 0 0 ..", "refused 3\n"),
+            ("1 2 folder 1 9 0 in", "refused 4\n"),
+            ("1 2 file 1 0 0 0 1 f", "node 1\n"),
+            ("1 3 folder 1 1 0 in", "refused 5\n"),
+            ("1 3 folder 1 0 0 in", "node 2\n"),
+            ("1 4 finish 1 2", "refused 6\n"),
+            ("1 4 folder 1 0 0 ..", "refused 7\n"),
+            ("1 4 folder 1 0 0 a/b", "refused 7\n"),
+            ("1 4 folder 1 0 0 ", "refused 7\n"),
+            ("1 4 folder 1 0 0 f", "refused 9\n"),
+        ],
+    )
+}
+
+#[test]
+fn options_and_sizes(rt: HostRuntime) -> Result<(), Fail> {
+    check(
+        &rt,
+        rt.alloc(),
+        "options and sizes",
+        &[
+            ("1 1 create 0 0", "refused 10\n"),
+            ("1 1 create 65537 0", "refused 10\n"),
+            CREATE,
+            ("1 2 file 1 0 0 1 0 f", "refused 10\n"),
+            ("1 2 file 1 0 0 1 1048577 f", "refused 10\n"),
+            ("1 2 file 1 0 0 1099511627777 1048576 f", "refused 11\n"),
+            ("1 2 file 1 0 0 1048577 1 f", "refused 11\n"),
+        ],
+    )
+}
+
+#[test]
+fn moments(rt: HostRuntime) -> Result<(), Fail> {
+    check(
+        &rt,
+        rt.alloc(),
+        "moments",
+        &[
+            CREATE,
+            ("1 2 folder 1 0 253402300799 z", "node 1\n"),
+            ("1 3 folder 1 0 253402300800 y", "refused 10\n"),
+            ("1 3 folder 1 0 -62135596800 y", "node 2\n"),
+            ("1 4 folder 1 0 -62135596801 x", "refused 10\n"),
+            ("1 4 folder 1 0 -1 x", "node 3\n"),
+        ],
+    )
+}
+
+#[test]
+fn clients_numbers(rt: HostRuntime) -> Result<(), Fail> {
+    check(
+        &rt,
+        rt.alloc(),
+        "clients and numbers",
+        &[
+            CREATE,
+            ("2 1 create 65536 0", "made 2\n"),
+            ("1 9223372036854775808 create 65536 0", "refused 1\n"),
+            ("1 9223372036854775807 create 65536 0", "made 3\n"),
+        ],
+    )
+}
+
+#[test]
+fn identified(rt: HostRuntime) -> Result<(), Fail> {
+    let alphabet = "1 3 piece 1 1 0 6162636465666768696a6b6c6d6e6f707172737475767778797a";
+    let rows: [(&str, &str); 4] = [
         (
-            "limit of nodes",
-            64,
-            1,
-            &[
-                first,
-                (2, Ask::Folder(1, 0, 0, "in"), Answer::Node(1)),
-                (
-                    3,
-                    Ask::Folder(1, 0, 0, "out"),
-                    Answer::No(Refusal::LimitReached(Limit::Nodes)),
-                ),
-                (2, Ask::Folder(1, 0, 0, "in"), Answer::Node(1)),
-            ],
+            "1 1 create 65536 0",
+            "finished Signature false c3fcd3d76192e4007dfb496cca67e13b dev/2\n",
         ),
         (
-            "limit of profiles",
-            1,
-            100_000,
-            &[
-                first,
-                (
-                    2,
-                    Ask::Create(65_536),
-                    Answer::No(Refusal::LimitReached(Limit::Profiles)),
-                ),
-                (1, Ask::Create(65_536), Answer::Made(1)),
-                (1, Ask::Create(1), Answer::No(Refusal::NumberReused)),
-            ],
+            "1 1 create 3 0",
+            "finished Signature false c3fcd3d76192e4007dfb496cca67e13b dev/2\n",
         ),
         (
-            "no profile at all",
-            0,
-            0,
-            &[(
-                1,
-                Ask::Create(65_536),
-                Answer::No(Refusal::LimitReached(Limit::Profiles)),
-            )],
+            "1 1 create 2 0",
+            "finished none false c3fcd3d76192e4007dfb496cca67e13b -\n",
+        ),
+        (
+            "1 1 create 2 1",
+            "finished Extension false c3fcd3d76192e4007dfb496cca67e13b dev/2\n",
         ),
     ];
-    for (name, profiles, nodes, steps) in rows {
-        let mut service = service(&rt, rt.alloc(), profiles, nodes)?;
-        for (number, ask, answer) in steps {
-            let frame = frame(&rt, rt.alloc(), *number, *ask)?;
-            let reply = service.handle(frame);
-            assert!(rt;
-                is_answer(&reply, *answer),
-                "{name}, number {number}: {reply:?}"
-            );
-        }
-    }
-    Ok(())
-}
-
-/// A Finish is seven bytes long here, one too few, and malformed; so is a kind that isn't served.
-#[test]
-fn malformed_frames(rt: HostRuntime) -> Result<(), Fail> {
-    let mut service = service(&rt, rt.alloc(), 64, 100_000)?;
-    for (kind, body) in [(5, 7), (0, 0), (9, 0), (1, 0), (255, 3)] {
-        let frame = Frame {
-            version: 1,
-            kind,
-            client: 1,
-            number: 1,
-            body: Blob::copy_of(rt.alloc(), &[0u8; 16][..body])?,
-        };
-        let reply = service.handle(frame);
-        assert!(rt;
-            is_answer(&reply, Answer::No(Refusal::Malformed)),
-            "kind {kind}: {reply:?}"
-        );
+    for (create, finished) in rows {
+        let mut service = service(&rt, rt.alloc(), LARGEST)?;
+        ask_all(
+            &rt,
+            rt.alloc(),
+            &mut service,
+            create,
+            &[
+                (create, "made 1\n"),
+                ("1 2 file 1 0 0 26 26 a.abc", "node 1\n"),
+                (alphabet, "taken 1\n"),
+                ("1 4 finish 1 1", finished),
+            ],
+        )?;
     }
     Ok(())
 }

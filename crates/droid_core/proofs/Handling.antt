@@ -1,171 +1,158 @@
 -- How a service that stands for a history stands for the next one.
-use Rattle.std.proofs.Common.{◌≡◌, ℕ, ◌==◌, ◌&&◌, Bool, true, false, cond, List, [], ◌∷◌, ◌++◌, map, Option, Some, None, refl, sym, ap, subst, ◌∙◌, append_assoc, append-nil}
+use Rattle.std.proofs.Common.{◌≡◌, Bool, true, false, [], ◌∷◌, ◌++◌, Option, Some, None, IsTrue, refl, sym, ap, subst, ◌∙◌, append_assoc, append-nil}
 use Rattle.std.specs.Prelude.{MatchBool, IsSome, ⊤}
-use Rattle.std.specs.List.{find}
-use Rattle.std.specs.Option.{option_map}
-use Rattle.std.proofs.lemmas.List.{map_push}
 use Rattle.std.proofs.lemmas.List.Sums.{fold-append}
 use Rattle.droid_frame.specs.types.frame.Frame.{Frame}
+use Rattle.droid_frame.specs.types.refusal.Refusal.{Refusal}
 use Rattle.droid_frame.specs.types.refusal.Refusal.TheVariants.{Malformed}
 use Rattle.droid_frame.specs.types.reply.Reply.{Reply}
 use Rattle.droid_frame.specs.types.reply.Reply.TheVariants.{Refused}
 use Rattle.droid_frame.specs.types.request.Request.{Request}
+use Rattle.droid_frame.specs.Replies.{HasReplySpelling, SpellsReply}
+use Rattle.droid_history.specs.Histories.{Entry, History, GoesOn, IsNext, command, frame_mark, kept, kept_answer, world_of, world_asked, world_after, answer, answer_to, next, next_new, next_judged, entry_of, verdict_reply, Handles}
+use Rattle.droid_history.specs.Judging.{Verdict, Accepted, Answered, Refuses, judge}
+use Rattle.droid_history.specs.Setting.{Setting}
+use Rattle.droid_history.specs.Wants.{is_want, is_want_of}
+use Rattle.droid_history.specs.World.{World}
+use Rattle.droid_standing.proofs.Replying.{kept_one_more}
+use Rattle.droid_store.specs.declared.rows.Entry as rows
+use Rattle.droid_store.specs.Rows.{Rows, reply_for}
 use Rattle.droid_core.specs.declared.service.Service.{Service}
-use Rattle.droid_core.specs.declared.service.limits.Limits.{Limits}
-use Rattle.droid_core.specs.declared.service.rows.KeptReply.{KeptReply}
-use Rattle.droid_core.specs.declared.service.rows.Stamp.{Stamp}
-use Rattle.droid_core.specs.Histories.{Entry, History, GoesOn, IsNext, command, frame_mark, is_under, kept, world_of, world_asked, world_after, answer, answer_to, next, next_new, next_judged, entry_of, verdict_reply, Handles}
-use Rattle.droid_core.specs.Judging.{Verdict, Accepted, Refuses, judge}
-use Rattle.droid_core.specs.Replies.{answer_again}
-use Rattle.droid_core.specs.Rows.{world_in}
-use Rattle.droid_core.specs.Standing.{StandsFor, limits_of, row_of}
-use Rattle.droid_core.specs.Changes.{IsSame, TakesOne, Leaves, Comes}
-use Rattle.droid_core.specs.Wants.{is_want}
-use Rattle.droid_core.specs.World.{World}
+use Rattle.droid_core.specs.declared.service.stamps.Stamp.{Stamp}
+use Rattle.droid_core.specs.Changes.{again, stamp_of, Stays, TakesOne, Leaves, Comes}
+use Rattle.droid_core.specs.Standing.{StandsFor, IsIn}
+use Rattle.droid_core.proofs.KeptReplies.{entry_kept, none_kept, reply_spelled}
 
 -- ---- what the answer and the next history are
 
-answer_malformed : (limits : Limits) (history : History) (frame : Frame) → command frame ≡ None → answer limits history frame ≡ Refused Malformed
+answer_malformed : (setting : Setting) (history : History) (frame : Frame) → command frame ≡ None → answer setting history frame ≡ Refused Malformed
 unfolding answer
-answer_malformed limits history frame malformed = rw malformed refl
+answer_malformed setting history frame malformed = rw malformed refl
 
-next_malformed : (limits : Limits) (history : History) (frame : Frame) → command frame ≡ None → next limits history frame ≡ history
+next_malformed : (setting : Setting) (history : History) (frame : Frame) → command frame ≡ None → next setting history frame ≡ history
 unfolding next
-next_malformed limits history frame malformed = rw malformed refl
+next_malformed setting history frame malformed = rw malformed refl
 
-answer_asked_for : (limits : Limits) (history : History) (frame : Frame) (request : Request) → command frame ≡ Some request → answer limits history frame ≡ answer_to limits history (kept history frame.client frame.number) (frame_mark frame) request
+answer_asked_for : (setting : Setting) (history : History) (frame : Frame) (request : Request) → command frame ≡ Some request → answer setting history frame ≡ answer_to setting history (kept history frame.client frame.number) (frame_mark frame) request
 unfolding answer
-answer_asked_for limits history frame request asked = rw asked refl
+answer_asked_for setting history frame request asked = rw asked refl
 
-next_asked_for : (limits : Limits) (history : History) (frame : Frame) (request : Request) → command frame ≡ Some request → next limits history frame ≡ next_new limits history frame (kept history frame.client frame.number) request
+next_asked_for : (setting : Setting) (history : History) (frame : Frame) (request : Request) → command frame ≡ Some request → next setting history frame ≡ next_new setting history frame (kept history frame.client frame.number) request
 unfolding next
-next_asked_for limits history frame request asked = rw asked refl
+next_asked_for setting history frame request asked = rw asked refl
 
 -- the world after one entry more
-world-push : (limits : Limits) (history : History) (entry : Entry) → world_of limits (history ++ entry ∷ []) ≡ world_asked limits (world_of limits history) (command entry.frame)
+world-push : (setting : Setting) (history : History) (entry : Entry) → world_of setting (history ++ entry ∷ []) ≡ world_asked setting (world_of setting history) (command entry.frame)
 unfolding world_of
-world-push limits history entry = fold-append (λ (world : World) entry. world_asked limits world (command entry.frame)) [] history (entry ∷ [])
+world-push setting history entry = fold-append (λ (world : World) entry. world_asked setting world (command entry.frame)) _ history (entry ∷ [])
 
-GoesOn-push : (limits : Limits) (before entries : History) (entry : Entry) → GoesOn limits before entries → IsNext limits (before ++ entries) entry → GoesOn limits before (entries ++ entry ∷ [])
-GoesOn-push limits before [] entry legal may = (let nothing : before ++ [] ≡ before = append-nil before in rw nothing at may, tt)
-GoesOn-push limits before (first ∷ entries) entry legal may =
-    (legal.0, GoesOn-push limits (before ++ first ∷ []) entries entry legal.1 (rw (append_assoc before (first ∷ []) entries) may))
+GoesOn-push : (setting : Setting) (before entries : History) (entry : Entry) → GoesOn setting before entries → IsNext setting (before ++ entries) entry → GoesOn setting before (entries ++ entry ∷ [])
+GoesOn-push setting before [] entry legal may = (let nothing : before ++ [] ≡ before = append-nil before in rw nothing at may, tt)
+GoesOn-push setting before (first ∷ entries) entry legal may =
+    (legal.0, GoesOn-push setting (before ++ first ∷ []) entries entry legal.1 (rw (append_assoc before (first ∷ []) entries) may))
 
--- ---- kept replies
+-- ---- what a service stands for after a request
 
-find_either : (b : Bool) (p : KeptReply → Bool) (entry : Entry) (entries : History) (rest : Option Entry) → find p (map row_of entries) ≡ option_map row_of rest → cond b (Some (row_of entry)) (find p (map row_of entries)) ≡ option_map row_of (cond b (Some entry) rest)
-find_either true p entry entries rest same = refl
-find_either false p entry entries rest same = same
+-- the same rows stand for the same history
+pub stands_still : (setting : Setting) (service : Service) (store : Rows) (history : History) → store ≡ service.store → StandsFor setting service history → StandsFor setting (record service { store = store }) history
+stands_still setting service store history same stands = subst (λ (rows : Rows). StandsFor setting (record service { store = rows }) history) (sym same) stands
 
-abbrev is_row_under : ℕ → ℕ → KeptReply → Bool
-is_row_under client number row = (row.stamp.client == client) && (row.stamp.number == number)
+same_stands : (setting : Setting) (old new : Service) (history : History) → Stays setting (world_of setting history) old new → StandsFor setting old history → StandsFor setting new history
+same_stands setting old new history same stands = record {
+  legal = stands.legal;
+  replies = record { replies = same.replies ∙ stands.replies.replies; spelled = stands.replies.spelled };
+  world = same.world_is;
+}
 
-find_kept : (history : History) (client number : ℕ) → find (is_row_under client number) (map row_of history) ≡ option_map row_of (kept history client number)
-find_kept [] client number = refl
-find_kept (entry ∷ entries) client number = find_either (is_under client number entry) (is_row_under client number) entry entries (find (is_under client number) entries) (find_kept entries client number)
+-- one entry more, with the world that its verdict leaves
+taken_stands : (setting : Setting) (old new : Service) (history : History) (frame : Frame) (request : Request) (reply : Reply) (after : World) → command frame ≡ Some request → kept history frame.client frame.number ≡ None
+    → judge setting (world_of setting history) request ≡ Accepted reply after → HasReplySpelling reply → TakesOne setting after old new (stamp_of frame) reply → StandsFor setting old history
+    → StandsFor setting new (history ++ entry_of frame reply ∷ [])
+taken_stands setting old new history frame request reply after asked is_new accepted spelled takes stands =
+    let entry = entry_of frame reply in
+    let may : IsNext setting history entry = record { is_new = is_new; marked = refl; request = request; asked = asked; after = after; accepted = accepted } in
+    let world : world_of setting (history ++ entry ∷ []) ≡ after = world-push setting history entry ∙ (ap (world_asked setting (world_of setting history)) asked ∙ ap (world_after (world_of setting history)) accepted) in
+    record {
+      legal = GoesOn-push setting [] history entry stands.legal may;
+      replies = kept_one_more history entry old.store new.store stands.replies takes.replies spelled;
+      world = subst (λ (there : World). IsIn setting there new) (sym world) takes.world_is;
+    }
 
--- the entry of a kept row
-entry_of_row : (o : Option Entry) (row : KeptReply) → option_map row_of o ≡ Some row → (entry : Entry) × (o ≡ Some entry) × (row_of entry ≡ row)
-entry_of_row None row e = absurd cc
-entry_of_row (Some entry) row e = (entry, refl, cc)
+leaves_next : (setting : Setting) (old new : Service) (history : History) (frame : Frame) (request : Request) (verdict : Verdict) → command frame ≡ Some request → kept history frame.client frame.number ≡ None
+    → judge setting (world_of setting history) request ≡ verdict → HasReplySpelling (verdict_reply verdict) → Leaves setting (world_of setting history) old new (stamp_of frame) verdict → StandsFor setting old history
+    → StandsFor setting new (next_judged history frame verdict)
+leaves_next setting old new history frame request (Accepted reply after) asked is_new judged spelled leaves stands = taken_stands setting old new history frame request reply after asked is_new judged spelled leaves stands
+leaves_next setting old new history frame request (Answered reply) asked is_new judged spelled leaves stands = same_stands setting old new history leaves stands
+leaves_next setting old new history frame request (Refuses refusal) asked is_new judged spelled leaves stands = same_stands setting old new history leaves stands
 
-no_entry : (o : Option Entry) → option_map row_of o ≡ None → o ≡ None
-no_entry None e = refl
-no_entry (Some entry) e = absurd cc
-
--- ---- three ways to handle a request
+-- ---- the ways to handle a request
 
 some_is_some : (frame : Frame) (request : Request) → command frame ≡ Some request → IsSome (command frame)
 some_is_some frame request asked = rw asked refl
 
-pub handles_malformed : (service : Service) (history : History) (frame : Frame) → command frame ≡ None → StandsFor service history → Handles (limits_of service) history frame (Refused Malformed) (StandsFor service)
-handles_malformed service history frame malformed stands =
-    (sym (answer_malformed (limits_of service) history frame malformed), subst (StandsFor service) (sym (next_malformed (limits_of service) history frame malformed)) stands)
+pub handles_malformed : (setting : Setting) (service : Service) (history : History) (frame : Frame) → command frame ≡ None → StandsFor setting service history → Handles setting history frame (Refused Malformed) (StandsFor setting service)
+handles_malformed setting service history frame malformed stands =
+    (sym (answer_malformed setting history frame malformed), subst (StandsFor setting service) (sym (next_malformed setting history frame malformed)) stands)
 
--- what a kept row answers is the answer, and the history stays
-kept_answers : (service : Service) (history : History) (frame : Frame) (request : Request) (row : KeptReply) → command frame ≡ Some request → StandsFor service history
-    → find (is_row_under frame.client frame.number) service.replies.items ≡ Some row
-    → (answer_again (frame_mark frame) row ≡ answer (limits_of service) history frame) × (next (limits_of service) history frame ≡ history)
-kept_answers service history frame request row asked stands found =
-    let limits = limits_of service in
-    let there = entry_of_row (kept history frame.client frame.number) row (sym (find_kept history frame.client frame.number) ∙ (ap (find (is_row_under frame.client frame.number)) (sym stands.replies) ∙ found)) in (
-      ap (answer_again (frame_mark frame)) (sym there.2)
-          ∙ (sym (ap (λ (o : Option Entry). answer_to limits history o (frame_mark frame) request) there.1)
-          ∙ sym (answer_asked_for limits history frame request asked)),
-      next_asked_for limits history frame request asked ∙ ap (λ (o : Option Entry). next_new limits history frame o request) there.1,
-    )
+wanting : (b : Bool) (P Q : Type 0) → b ≡ true → P → MatchBool b P Q
+wanting true P Q is it = it
+wanting false P Q is it = absurd cc
 
--- what a stamp of the frame holds
-abbrev stamp_of : Frame → Stamp
-stamp_of frame = record { client = frame.client; number = frame.number; mark = frame_mark frame }
-
-same_stands : (old new : Service) (history : History) → IsSame old new → StandsFor old history → StandsFor new history
-same_stands old new history same stands = record {
-  allowed = rw same.limits stands.allowed;
-  legal = rw same.limits stands.legal;
-  replies = same.replies ∙ stands.replies;
-  rows = same.rows ∙ (stands.rows ∙ ap (λ (limits : Limits). world_of limits history) (sym same.limits));
-  measured = same.measured stands.measured;
-}
-
--- one entry more, with the world that its verdict leaves
-taken_stands : (old new : Service) (history : History) (frame : Frame) (request : Request) (reply : Reply) (after : World) → command frame ≡ Some request → kept history frame.client frame.number ≡ None
-    → judge old.limits (world_of old.limits history) request ≡ Accepted reply after → TakesOne old new (stamp_of frame) reply after → StandsFor old history → StandsFor new (history ++ entry_of frame reply ∷ [])
-taken_stands old new history frame request reply after asked is_new accepted takes stands =
-    let entry = entry_of frame reply in
-    let may : IsNext old.limits history entry = record { is_new = is_new; marked = refl; request = request; asked = asked; after = after; accepted = accepted } in
-    let legal : GoesOn old.limits [] (history ++ entry ∷ []) = GoesOn-push old.limits [] history entry stands.legal may in
-    let world : world_of old.limits (history ++ entry ∷ []) ≡ after = world-push old.limits history entry ∙ (ap (world_asked old.limits (world_of old.limits history)) asked ∙ ap (world_after (world_of old.limits history)) accepted) in
-    record {
-      allowed = rw takes.limits stands.allowed;
-      legal = rw takes.limits legal;
-      replies = takes.replies ∙ (ap (λ (rows : List KeptReply). rows ++ row_of entry ∷ []) stands.replies ∙ sym (map_push row_of history entry));
-      rows = takes.rows ∙ (sym world ∙ ap (λ (limits : Limits). world_of limits (history ++ entry ∷ [])) (sym takes.limits));
-      measured = takes.measured;
-    }
-
-leaves_next : (old new : Service) (history : History) (frame : Frame) (request : Request) (verdict : Verdict) → command frame ≡ Some request → kept history frame.client frame.number ≡ None
-    → judge old.limits (world_of old.limits history) request ≡ verdict → Leaves old new (stamp_of frame) verdict → StandsFor old history → StandsFor new (next_judged history frame verdict)
-leaves_next old new history frame request (Accepted reply after) asked is_new judged leaves stands = taken_stands old new history frame request reply after asked is_new judged leaves stands
-leaves_next old new history frame request (Refuses refusal) asked is_new judged leaves stands = same_stands old new history leaves stands
-
-by_wanting : (b : Bool) {P Q R S T U : Type 0} → MatchBool b P (Q × R) → (P → S) → (Q → T) → (R → U) → MatchBool b S (T × U)
-by_wanting true came wanting answered left = wanting came
-by_wanting false came wanting answered left = (answered came.0, left came.1)
-
-handles_judged : (old new : Service) (history : History) (frame : Frame) (request : Request) (reply : Reply) → command frame ≡ Some request → StandsFor old history
-    → find (is_row_under frame.client frame.number) old.replies.items ≡ None → Comes old new (stamp_of frame) (judge old.limits (world_in old.profiles.items) request) reply → Handles (limits_of old) history frame reply (StandsFor new)
-handles_judged old new history frame request reply asked stands absent comes =
-    let limits = old.limits in
-    let is_new : kept history frame.client frame.number ≡ None = no_entry _ (sym (find_kept history frame.client frame.number) ∙ (ap (find (is_row_under frame.client frame.number)) (sym stands.replies) ∙ absent)) in
-    let verdict = judge limits (world_of limits history) request in
-    let came : Comes old new (stamp_of frame) verdict reply = rw (← stands.rows) comes in
-    let answer_is : answer limits history frame ≡ verdict_reply verdict = answer_asked_for limits history frame request asked ∙ ap (λ (o : Option Entry). answer_to limits history o (frame_mark frame) request) is_new in
-    let next_is : next limits history frame ≡ next_judged history frame verdict = next_asked_for limits history frame request asked ∙ ap (λ (o : Option Entry). next_new limits history frame o request) is_new in
-    by_wanting (is_want reply) came
-    (λ same. (some_is_some frame request asked, same_stands old new history same stands))
-    (λ is. is ∙ sym answer_is)
-    (λ leaves. subst (StandsFor new) (sym next_is) (leaves_next old new history frame request verdict asked is_new refl leaves stands))
-
--- ---- the same, as the code finds them
+-- memory or the database was wanting, and nothing is changed
+pub handles_want : (setting : Setting) (service : Service) (history : History) (frame : Frame) (refusal : Refusal) → IsSome (command frame) → IsTrue (is_want_of refusal) → StandsFor setting service history
+    → Handles setting history frame (Refused refusal) (StandsFor setting service)
+handles_want setting service history frame refusal asked want stands = wanting (is_want_of refusal) _ _ want (asked, stands)
 
 -- want of memory, or else what follows from an answer
 unless_wanting : (b : Bool) {P Q R : Type 0} → MatchBool b ⊤ P → Q → (P → R) → MatchBool b Q R
 unless_wanting true is wanting answered = wanting
 unless_wanting false is wanting answered = answered is
 
-pub handles_again : (service : Service) (history : History) (frame : Frame) (request : Request) (row : KeptReply) (mark : List ℕ) (reply : Reply) → command frame ≡ Some request → mark ≡ frame_mark frame
-    → find (is_row_under frame.client frame.number) service.replies.items ≡ Some row → MatchBool (is_want reply) ⊤ (reply ≡ answer_again mark row) → StandsFor service history
-    → Handles (limits_of service) history frame reply (StandsFor service)
-handles_again service history frame request row mark reply asked marked found is stands =
-    let answers = kept_answers service history frame request row asked stands found in
+-- what a kept row answers is the answer, and the history stays
+pub handles_again : (setting : Setting) (service : Service) (history : History) (frame : Frame) (request : Request) (row : rows.Entry) (reply : Reply) → command frame ≡ Some request
+    → reply_for frame.client frame.number service.store ≡ Some row → ((kept : Reply) → SpellsReply row.kind row.body kept → MatchBool (is_want reply) ⊤ (reply ≡ again row (frame_mark frame) kept))
+    → StandsFor setting service history → Handles setting history frame reply (StandsFor setting service)
+handles_again setting service history frame request row reply asked found answers stands =
+    let there = entry_kept history service.store frame.client frame.number row stands.replies found in
+    let spelled = reply_spelled history frame.client frame.number there.0 stands.replies.spelled there.1 in
+    let is = answers there.0.reply (subst (λ (r : rows.Entry). SpellsReply r.kind r.body there.0.reply) there.2 (record { kind_is = refl; body_is = refl; has_spelling = spelled })) in
+    let answer_is : answer setting history frame ≡ kept_answer there.0 (frame_mark frame) = answer_asked_for setting history frame request asked ∙ ap (λ (o : Option Entry). answer_to setting history o (frame_mark frame) request) there.1 in
+    let next_is : next setting history frame ≡ history = next_asked_for setting history frame request asked ∙ ap (λ (o : Option Entry). next_new setting history frame o request) there.1 in
     unless_wanting (is_want reply) is (some_is_some frame request asked, stands)
-    (λ same. (same ∙ (ap (λ (m : List ℕ). answer_again m row) marked ∙ answers.0), subst (StandsFor service) (sym answers.1) stands))
+    (λ same. (same ∙ (ap (λ (r : rows.Entry). again r (frame_mark frame) there.0.reply) (sym there.2) ∙ sym answer_is), subst (StandsFor setting service) (sym next_is) stands))
 
-pub handles_anew : (old new : Service) (history : History) (frame : Frame) (request : Request) (mark : List ℕ) (reply : Reply) → command frame ≡ Some request → mark ≡ frame_mark frame
-    → find (is_row_under frame.client frame.number) old.replies.items ≡ None → StandsFor old history
-    → Comes old new (record { client = frame.client; number = frame.number; mark = mark }) (judge old.limits (world_in old.profiles.items) request) reply → Handles (limits_of old) history frame reply (StandsFor new)
-handles_anew old new history frame request mark reply asked marked absent stands comes =
-    let verdict = judge old.limits (world_in old.profiles.items) request in
-    let came = subst (λ (m : List ℕ). Comes old new (record { client = frame.client; number = frame.number; mark = m }) verdict reply) marked comes in
-    handles_judged old new history frame request reply asked stands absent came
+by_wanting : (b : Bool) {P Q R S T U : Type 0} → MatchBool b P (Q × R) → (P → S) → (Q → T) → (Q → R → U) → MatchBool b S (T × U)
+by_wanting true came wanting answered left = wanting came
+by_wanting false came wanting answered left = (answered came.0, left came.0 came.1)
+
+-- what its verdict says, under a new number
+pub handles_anew : (setting : Setting) (old new : Service) (history : History) (frame : Frame) (request : Request) (reply : Reply) → command frame ≡ Some request → StandsFor setting old history
+    → reply_for frame.client frame.number old.store ≡ None → HasReplySpelling reply → Comes setting (world_of setting history) old new (stamp_of frame) (judge setting (world_of setting history) request) reply
+    → Handles setting history frame reply (StandsFor setting new)
+handles_anew setting old new history frame request reply asked stands absent spelled comes =
+    let is_new = none_kept history old.store frame.client frame.number stands.replies absent in
+    let verdict = judge setting (world_of setting history) request in
+    let answer_is : answer setting history frame ≡ verdict_reply verdict = answer_asked_for setting history frame request asked ∙ ap (λ (o : Option Entry). answer_to setting history o (frame_mark frame) request) is_new in
+    let next_is : next setting history frame ≡ next_judged history frame verdict = next_asked_for setting history frame request asked ∙ ap (λ (o : Option Entry). next_new setting history frame o request) is_new in
+    by_wanting (is_want reply) comes
+    (λ same. (some_is_some frame request asked, same_stands setting old new history same stands))
+    (λ is. is ∙ sym answer_is)
+    (λ is leaves. subst (StandsFor setting new) (sym next_is) (leaves_next setting old new history frame request verdict asked is_new refl (subst HasReplySpelling is spelled) leaves stands))
+
+-- ---- the same, as the code has them
+
+pub answers_again : (setting : Setting) (service : Service) (history : History) (frame : Frame) (request : Request) (stamp : Stamp) (row : rows.Entry) (reply : Reply) → stamp ≡ stamp_of frame → command frame ≡ Some request
+    → reply_for stamp.client stamp.number service.store ≡ Some row → ((kept : Reply) → SpellsReply row.kind row.body kept → MatchBool (is_want reply) ⊤ (reply ≡ again row stamp.mark kept))
+    → StandsFor setting service history → Handles setting history frame reply (StandsFor setting service)
+answers_again setting service history frame request stamp row reply is asked found answers stands =
+    handles_again setting service history frame request row reply asked
+    (subst (λ (s : Stamp). reply_for s.client s.number service.store ≡ Some row) is found)
+    (subst (λ (s : Stamp). (kept : Reply) → SpellsReply row.kind row.body kept → MatchBool (is_want reply) ⊤ (reply ≡ again row s.mark kept)) is answers) stands
+
+pub answers_anew : (setting : Setting) (old new : Service) (history : History) (frame : Frame) (request : Request) (stamp : Stamp) (reply : Reply) → stamp ≡ stamp_of frame → command frame ≡ Some request → StandsFor setting old history
+    → reply_for stamp.client stamp.number old.store ≡ None → HasReplySpelling reply → Comes setting (world_of setting history) old new stamp (judge setting (world_of setting history) request) reply
+    → Handles setting history frame reply (StandsFor setting new)
+answers_anew setting old new history frame request stamp reply is asked stands absent spelled comes =
+    handles_anew setting old new history frame request reply asked stands
+    (subst (λ (s : Stamp). reply_for s.client s.number old.store ≡ None) is absent) spelled
+    (subst (λ (s : Stamp). Comes setting (world_of setting history) old new s (judge setting (world_of setting history) request) reply) is comes)

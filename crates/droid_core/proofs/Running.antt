@@ -7,21 +7,21 @@ use Rattle.droid_frame.specs.types.reply.Reply.{Reply}
 use Rattle.droid_frame.specs.Replies.{HasReplySpelling}
 use Rattle.std.proofs.lemmas.List.{length-append}
 use Rattle.droid_core.specs.declared.service.Service.{Service}
-use Rattle.droid_core.specs.declared.service.limits.Limits.{Limits}
-use Rattle.droid_core.specs.Histories.{History, command, answer, next, answers, history_from, Handles}
+use Rattle.droid_history.specs.Setting.{Setting}
+use Rattle.droid_history.specs.Histories.{History, command, answer, next, answers, history_from, Handles}
 use Rattle.droid_core.specs.Running.{without_wants, other_replies, NoWantOfMalformed, Runs}
 use Rattle.droid_core.specs.Standing.{StandsFor}
-use Rattle.droid_core.specs.Wants.{is_want}
+use Rattle.droid_history.specs.Wants.{is_want}
 
 -- ---- along a list and one request more
 
-history_from-push : (limits : Limits) (history : History) (frames : List Frame) (frame : Frame) → history_from limits history (frames ++ frame ∷ []) ≡ next limits (history_from limits history frames) frame
-history_from-push limits history [] frame = refl
-history_from-push limits history (first ∷ frames) frame = history_from-push limits (next limits history first) frames frame
+history_from-push : (setting : Setting) (history : History) (frames : List Frame) (frame : Frame) → history_from setting history (frames ++ frame ∷ []) ≡ next setting (history_from setting history frames) frame
+history_from-push setting history [] frame = refl
+history_from-push setting history (first ∷ frames) frame = history_from-push setting (next setting history first) frames frame
 
-answers-push : (limits : Limits) (history : History) (frames : List Frame) (frame : Frame) → answers limits history (frames ++ frame ∷ []) ≡ answers limits history frames ++ answer limits (history_from limits history frames) frame ∷ []
-answers-push limits history [] frame = refl
-answers-push limits history (first ∷ frames) frame = ap (λ (rest : List Reply). answer limits history first ∷ rest) (answers-push limits (next limits history first) frames frame)
+answers-push : (setting : Setting) (history : History) (frames : List Frame) (frame : Frame) → answers setting history (frames ++ frame ∷ []) ≡ answers setting history frames ++ answer setting (history_from setting history frames) frame ∷ []
+answers-push setting history [] frame = refl
+answers-push setting history (first ∷ frames) frame = ap (λ (rest : List Reply). answer setting history first ∷ rest) (answers-push setting (next setting history first) frames frame)
 
 -- what one pair more adds
 abbrev more_frames : Bool → Frame → List Frame
@@ -76,27 +76,27 @@ last_want : (b : Bool) (P Q S T : Type 0) → MatchBool b (P × S) (Q × T) → 
 last_want true P Q S T handled = handled.0
 last_want false P Q S T handled = tt
 
-goes_on : (b : Bool) (limits : Limits) (history : History) (frames : List Frame) (replies : List Reply) (frame : Frame) (reply : Reply) (after : Service)
-    → other_replies replies ≡ answers limits history frames
-    → MatchBool b (IsSome (command frame) × StandsFor after (history_from limits history frames)) ((reply ≡ answer limits (history_from limits history frames) frame) × StandsFor after (next limits (history_from limits history frames) frame))
-    → (other_replies replies ++ more_replies b reply ≡ answers limits history (frames ++ more_frames b frame)) × StandsFor after (history_from limits history (frames ++ more_frames b frame))
-goes_on true limits history frames replies frame reply after answered handled =
-    (append-nil (other_replies replies) ∙ (answered ∙ ap (answers limits history) (sym (append-nil frames))), rw (append-nil frames) handled.1)
-goes_on false limits history frames replies frame reply after answered handled =
-    (rw (answered, handled.0) (sym (answers-push limits history frames frame)), rw (history_from-push limits history frames frame) handled.1)
+goes_on : (b : Bool) (setting : Setting) (history : History) (frames : List Frame) (replies : List Reply) (frame : Frame) (reply : Reply) (after : Service)
+    → other_replies replies ≡ answers setting history frames
+    → MatchBool b (IsSome (command frame) × StandsFor setting after (history_from setting history frames)) ((reply ≡ answer setting (history_from setting history frames) frame) × StandsFor setting after (next setting (history_from setting history frames) frame))
+    → (other_replies replies ++ more_replies b reply ≡ answers setting history (frames ++ more_frames b frame)) × StandsFor setting after (history_from setting history (frames ++ more_frames b frame))
+goes_on true setting history frames replies frame reply after answered handled =
+    (append-nil (other_replies replies) ∙ (answered ∙ ap (answers setting history) (sym (append-nil frames))), rw (append-nil frames) handled.1)
+goes_on false setting history frames replies frame reply after answered handled =
+    (rw (answered, handled.0) (sym (answers-push setting history frames frame)), rw (history_from-push setting history frames frame) handled.1)
 
-pub Runs-push : (limits : Limits) (history : History) (frames : List Frame) (replies : List Reply) (before after : Service) (frame : Frame) (reply : Reply) → Runs limits history frames replies before
-    → Handles limits (history_from limits history (without_wants frames replies)) frame reply (StandsFor after) → HasReplySpelling reply → Runs limits history (frames ++ frame ∷ []) (replies ++ reply ∷ []) after
-Runs-push limits history frames replies before after frame reply runs handled spelled =
-    let more = goes_on (is_want reply) limits history (without_wants frames replies) replies frame reply after runs.answered handled in
+pub Runs-push : (setting : Setting) (history : History) (frames : List Frame) (replies : List Reply) (before after : Service) (frame : Frame) (reply : Reply) → Runs setting history frames replies before
+    → Handles setting (history_from setting history (without_wants frames replies)) frame reply (StandsFor setting after) → HasReplySpelling reply → Runs setting history (frames ++ frame ∷ []) (replies ++ reply ∷ []) after
+Runs-push setting history frames replies before after frame reply runs handled spelled =
+    let more = goes_on (is_want reply) setting history (without_wants frames replies) replies frame reply after runs.answered handled in
     let kept = without_wants-push frames replies frame reply runs.count in
     record {
       count = omega (arith, runs.count, length-append replies (reply ∷ []), length-append frames (frame ∷ []));
       spelled = spelled-push replies reply runs.spelled spelled;
       wants = wants-push frames replies frame reply runs.wants (last_want (is_want reply) _ _ _ _ handled) runs.count;
-      answered = other_replies-push replies reply ∙ (more.0 ∙ ap (answers limits history) (sym kept));
+      answered = other_replies-push replies reply ∙ (more.0 ∙ ap (answers setting history) (sym kept));
       stands = rw kept more.1;
     }
 
-pub Runs-none : (limits : Limits) (history : History) (service : Service) → StandsFor service history → Runs limits history [] [] service
-Runs-none limits history service stands = record { count = refl; spelled = tt; wants = tt; answered = refl; stands = stands }
+pub Runs-none : (setting : Setting) (history : History) (service : Service) → StandsFor setting service history → Runs setting history [] [] service
+Runs-none setting history service stands = record { count = refl; spelled = tt; wants = tt; answered = refl; stands = stands }

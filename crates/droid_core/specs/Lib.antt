@@ -1,9 +1,9 @@
+pub mod Assemblies
 pub mod Changes
-pub mod Histories
-pub mod Judging
-pub mod Replies
-pub mod Rows
+pub mod KeptBytes
+pub mod LookUps
+pub mod NewAssemblies
+pub mod Places
 pub mod Running
 pub mod Standing
-pub mod Wants
-pub mod World
+pub mod Taking

@@ -5,10 +5,10 @@ use Rattle.droid_frame.specs.types.frame.Frame.{Frame}
 use Rattle.droid_frame.specs.types.reply.Reply.{Reply}
 use Rattle.droid_frame.specs.Replies.{HasReplySpelling}
 use Rattle.droid_core.specs.declared.service.Service.{Service}
-use Rattle.droid_core.specs.declared.service.limits.Limits.{Limits}
-use Rattle.droid_core.specs.Histories.{History, command, answers, history_from}
+use Rattle.droid_history.specs.Histories.{History, command, answers, history_from}
 use Rattle.droid_core.specs.Standing.{StandsFor}
-use Rattle.droid_core.specs.Wants.{is_want}
+use Rattle.droid_history.specs.Setting.{Setting}
+use Rattle.droid_history.specs.Wants.{is_want}
 
 -- the requests, without those that were refused for want of memory
 abbrev pub without_wants : List Frame → List Reply → List Frame
@@ -28,9 +28,9 @@ NoWantOfMalformed (frame ∷ frames) (reply ∷ replies) = MatchBool (is_want re
 
 -- One reply for each request, each with a spelling. Along the requests that weren't refused for want of memory the replies
 -- are the answers, and the service then stands for the history after these requests.
-pub record Runs (limits : Limits) (history : History) (frames : List Frame) (replies : List Reply) (after : Service) : Type 0 where
+pub record Runs (setting : Setting) (history : History) (frames : List Frame) (replies : List Reply) (after : Service) : Type 0 where
   pub count : length replies ≡ length frames
   pub spelled : AllByRecursion HasReplySpelling replies
   pub wants : NoWantOfMalformed frames replies
-  pub answered : other_replies replies ≡ answers limits history (without_wants frames replies)
-  pub stands : StandsFor after (history_from limits history (without_wants frames replies))
+  pub answered : other_replies replies ≡ answers setting history (without_wants frames replies)
+  pub stands : StandsFor setting after (history_from setting history (without_wants frames replies))

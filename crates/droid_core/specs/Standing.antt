@@ -1,16 +1,29 @@
 -- What a service stands for.
-use Rattle.std.specs.Prelude.{◌≡◌, ◌≤◌, List, map}
-use Rattle.std.specs.List.{AllByRecursion}
+use Rattle.std.specs.Prelude.{◌≡◌, ◌≤◌}
+use Rattle.droid_history.specs.Histories.{History, IsLegal, world_of}
+use Rattle.droid_history.specs.Identified.{IsOf}
+use Rattle.droid_history.specs.Limits.{Limits}
+use Rattle.droid_history.specs.Setting.{Setting}
+use Rattle.droid_history.specs.World.{World}
+use Rattle.droid_pronom.specs.Registry.{Contents}
+use Rattle.droid_standing.specs.Replies.{KeepsReplies}
+use Rattle.droid_standing.specs.Rows.{KeepsWorld}
+use Rattle.droid_standing.specs.Sound.{IsSound}
+use Rattle.droid_core.specs.Assemblies.{HasAssemblies}
 use Rattle.droid_core.specs.declared.service.Service.{Service}
-use Rattle.droid_core.specs.declared.service.limits.Limits.{Limits}
-use Rattle.droid_core.specs.declared.service.rows.KeptReply.{KeptReply}
-use Rattle.droid_core.specs.declared.service.rows.ProfileRow.{ProfileRow}
-use Rattle.droid_core.specs.Histories.{Entry, History, IsLegal, world_of}
-use Rattle.droid_core.specs.Rows.{IsMeasured, world_in}
+use Rattle.droid_core.specs.declared.service.limits.Limits as given
+
+-- limits as the definitions have them
+abbrev pub limits_given : given.Limits → Limits
+limits_given limits = record { profiles = limits.profiles; nodes = limits.nodes; unfinished = limits.unfinished }
 
 -- the limits that the service was made with
 abbrev pub limits_of : Service → Limits
-limits_of service = service.limits
+limits_of service = limits_given service.limits
+
+-- the registry that the service was made with
+abbrev pub registry_of : Service → Contents
+registry_of service = service.registry
 
 -- no service has larger limits
 pub record AreAllowed (limits : Limits) : Type 0 where
@@ -18,24 +31,23 @@ pub record AreAllowed (limits : Limits) : Type 0 where
   pub nodes : limits.nodes ≤ 100000
   pub unfinished : limits.unfinished ≤ 64
 
--- what is kept of an entry: its body isn't
-abbrev pub row_of : Entry → KeptReply
-row_of entry = record {
-  stamp = record { client = entry.frame.client; number = entry.frame.number; mark = entry.mark };
-  reply = entry.reply;
-}
+-- the setting has the limits and is of the registry that the service was made with
+pub record IsSettingOf (setting : Setting) (service : Service) : Type 0 where
+  pub limits : setting.limits ≡ limits_of service
+  pub allowed : AreAllowed setting.limits
+  pub registry : IsOf (registry_of service) setting
 
--- in each profile the rows have the lengths of their nodes' paths
-abbrev pub AreMeasured : List ProfileRow → Type 0
-AreMeasured rows = AllByRecursion (λ row. IsMeasured row.nodes.items) rows
+-- the service is in this world: its rows and its assemblies are the world's
+pub record IsIn (setting : Setting) (world : World) (service : Service) : Type 0 where
+  pub is_setting : IsSettingOf setting service
+  pub rows : KeepsWorld setting world service.store
+  pub sound : IsSound world
+  pub files : HasAssemblies world service.files
+  pub room : service.files.limit ≡ setting.limits.unfinished
 
--- the service is where the history leads
-pub record StandsFor (service : Service) (history : History) : Type 0 where
-  pub allowed : AreAllowed service.limits
-  -- each entry was accepted at its place
-  pub legal : IsLegal service.limits history
-  -- the kept replies in order are the entries' clients, numbers, marks and replies
-  pub replies : service.replies.items ≡ map row_of history
-  -- the rows of profiles and nodes are those of the history's world
-  pub rows : world_in service.profiles.items ≡ world_of service.limits history
-  pub measured : AreMeasured service.profiles.items
+-- the service is where the history leads: each entry was accepted at its place, the kept replies are the
+-- entries', and all else is the history's world
+pub record StandsFor (setting : Setting) (service : Service) (history : History) : Type 0 where
+  pub legal : IsLegal setting history
+  pub replies : KeepsReplies history service.store
+  pub world : IsIn setting (world_of setting history) service

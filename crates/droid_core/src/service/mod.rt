@@ -1,32 +1,36 @@
 //! The service: what it keeps, and how it answers.
 
-ghost use Rattle.std.specs.Prelude.{◌≡◌, ◌==◌, ◌&&◌, ◌≤◌, [], length, IfOk, OnErr, vec_len};
-ghost use Rattle.std.specs.List.{find};
-ghost use Rattle.std.specs.Option.{option_copied};
-ghost use Rattle.droid_frame.specs.Replies.{HasReplySpelling};
-ghost use Rattle.droid_core.specs.Histories.{History, command, is_served, Handles};
-ghost use Rattle.droid_core.specs.Judging.{judge};
-ghost use Rattle.droid_core.specs.Rows.{world_in};
+ghost use Rattle.std.specs.Prelude.{◌≡◌, ◌≤◌, [], IfOk, OnErr, vec_len};
+ghost use Rattle.droid_core.specs.KeptBytes.{kept_bytes_of};
 ghost use Rattle.droid_core.specs.Running.{Runs};
-ghost use Rattle.droid_core.specs.Standing.{StandsFor, limits_of, AreMeasured};
-ghost use Rattle.droid_core.specs.Changes.{Comes};
+ghost use Rattle.droid_core.specs.Standing.{StandsFor, limits_of, limits_given, registry_of};
+ghost use Rattle.droid_frame.specs.Replies.{HasReplySpelling};
+ghost use Rattle.droid_history.specs.Histories.{History, Handles, world_of};
+ghost use Rattle.droid_history.specs.Identified.{IsOf};
+ghost use Rattle.droid_history.specs.Setting.{Setting};
 
-use droid_frame::{Frame, Limit, Refusal, Reply, Request, mark, request_of};
+use droid_frame::{BodyFault, Frame, Refusal, Reply, mark, request_of};
+use droid_pronom::Registry;
+use droid_store::{Store, StoreFault};
+use droid_unfinished::UnfinishedFiles;
 use std::alloc::{AllocError, Global};
 
-// The kinds of requests that are served.
-const CREATE_PROFILE: u8 = 1;
-
-const ADD_FOLDER: u8 = 2;
-
-mod commands;
-mod folders;
+mod abandoning;
+mod answering;
+mod exporting;
+mod files;
+mod finishing;
 mod limits;
-mod names;
-mod rows;
+mod look_ups;
+mod nodes;
+mod pieces;
+mod profiles;
+mod refusals;
+mod replies;
+mod stamps;
 
 pub use limits::Limits;
-pub use rows::{FolderRow, KeptReply, ProfileRow, Stamp};
+pub use stamps::Stamp;
 
 /// The submission service: it judges requests, changes by the accepted ones, and keeps their replies
 /// for good.
@@ -34,56 +38,61 @@ pub use rows::{FolderRow, KeptReply, ProfileRow, Stamp};
 pub struct Service {
     alloc: Global,
     limits: Limits,
-    profiles: Vec<ProfileRow>,
-    replies: Vec<KeptReply>,
+    registry: Registry,
+    store: Store,
+    files: UnfinishedFiles,
 }
 
 impl Service {
-    /// A service with nothing in it. Only want of memory for the places of its profiles refuses it.
-    pub fn new(alloc: Global, limits: Limits) -> Result<Service, AllocError>
+    /// A service with nothing in it, which identifies files by this registry. Only want of memory, or a
+    /// database that refuses its tables, refuses it.
+    pub fn new(alloc: Global, registry: Registry, limits: Limits) -> Result<Service, StoreFault>
         requires profiles { limits.profiles ≤ 64 }
         requires nodes { limits.nodes ≤ 100000 }
         requires unfinished { limits.unfinished ≤ 64 }
-        ensures empty { IfOk result (λ service. StandsFor service []) }
-        ensures limits { IfOk result (λ service. limits_of service ≡ limits) }
+        ensures empty { IfOk result (λ service. (setting : Setting) → setting.limits ≡ limits_given limits → IsOf registry setting
+            → StandsFor setting service []) }
+        ensures limits { IfOk result (λ service. limits_of service ≡ limits_given limits) }
+        ensures registry { IfOk result (λ service. registry_of service ≡ registry) }
     {
         Ok(Service {
             alloc,
             limits,
-            profiles: Vec::with_capacity(alloc, limits.profiles as usize)?,
-            replies: Vec::new(alloc),
+            registry,
+            store: Store::in_memory(alloc)?,
+            files: UnfinishedFiles::new(alloc, limits.unfinished)?,
         })
     }
 
     /// Handles one request, and gives its one reply.
     pub fn handle(&mut self, frame: Frame) -> Reply
-        ensures handles { (history : History) → StandsFor self.old history →
-            Handles (limits_of self.old) history frame result (StandsFor self.new) }
-        ensures spelled { (history : History) → StandsFor self.old history → HasReplySpelling result }
+        ensures handles { (setting : Setting) (history : History) → StandsFor setting self.old history →
+            Handles setting history frame result (StandsFor setting self.new) }
+        ensures spelled { HasReplySpelling result }
         ensures limits { limits_of self.new ≡ limits_of self.old }
+        ensures registry { registry_of self.new ≡ registry_of self.old }
     {
         let stamp = Stamp {
             client: frame.client,
             number: frame.number,
             mark: mark(frame.kind, frame.body.as_slice()),
         };
-        let Some(request) = served(self.alloc, frame) else {
-            return Reply::Refused(Refusal::Malformed);
-        };
-        match self.kept(stamp.client, stamp.number) {
-            Some(kept) => kept.answer_again(self.alloc, stamp.mark),
-            None => self.apply(stamp, request),
+        match request_of(self.alloc, frame) {
+            Ok(request) => self.answer(stamp, request),
+            Err(BodyFault::Malformed) => Reply::Refused(Refusal::Malformed),
+            Err(BodyFault::Memory) => Reply::Refused(Refusal::Memory),
         }
     }
 
     /// Handles requests in order, and gives a reply for each. Want of memory for the list of replies is
     /// found before the first request is handled.
     pub fn run(&mut self, frames: Vec<Frame>) -> Result<Vec<Reply>, AllocError>
-        ensures runs { IfOk result (λ replies. (history : History) → StandsFor self.old history →
-            Runs (limits_of self.old) history frames.items replies.items self.new) }
+        ensures runs { IfOk result (λ replies. (setting : Setting) (history : History) → StandsFor setting self.old history →
+            Runs setting history frames.items replies.items self.new) }
         ensures count { IfOk result (λ replies. vec_len replies ≡ vec_len frames) }
         ensures unchanged { OnErr result (self.new ≡ self.old) }
         ensures limits { limits_of self.new ≡ limits_of self.old }
+        ensures registry { registry_of self.new ≡ registry_of self.old }
     {
         let mut replies = Vec::with_capacity(self.alloc, frames.len())?;
         for frame in frames {
@@ -93,48 +102,13 @@ impl Service {
         Ok(replies)
     }
 
-    /// The kept reply under this number, or `None` where the number is new.
-    fn kept(&self, client: u32, number: u64) -> Option<&KeptReply>
-        ensures { option_copied result ≡
-            find (λ row. (row.stamp.client == client) && (row.stamp.number == number)) self.now.replies.items }
+    /// How many bytes of content are kept of the file with this number in this profile, or `None`
+    /// unless it is unfinished.
+    pub fn kept_bytes(&self, profile: u32, file: u32) -> Option<u64>
+        ensures { (setting : Setting) (history : History) → StandsFor setting self.now history
+            → result ≡ kept_bytes_of (world_of setting history) profile file }
     {
-        self.replies.iter().find(|row| row.stamp.client == client && row.stamp.number == number)
+        let place = self.files.place_of(profile, file)?;
+        Some(self.files.kept_bytes(place))
     }
-
-    /// Judges a command under a new number, and changes by it where it is accepted.
-    fn apply(&mut self, stamp: Stamp, request: Request) -> Reply
-        ensures limits { self.new.limits ≡ self.old.limits }
-        ensures comes { AreMeasured self.old.profiles.items →
-            Comes self.old self.new stamp (judge self.old.limits (world_in self.old.profiles.items) request) result }
-    {
-        match request {
-            Request::CreateProfile {
-                scan_limit,
-                match_all,
-            } => self.create_profile(stamp, scan_limit, match_all),
-            Request::AddFolder {
-                profile,
-                parent,
-                modified,
-                name,
-            } => self.add_folder(stamp, profile, parent, modified, name),
-            _ => Reply::Refused(Refusal::Malformed),
-        }
-    }
-}
-
-/// The request of the frame, where its kind is one that is served.
-fn served(alloc: Global, frame: Frame) -> Option<Request>
-    ensures { result ≡ command frame }
-{
-    if !is_served(frame.kind) {
-        return None;
-    }
-    request_of(alloc, frame).ok()
-}
-
-fn is_served(kind: u8) -> bool
-    ensures { result ≡ is_served kind }
-{
-    kind == CREATE_PROFILE || kind == ADD_FOLDER
 }

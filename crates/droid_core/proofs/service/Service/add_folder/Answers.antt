@@ -1,61 +1,50 @@
-use Rattle.std.proofs.Common.{◌≡◌, ◌++◌, ◌∷◌, [], ◌+◌, ◌-◌, length, refl, arith, ap, sym, None}
+use Rattle.std.proofs.Common.{◌+◌, sym, refl, ap, ◌∙◌}
 use Rattle.std.specs.Int.{w64}
-use Rattle.std.proofs.lemmas.Grind.{common_steps}
 use Rattle.std.proofs.lemmas.Int.{to_z-of_z}
-use Rattle.std.proofs.lemmas.List.{length-map}
-use Rattle.droid_frame.specs.types.reply.Reply.TheVariants.{Node}
-use Rattle.droid_core.specs.declared.service.rows.KeptReply.{KeptReply}
-use Rattle.droid_core.specs.Rows.{node_in, nodes_in, profile_in, world_in}
-use Rattle.droid_core.specs.World.{numbered}
-use Rattle.droid_core.proofs.Measures.{AreMeasured-set}
-use Rattle.droid_core.proofs.Places.{numbered_none, numbered_past, IsRow, numbered_row, row_measured, same_world, same_measured, world-set}
-use Rattle.droid_core.proofs.Verdicts.{folder_nowhere, folder_refused, folder_good, comes_refused, refused_weaker}
+use Rattle.std.proofs.lemmas.Result.{err_from_is_err_and}
+use Rattle.droid_history.specs.Limits.{Limits}
+use Rattle.droid_store.specs.declared.rows.ProfileRow.{ProfileRow}
+use Rattle.droid_core.proofs.AddedFolders.{folder_nowhere, folder_misplaced, folder_refused, comes_folder}
+use Rattle.droid_core.proofs.Staying.{of_any, stays, comes_refused}
 use Rattle.droid_core.proofs.service.Service.add_folder.Goals as goal
-use Rattle.droid_core.proofs.service.Service.add_folder.Goals.{then-place-eq0-via-then-place-eq0, then-place-eq0-via-else-place-eq0+then-len-place}
 
-pub returns-then-place-eq0-clause-comes : goal.returns-then-place-eq0-clause-comes
-returns-then-place-eq0-clause-comes c = λ measured.
-    let rows = c.args.self.now.profiles.items in
-    let nowhere : numbered (world_in rows) c.args.number ≡ None =
-    elim c.then-place-eq0.branch [
-      | then-place-eq0-via-then-place-eq0 w ↦ numbered_none (world_in rows) c.args.number w.if-place-eq0.true
-      | then-place-eq0-via-else-place-eq0+then-len-place w ↦ numbered_past rows c.args.number (omega arith) (omega (arith, c.args.self.now.profiles.ok.0))
-    ] in
-    rw (folder_nowhere c.args.self.now.limits (world_in rows) c.args.number c.args.parent c.args.modified c.args.name nowhere)
-    (refl, record { limits = refl; replies = refl; rows = refl; measured = λ same. same })
+pub returns-in_err-row-clause-comes : goal.returns-in_err-row-clause-comes
+returns-in_err-row-clause-comes c = λ setting world is.
+    let verdict = folder_nowhere setting world c.args.number c.args.parent c.args.modified c.args.name _ (c.in_err-row.ensures.found setting world is.rows) in
+    let failed = err_from_is_err_and c.from_residual.result c.from_residual.ensures.1 in
+    rw (failed.1, failed.2) (comes_refused setting world _ _ c.args.stamp _ _ verdict (stays setting world _ _ refl refl c.profile_of.ensures.same refl is))
 
-pub returns-in-Err-clause-comes : goal.returns-in-Err-clause-comes
-returns-in-Err-clause-comes c = λ measured.
-    let rows = c.args.self.now.profiles.items in
-    let row = c.index_mut-profile.result.now in
-    let at : IsRow rows c.args.number row = record { above = omega arith; within = omega (arith, c.args.self.now.profiles.ok.0); is = c.index_mut-profile.ensures.value } in
-    let refused = (rw (to_z-of_z w64 c.args.modified c.ranges.modified) at c.in-Err.ensures.refused) (row_measured rows c.args.number row at measured) in
-    comes_refused _ _ _ _ c.in-Err.refusal
-    (refused_weaker _ (λ is. folder_refused c.args.self.now.limits (world_in rows) c.args.number c.args.parent c.args.modified c.args.name (profile_in row) c.in-Err.refusal (numbered_row rows c.args.number row at) is) refused)
-    (record {
-      limits = refl;
-      replies = c.reserve.ensures.items;
-      rows = same_world rows c.args.number row c.add_folder.new.self at c.in-Err.ensures.same;
-      measured = same_measured rows c.args.number row c.add_folder.new.self at c.in-Err.ensures.same;
-    })
+pub returns-in_err-path-clause-comes : goal.returns-in_err-path-clause-comes
+returns-in_err-path-clause-comes c = λ setting world is.
+    let store = c.place_of.ensures.same ∙ c.profile_of.ensures.same in
+    let has = c.in_ok-row.ensures.found setting world is.rows in
+    let finds = c.in_err-path.ensures.found setting world has.profile (rw c.profile_of.ensures.same is.rows) is.sound has.there in
+    let verdict = folder_misplaced setting world c.args.number c.args.parent c.args.modified c.args.name has.profile has.there _ (rw c.as_str.ensures.value at finds) in
+    let failed = err_from_is_err_and c.from_residual-in_err-path.result c.from_residual-in_err-path.ensures.1 in
+    rw (failed.1, failed.2) (comes_refused setting world _ _ c.args.stamp _ _ verdict (stays setting world _ _ refl refl store refl is))
+
+pub returns-in-Some-clause-comes : goal.returns-in-Some-clause-comes
+returns-in-Some-clause-comes c = λ setting world is.
+    let store = c.place_of.ensures.same ∙ c.profile_of.ensures.same in
+    let has = c.in_ok-row.ensures.found setting world is.rows in
+    let limit = c.node_room-nodes.ensures.limit ∙ sym (ap (λ (limits : Limits). limits.nodes) is.is_setting.limits) in
+    let count = c.node_room-nodes.ensures.count ∙ ap (λ (row : ProfileRow). row.nodes) has.row_is in
+    let finds = c.in_ok-path.ensures.found setting world has.profile (rw c.profile_of.ensures.same is.rows) is.sound has.there in
+    let place = rw c.as_str.ensures.value at finds.0 in
+    let refused = sym (c.in-Some.ensures.first setting.limits has.profile.nodes c.args.parent c.args.name limit count place) in
+    let verdict = folder_refused setting world c.args.number c.args.parent c.args.modified c.args.name has.profile has.there c.in-Some.refusal (rw (to_z-of_z w64 c.args.modified c.ranges.modified) at refused) in
+    comes_refused setting world _ _ c.args.stamp _ c.in-Some.refusal (of_any _ verdict) (stays setting world _ _ refl refl store refl is)
 
 pub returns-in-Ok-clause-comes : goal.returns-in-Ok-clause-comes
-returns-in-Ok-clause-comes c = λ measured.
-    let old = c.args.self.now in
-    let rows = old.profiles.items in
-    let row = c.index_mut-profile.result.now in
-    let at : IsRow rows c.args.number row = record { above = omega arith; within = omega (arith, old.profiles.ok.0); is = c.index_mut-profile.ensures.value } in
-    let row_is_measured = row_measured rows c.args.number row at measured in
-    let adds = rw (to_z-of_z w64 c.args.modified c.ranges.modified) at c.in-Ok.ensures.added in
-    let count : length (nodes_in row.nodes.items) + 1 ≡ c.in-Ok.id = omega (arith, adds.number, length-map row.nodes.items node_in) in
-    let kept : KeptReply = record { stamp = c.args.stamp; reply = Node c.in-Ok.id } in
-    let replies : c.push.new.self.items ≡ old.replies.items ++ kept ∷ [] = grind (arith, common_steps) in
-    rw (folder_good old.limits (world_in rows) c.args.number c.args.parent c.args.modified c.args.name (profile_in row) (numbered_row rows c.args.number row at) (adds.allowed row_is_measured)) (
-      ap (λ n. Node n) (sym count),
-      record {
-        limits = refl;
-        replies = rw count replies;
-        rows = world-set rows (c.args.number - 1) c.add_folder.new.self _ adds.profile;
-        measured = AreMeasured-set rows (c.args.number - 1) c.add_folder.new.self measured (adds.measured row_is_measured);
-      },
-    )
+returns-in-Ok-clause-comes c = λ setting world is.
+    let store = c.place_of.ensures.same ∙ c.profile_of.ensures.same in
+    let has = c.in_ok-row.ensures.found setting world is.rows in
+    let limit = c.node_room-nodes.ensures.limit ∙ sym (ap (λ (limits : Limits). limits.nodes) is.is_setting.limits) in
+    let counted = ap (λ (row : ProfileRow). row.nodes) has.row_is in
+    let finds = c.in_ok-path.ensures.found setting world has.profile (rw c.profile_of.ensures.same is.rows) is.sound has.there in
+    let place = rw c.as_str.ensures.value at finds.0 in
+    let way = rw c.as_str.ensures.value at finds.1 in
+    let allowed = sym (c.in_default.ensures.first setting.limits has.profile.nodes c.args.parent c.args.name limit (c.node_room-nodes.ensures.count ∙ counted) place) in
+    let made = rw (c.in_ok-entry.ensures.row, c.as_str-2.ensures.value, c.as_str-3.ensures.value, to_z-of_z w64 c.args.modified c.ranges.modified, store) at c.in-Ok.ensures.ok in
+    comes_folder setting world c.args.number c.args.parent c.args.modified c.args.name has.profile has.there _ _ c.args.stamp (c.in_ok-row.row.nodes + 1) c.in_ok-path.path is
+    (rw (to_z-of_z w64 c.args.modified c.ranges.modified) at allowed) (ap (λ n. n + 1) counted) way refl refl refl made

@@ -1,14 +1,11 @@
-use Rattle.std.proofs.Common.{ap}
-use Rattle.droid_core.specs.Histories.{world_of}
-use Rattle.droid_core.specs.Rows.{world_in}
+use Rattle.std.proofs.Common.{ap, sym, ◌∙◌}
+use Rattle.droid_history.specs.Limits.{Limits}
+use Rattle.droid_core.specs.declared.service.Service.{Service}
+use Rattle.droid_core.proofs.Starting.{starts}
 use Rattle.droid_core.proofs.service.Service.new.Goals as goal
 
 pub returns-clause-empty : goal.returns-clause-empty
-unfolding world_of
-returns-clause-empty c = record {
-  allowed = record { profiles = c.requires.profiles; nodes = c.requires.nodes; unfinished = c.requires.unfinished };
-  legal = tt;
-  replies = c.new.ensures.items;
-  rows = ap world_in c.in_ok-with_capacity.ensures.items;
-  measured = rw c.in_ok-with_capacity.ensures.items tt;
-}
+returns-clause-empty c = λ setting limits registry.
+    let service : Service = record { alloc = c.args.alloc; limits = c.args.limits; registry = c.args.registry; store = c.in_ok-in_memory.field-0; files = c.in_ok-new.field-0 } in
+    starts setting service limits (record { profiles = c.requires.profiles; nodes = c.requires.nodes; unfinished = c.requires.unfinished }) registry
+    c.in_ok-in_memory.ensures c.in_ok-new.ensures.none (c.in_ok-new.ensures.limit ∙ sym (ap (λ (given : Limits). given.unfinished) limits))

@@ -2,7 +2,6 @@ use Rattle.std.proofs.Common.{◌≡◌, ◌++◌, ◌∷◌, [], map-id, sym, �
 use Rattle.std.proofs.lemmas.Grind.{common_steps}
 use Rattle.std.proofs.lemmas.Iterator.Adapters.{YieldsList-from_vec}
 use Rattle.std.proofs.lemmas.Iterator.Consumers.{YieldsList-turn, YieldsList-end}
-use Rattle.droid_core.specs.Standing.{limits_of}
 use Rattle.droid_core.proofs.Running.{Runs-push}
 use Rattle.droid_core.proofs.service.Service.run.Goals as goal
 
@@ -16,11 +15,11 @@ pub loop-frame-preserved : goal.loop-frame-preserved
 loop-frame-preserved c =
     let replies : c.push.new.self.items ≡ c.loop-frame.replies.items ++ c.handle-reply.result ∷ [] = grind (arith, common_steps) in
     record {
-      runs = λ history stands.
-          let runs = c.loop-frame.invariant.runs history stands in
-          let handled = c.handle-reply.ensures.handles _ runs.stands in
-          rw replies (Runs-push (limits_of c.args.self.now) history c.loop-frame.yielded c.loop-frame.replies.items c.loop-frame.self c.handle-reply.new.self c.in-Some.frame c.handle-reply.result runs (rw c.loop-frame.invariant.limits at handled) (c.handle-reply.ensures.spelled _ runs.stands));
+      runs = λ setting history stands.
+          let runs = c.loop-frame.invariant.runs setting history stands in
+          rw replies (Runs-push setting history c.loop-frame.yielded c.loop-frame.replies.items c.loop-frame.self c.handle-reply.new.self c.in-Some.frame c.handle-reply.result runs (c.handle-reply.ensures.handles setting _ runs.stands) c.handle-reply.ensures.spelled);
       limits = c.handle-reply.ensures.limits ∙ c.loop-frame.invariant.limits;
+      registry = c.handle-reply.ensures.registry ∙ c.loop-frame.invariant.registry;
       count = grind (arith, common_steps);
       room = omega (arith, c.push.ensures.capacity, c.loop-frame.invariant.room);
     }
@@ -31,8 +30,9 @@ returns c =
     let end = YieldsList-end (YieldsList-from_vec {s = c.into_iter-frame-iterator.result} c.args.frames.items g.0 (g.1 ∙ c.args.frames.ok.0)) c.loop-frame.yielded _ c.loop-frame.yielded_by c.next.result c.next.new.self c.in-None.is c.next.ensures.steps in
     let yielded : c.loop-frame.yielded ≡ c.args.frames.items = sym (map-id c.loop-frame.yielded) ∙ end.0 in
     record {
-      runs = λ history stands. rw (← yielded) (c.loop-frame.invariant.runs history stands);
+      runs = λ setting history stands. rw (← yielded) (c.loop-frame.invariant.runs setting history stands);
       count = omega (arith, c.loop-frame.invariant.count, end.1, c.args.frames.ok.0);
       unchanged = tt;
       limits = c.loop-frame.invariant.limits;
+      registry = c.loop-frame.invariant.registry;
     }

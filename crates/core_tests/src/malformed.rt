@@ -1,0 +1,55 @@
+//! Frames that spell no request.
+
+use crate::asking::{LARGEST, ask_all, printed, service};
+use droid_frame::{Blob, Frame};
+use std::test::Fail;
+
+/// A Finish is seven bytes long here, one too few, and malformed; so is a kind that there isn't, and a number
+/// of 2^63. The service goes on as before.
+#[test]
+fn broken_frames(rt: HostRuntime) -> Result<(), Fail> {
+    let alloc = rt.alloc();
+    let mut service = service(&rt, alloc, LARGEST)?;
+    ask_all(
+        &rt,
+        alloc,
+        &mut service,
+        "profile",
+        &[("1 1 create 65536 0", "made 1\n")],
+    )?;
+    let body = [0u8, 0, 0, 1, 0, 0, 0, 0, 0, 0, 0, 0];
+    let rows: [(u8, u64, usize); 8] = [
+        (5, 9, 7),
+        (5, 9, 9),
+        (0, 9, 0),
+        (9, 9, 0),
+        (1, 9, 0),
+        (129, 9, 4),
+        (255, 9, 3),
+        (5, 1 << 63, 8),
+    ];
+    for (kind, number, length) in rows {
+        let frame = Frame {
+            version: 1,
+            kind,
+            client: 1,
+            number,
+            body: Blob::copy_of(alloc, &body[..length])?,
+        };
+        let reply = printed(alloc, service.handle(frame))?;
+        assert!(rt;
+            reply.as_slice() == "refused 1\n".as_bytes(),
+            "kind {kind}: {reply:?}"
+        );
+    }
+    ask_all(
+        &rt,
+        alloc,
+        &mut service,
+        "afterwards",
+        &[
+            ("1 9 finish 1 1", "refused 4\n"),
+            ("1 9 folder 1 0 0 in", "node 1\n"),
+        ],
+    )
+}

@@ -1,0 +1,17 @@
+//! Which refusal a fault of the layers below comes to.
+
+ghost use Rattle.std.specs.Prelude.{IsTrue};
+ghost use Rattle.droid_history.specs.Wants.{is_want_of};
+
+use droid_frame::Refusal;
+use droid_store::StoreFault;
+
+/// The refusal that a fault of the store comes to.
+pub fn store_refusal(fault: StoreFault) -> Refusal
+    ensures { IsTrue (is_want_of result) }
+{
+    match fault {
+        StoreFault::Memory => Refusal::Memory,
+        StoreFault::Refused => Refusal::Store,
+    }
+}
