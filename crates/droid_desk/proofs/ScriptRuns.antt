@@ -13,42 +13,42 @@ use Rattle.droid_frame.specs.types.reply.Reply.{Reply}
 use Rattle.droid_lines.specs.declared.parse.Line.{Line}
 use Rattle.droid_desk.specs.declared.script.tally.Tally.{Tally}
 use Rattle.droid_core.specs.declared.service.Service.{Service}
-use Rattle.droid_core.specs.declared.service.limits.Limits.{Limits}
-use Rattle.droid_core.specs.Histories.{History, command, answer, next, Handles}
+use Rattle.droid_history.specs.Setting.{Setting}
+use Rattle.droid_history.specs.Histories.{History, command, answer, next, Handles}
 use Rattle.droid_lines.specs.Lines.{lines_of}
-use Rattle.droid_desk.specs.Lines.{taken_line}
+use Rattle.droid_lines.specs.Lines.{line_value}
 use Rattle.droid_lines.specs.Printed.{answer_line}
 use Rattle.droid_desk.specs.Scripts.{frame_of, ScriptRun, script_text, LineAnswered, WritesFront, RunsAll, RunsFront, is_bad, Counts, StandsForSome}
-use Rattle.droid_core.specs.Standing.{StandsFor, limits_of}
-use Rattle.droid_core.specs.Wants.{is_want}
+use Rattle.droid_core.specs.Standing.{StandsFor, limits_of, registry_of}
+use Rattle.droid_history.specs.Wants.{is_want}
 
 -- ---- one line
 
-answered_by : (want : Bool) (limits : Limits) (history : History) (frame : Frame) (reply : Reply) (after : Service)
-    → MatchBool want (IsSome (command frame) × StandsFor after history) ((reply ≡ answer limits history frame) × StandsFor after (next limits history frame))
-    → (left : History) × MatchBool want (IsSome (command frame) × (left ≡ history)) ((reply ≡ answer limits history frame) × (left ≡ next limits history frame)) × StandsFor after left
-answered_by true limits history frame reply after p = (history, (p.0, refl), p.1)
-answered_by false limits history frame reply after p = (next limits history frame, (p.0, refl), p.1)
+answered_by : (want : Bool) (setting : Setting) (history : History) (frame : Frame) (reply : Reply) (after : Service)
+    → MatchBool want (IsSome (command frame) × StandsFor setting after history) ((reply ≡ answer setting history frame) × StandsFor setting after (next setting history frame))
+    → (left : History) × MatchBool want (IsSome (command frame) × (left ≡ history)) ((reply ≡ answer setting history frame) × (left ≡ next setting history frame)) × StandsFor setting after left
+answered_by true setting history frame reply after p = (history, (p.0, refl), p.1)
+answered_by false setting history frame reply after p = (next setting history frame, (p.0, refl), p.1)
 
 -- a request that was handled was answered
-pub line_handled : (limits : Limits) (history : History) (line : Line) (frame : Frame) (reply : Reply) (after : Service)
-    → frame ≡ frame_of line → Handles limits history frame reply (StandsFor after) → LineAnswered limits history (Some line) (Some reply) after
-line_handled limits history line frame reply after e handled =
-    let by = answered_by (is_want reply) limits history frame reply after handled in
-    record { after = by.0; run = subst (λ (sent : Frame). Handles limits history sent reply (λ left. by.0 ≡ left)) e by.1; stands = by.2 }
+pub line_handled : (setting : Setting) (history : History) (line : Line) (frame : Frame) (reply : Reply) (after : Service)
+    → frame ≡ frame_of line → Handles setting history frame reply (StandsFor setting after) → LineAnswered setting history (Some line) (Some reply) after
+line_handled setting history line frame reply after e handled =
+    let by = answered_by (is_want reply) setting history frame reply after handled in
+    record { after = by.0; run = subst (λ (sent : Frame). Handles setting history sent reply (λ left. by.0 ≡ left)) e by.1; stands = by.2 }
 
 -- a bad line changes nothing
-pub bad_line_run : (limits : Limits) (history : History) (service : Service) → StandsFor service history → LineAnswered limits history None None service
-bad_line_run limits history service stands = record { after = history; run = refl; stands = stands }
+pub bad_line_run : (setting : Setting) (history : History) (service : Service) → StandsFor setting service history → LineAnswered setting history None None service
+bad_line_run setting history service stands = record { after = history; run = refl; stands = stands }
 
 -- ---- what one line prints
 
 single_text : (reply : Option Reply) → script_text (reply ∷ []) ≡ answer_line reply
 single_text reply = append-nil (answer_line reply)
 
-pub line_runs : (limits : Limits) (history : History) (line : List ℕ) (reply : Option Reply) (service : Service) (old new : Option (List ℕ))
-    → LineAnswered limits history (taken_line line) reply service → Appends old new (answer_line reply) → RunsAll limits history (line ∷ []) service old new
-line_runs limits history line reply service old new answered writes = record {
+pub line_runs : (setting : Setting) (history : History) (line : List ℕ) (reply : Option Reply) (service : Service) (old new : Option (List ℕ))
+    → LineAnswered setting history (line_value line) reply service → Appends old new (answer_line reply) → RunsAll setting history (line ∷ []) service old new
+line_runs setting history line reply service old new answered writes = record {
   replies = reply ∷ [];
   after = answered.after;
   run = (answered.after, answered.run, refl);
@@ -57,9 +57,9 @@ line_runs limits history line reply service old new answered writes = record {
 }
 
 -- the line was handled, and a front of what it prints was written
-pub line_runs_front : (limits : Limits) (history : History) (line : List ℕ) (reply : Option Reply) (service : Service) (old new : Option (List ℕ))
-    → LineAnswered limits history (taken_line line) reply service → WritesFront old new (answer_line reply) → RunsFront limits history (line ∷ []) service old new
-line_runs_front limits history line reply service old new answered wrote = record {
+pub line_runs_front : (setting : Setting) (history : History) (line : List ℕ) (reply : Option Reply) (service : Service) (old new : Option (List ℕ))
+    → LineAnswered setting history (line_value line) reply service → WritesFront old new (answer_line reply) → RunsFront setting history (line ∷ []) service old new
+line_runs_front setting history line reply service old new answered wrote = record {
   front = line ∷ [];
   rest = [];
   cut = refl;
@@ -77,9 +77,9 @@ pub writes_nothing : (bytes : Option (List ℕ)) (text : List ℕ) → WritesFro
 writes_nothing bytes text = record { written = []; unwritten = text; cut = refl; writes = Appends-nil bytes }
 
 -- nothing was handled
-pub runs_nothing : (limits : Limits) (history : History) (lines : List (List ℕ)) (service : Service) (bytes : Option (List ℕ))
-    → StandsFor service history → RunsFront limits history lines service bytes bytes
-runs_nothing limits history lines service bytes stands = record {
+pub runs_nothing : (setting : Setting) (history : History) (lines : List (List ℕ)) (service : Service) (bytes : Option (List ℕ))
+    → StandsFor setting service history → RunsFront setting history lines service bytes bytes
+runs_nothing setting history lines service bytes stands = record {
   front = [];
   rest = lines;
   cut = refl;
@@ -95,33 +95,33 @@ runs_nothing limits history lines service bytes stands = record {
 
 -- ---- lines after lines
 
-pub ScriptRun-append : (limits : Limits) (history middle after : History) (xs ys : List (List ℕ)) (first second : List (Option Reply))
-    → ScriptRun limits history xs first middle → ScriptRun limits middle ys second after → ScriptRun limits history (xs ++ ys) (first ++ second) after
-ScriptRun-append limits history middle after [] ys [] second p q = subst (λ (h : History). ScriptRun limits h ys second after) p q
-ScriptRun-append limits history middle after [] ys (a ∷ first) second p q = absurd p
-ScriptRun-append limits history middle after (x ∷ xs) ys [] second p q = absurd p
-ScriptRun-append limits history middle after (x ∷ xs) ys (a ∷ first) second p q = (p.0, p.1, ScriptRun-append limits p.0 middle after xs ys first second p.2 q)
+pub ScriptRun-append : (setting : Setting) (history middle after : History) (xs ys : List (List ℕ)) (first second : List (Option Reply))
+    → ScriptRun setting history xs first middle → ScriptRun setting middle ys second after → ScriptRun setting history (xs ++ ys) (first ++ second) after
+ScriptRun-append setting history middle after [] ys [] second p q = subst (λ (h : History). ScriptRun setting h ys second after) p q
+ScriptRun-append setting history middle after [] ys (a ∷ first) second p q = absurd p
+ScriptRun-append setting history middle after (x ∷ xs) ys [] second p q = absurd p
+ScriptRun-append setting history middle after (x ∷ xs) ys (a ∷ first) second p q = (p.0, p.1, ScriptRun-append setting p.0 middle after xs ys first second p.2 q)
 
 script_text-append : (first second : List (Option Reply)) → script_text (first ++ second) ≡ script_text first ++ script_text second
 script_text-append first second = flat_map-append answer_line first second
 
-pub runs_then : (limits : Limits) (history : History) (xs ys : List (List ℕ)) (now later : Service) (old new newer : Option (List ℕ))
-    → RunsAll limits history xs now old new → ((middle : History) → StandsFor now middle → RunsAll limits middle ys later new newer)
-    → RunsAll limits history (xs ++ ys) later old newer
-runs_then limits history xs ys now later old new newer first next =
+pub runs_then : (setting : Setting) (history : History) (xs ys : List (List ℕ)) (now later : Service) (old new newer : Option (List ℕ))
+    → RunsAll setting history xs now old new → ((middle : History) → StandsFor setting now middle → RunsAll setting middle ys later new newer)
+    → RunsAll setting history (xs ++ ys) later old newer
+runs_then setting history xs ys now later old new newer first next =
     let second = next first.after first.stands in
     record {
       replies = first.replies ++ second.replies;
       after = second.after;
-      run = ScriptRun-append limits history first.after second.after xs ys first.replies second.replies first.run second.run;
+      run = ScriptRun-append setting history first.after second.after xs ys first.replies second.replies first.run second.run;
       stands = second.stands;
       writes = subst (Appends old newer) (sym (script_text-append first.replies second.replies)) (Appends-trans old new newer (script_text first.replies) (script_text second.replies) first.writes second.writes);
     }
 
-pub runs_then_front : (limits : Limits) (history : History) (xs ys : List (List ℕ)) (now later : Service) (old new newer : Option (List ℕ))
-    → RunsAll limits history xs now old new → ((middle : History) → StandsFor now middle → RunsFront limits middle ys later new newer)
-    → RunsFront limits history (xs ++ ys) later old newer
-runs_then_front limits history xs ys now later old new newer first next =
+pub runs_then_front : (setting : Setting) (history : History) (xs ys : List (List ℕ)) (now later : Service) (old new newer : Option (List ℕ))
+    → RunsAll setting history xs now old new → ((middle : History) → StandsFor setting now middle → RunsFront setting middle ys later new newer)
+    → RunsFront setting history (xs ++ ys) later old newer
+runs_then_front setting history xs ys now later old new newer first next =
     let second = next first.after first.stands in
     record {
       front = xs ++ second.front;
@@ -129,7 +129,7 @@ runs_then_front limits history xs ys now later old new newer first next =
       cut = ap (λ (l : List (List ℕ)). xs ++ l) second.cut ∙ sym (append_assoc xs second.front second.rest);
       replies = first.replies ++ second.replies;
       after = second.after;
-      run = ScriptRun-append limits history first.after second.after xs second.front first.replies second.replies first.run second.run;
+      run = ScriptRun-append setting history first.after second.after xs second.front first.replies second.replies first.run second.run;
       stands = second.stands;
       written = script_text first.replies ++ second.written;
       unwritten = second.unwritten;
@@ -138,9 +138,9 @@ runs_then_front limits history xs ys now later old new newer first next =
     }
 
 -- a front of the lines is enough where more follow
-pub front_of_more : (limits : Limits) (history : History) (xs ys : List (List ℕ)) (service : Service) (old new : Option (List ℕ))
-    → RunsFront limits history xs service old new → RunsFront limits history (xs ++ ys) service old new
-front_of_more limits history xs ys service old new ran = record {
+pub front_of_more : (setting : Setting) (history : History) (xs ys : List (List ℕ)) (service : Service) (old new : Option (List ℕ))
+    → RunsFront setting history xs service old new → RunsFront setting history (xs ++ ys) service old new
+front_of_more setting history xs ys service old new ran = record {
   front = ran.front;
   rest = ran.rest ++ ys;
   cut = ap (λ (l : List (List ℕ)). l ++ ys) ran.cut ∙ append_assoc ran.front ran.rest ys;
@@ -165,8 +165,9 @@ pub record Progress (before now : Service) (input rest : List ℕ) (tally : Tall
   pub front : List (List ℕ)
   pub cut : lines_of input ≡ front ++ lines_of rest
   pub counted : Counts tally front
-  pub ran : (history : History) → StandsFor before history → RunsAll (limits_of before) history front now old new
+  pub ran : (setting : Setting) (history : History) → StandsFor setting before history → RunsAll setting history front now old new
   pub limits : limits_of now ≡ limits_of before
+  pub registry : registry_of now ≡ registry_of before
   pub room : tally.lines + length rest ≤ length input
   pub bad : tally.bad ≤ tally.lines
 
@@ -175,16 +176,12 @@ start service input tally bytes no_line no_bad = record {
   front = [];
   cut = refl;
   counted = record { lines = no_line; bad = no_bad };
-  ran = λ history stands. record { replies = []; after = history; run = refl; stands = stands; writes = Appends-nil bytes };
+  ran = λ setting history stands. record { replies = []; after = history; run = refl; stands = stands; writes = Appends-nil bytes };
   limits = refl;
+  registry = refl;
   room = omega (arith, no_line);
   bad = omega (arith, no_line, no_bad);
 }
-
--- what a line did from now on, with the limits of the beginning
-from_now : (before now : Service) (Ran : Limits → History → Type 0) → limits_of now ≡ limits_of before
-    → ((history : History) → StandsFor now history → Ran (limits_of now) history) → (history : History) → StandsFor now history → Ran (limits_of before) history
-from_now before now Ran e ran history stands = subst (λ (limits : Limits). Ran limits history) e (ran history stands)
 
 count_push : (lines : List (List ℕ)) (line : List ℕ) → count_by is_bad (lines ++ line ∷ []) ≡ count_by is_bad lines + cond (is_bad line) 1 0
 count_push lines line =
@@ -194,19 +191,19 @@ count_push lines line =
 pub step : (before now later : Service) (input rest line after : List ℕ) (tally more : Tally) (old new newer : Option (List ℕ))
     → Progress before now input rest tally old new
     → lines_of rest ≡ line ∷ lines_of after → length after < length rest
-    → ((history : History) → StandsFor now history → RunsAll (limits_of now) history (line ∷ []) later new newer)
-    → limits_of later ≡ limits_of now → more.lines ≡ tally.lines + 1 → more.bad ≡ tally.bad + cond (is_bad line) 1 0
+    → ((setting : Setting) (history : History) → StandsFor setting now history → RunsAll setting history (line ∷ []) later new newer)
+    → limits_of later ≡ limits_of now → registry_of later ≡ registry_of now → more.lines ≡ tally.lines + 1 → more.bad ≡ tally.bad + cond (is_bad line) 1 0
     → Progress before later input after more old newer
-step before now later input rest line after tally more old new newer so_far cut shorter ran limits lines bad = record {
+step before now later input rest line after tally more old new newer so_far cut shorter ran limits registry lines bad = record {
   front = so_far.front ++ line ∷ [];
   cut = so_far.cut ∙ (ap (λ (l : List (List ℕ)). so_far.front ++ l) cut ∙ sym (append_assoc so_far.front (line ∷ []) (lines_of after)));
   counted = record {
     lines = omega (arith, lines, so_far.counted.lines, length-append so_far.front (line ∷ []));
     bad = bad ∙ (ap (λ (n : ℕ). n + cond (is_bad line) 1 0) so_far.counted.bad ∙ sym (count_push so_far.front line));
   };
-  ran = λ history stands. runs_then (limits_of before) history so_far.front (line ∷ []) now later old new newer (so_far.ran history stands)
-      (from_now before now (λ l h. RunsAll l h (line ∷ []) later new newer) so_far.limits ran);
+  ran = λ setting history stands. runs_then setting history so_far.front (line ∷ []) now later old new newer (so_far.ran setting history stands) (ran setting);
   limits = limits ∙ so_far.limits;
+  registry = registry ∙ so_far.registry;
   room = omega (arith, lines, so_far.room, shorter);
   bad = omega (arith, lines, bad, so_far.bad, at_most_one (is_bad line));
 }
@@ -214,15 +211,14 @@ step before now later input rest line after tally more old new newer so_far cut 
 pub stop : (before now later : Service) (input rest line after : List ℕ) (tally : Tally) (old new newer : Option (List ℕ))
     → Progress before now input rest tally old new
     → lines_of rest ≡ line ∷ lines_of after
-    → ((history : History) → StandsFor now history → RunsFront (limits_of now) history (line ∷ []) later new newer)
-    → (history : History) → StandsFor before history → RunsFront (limits_of before) history (lines_of input) later old newer
-stop before now later input rest line after tally old new newer so_far cut ran history stands =
-    let part = runs_then_front (limits_of before) history so_far.front (line ∷ []) now later old new newer (so_far.ran history stands)
-    (from_now before now (λ l h. RunsFront l h (line ∷ []) later new newer) so_far.limits ran) in
+    → ((setting : Setting) (history : History) → StandsFor setting now history → RunsFront setting history (line ∷ []) later new newer)
+    → (setting : Setting) (history : History) → StandsFor setting before history → RunsFront setting history (lines_of input) later old newer
+stop before now later input rest line after tally old new newer so_far cut ran setting history stands =
+    let part = runs_then_front setting history so_far.front (line ∷ []) now later old new newer (so_far.ran setting history stands) (ran setting) in
     let whole : lines_of input ≡ (so_far.front ++ line ∷ []) ++ lines_of after =
     so_far.cut ∙ (ap (λ (l : List (List ℕ)). so_far.front ++ l) cut ∙ sym (append_assoc so_far.front (line ∷ []) (lines_of after))) in
-    subst (λ (l : List (List ℕ)). RunsFront (limits_of before) history l later old newer) (sym whole)
-    (front_of_more (limits_of before) history (so_far.front ++ line ∷ []) (lines_of after) later old newer part)
+    subst (λ (l : List (List ℕ)). RunsFront setting history l later old newer) (sym whole)
+    (front_of_more setting history (so_far.front ++ line ∷ []) (lines_of after) later old newer part)
 
 pub all_lines : (before now : Service) (input rest : List ℕ) (tally : Tally) (old new : Option (List ℕ))
     → (so_far : Progress before now input rest tally old new) → lines_of rest ≡ [] → lines_of input ≡ so_far.front
@@ -256,7 +252,7 @@ frame_is line frame bytes spells sender =
 
 -- ---- after the script
 
-pub kept_up : {T E : Type 0} (r : Result T E) (limits : Limits) (history : History) (lines : List (List ℕ)) (service : Service) (old new : Option (List ℕ))
-    → OnOk r (RunsAll limits history lines service old new) → OnErr r (RunsFront limits history lines service old new) → StandsForSome service
-kept_up (Ok x) limits history lines service old new all front = (all.after, all.stands)
-kept_up (Err e) limits history lines service old new all front = (front.after, front.stands)
+pub kept_up : {T E : Type 0} (r : Result T E) (setting : Setting) (history : History) (lines : List (List ℕ)) (service : Service) (old new : Option (List ℕ))
+    → OnOk r (RunsAll setting history lines service old new) → OnErr r (RunsFront setting history lines service old new) → StandsForSome setting service
+kept_up (Ok x) setting history lines service old new all front = (all.after, all.stands)
+kept_up (Err e) setting history lines service old new all front = (front.after, front.stands)

@@ -1,4 +1,3 @@
 pub mod Endings
-pub mod Lines
 pub mod Sample
 pub mod Scripts

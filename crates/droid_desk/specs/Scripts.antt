@@ -14,9 +14,9 @@ use Rattle.droid_stream.specs.Seen.{GivesUp, IsSound}
 use Rattle.droid_lines.specs.declared.parse.Line.{Line}
 use Rattle.droid_desk.specs.declared.script.tally.Tally.{Tally}
 use Rattle.droid_core.specs.declared.service.Service.{Service}
-use Rattle.droid_core.specs.declared.service.limits.Limits.{Limits}
-use Rattle.droid_core.specs.Histories.{History, Handles}
-use Rattle.droid_desk.specs.Lines.{taken_line}
+use Rattle.droid_history.specs.Setting.{Setting}
+use Rattle.droid_history.specs.Histories.{History, Handles}
+use Rattle.droid_lines.specs.Lines.{line_value}
 use Rattle.droid_lines.specs.Printed.{answer_line}
 use Rattle.droid_core.specs.Standing.{StandsFor}
 
@@ -32,37 +32,37 @@ frame_of line = record {
 
 -- A line's request is handled, and the history goes on to this one. A bad line sends nothing, and has no
 -- reply.
-abbrev pub LineRun : Limits → History → Option Line → Option Reply → History → Type 0
-LineRun limits history None None after = after ≡ history
-LineRun limits history None (Some reply) after = ⊥
-LineRun limits history (Some line) None after = ⊥
-LineRun limits history (Some line) (Some reply) after = Handles limits history (frame_of line) reply (λ left. after ≡ left)
+abbrev pub LineRun : Setting → History → Option Line → Option Reply → History → Type 0
+LineRun setting history None None after = after ≡ history
+LineRun setting history None (Some reply) after = ⊥
+LineRun setting history (Some line) None after = ⊥
+LineRun setting history (Some line) (Some reply) after = Handles setting history (frame_of line) reply (λ left. after ≡ left)
 
 -- the lines were taken one after the other, with these replies, and the history went on to the last
-abbrev pub ScriptRun : Limits → History → List (List ℕ) → List (Option Reply) → History → Type 0
-ScriptRun limits history [] [] after = after ≡ history
-ScriptRun limits history [] (reply ∷ replies) after = ⊥
-ScriptRun limits history (line ∷ lines) [] after = ⊥
-ScriptRun limits history (line ∷ lines) (reply ∷ replies) after =
-    (middle : History) × LineRun limits history (taken_line line) reply middle × ScriptRun limits middle lines replies after
+abbrev pub ScriptRun : Setting → History → List (List ℕ) → List (Option Reply) → History → Type 0
+ScriptRun setting history [] [] after = after ≡ history
+ScriptRun setting history [] (reply ∷ replies) after = ⊥
+ScriptRun setting history (line ∷ lines) [] after = ⊥
+ScriptRun setting history (line ∷ lines) (reply ∷ replies) after =
+    (middle : History) × LineRun setting history (line_value line) reply middle × ScriptRun setting middle lines replies after
 
 -- what the replies print
 abbrev pub script_text : List (Option Reply) → List ℕ
 script_text replies = flat_map answer_line replies
 
 -- the lines ran, the service stands for the last history, and a writer's bytes grew by all that they print
-pub record RunsAll (limits : Limits) (history : History) (lines : List (List ℕ)) (service : Service) (old new : Option (List ℕ)) : Type 0 where
+pub record RunsAll (setting : Setting) (history : History) (lines : List (List ℕ)) (service : Service) (old new : Option (List ℕ)) : Type 0 where
   pub replies : List (Option Reply)
   pub after : History
-  pub run : ScriptRun limits history lines replies after
-  pub stands : StandsFor service after
+  pub run : ScriptRun setting history lines replies after
+  pub stands : StandsFor setting service after
   pub writes : Appends old new (script_text replies)
 
 -- a line got this answer, and the service stands for the history after it
-pub record LineAnswered (limits : Limits) (history : History) (line : Option Line) (answer : Option Reply) (service : Service) : Type 0 where
+pub record LineAnswered (setting : Setting) (history : History) (line : Option Line) (answer : Option Reply) (service : Service) : Type 0 where
   pub after : History
-  pub run : LineRun limits history line answer after
-  pub stands : StandsFor service after
+  pub run : LineRun setting history line answer after
+  pub stands : StandsFor setting service after
 
 -- a writer's bytes grew by the first bytes of the text
 pub record WritesFront (old new : Option (List ℕ)) (text : List ℕ) : Type 0 where
@@ -73,21 +73,22 @@ pub record WritesFront (old new : Option (List ℕ)) (text : List ℕ) : Type 0 
 
 -- the first of the lines ran, the service stands for the history after them, and a writer's bytes grew by
 -- the first bytes of what they print
-pub record RunsFront (limits : Limits) (history : History) (lines : List (List ℕ)) (service : Service) (old new : Option (List ℕ)) : Type 0 where
+pub record RunsFront (setting : Setting) (history : History) (lines : List (List ℕ)) (service : Service) (old new : Option (List ℕ)) : Type 0 where
   pub front : List (List ℕ)
   pub rest : List (List ℕ)
   pub cut : lines ≡ front ++ rest
   pub replies : List (Option Reply)
   pub after : History
-  pub run : ScriptRun limits history front replies after
-  pub stands : StandsFor service after
+  pub run : ScriptRun setting history front replies after
+  pub stands : StandsFor setting service after
   pub written : List ℕ
   pub unwritten : List ℕ
   pub text : script_text replies ≡ written ++ unwritten
   pub writes : Appends old new written
 
-abbrev pub StandsForSome : Service → Type 0
-StandsForSome service = (history : History) × StandsFor service history
+-- the service stands for some history
+abbrev pub StandsForSome : Setting → Service → Type 0
+StandsForSome setting service = (history : History) × StandsFor setting service history
 
 -- longer than 67,108,864 bytes
 abbrev pub IsTooLong : List ℕ → Type 0
@@ -121,7 +122,7 @@ pub record TellsFaultOver (start lines : ℕ) (seen : Seen) (is_fault : Type 0) 
 
 -- a line that asks for nothing
 abbrev pub is_bad : List ℕ → Bool
-is_bad line = is_none (taken_line line)
+is_bad line = is_none (line_value line)
 
 -- the lines, and the bad ones among them
 pub record Counts (tally : Tally) (script : List (List ℕ)) : Type 0 where

@@ -1,6 +1,10 @@
 //! The desk: a service for DROID profiles, and its program.
 #![tactic(auto)]
 
+mod arguments;
+mod desk;
+mod ending;
+mod help;
 mod program;
 mod sample;
 mod script;

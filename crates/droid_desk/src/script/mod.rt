@@ -2,14 +2,14 @@
 
 ghost use Rattle.std.specs.Prelude.{◌≡◌, ◌≢◌, length, IfOk, IfSome, IfErr, OnOk, IsErrOf, IsErrAnd};
 ghost use Rattle.droid_stream.specs.Seen.{IsSound, TellsFault};
-ghost use Rattle.droid_core.specs.Histories.{History};
+ghost use Rattle.droid_history.specs.Histories.{History};
+ghost use Rattle.droid_history.specs.Setting.{Setting};
 ghost use Rattle.droid_lines.specs.Lines.{lines_of};
 ghost use Rattle.droid_desk.specs.Scripts.{RunsAll, RunsFront, Counts, IsOfHandling, IsOfReading, IsTooLong, StandsForSome, TellsFaultOver};
-ghost use Rattle.droid_core.specs.Standing.{StandsFor, limits_of};
+ghost use Rattle.droid_core.specs.Standing.{StandsFor, limits_of, registry_of};
 
 mod fault;
 mod run;
-mod taken;
 mod tally;
 
 use droid_core::Service;
@@ -31,13 +31,13 @@ pub fn script<R: SteadyRead, W: SteadyWrite>(
     writer: &mut W,
 ) -> Result<Tally, ScriptFault>
     // All lines ran, and all that they print was written.
-    ensures all { (history : History) → StandsFor service.old history → OnOk result (IfSome (R.remaining reader.old) (λ input.
-        RunsAll (limits_of service.old) history (lines_of input) service.new (W.contents writer.old) (W.contents writer.new))) }
+    ensures all { (setting : Setting) (history : History) → StandsFor setting service.old history → OnOk result (IfSome (R.remaining reader.old) (λ input.
+        RunsAll setting history (lines_of input) service.new (W.contents writer.old) (W.contents writer.new))) }
     ensures tally { IfOk result (λ tally. IfSome (R.remaining reader.old) (λ input. Counts tally (lines_of input))) }
     // After want of memory, or a write that failed, the first lines ran, and the first bytes of what they
     // print were written.
-    ensures front { (history : History) → StandsFor service.old history → IfErr result (λ fault. IsOfHandling fault → IfSome (R.remaining reader.old) (λ input.
-        RunsFront (limits_of service.old) history (lines_of input) service.new (W.contents writer.old) (W.contents writer.new))) }
+    ensures front { (setting : Setting) (history : History) → StandsFor setting service.old history → IfErr result (λ fault. IsOfHandling fault → IfSome (R.remaining reader.old) (λ input.
+        RunsFront setting history (lines_of input) service.new (W.contents writer.old) (W.contents writer.new))) }
     // The two others come before any line is handled.
     ensures before { IfErr result (λ fault. IsOfReading fault → (service.new ≡ service.old) × (writer.new ≡ writer.old)) }
     // A script that is too long is refused so, unless it could not be read or kept; no other is.
@@ -50,8 +50,9 @@ pub fn script<R: SteadyRead, W: SteadyWrite>(
     ensures write_fault { IsSound (W.seen writer.old) → W.room writer.old ≡ None → IfSome (R.remaining reader.old) (λ input.
         TellsFaultOver (W.seen writer.old).interruptions (length (lines_of input)) (W.seen writer.new) (IsErrOf result ScriptFault.Write)) }
     // Whatever comes, the service stands for some history.
-    ensures stands { StandsForSome service.old → StandsForSome service.new }
+    ensures stands { (setting : Setting) → StandsForSome setting service.old → StandsForSome setting service.new }
     ensures limits { limits_of service.new ≡ limits_of service.old }
+    ensures registry { registry_of service.new ≡ registry_of service.old }
 {
     let input = read_to_end(alloc, reader, INPUT_LIMIT)?;
     run_lines(alloc, service, input.as_slice(), writer)

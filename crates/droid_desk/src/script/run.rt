@@ -2,18 +2,17 @@
 
 ghost use Rattle.std.specs.Prelude.{◌≡◌, ◌∷◌, [], IfOk, IfErr, IsErrOf, OnOk, OnErr, is_none, length};
 ghost use Rattle.droid_stream.specs.Seen.{IsSound, TellsFault};
-ghost use Rattle.droid_core.specs.Histories.{History};
-ghost use Rattle.droid_lines.specs.Lines.{lines_of};
-ghost use Rattle.droid_desk.specs.Lines.{taken_line};
+ghost use Rattle.droid_history.specs.Histories.{History};
+ghost use Rattle.droid_history.specs.Setting.{Setting};
+ghost use Rattle.droid_lines.specs.Lines.{lines_of, line_value};
 ghost use Rattle.droid_desk.specs.Scripts.{RunsAll, RunsFront, LineAnswered, Counts, IsOfHandling, TellsFaultOver, is_bad};
-ghost use Rattle.droid_core.specs.Standing.{StandsFor, limits_of};
+ghost use Rattle.droid_core.specs.Standing.{StandsFor, limits_of, registry_of};
 
 use super::fault::ScriptFault;
-use super::taken::parse_taken;
 use super::tally::Tally;
 use droid_core::Service;
 use droid_frame::{Reply, request_frame};
-use droid_lines::{next_line, print_answer};
+use droid_lines::{next_line, parse_line, print_answer};
 use droid_stream::{Progress, SteadyWrite, write_all};
 use std::alloc::{AllocError, Global};
 
@@ -24,12 +23,13 @@ pub fn run_lines<W: SteadyWrite>(
     input: &[u8],
     writer: &mut W,
 ) -> Result<Tally, ScriptFault>
-    ensures all { (history : History) → StandsFor service.old history →
-        OnOk result (RunsAll (limits_of service.old) history (lines_of input.now) service.new (W.contents writer.old) (W.contents writer.new)) }
-    ensures front { (history : History) → StandsFor service.old history →
-        OnErr result (RunsFront (limits_of service.old) history (lines_of input.now) service.new (W.contents writer.old) (W.contents writer.new)) }
+    ensures all { (setting : Setting) (history : History) → StandsFor setting service.old history →
+        OnOk result (RunsAll setting history (lines_of input.now) service.new (W.contents writer.old) (W.contents writer.new)) }
+    ensures front { (setting : Setting) (history : History) → StandsFor setting service.old history →
+        OnErr result (RunsFront setting history (lines_of input.now) service.new (W.contents writer.old) (W.contents writer.new)) }
     ensures tally { IfOk result (λ tally. Counts tally (lines_of input.now)) }
     ensures limits { limits_of service.new ≡ limits_of service.old }
+    ensures registry { registry_of service.new ≡ registry_of service.old }
     ensures told { IsSound (W.seen writer.old) → W.room writer.old ≡ None →
         TellsFaultOver (W.seen writer.old).interruptions (length (lines_of input.now)) (W.seen writer.new) (IsErrOf result ScriptFault.Write) }
     ensures handling { IfErr result IsOfHandling }
@@ -54,12 +54,13 @@ fn run_line<W: SteadyWrite>(
     line: &[u8],
     writer: &mut W,
 ) -> Result<bool, ScriptFault>
-    ensures all { (history : History) → StandsFor service.old history →
-        OnOk result (RunsAll (limits_of service.old) history (line.now ∷ []) service.new (W.contents writer.old) (W.contents writer.new)) }
-    ensures front { (history : History) → StandsFor service.old history →
-        OnErr result (RunsFront (limits_of service.old) history (line.now ∷ []) service.new (W.contents writer.old) (W.contents writer.new)) }
+    ensures all { (setting : Setting) (history : History) → StandsFor setting service.old history →
+        OnOk result (RunsAll setting history (line.now ∷ []) service.new (W.contents writer.old) (W.contents writer.new)) }
+    ensures front { (setting : Setting) (history : History) → StandsFor setting service.old history →
+        OnErr result (RunsFront setting history (line.now ∷ []) service.new (W.contents writer.old) (W.contents writer.new)) }
     ensures bad { IfOk result (λ bad. bad ≡ is_bad line.now) }
     ensures limits { limits_of service.new ≡ limits_of service.old }
+    ensures registry { registry_of service.new ≡ registry_of service.old }
     ensures told { IsSound (W.seen writer.old) → W.room writer.old ≡ None →
         TellsFault (W.seen writer.old).interruptions (W.seen writer.new) (IsErrOf result ScriptFault.Write) × (W.room writer.new ≡ None) }
     ensures handling { IfErr result IsOfHandling }
@@ -76,13 +77,14 @@ fn handle_line(
     service: &mut Service,
     line: &[u8],
 ) -> Result<Option<Reply>, AllocError>
-    ensures ok { (history : History) → StandsFor service.old history →
-        IfOk result (λ answer. LineAnswered (limits_of service.old) history (taken_line line.now) answer service.new) }
+    ensures ok { (setting : Setting) (history : History) → StandsFor setting service.old history →
+        IfOk result (λ answer. LineAnswered setting history (line_value line.now) answer service.new) }
     ensures err { OnErr result (service.new ≡ service.old) }
     ensures bad { IfOk result (λ answer. is_none answer ≡ is_bad line.now) }
     ensures limits { limits_of service.new ≡ limits_of service.old }
+    ensures registry { registry_of service.new ≡ registry_of service.old }
 {
-    let Some(line) = parse_taken(alloc, line)? else {
+    let Some(line) = parse_line(alloc, line)? else {
         return Ok(None);
     };
     let frame = request_frame(alloc, line.client, line.number, &line.request)?;

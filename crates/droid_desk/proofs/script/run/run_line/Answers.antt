@@ -3,7 +3,6 @@ use Rattle.std.specs.Io.KnownBytes.{Appends}
 use Rattle.droid_core.specs.declared.service.Service.{Service}
 use Rattle.droid_lines.specs.Printed.{answer_line}
 use Rattle.droid_desk.specs.Scripts.{RunsFront, WritesFront}
-use Rattle.droid_core.specs.Standing.{limits_of}
 use Rattle.droid_desk.proofs.ScriptRuns.{line_runs, line_runs_front, writes_nothing, runs_nothing}
 use Rattle.droid_desk.proofs.ScriptWrites.{front_written, on_err}
 use Rattle.std.proofs.Common.{rules}
@@ -14,35 +13,35 @@ use Rattle.droid_desk.specs.declared.script.fault.ScriptFault.TheVariants.{Write
 use Rattle.droid_desk.proofs.script.run.run_line.Goals as goal
 
 pub returns-in_err-answer-clause-front : goal.returns-in_err-answer-clause-front
-returns-in_err-answer-clause-front g c = λ history stands.
+returns-in_err-answer-clause-front g c = λ setting history stands.
     let bytes = g.W.Write.contents c.args.writer.now in
-    on_err _ _ (subst (λ (s : Service). RunsFront (limits_of c.args.service.now) history (c.args.line.now ∷ []) s bytes bytes) (sym c.in_err-answer.ensures.err)
-    (runs_nothing (limits_of c.args.service.now) history (c.args.line.now ∷ []) c.args.service.now bytes stands))
+    on_err _ _ (subst (λ (s : Service). RunsFront setting history (c.args.line.now ∷ []) s bytes bytes) (sym c.in_err-answer.ensures.err)
+    (runs_nothing setting history (c.args.line.now ∷ []) c.args.service.now bytes stands))
 
 pub returns-in_err-printed-clause-front : goal.returns-in_err-printed-clause-front
-returns-in_err-printed-clause-front g c = λ history stands.
+returns-in_err-printed-clause-front g c = λ setting history stands.
     let answer = c.in_ok-answer.answer in
     let bytes = g.W.Write.contents c.args.writer.now in
-    on_err _ _ (line_runs_front (limits_of c.args.service.now) history c.args.line.now answer c.handle_line.new.service bytes bytes
-    (c.in_ok-answer.ensures.ok history stands) (writes_nothing bytes (answer_line answer)))
+    on_err _ _ (line_runs_front setting history c.args.line.now answer c.handle_line.new.service bytes bytes
+    (c.in_ok-answer.ensures.ok setting history stands) (writes_nothing bytes (answer_line answer)))
 
 pub returns-in_err-write_all-clause-front : goal.returns-in_err-write_all-clause-front
-returns-in_err-write_all-clause-front g c = λ history stands.
+returns-in_err-write_all-clause-front g c = λ setting history stands.
     let answer = c.in_ok-answer.answer in
     let old = g.W.Write.contents c.args.writer.now in
     let new = g.W.Write.contents c.write_all.new.writer in
     let text : c.as_slice.result.now ≡ answer_line answer = c.as_slice.ensures.value ∙ c.in_ok-printed.ensures in
-    on_err _ _ (line_runs_front (limits_of c.args.service.now) history c.args.line.now answer c.handle_line.new.service old new
-    (c.in_ok-answer.ensures.ok history stands) (subst (WritesFront old new) text (front_written _ _ _ _ _ c.in_err-write_all.ensures.err)))
+    on_err _ _ (line_runs_front setting history c.args.line.now answer c.handle_line.new.service old new
+    (c.in_ok-answer.ensures.ok setting history stands) (subst (WritesFront old new) text (front_written _ _ _ _ _ c.in_err-write_all.ensures.err)))
 
 pub returns-clause-all : goal.returns-clause-all
-returns-clause-all g c = λ history stands.
+returns-clause-all g c = λ setting history stands.
     let answer = c.in_ok-answer.answer in
     let old = g.W.Write.contents c.args.writer.now in
     let new = g.W.Write.contents c.write_all.new.writer in
     let text : c.as_slice.result.now ≡ answer_line answer = c.as_slice.ensures.value ∙ c.in_ok-printed.ensures in
-    line_runs (limits_of c.args.service.now) history c.args.line.now answer c.handle_line.new.service old new
-    (c.in_ok-answer.ensures.ok history stands) (subst (Appends old new) text c.in_ok-write_all.ensures.ok)
+    line_runs setting history c.args.line.now answer c.handle_line.new.service old new
+    (c.in_ok-answer.ensures.ok setting history stands) (subst (Appends old new) text c.in_ok-write_all.ensures.ok)
 
 pub returns-in_err-write_all-clause-told : goal.returns-in_err-write_all-clause-told
 returns-in_err-write_all-clause-told g c = λ sound endless.

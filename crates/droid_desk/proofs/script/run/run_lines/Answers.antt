@@ -2,15 +2,21 @@ use Rattle.std.proofs.Common.{rules, ◌≡◌, true, false, length, refl, arith
 use Rattle.droid_desk.specs.Scripts.{is_bad}
 use Rattle.droid_lines.specs.Lines.{lines_of}
 use Rattle.droid_desk.proofs.ScriptFaults.{lasts_once_more, told_none, told_over}
-use Rattle.droid_desk.proofs.ScriptRuns.{step, stop, line_is_left, lines_are_within}
+use Rattle.droid_desk.proofs.ScriptRuns.{start, step, stop, line_is_left, lines_are_within}
 use Rattle.droid_desk.proofs.ScriptWrites.{on_err}
 use Rattle.droid_desk.proofs.script.run.run_lines.Goals as goal
 
+pub loop-line-init : goal.loop-line-init
+loop-line-init g c = record {
+  progress = start c.args.service.now c.args.input.now _ (g.W.Write.contents c.args.writer.now) refl refl;
+  lasts = λ sound endless. (record { sound = sound; counted = omega arith; within = omega arith }, endless);
+}
+
 pub returns-in_err-is_bad-clause-front : goal.returns-in_err-is_bad-clause-front
-returns-in_err-is_bad-clause-front g c = λ history stands.
+returns-in_err-is_bad-clause-front g c = λ setting history stands.
     on_err _ _ (stop c.args.service.now c.loop-line.service c.run_line.new.service c.args.input.now c.loop-line.rest.now c.in-Some.line.now c.in-Some.after.now c.loop-line.tally
     (g.W.Write.contents c.args.writer.now) (g.W.Write.contents c.loop-line.writer) (g.W.Write.contents c.run_line.new.writer)
-    c.loop-line.invariant.progress c.in-Some.ensures.line c.in_err-is_bad.ensures.front history stands)
+    c.loop-line.invariant.progress c.in-Some.ensures.line c.in_err-is_bad.ensures.front setting history stands)
 
 pub loop-line-preserved-then-is_bad : goal.loop-line-preserved-then-is_bad
 loop-line-preserved-then-is_bad g c =
@@ -18,7 +24,7 @@ loop-line-preserved-then-is_bad g c =
     record {
       progress = step c.args.service.now c.loop-line.service c.run_line.new.service c.args.input.now c.loop-line.rest.now c.in-Some.line.now c.in-Some.after.now c.loop-line.tally _
           (g.W.Write.contents c.args.writer.now) (g.W.Write.contents c.loop-line.writer) (g.W.Write.contents c.run_line.new.writer)
-          c.loop-line.invariant.progress c.in-Some.ensures.line c.in-Some.ensures.shorter c.in_ok-is_bad.ensures.all c.in_ok-is_bad.ensures.limits refl (rw bad refl);
+          c.loop-line.invariant.progress c.in-Some.ensures.line c.in-Some.ensures.shorter c.in_ok-is_bad.ensures.all c.in_ok-is_bad.ensures.limits c.in_ok-is_bad.ensures.registry refl (rw bad refl);
       lasts = λ sound endless.
           let now = c.loop-line.invariant.lasts sound endless in
           let told = c.in_ok-is_bad.ensures.told now.0.sound now.1 in
@@ -31,7 +37,7 @@ loop-line-preserved g c =
     record {
       progress = step c.args.service.now c.loop-line.service c.run_line.new.service c.args.input.now c.loop-line.rest.now c.in-Some.line.now c.in-Some.after.now c.loop-line.tally _
           (g.W.Write.contents c.args.writer.now) (g.W.Write.contents c.loop-line.writer) (g.W.Write.contents c.run_line.new.writer)
-          c.loop-line.invariant.progress c.in-Some.ensures.line c.in-Some.ensures.shorter c.in_ok-is_bad.ensures.all c.in_ok-is_bad.ensures.limits refl (rw good (omega arith));
+          c.loop-line.invariant.progress c.in-Some.ensures.line c.in-Some.ensures.shorter c.in_ok-is_bad.ensures.all c.in_ok-is_bad.ensures.limits c.in_ok-is_bad.ensures.registry refl (rw good (omega arith));
       lasts = λ sound endless.
           let now = c.loop-line.invariant.lasts sound endless in
           let told = c.in_ok-is_bad.ensures.told now.0.sound now.1 in

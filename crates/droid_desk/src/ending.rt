@@ -1,0 +1,72 @@
+//! How the program ends.
+
+ghost use Rattle.std.specs.Prelude.{◌≡◌};
+ghost use Rattle.droid_desk.specs.Endings.{status_of, name_of};
+
+use crate::script::ScriptFault;
+use clap::Error;
+use droid_pronom::RegistryFault;
+use droid_store::StoreFault;
+use std::io;
+
+/// How the program ends.
+#[derive(Debug, Drop)]
+pub enum Ending {
+    /// All is done.
+    Done,
+    /// The command line asks for help.
+    Help(Error),
+    /// The command line is wrong.
+    CommandLine(Error),
+    /// A word of the command line is no text.
+    NoText,
+    /// The registry was not read.
+    Registry(RegistryFault),
+    /// No service could be made, or there is no memory for the command line.
+    NoService(StoreFault),
+    /// The script ended early.
+    Script(ScriptFault),
+    /// Some line of the script was bad.
+    BadLine,
+}
+
+impl Ending {
+    /// The exit status.
+    pub fn status(&self) -> u8
+        ensures { result ≡ status_of self.now }
+    {
+        match self {
+            Ending::Done | Ending::Help(_) => 0,
+            Ending::CommandLine(_) | Ending::NoText => 2,
+            Ending::Registry(_) => 3,
+            Ending::NoService(_) => 6,
+            Ending::Script(_) => 4,
+            Ending::BadLine => 5,
+        }
+    }
+
+    /// Prints what the ending has to say.
+    pub fn print<R: Print + Eprint>(&self, rt: &R) -> io::Result<()> {
+        match self {
+            Ending::Help(error) | Ending::CommandLine(error) => error.print(rt),
+            Ending::NoText => eprintln!(rt; "error: a word of the command line is not UTF-8"),
+            Ending::Registry(fault) => eprintln!(rt; "fault: {fault}"),
+            Ending::NoService(fault) => {
+                let name = name_of(*fault);
+                eprintln!(rt; "fault: {name}")
+            }
+            Ending::Script(fault) => eprintln!(rt; "fault: {fault}"),
+            Ending::Done | Ending::BadLine => Ok(()),
+        }
+    }
+}
+
+/// What the program calls a fault of the database: as the refusal of a request for the same cause.
+fn name_of(fault: StoreFault) -> &'static str
+    ensures { result.now ≡ name_of fault }
+{
+    match fault {
+        StoreFault::Memory => "Memory",
+        StoreFault::Refused => "Store",
+    }
+}

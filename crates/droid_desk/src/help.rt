@@ -1,0 +1,99 @@
+//! What the program says of itself.
+
+pub const ABOUT: &str =
+    "A submission service for DROID profiles: clients make profiles, add folders to them and send files \
+in pieces in any order, each file is identified by PRONOM's signatures and extensions, and every accepted \
+request is kept with its reply, so that a request that is sent again is answered again and done once.";
+
+pub const HELP: &str = "\
+`droid_desk script --help` explains the lines, their replies, the refusals and the exit statuses.";
+
+pub const SCRIPT_ABOUT: &str =
+    "Read requests as lines from standard input, and write a reply line for each";
+
+pub const REGISTRY_HELP: &str =
+    "Identify files by the formats of this registry file; without it, by a small sample registry";
+
+pub const SCRIPT_HELP: &str = "\
+Each line is one request to a service that starts empty:
+
+  CLIENT NUMBER create LIMIT ALL
+      make a profile: LIMIT bytes at each end of a file are looked at (1 to 65536),
+      ALL is 1 where a format with signatures may be found by its extension too, else 0
+  CLIENT NUMBER folder PROFILE PARENT MODIFIED NAME
+      add a folder to a profile: PARENT is the number of the folder that it lies in,
+      or 0 at the top, MODIFIED is in seconds since 1970-01-01T00:00:00 in UTC,
+      and NAME is the rest of the line
+  CLIENT NUMBER file PROFILE PARENT MODIFIED SIZE PIECESIZE NAME
+      add a file of SIZE bytes, which comes in pieces of PIECESIZE bytes (1 to 1048576);
+      the last piece has the rest, and an empty file has no piece
+  CLIENT NUMBER piece PROFILE FILE INDEX HEX
+      send a piece of a file: INDEX counts from 0, and HEX is its bytes, two hexadecimal
+      digits for each, or - for no bytes; pieces may come in any order, each less than
+      16 places past the first missing one
+  CLIENT NUMBER finish PROFILE FILE
+      finish a file that has every piece: it is identified, and its MD5 is told
+  CLIENT NUMBER abandon PROFILE FILE
+      give up an unfinished file; its number is not used again
+  CLIENT NUMBER status PROFILE FILE
+      ask how far a file is
+  CLIENT NUMBER export PROFILE FROM MAX
+  CLIENT NUMBER export PROFILE FROM MAX JOIN CRITERION ..
+      ask for a part of the CSV text of the profile's folders and finished files: at most
+      MAX bytes (1 to 1048576) from byte FROM on; JOIN is `all` or `any`, and only what
+      meets all, or any, of the criteria is shown; without a criterion everything is
+
+Criteria: method=Signature, method=Extension, method=none, puid=A,B, ext=A,B,
+mismatch=true, mismatch=false, atleast=SIZE, atmost=SIZE, type=File, type=Folder.
+
+Words stand apart by one space, and a line ends in a line feed alone. CLIENT is who asks,
+NUMBER the client's own number for the request. The replies come once the input has ended:
+
+  made PROFILE                           a profile was made
+  node ID                                a folder or a file was added
+  taken HELD                             a piece was taken; so many are held now
+  finished METHOD MISMATCH MD5 PUIDS     a file was finished; METHOD is Signature,
+                                         Extension or none, MISMATCH whether its extension
+                                         is none of its formats', and - stands for no PUID
+  abandoned                              a file was given up
+  progress HELD MISSING                  pieces held, and the first missing one; of a
+                                         whole file both are the number of its pieces
+  part AS_OF TOTAL LENGTH                LENGTH bytes of the export follow, of TOTAL;
+                                         AS_OF counts the accepted requests so far
+  refused NUMBER                         the request was refused, and changed nothing
+  bad line                               the line is no request
+
+The numbers of refusals:
+
+   1 Malformed       2 NumberReused    3 NoSuchProfile    4 NoSuchNode
+   5 NotAFolder      6 NotAFile        7 BadName          8 PathTooLong
+   9 NameTaken      10 BadOption      11 TooLarge        12 AlreadyFinished
+  13 BadPiece       14 PieceHeld      15 TooFarAhead     16 Incomplete
+  17 LimitReached   18 Memory         19 Store
+
+15 and 16 tell the first missing index too, 17 which limit: profiles, nodes or unfinished.
+
+Example:
+
+  1 1 create 65536 0             made 1
+  1 2 folder 1 0 0 in            node 1
+  1 2 folder 1 0 0 in            node 1
+  1 2 folder 1 0 0 out           refused 2
+  1 3 file 1 1 0 3 2 a.txt       node 2
+  1 4 piece 1 2 1 63             taken 1
+  1 5 piece 1 2 0 6162           taken 2
+  1 6 finish 1 2                 finished Extension false 900150983cd24fb0d6963f7d28e17f72 dev/4
+
+Exit status:
+
+  0  every line was a request
+  2  the command line is wrong
+  3  the registry file could not be opened or read, or is no registry: the fault is on
+     standard error, with the number of the first record at fault
+  4  the input could not be read or is too long, a reply could not be written,
+     or memory was refused; the fault is on standard error
+  5  some line was bad
+  6  no service could be made, or there was no memory for the command line; the fault is
+     on standard error
+
+Of several the first in the order 2, 3, 6, 4, 5 is given.";
