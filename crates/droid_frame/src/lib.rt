@@ -18,6 +18,6 @@ pub use droid_value::{
     PART_LIMIT, PUID_LIMIT, PUIDS_LIMIT, Record, Refusal, Reply, Request, Text, Texts, VERSION,
     mark,
 };
-pub use replies::reply_body;
+pub use replies::{reply_body, reply_body_len};
 pub use requests::request_frame;
 pub use stream::{Arrival, FrameFault, read_frame, write_frame, write_reply};

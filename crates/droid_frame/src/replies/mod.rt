@@ -23,7 +23,7 @@ pub fn reply_body(alloc: Global, reply: &Reply) -> Result<Blob, AllocError>
     requires { HasReplySpelling reply.now }
     ensures spells { IfOk result (λ body. SpellsReply (reply_kind reply.now) body reply.now) }
 {
-    let mut body = Vec::with_capacity(alloc, body_length(reply))?;
+    let mut body = Vec::with_capacity(alloc, reply_body_len(reply))?;
     body.extend_from_slice(front_of(reply).as_slice())?;
     match reply {
         Reply::Finished { puids, .. } => append_texts(&mut body, puids)?,
@@ -33,8 +33,9 @@ pub fn reply_body(alloc: Global, reply: &Reply) -> Result<Blob, AllocError>
     Ok(Blob::from(body))
 }
 
-/// How many bytes the body of the reply has.
-pub(crate) fn body_length(reply: &Reply) -> usize
+/// How many bytes the body of a reply's frame has. A reply that has no spelling has no such body, so the caller sees to
+/// that.
+pub fn reply_body_len(reply: &Reply) -> usize
     requires { HasReplySpelling reply.now }
     ensures length { result ≡ length (reply_bytes reply.now) }
     ensures bound { result ≤ body_limit }

@@ -12,8 +12,8 @@ ghost use Rattle.droid_stream.specs.Writes.{StopsWithin, Takes, TellsWrite, Writ
 ghost use Rattle.droid_value.specs.TextLists.{texts_bytes};
 
 use super::header::Header;
-use crate::replies::body_length;
 use crate::replies::parts::{front_of, sized_puid};
+use crate::replies::reply_body_len;
 use droid_stream::{Progress, SteadyWrite, WriteFault, write_all};
 use droid_value::{Reply, Texts, VERSION};
 
@@ -45,7 +45,7 @@ pub fn write_reply<W: SteadyWrite>(
         kind: reply.kind(),
         client,
         number,
-        length: body_length(reply) as u32,
+        length: reply_body_len(reply) as u32,
     };
     let mut progress = Progress::new();
     write_all(writer, &header.to_bytes(), &mut progress)?;

@@ -1,0 +1,72 @@
+-- One turn of serving a stream.
+use Rattle.std.proofs.Common.{◌≡◌, ℕ, Bool, true, false, ◌+◌, ◌-◌, List, length, take, Option, Some, None, Ok, Err, IfSome, refl, subst, arith}
+use Rattle.std.specs.Prelude.{MatchBool}
+use Rattle.std.specs.Io.KnownBytes.{Appends, Consumes}
+use Rattle.droid_frame.specs.Frames.{frame_bytes}
+use Rattle.droid_frame.specs.Replies.{HasReplySpelling, reply_bytes}
+use Rattle.droid_frame.specs.ReplyFrames.{reply_frame}
+use Rattle.droid_frame.specs.StreamWrites.{Stops}
+use Rattle.droid_frame.specs.Streams.{IsReadable}
+use Rattle.droid_frame.specs.types.frame.Frame.{Frame}
+use Rattle.droid_frame.specs.types.reply.Reply.{Reply}
+use Rattle.droid_core.specs.Standing.{StandsFor}
+use Rattle.droid_core.specs.declared.service.Service.{Service}
+use Rattle.droid_history.specs.Histories.{History, Handles, next}
+use Rattle.droid_history.specs.Setting.{Setting}
+use Rattle.droid_history.specs.Wants.{is_want}
+use Rattle.droid_wire.specs.Serving.{StandsForSome}
+use Rattle.droid_wire.specs.declared.fault.ServeFault.TheVariants as faults
+use Rattle.droid_wire.specs.Steps.{Turn, TurnGives}
+
+turn_is : (setting : Setting) (history : History) (input : List ℕ) (left : Option (List ℕ)) (after : Service) (frame : Frame) (reply : Reply)
+    → IsReadable frame → Consumes (Some input) left (frame_bytes frame) → Handles setting history frame reply (StandsFor setting after) → HasReplySpelling reply
+    → Turn setting history input left after frame reply
+turn_is setting history input None after frame reply readable consumed handles spelled = absurd consumed
+turn_is setting history input (Some rest) after frame reply readable consumed handles spelled =
+    record { rest = rest; readable = readable; joined = consumed; is_left = refl; handles = handles; spelled = spelled }
+
+pub frame_size : (client number : ℕ) (reply : Reply) → length (reply_frame client number reply) ≡ 18 + length (reply_bytes reply)
+frame_size client number reply = omega arith
+
+-- the reply was written
+pub gives_answered : (setting : Setting) (history : History) (known left old new : Option (List ℕ)) (before after : Service) (count size body : ℕ) (frame : Frame) (reply : Reply)
+    → IsReadable frame × Consumes known left (frame_bytes frame) → Handles setting history frame reply (StandsFor setting after) → HasReplySpelling reply
+    → Appends old new (reply_frame frame.client frame.number reply) → size ≡ 18 + body → body ≡ length (reply_bytes reply)
+    → IfSome known (λ input. TurnGives setting history input left old new before after count (Ok (Some size)))
+gives_answered setting history None left old new before after count size body frame reply came handles spelled written is body_is = tt
+gives_answered setting history (Some input) left old new before after count size body frame reply came handles spelled written is body_is = record {
+  frame = frame;
+  reply = reply;
+  turn = turn_is setting history input left after frame reply came.0 came.1 handles spelled;
+  written = written;
+  size_is = omega (arith, is, body_is, frame_size frame.client frame.number reply);
+}
+
+-- only a front of it was
+pub gives_cut : (setting : Setting) (history : History) (known left old new : Option (List ℕ)) (before after : Service) (count size : ℕ) (frame : Frame) (reply : Reply)
+    → IsReadable frame × Consumes known left (frame_bytes frame) → Handles setting history frame reply (StandsFor setting after) → HasReplySpelling reply
+    → Stops old new (reply_frame frame.client frame.number reply) size
+    → IfSome known (λ input. TurnGives setting history input left old new before after count (Err (faults.Write (count + size))))
+gives_cut setting history None left old new before after count size frame reply came handles spelled stops = tt
+gives_cut setting history (Some input) left old new before after count size frame reply came handles spelled stops =
+    let here : size ≡ (count + size) - count = omega arith in (
+      omega arith,
+      record {
+        frame = frame;
+        reply = reply;
+        turn = turn_is setting history input left after frame reply came.0 came.1 handles spelled;
+        short = omega (arith, stops.some_left);
+        written = subst (λ (n : ℕ). Appends old new (take n (reply_frame frame.client frame.number reply))) here stops.front;
+      },
+    )
+
+-- ---- what the service stands for
+
+some_history : (want : Bool) (setting : Setting) (history : History) (after : Service) (P Q : Type 0) (later : History)
+    → MatchBool want (P × StandsFor setting after history) (Q × StandsFor setting after later) → StandsForSome setting after
+some_history true setting history after P Q later handles = (history, handles.1)
+some_history false setting history after P Q later handles = (later, handles.1)
+
+-- after one request it stands for this history, or for the next one
+pub stands_on : (setting : Setting) (history : History) (frame : Frame) (reply : Reply) (after : Service) → Handles setting history frame reply (StandsFor setting after) → StandsForSome setting after
+stands_on setting history frame reply after handles = some_history (is_want reply) setting history after _ _ (next setting history frame) handles

@@ -1,0 +1,26 @@
+use Rattle.std.proofs.Common.{refl, arith}
+use Rattle.droid_wire.proofs.Turns.{frame_size, gives_answered, gives_cut, stands_on}
+use Rattle.droid_wire.proofs.serving.answer_next.Goals as goal
+
+pub overflow_add-result : goal.overflow_add-result
+overflow_add-result g c =
+    let size = frame_size c.in-Frame.frame.client c.in-Frame.frame.number c.handle-reply.result in
+    omega (arith, c.requires, c.in-Err.ensures.err.some_left, size, c.reply_body_len.ensures.length, c.reply_body_len.ensures.bound)
+
+pub returns-in-Ok-clause-gives : goal.returns-in-Ok-clause-gives
+returns-in-Ok-clause-gives g c = λ setting history stands.
+    gives_answered setting history _ _ _ _ c.args.service.now _ c.args.written _ c.reply_body_len.result c.in-Frame.frame c.handle-reply.result (rw c.in-Frame.is at c.in_ok-frame.ensures.brought)
+    (c.handle-reply.ensures.handles setting history stands) c.handle-reply.ensures.spelled c.in-Ok.ensures.ok refl c.reply_body_len.ensures.length
+
+pub returns-clause-gives : goal.returns-clause-gives
+returns-clause-gives g c = λ setting history stands.
+    gives_cut setting history _ _ _ _ c.args.service.now _ c.args.written _ c.in-Frame.frame c.handle-reply.result (rw c.in-Frame.is at c.in_ok-frame.ensures.brought)
+    (c.handle-reply.ensures.handles setting history stands) c.handle-reply.ensures.spelled c.in-Err.ensures.err
+
+pub returns-in-Ok-clause-stands : goal.returns-in-Ok-clause-stands
+returns-in-Ok-clause-stands g c = λ setting some.
+    stands_on setting some.0 c.in-Frame.frame c.handle-reply.result c.handle-reply.new.self (c.handle-reply.ensures.handles setting some.0 some.1)
+
+pub returns-clause-stands : goal.returns-clause-stands
+returns-clause-stands g c = λ setting some.
+    stands_on setting some.0 c.in-Frame.frame c.handle-reply.result c.handle-reply.new.self (c.handle-reply.ensures.handles setting some.0 some.1)

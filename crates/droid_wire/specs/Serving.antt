@@ -1,0 +1,71 @@
+-- What serving a stream gives: which of its frames were handled, and what was written (this project's own).
+use Rattle.std.specs.Prelude.{◌≡◌, ℕ, ◌<◌, ◌≤◌, List, [], ◌∷◌, ◌++◌, length, take, Option, Some, Result, Ok, Err}
+use Rattle.std.specs.Io.KnownBytes.{Appends}
+use Rattle.std.specs.List.{AllByRecursion, flat_map}
+use Rattle.droid_frame.specs.ReplyFrames.{reply_frame}
+use Rattle.droid_frame.specs.StreamReads.{Tells, ReadsNoFrame}
+use Rattle.droid_frame.specs.Streams.{IsReadable}
+use Rattle.droid_frame.specs.Frames.{frame_bytes}
+use Rattle.droid_frame.specs.types.frame.Frame.{Frame}
+use Rattle.droid_frame.specs.types.reply.Reply.{Reply}
+use Rattle.droid_core.specs.Running.{Runs}
+use Rattle.droid_core.specs.Standing.{StandsFor}
+use Rattle.droid_core.specs.declared.service.Service.{Service}
+use Rattle.droid_history.specs.Histories.{History}
+use Rattle.droid_history.specs.Setting.{Setting}
+use Rattle.droid_wire.specs.declared.ended.Ended.{Ended}
+use Rattle.droid_wire.specs.declared.ended.Ended.TheVariants.{Closed, Turns}
+use Rattle.droid_wire.specs.declared.fault.ServeFault.{ServeFault}
+use Rattle.droid_wire.specs.declared.fault.ServeFault.TheVariants as faults
+
+-- the replies' frames, one after the other, each with its request's client and number
+abbrev pub reply_frames : List Frame → List Reply → List ℕ
+reply_frames [] replies = []
+reply_frames (frame ∷ frames) [] = []
+reply_frames (frame ∷ frames) (reply ∷ replies) = reply_frame frame.client frame.number reply ++ reply_frames frames replies
+
+-- these frames were read from the front of the input, which leaves a rest, and were handled one after the
+-- other, with these replies
+pub record Handled (setting : Setting) (history : History) (input rest : List ℕ) (frames : List Frame) (replies : List Reply) (after : Service) : Type 0 where
+  pub readable : AllByRecursion IsReadable frames
+  pub joined : input ≡ flat_map frame_bytes frames ++ rest
+  pub runs : Runs setting history frames replies after
+
+-- frames were handled, of which there are so many and which leave a rest of the input of which something is
+-- said; and what was written is all their reply frames
+pub record Serves (setting : Setting) (history : History) (input : List ℕ) (old new : Option (List ℕ)) (after : Service) (P : ℕ → List ℕ → Type 0) : Type 0 where
+  pub frames : List Frame
+  pub replies : List Reply
+  pub rest : List ℕ
+  pub handled : Handled setting history input rest frames replies after
+  pub written : Appends old new (reply_frames frames replies)
+  pub ends : P (length frames) rest
+
+-- frames were handled, and of their reply frames exactly the first so many bytes were written: all but the
+-- last one's, and of that not all
+pub record ServesCut (setting : Setting) (history : History) (turns : ℕ) (input : List ℕ) (left old new : Option (List ℕ)) (after : Service) (count : ℕ) : Type 0 where
+  pub frames : List Frame
+  pub replies : List Reply
+  pub last_frame : Frame
+  pub last_reply : Reply
+  pub rest : List ℕ
+  pub handled : Handled setting history input rest (frames ++ last_frame ∷ []) (replies ++ last_reply ∷ []) after
+  pub within : length frames < turns
+  pub is_left : left ≡ Some rest
+  pub others : length (reply_frames frames replies) ≤ count
+  pub short : count < length (reply_frames (frames ++ last_frame ∷ []) (replies ++ last_reply ∷ []))
+  pub written : Appends old new (take count (reply_frames (frames ++ last_frame ∷ []) (replies ++ last_reply ∷ [])))
+
+-- What serving so many turns of an input gives, of which this is left then:
+-- as many frames were answered; or fewer, and nothing is left; or fewer, and what is left begins with no
+-- frame, for this reason, or could not be read; or a reply could not be written
+abbrev pub Outcome : Setting → History → ℕ → List ℕ → Option (List ℕ) → Option (List ℕ) → Option (List ℕ) → Service → Result Ended ServeFault → Type 0
+Outcome setting history turns input left old new after (Ok Turns) = Serves setting history input old new after (λ count rest. (count ≡ turns) × (left ≡ Some rest))
+Outcome setting history turns input left old new after (Ok Closed) = Serves setting history input old new after (λ count rest. (count < turns) × (rest ≡ []) × (left ≡ Some []))
+Outcome setting history turns input left old new after (Err (faults.Frame fault)) =
+    Serves setting history input old new after (λ count rest. (count < turns) × Tells fault rest × ReadsNoFrame (Some rest) left)
+Outcome setting history turns input left old new after (Err (faults.Write written)) = ServesCut setting history turns input left old new after written
+
+-- the service stands for a history
+abbrev pub StandsForSome : Setting → Service → Type 0
+StandsForSome setting service = (history : History) × StandsFor setting service history

@@ -1,0 +1,89 @@
+//! Answering the frames of a stream.
+
+ghost use Rattle.std.specs.Prelude.{◌≡◌, ◌+◌, ◌*◌, ◌≤◌, ℕ, None, IfSome, IfOk, IsErrOf, IsErrAnd};
+ghost use Rattle.droid_stream.specs.Seen.{IsSound, TellsFault};
+ghost use Rattle.droid_core.specs.Standing.{StandsFor, limits_of, registry_of};
+ghost use Rattle.droid_history.specs.Histories.{History};
+ghost use Rattle.droid_history.specs.Setting.{Setting};
+ghost use Rattle.droid_wire.specs.Over.{TellsFaultOver};
+ghost use Rattle.droid_wire.specs.Serving.{Outcome, StandsForSome};
+ghost use Rattle.droid_wire.specs.Steps.{TurnGives};
+
+use crate::ended::Ended;
+use crate::fault::ServeFault;
+use droid_core::Service;
+use droid_frame::{
+    Arrival, FrameFault, SteadyRead, SteadyWrite, read_frame, reply_body_len, write_reply,
+};
+use std::alloc::Global;
+
+/// How many bytes a frame has before its body.
+const HEADER_SIZE: u64 = 18;
+
+/// Reads frames, at most `turns` of them, and answers each by one reply frame with its client and number
+/// before the next is read.
+pub fn serve<R: SteadyRead, W: SteadyWrite>(
+    alloc: Global,
+    service: &mut Service,
+    reader: &mut R,
+    writer: &mut W,
+    turns: u32,
+) -> Result<Ended, ServeFault>
+    // Frames from the front of the input were handled as in a run, and their reply frames were written; the end says why no more.
+    ensures outcome { (setting : Setting) (history : History) → StandsFor setting service.old history → IfSome (R.remaining reader.old) (λ input.
+        Outcome setting history turns input (R.remaining reader.new) (W.contents writer.old) (W.contents writer.new) service.new result) }
+    // The reader is said to have failed exactly where it did, or was interrupted for the 65th time in one frame.
+    ensures read_fault { IsSound (R.seen reader.old) →
+        TellsFaultOver (R.seen reader.old).interruptions turns (R.seen reader.new) (IsErrOf result (ServeFault.Frame FrameFault.Read)) }
+    // So is a writer with no end of room.
+    ensures write_fault { IsSound (W.seen writer.old) → W.room writer.old ≡ None →
+        TellsFaultOver (W.seen writer.old).interruptions turns (W.seen writer.new) (IsErrAnd result (λ fault. (written : ℕ) × (fault ≡ ServeFault.Write written))) }
+    // Whatever comes, also of an input that isn't known, the service stands for some history.
+    ensures stands { (setting : Setting) → StandsForSome setting service.old → StandsForSome setting service.new }
+    ensures limits { limits_of service.new ≡ limits_of service.old }
+    ensures registry { registry_of service.new ≡ registry_of service.old }
+{
+    let mut written = 0;
+    for _ in 0..turns {
+        match answer_next(alloc, service, reader, writer, written)? {
+            Some(size) => written += size,
+            None => return Ok(Ended::Closed),
+        }
+    }
+    Ok(Ended::Turns)
+}
+
+/// Reads the next frame and answers it, and tells how many bytes the reply's frame has; `None` where the
+/// stream ends. In the turns before, `written` bytes were written.
+fn answer_next<R: SteadyRead, W: SteadyWrite>(
+    alloc: Global,
+    service: &mut Service,
+    reader: &mut R,
+    writer: &mut W,
+    written: u64,
+) -> Result<Option<u64>, ServeFault>
+    requires { written ≤ 9007199254740992 }
+    ensures gives { (setting : Setting) (history : History) → StandsFor setting service.old history → IfSome (R.remaining reader.old) (λ input.
+        TurnGives setting history input (R.remaining reader.new) (W.contents writer.old) (W.contents writer.new) service.old service.new written result) }
+    ensures size { IfOk result (λ answered. IfSome answered (λ size. size ≤ 1048658)) }
+    ensures read_fault { IsSound (R.seen reader.old) →
+        TellsFault (R.seen reader.old).interruptions (R.seen reader.new) (IsErrOf result (ServeFault.Frame FrameFault.Read)) }
+    ensures write_fault { IsSound (W.seen writer.old) → W.room writer.old ≡ None →
+        TellsFault (W.seen writer.old).interruptions (W.seen writer.new) (IsErrAnd result (λ fault. (cut : ℕ) × (fault ≡ ServeFault.Write cut))) × (W.room writer.new ≡ None) }
+    ensures stands { (setting : Setting) → StandsForSome setting service.old → StandsForSome setting service.new }
+    ensures limits { limits_of service.new ≡ limits_of service.old }
+    ensures registry { registry_of service.new ≡ registry_of service.old }
+{
+    let Arrival::Frame(frame) = read_frame(alloc, reader)? else {
+        return Ok(None);
+    };
+    let (client, number) = (frame.client, frame.number);
+    let reply = service.handle(frame);
+    let size = HEADER_SIZE + reply_body_len(&reply) as u64;
+    match write_reply(client, number, &reply, writer) {
+        Ok(()) => Ok(Some(size)),
+        Err(fault) => Err(ServeFault::Write {
+            written: written + fault.written as u64,
+        }),
+    }
+}
