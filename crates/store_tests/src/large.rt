@@ -1,0 +1,147 @@
+//! As much as a node and a reply may hold, and as many profiles as a service may have.
+
+use crate::commits::{commit, commit_finish};
+use crate::steps::{Change, FINISHED, MADE, NODE, NOTHING, Place, Step, TAKEN, entry_of};
+use crate::words::numbered_words;
+use droid_frame::Texts;
+use droid_store::{NodeState, ProfileRow, Store, StoreFault};
+use std::alloc::Global;
+use std::process::Abort;
+use std::test::Fail;
+
+// A store with the profile 1.
+fn with_profile(rt: &impl Abort, alloc: Global) -> Result<Store, StoreFault> {
+    let mut store = Store::in_memory(alloc)?;
+    let change = Change::Profile {
+        profile: 1,
+        scan_limit: 65_536,
+        match_all: false,
+    };
+    commit(rt, alloc, &mut store, &((1, 0, 0, MADE, b""), change))?;
+    Ok(store)
+}
+
+// Whether each has the number of its place: fmt/1, fmt/2 and so on, so many in all.
+fn are_numbered(alloc: Global, texts: &Texts, count: usize) -> Result<bool, Fail> {
+    let mut all = texts.len() == count;
+    let mut number = 0;
+    for text in texts.as_slice() {
+        number = u32::wrapping_add(number, 1);
+        all &= text.as_str() == format!(in alloc; "fmt/{number}")?.as_str();
+    }
+    Ok(all)
+}
+
+#[test]
+fn many_identifiers(rt: HostRuntime) -> Result<(), Fail> {
+    let alloc = rt.alloc();
+    let mut store = with_profile(&rt, alloc)?;
+    let place = Place {
+        profile: 1,
+        id: 1,
+        parent: 0,
+        modified: 0,
+        name: "f",
+        path: "/f",
+    };
+    let file = Change::File {
+        place,
+        size: 0,
+        piece_size: 1,
+    };
+    commit(&rt, alloc, &mut store, &((1, 1, 0, NODE, b""), file))?;
+    let puids = numbered_words(&rt, alloc, 4_096)?;
+    let entry = entry_of(alloc, &(1, 2, 0, FINISHED, b""))?;
+    commit_finish(&rt, &mut store, &entry, 1, 1, &NOTHING, &puids)?;
+    let row = store.node(1, 1)?.expect(&rt, "the file is there");
+    assert!(rt; row.state == NodeState::Finished);
+    assert!(rt; are_numbered(alloc, &row.item.puids, 4_096)?);
+    let records = store.records(1)?;
+    assert_eq!(rt; records.len(), 1);
+    assert!(rt; are_numbered(alloc, &records[0].puids, 4_096)?);
+    Ok(())
+}
+
+/// Sixteen folders, each in the one before: the last one's path has 4,096 bytes.
+#[test]
+fn long_path(rt: HostRuntime) -> Result<(), Fail> {
+    let alloc = rt.alloc();
+    let mut store = with_profile(&rt, alloc)?;
+    let mut name = String::new(alloc);
+    for _ in 0..255 {
+        name.push('n')?;
+    }
+    let mut path = String::new(alloc);
+    for parent in 0..16 {
+        path.push('/')?;
+        path.push_str(name.as_str())?;
+        let id: u32 = parent + 1;
+        let place = Place {
+            profile: 1,
+            id,
+            parent,
+            modified: 0,
+            name: name.as_str(),
+            path: path.as_str(),
+        };
+        let step: Step<'_> = ((1, u64::from(id), 0, NODE, b""), Change::Folder(place));
+        commit(&rt, alloc, &mut store, &step)?;
+        assert_eq!(rt; store.child(1, parent, name.as_str())?, Some(id));
+    }
+    assert_eq!(rt; path.len(), 4_096);
+    let row = store.node(1, 16)?.expect(&rt, "the folder is there");
+    assert_eq!(rt; row.item.path.as_str(), path.as_str());
+    let records = store.records(1)?;
+    assert_eq!(rt; records.len(), 16);
+    assert_eq!(rt; records[15].path.as_str(), path.as_str());
+    Ok(())
+}
+
+/// A reply as long as a frame's body may be.
+#[test]
+fn long_body(rt: HostRuntime) -> Result<(), Fail> {
+    let alloc = rt.alloc();
+    let mut store = Store::in_memory(alloc)?;
+    let mut body = vec![in alloc; 0xa5; 1_048_640]?;
+    body[0] = 0;
+    body[1_048_639] = 1;
+    let step: Step<'_> = ((1, 1, 0, TAKEN, &body), Change::Piece);
+    commit(&rt, alloc, &mut store, &step)?;
+    let found = store.reply_of(1, 1)?.expect(&rt, "the reply is kept");
+    assert!(rt; found.body.as_slice() == body.as_slice());
+    Ok(())
+}
+
+// The options of the profile with this number.
+fn options(profile: u32) -> (u32, bool) {
+    (profile.wrapping_mul(1_024), profile % 2 == 1)
+}
+
+#[test]
+fn many_profiles(rt: HostRuntime) -> Result<(), Fail> {
+    let alloc = rt.alloc();
+    let mut store = Store::in_memory(alloc)?;
+    for profile in 1..65 {
+        let (scan_limit, match_all) = options(profile);
+        let change = Change::Profile {
+            profile,
+            scan_limit,
+            match_all,
+        };
+        let step: Step<'_> = ((profile, 1, 0, MADE, b""), change);
+        commit(&rt, alloc, &mut store, &step)?;
+    }
+    for profile in 1..65 {
+        let (scan_limit, match_all) = options(profile);
+        let row = ProfileRow {
+            scan_limit,
+            match_all,
+            nodes: 0,
+        };
+        assert_eq!(rt; store.profile(profile)?, Some(row), "profile {profile}");
+    }
+    for profile in [0, 65, 4_294_967_295] {
+        assert_eq!(rt; store.profile(profile)?, None, "profile {profile}");
+    }
+    Ok(())
+}

@@ -1,0 +1,23 @@
+//! Tests of the store, over the public calls of `droid_store` and `droid_frame` alone.
+#![tactic(auto)]
+
+#[cfg(test)]
+mod commits;
+#[cfg(test)]
+mod large;
+#[cfg(test)]
+mod last_values;
+#[cfg(test)]
+mod memory;
+#[cfg(test)]
+mod names;
+#[cfg(test)]
+mod profiles;
+#[cfg(test)]
+mod row;
+#[cfg(test)]
+mod steps;
+#[cfg(test)]
+mod views;
+#[cfg(test)]
+mod words;
