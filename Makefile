@@ -1,5 +1,6 @@
 RT = rt
 PROGRAM = crates/droid_desk/out/droid_desk
+BENCH = crates/droid_bench/out/droid_bench
 
 .PHONY: run build quick test bench need_rt
 
@@ -23,9 +24,14 @@ test: need_rt
 	sh tests/program/run.sh $(CURDIR)/$(PROGRAM)
 	sh tests/memory/run.sh
 
-# What the costly calls cost: a large registry read, files identified by it.
+# What the costly calls cost: a large registry read, files identified by it, a large export, a folder in a large
+# store, and files piece by piece; with the same in Python beside it, where that is there.
 bench: need_rt
 	@cd crates/droid_bench && $(RT) run -- times
+	@$(BENCH) assembly
+	@if command -v python3 > /dev/null 2>&1; then \
+	    python3 tests/bench/compare_export.py $(BENCH) && python3 tests/bench/compare_store.py $(BENCH); \
+	else $(BENCH) store; fi
 
 need_rt:
 	@command -v $(RT) > /dev/null 2>&1 || { \

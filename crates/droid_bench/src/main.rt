@@ -1,17 +1,20 @@
-//! Measures what a large registry costs: reading it once, and identifying a file with it; and what a large export
-//! costs.
+//! Measures what a large registry costs: reading it once, and identifying a file with it; what a large export
+//! costs; what one folder more costs in a store that has many; and what a file costs piece by piece.
 //!
 //! Without a word on the command line it prints what came out; with the word `times` how long it took too; with the
-//! word `text` the text of the export alone.
+//! word `text` the text of the export alone; with the words `store` and `assembly` the times of those alone.
 #![tactic(auto)]
 
+mod assembly;
 mod bytes;
 mod export;
 mod generated;
+mod store;
 
 ghost use Rattle.std.specs.Prelude.{◌≤◌, length};
 
 use anyhow::{Context, Error};
+use assembly::Order;
 use droid_frame::Method;
 use droid_pronom::{Found, Registry};
 use std::alloc::{AllocError, Global};
@@ -23,6 +26,12 @@ use std::{env, io};
 const ROUNDS: u32 = 20;
 
 fn main(rt: HostRuntime) -> Result<(), Error> {
+    if wants(&rt, "store")? {
+        return measure_store(&rt);
+    }
+    if wants(&rt, "assembly")? {
+        return measure_assembly(&rt);
+    }
     let with_times = wants(&rt, "times")?;
     let text = generated::registry_text(rt.alloc())?;
     let start = Instant::now(&rt)?;
@@ -60,6 +69,75 @@ fn measure_export<R: Print + Clock + AllocGlobal>(
     if with_times {
         println!(rt; "  written in {} microseconds", took.as_micros())?;
     }
+    Ok(())
+}
+
+/// Prints how long one folder more takes where a profile has many nodes.
+fn measure_store<R: Print + Clock + AllocGlobal>(rt: &R) -> Result<(), Error> {
+    let alloc = rt.alloc();
+    let mut store = store::with_profile(alloc).context("the store")?;
+    for count in store::COUNTS {
+        store::fill(alloc, &mut store, count - store::MEASURED)?;
+        let start = Instant::now(rt)?;
+        for _ in 0..store::MEASURED {
+            store::add_folder(alloc, &mut store)?;
+        }
+        let took = start.elapsed(rt)?;
+        let each = took.as_nanos() / store::MEASURED as u128;
+        println!(rt; "store: a folder at {count} nodes in {each} nanoseconds")?;
+    }
+    Ok(())
+}
+
+/// Prints how long a file takes in pieces of 1 MiB, in order and with as many waiting as can, and in pieces of
+/// one byte; and how long the hash of its bytes takes alone.
+fn measure_assembly<R: Print + Clock + AllocGlobal>(rt: &R) -> Result<(), Error> {
+    measure_hash(rt, "256 MiB", 1 << 20, 256)?;
+    measure_pieces(rt, "256 MiB in order", 256, 1 << 20, Order::Rising)?;
+    measure_pieces(rt, "256 MiB, sixteen turned", 256, 1 << 20, Order::Turned)?;
+    measure_hash(rt, "1 MiB in blocks", 64, 1 << 14)?;
+    measure_pieces(rt, "1 MiB in pieces of a byte", 1 << 20, 1, Order::Rising)
+}
+
+fn measure_hash<R: Print + Clock + AllocGlobal>(
+    rt: &R,
+    what: &str,
+    length: u32,
+    times: u32,
+) -> Result<(), Error> {
+    let bytes = assembly::content(rt.alloc(), length)?;
+    let start = Instant::now(rt)?;
+    let digest = assembly::digest_alone(bytes.as_slice(), times);
+    let took = start.elapsed(rt)?;
+    println!(rt;
+        "hash: {what}, ends in {}, in {} microseconds",
+        digest[15],
+        took.as_micros()
+    )?;
+    Ok(())
+}
+
+fn measure_pieces<R: Print + Clock + AllocGlobal>(
+    rt: &R,
+    what: &str,
+    count: u32,
+    length: u32,
+    order: Order,
+) -> Result<(), Error> {
+    let pieces = assembly::pieces(rt.alloc(), count, length, order)?;
+    let assembly = if length == 1 {
+        assembly::of_single_bytes(rt.alloc())?
+    } else {
+        assembly::of_large_pieces(rt.alloc())?
+    };
+    let start = Instant::now(rt)?;
+    let digest = assembly::digest_of(assembly, pieces).context("the pieces")?;
+    let took = start.elapsed(rt)?;
+    println!(rt;
+        "assembly: {what}, ends in {}, in {} microseconds",
+        digest[15],
+        took.as_micros()
+    )?;
     Ok(())
 }
 

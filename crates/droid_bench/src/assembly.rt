@@ -1,0 +1,100 @@
+//! What a file costs piece by piece, beside the hash of its bytes alone.
+
+ghost use Rattle.std.specs.Prelude.{◌≡◌, IfOk, None};
+
+use droid_assembly::Assembly;
+use droid_frame::Blob;
+use md5::{Digest, Md5};
+use std::alloc::{AllocError, Global};
+
+/// A piece of a file.
+#[derive(Debug, Drop)]
+pub struct Piece {
+    index: u32,
+    bytes: Blob,
+}
+
+/// In which order the pieces of a file come.
+#[derive(Clone, Copy, Debug, PartialEq, Eq)]
+pub enum Order {
+    /// The first one first.
+    Rising,
+    /// Of each sixteen the last one first, so that as many wait as can.
+    Turned,
+}
+
+/// So many pieces of so many bytes, in this order.
+pub fn pieces(
+    alloc: Global,
+    count: u32,
+    length: u32,
+    order: Order,
+) -> Result<Vec<Piece>, AllocError> {
+    let mut all = Vec::with_capacity(alloc, count as usize)?;
+    let bytes = content(alloc, length)?;
+    for place in 0..count {
+        let index = match order {
+            Order::Rising => place,
+            Order::Turned => place ^ 15,
+        };
+        let bytes = Blob::copy_of(alloc, bytes.as_slice())?;
+        all.push(Piece { index, bytes })?;
+    }
+    Ok(all)
+}
+
+/// The bytes of each piece.
+pub fn content(alloc: Global, length: u32) -> Result<Vec<u8>, AllocError> {
+    let mut bytes = Vec::with_capacity(alloc, length as usize)?;
+    for place in 0..length {
+        bytes.push((place % 251) as u8)?;
+    }
+    Ok(bytes)
+}
+
+/// An assembly of a file of 256 MiB in pieces of 1 MiB.
+pub fn of_large_pieces(alloc: Global) -> Result<Assembly, AllocError>
+    ensures { IfOk result (λ assembly. assembly.pending ≡ None) }
+{
+    Assembly::new(alloc, 268_435_456, 1_048_576, 65_536)
+}
+
+/// An assembly of a file of as many pieces as there can be, each of one byte.
+pub fn of_single_bytes(alloc: Global) -> Result<Assembly, AllocError>
+    ensures { IfOk result (λ assembly. assembly.pending ≡ None) }
+{
+    Assembly::new(alloc, 1_048_576, 1, 65_536)
+}
+
+/// Takes the pieces one after another, and gives the digest of the file that they make, if they do.
+pub fn digest_of(mut assembly: Assembly, pieces: Vec<Piece>) -> Option<[u8; 16]>
+    requires { assembly.pending ≡ None }
+{
+    for piece in pieces {
+        if !take(&mut assembly, piece) {
+            return None;
+        }
+    }
+    assembly.seal().ok().map(|sealed| sealed.md5)
+}
+
+/// Takes one piece, unless it is refused.
+fn take(assembly: &mut Assembly, piece: Piece) -> bool
+    requires { assembly.old.pending ≡ None }
+    ensures { assembly.new.pending ≡ None }
+{
+    if assembly.put(piece.index, piece.bytes).is_err() {
+        return false;
+    }
+    let _ = assembly.settle();
+    true
+}
+
+/// The digest of these bytes so many times, in blocks of so many.
+pub fn digest_alone(bytes: &[u8], times: u32) -> [u8; 16] {
+    let mut hash = Md5::new();
+    for _ in 0..times {
+        hash.update(bytes);
+    }
+    hash.finalize()
+}
