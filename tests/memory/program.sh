@@ -1,7 +1,7 @@
 #!/bin/sh
 # Runs the program on its stored script again and again, each time with another of its allocations refused,
 # by the preloaded library that the first argument names. A run is as it should be where
-#   status 6: nothing was written, and standard error says `fault: Memory`;
+#   status 3 or 6: nothing was written, and standard error says `fault: Memory`;
 #   status 4: the first replies were written, and standard error says `fault: Memory`;
 #   status 0: each reply was written, at most one of them as `refused 18`, with what follows from that.
 set -u
@@ -17,11 +17,12 @@ if [ ! -x "$program" ]; then
 fi
 
 fault="fault: Memory"
-# the replies, where no request is refused for memory, or the first, the second or the third is
+# the replies, where no request is refused for memory, or one of the four is
 all="made 1|node 1|node 1|refused 2|"
 wanting="refused 18|refused 3|refused 3|refused 3|
 made 1|refused 18|node 1|refused 2|
-made 1|node 1|refused 18|refused 2|"
+made 1|node 1|refused 18|refused 2|
+made 1|node 1|node 1|refused 18|"
 
 is_right() {
     said=$(cat "$work/err")
@@ -29,7 +30,7 @@ is_right() {
     case $1 in
         0) [ -z "$said" ] && printf '%s\n%s\n' "$all" "$wanting" | grep -qxF -- "$replies" ;;
         4) [ "$said" = "$fault" ] && case $all in "$replies"*) true ;; *) false ;; esac ;;
-        6) [ "$said" = "$fault" ] && [ -z "$replies" ] ;;
+        3 | 6) [ "$said" = "$fault" ] && [ -z "$replies" ] ;;
         *) false ;;
     esac
 }
@@ -61,7 +62,7 @@ while [ "$number" -le "$count" ]; do
     fi
     number=$((number + 1))
 done
-for status in 0 4 6; do
+for status in 0 3 4 6; do
     case "$ended " in
         *" $status "*) ;;
         *)

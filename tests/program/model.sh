@@ -1,0 +1,25 @@
+#!/bin/sh
+# Runs the model (model/main.py) on the cases and on registry files, as the program is run: what is wanted of
+# the program was not taken from it, and the model has to agree with that. Left out are the cases that show
+# the command line's own text, and the input that is no file.
+set -u
+tests=$(cd "$(dirname "$0")" && pwd)
+model=$tests/model/main.py
+
+names=
+for case in "$tests"/cases/*/; do
+    grep -qs '^script' "$case/args" || continue
+    [ "$(cat "$case/status" 2>/dev/null)" = 2 ] && continue
+    [ -f "$case/out.has" ] || [ -f "$case/from" ] || names="$names $(basename "$case")"
+done
+echo "the model:"
+failed=0
+# at the same time, since most of it is Python's start; the names are words without spaces
+# shellcheck disable=SC2086
+sh "$tests/cases.sh" "$model" $names &
+cases=$!
+sh "$tests/registry.sh" "$model" &
+registries=$!
+wait "$cases" || failed=1
+wait "$registries" || failed=1
+[ "$failed" -eq 0 ]

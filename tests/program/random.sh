@@ -1,0 +1,58 @@
+#!/bin/sh
+# Runs the program and the model (model/main.py) on random scripts with fixed seeds, and compares what they write
+# byte for byte, and how they end: random.sh PROGRAM. In each script every reply and every refusal from 1 to 17
+# comes somewhere.
+set -u
+program=$1
+tests=$(cd "$(dirname "$0")" && pwd)
+model=$tests/model
+work=$(mktemp -d) || exit 1
+trap 'rm -rf "$work"' EXIT
+
+# the beginnings of lines that have to come
+cat >"$work/kinds" <<'END_OF_KINDS'
+made
+node
+taken
+finished Signature true
+finished Signature false
+finished Extension false
+finished none false
+abandoned
+progress
+part
+bad line
+refused 17 profiles
+refused 17 unfinished
+END_OF_KINDS
+seq 1 17 | sed 's/^/refused /' >>"$work/kinds"
+
+passed=0
+failed=0
+# SEED COUNT REGISTRY ORDER
+compare() {
+    "$model/random_script.py" "$@" >"$work/in"
+    "$model/main.py" script --registry "$3" <"$work/in" >"$work/wanted"
+    wanted=$?
+    "$program" script --registry "$3" <"$work/in" >"$work/out"
+    status=$?
+    problem=
+    while read -r kind; do
+        grep -qaE "^$kind( |\$)" "$work/wanted" || problem="$problem no reply says $kind;"
+    done <"$work/kinds"
+    [ "$status" = "$wanted" ] || problem="$problem ended with status $status;"
+    cmp -s "$work/wanted" "$work/out" || problem="$problem other replies;"
+    if [ -z "$problem" ]; then
+        passed=$((passed + 1))
+    else
+        failed=$((failed + 1))
+        echo "random script $*:$problem"
+        diff -a "$work/wanted" "$work/out" | head -n 10
+    fi
+}
+
+"$model/random_registry.py" 3 12 >"$work/registry.csv"
+compare 1 5000 "$tests/sample_registry.csv" steady
+compare 2 5000 "$work/registry.csv" jumbled
+echo "random scripts: $passed passed, $failed failed"
+[ "$failed" -eq 0 ]
