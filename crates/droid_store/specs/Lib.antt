@@ -1,5 +1,6 @@
 pub mod Changes
 pub mod Encoded
+pub mod Faults
 pub mod Kept
 pub mod Nodes
 pub mod Rows

@@ -1,5 +1,7 @@
 //! Why a call of the store gave up.
 
+ghost use Rattle.std.specs.Prelude.{◌≡◌};
+
 use sqlite::{Error as SqlError, ErrorCode};
 use std::alloc::AllocError;
 use thiserror::Error;
@@ -16,6 +18,10 @@ pub enum StoreFault {
 }
 
 impl From<SqlError> for StoreFault {
+    ghost use Rattle.droid_store.specs.Faults.{fault_of};
+
+    ghost from_gives = { λ error fault. fault ≡ fault_of error };
+
     fn from(error: SqlError) -> StoreFault {
         match error {
             SqlError::SqliteFailure(ErrorCode::OutOfMemory) => StoreFault::Memory,
@@ -25,6 +31,10 @@ impl From<SqlError> for StoreFault {
 }
 
 impl From<AllocError> for StoreFault {
+    ghost use Rattle.droid_store.specs.declared.fault.StoreFault.TheVariants.{Memory};
+
+    ghost from_gives = { λ _ fault. fault ≡ Memory };
+
     fn from(_: AllocError) -> StoreFault {
         StoreFault::Memory
     }

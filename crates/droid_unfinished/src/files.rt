@@ -2,7 +2,7 @@
 
 ghost use Rattle.std.specs.Prelude.{◌≡◌, ◌≢◌, ◌+◌, ◌-◌, ◌*◌, ◌^◌, ◌<◌, ◌≤◌, ◌↔◌, ◌++◌, ◌∷◌, [], ℕ, List, length, min, Ok, Err, Some, None, IsTrue, IsOk, IfOk, IfSome, OnOk, OnErr, IsErrOf, IsSome, is_some, false};
 ghost use Rattle.std.specs.Bool.{OnFalse};
-ghost use Rattle.std.specs.List.{slice_get, AllByRecursion};
+ghost use Rattle.std.specs.List.{slice_get, remove, AllByRecursion};
 ghost use Rattle.md5.specs.Md5.{md5};
 ghost use Rattle.droid_assembly.specs.Pieces.{Piece, IsDue, HasIndex, LacksIndex, held as held_of, bytes_held, missing as missing_of, file_bytes};
 ghost use Rattle.droid_assembly.specs.State.{StandsFor, IsComplete, IsOfSameFile, IsUnchanged, count_of, with_pending, pending_bytes};
@@ -112,6 +112,7 @@ impl UnfinishedFiles {
     /// Drops the file at this place with all its pieces. Those after it move up by one place.
     pub fn remove(&mut self, place: usize)
         requires { place < length self.old.files }
+        ensures files { self.new.files ≡ remove self.old.files place }
         ensures gone { (file : OpenFile) → IsAt self.old.files place file → open_at file.profile file.file self.new.files ≡ None }
         ensures others { (file : OpenFile) (profile number : ℕ) → IsAt self.old.files place file → is_of profile number file ≡ false
             → open_at profile number self.new.files ≡ open_at profile number self.old.files }

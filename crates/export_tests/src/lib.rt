@@ -8,6 +8,8 @@ mod memory;
 #[cfg(test)]
 mod moments;
 #[cfg(test)]
+mod names;
+#[cfg(test)]
 mod nodes;
 #[cfg(test)]
 mod registry;
