@@ -1,5 +1,5 @@
 -- A digest has 16 bytes.
-use Rattle.std.proofs.Common.{◌≡◌, ℕ, zero, suc, ◌+◌, ◌*◌, ◌/◌, ◌%◌, ◌^◌, ◌<◌, List, [], ◌∷◌, ◌++◌, length, refl, arith, length-append}
+use Rattle.std.proofs.Common.{◌≡◌, ℕ, zero, suc, ◌*◌, ◌/◌, ◌%◌, ◌^◌, ◌<◌, List, length, refl, arith, length-append}
 use Rattle.std.specs.Int.{byte_at, bytes_low_first, to_le_bytes, w32}
 use Rattle.std.specs.Prelude.{slice_index}
 use Rattle.md5.specs.Md5.{md5, digest_bytes, hash_after, padded_message}

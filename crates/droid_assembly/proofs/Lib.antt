@@ -3,6 +3,6 @@ pub mod Digests
 pub mod Ends
 pub mod Fresh
 pub mod Indexes
+pub mod SeveralPieces
 pub mod Settling
-pub mod SpentPieces
 pub mod Whole

@@ -1,4 +1,5 @@
 pub mod Fronts
+pub mod Handed
 pub mod Kept
 pub mod Lending
 pub mod Parts

@@ -254,12 +254,13 @@ impl Assembly {
     fn is_due(&self, index: u32, bytes: &Blob) -> bool
         ensures { IsTrue result ↔ IsDue self.now.size self.now.piece_size (index, bytes.now) }
     {
-        if index >= self.count() {
+        // A product in place of the number of pieces, which takes a division.
+        let piece_size = u64::from(self.piece_size);
+        let start = u64::from(index) * piece_size;
+        if start >= self.size {
             return false;
         }
-        let piece_size = u64::from(self.piece_size);
-        let due = piece_size.min(self.size - u64::from(index) * piece_size);
-        bytes.len() as u64 == due
+        bytes.len() as u64 == piece_size.min(self.size - start)
     }
 
     /// Whether the piece of this index is settled.

@@ -7,6 +7,7 @@ mod front;
 mod places;
 mod ring;
 mod sealed;
+mod several;
 mod spent;
 mod windows;
 

@@ -36,6 +36,9 @@ impl Ring {
         ensures width { self.new.width ≡ self.old.width }
         ensures items { ring_items self.new ≡ last_window self.old.width (ring_items self.old ++ bytes.now) }
     {
+        if self.bytes.len() == self.width && bytes.len() <= self.width - self.turn {
+            return self.write(bytes);
+        }
         let bytes = &bytes[bytes.len().saturating_sub(self.width)..];
         let count = bytes.len().min(self.width - self.bytes.len());
         append(&mut self.bytes, &bytes[..count]);
@@ -100,7 +103,9 @@ pub(crate) fn append(window: &mut Vec<u8>, bytes: &[u8])
     ensures items { window.new.items ≡ window.old.items ++ bytes.now }
     ensures capacity { vec_capacity window.old ≤ vec_capacity window.new }
 {
-    window.extend_from_slice(bytes).unwrap();
+    if bytes.len() > 0 {
+        window.extend_from_slice(bytes).unwrap();
+    }
 }
 
 // Puts bytes in the place of those from `at` on.

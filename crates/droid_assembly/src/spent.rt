@@ -1,33 +1,35 @@
 //! Pieces that an assembly needs no longer.
 
-ghost use Rattle.std.specs.Prelude.{◌≡◌, ◌↔◌, ◌<◌, ◌++◌, ◌∷◌, [], IsTrue, length};
+ghost use Rattle.std.specs.Prelude.{◌≡◌, ◌↔◌, ◌∷◌, [], IsTrue, length};
 ghost use Rattle.std.specs.Option.{option_copied};
 ghost use Rattle.std.specs.List.{slice_get};
 
+use crate::several::Several;
 use droid_frame::Blob;
-use std::array;
 use std::marker::Model;
-
-/// How many pieces one call can hand back.
-const SPENT_LIMIT: usize = 16;
 
 /// The pieces that an assembly needs no longer, in order of index. It holds them without memory of
 /// its own. Contracts see the list of their bytes.
 #[derive(Debug, Drop)]
 pub struct Spent {
-    blobs: [Option<Blob>; SPENT_LIMIT],
-    count: usize,
+    pieces: Pieces,
+}
+
+/// Mostly one piece is handed back, or none, and the places of several are not made then.
+#[derive(Debug, Drop)]
+pub(crate) enum Pieces {
+    Nothing,
+    One(Blob),
+    Many(Several),
 }
 
 impl Model for Spent {
-    ghost use Rattle.std.specs.Prelude.{List, ℕ, ◌≤◌, map, take};
-    ghost use Rattle.droid_assembly.specs.Kept.{bytes_of, HasPieces};
+    ghost use Rattle.std.specs.Prelude.{List, ℕ};
+    ghost use Rattle.droid_assembly.specs.Handed.{pieces_of};
 
     ghost Value = { List (List ℕ) };
 
-    ghost view = { λ spent. map bytes_of (take spent.count spent.blobs) };
-
-    ghost invariant = { λ spent. (spent.count ≤ 16) × HasPieces spent.blobs spent.count };
+    ghost view = { λ spent. pieces_of spent.pieces };
 }
 
 impl Spent {
@@ -36,25 +38,38 @@ impl Spent {
         ensures { result ≡ [] }
     {
         Spent {
-            blobs: array::from_fn(|_| None),
-            count: 0,
+            pieces: Pieces::Nothing,
         }
     }
 
-    /// Adds a piece, for which there is a place.
-    pub(crate) fn push(&mut self, bytes: Blob)
-        requires { length self.old < 16 }
-        ensures { self.new ≡ self.old ++ bytes ∷ [] }
+    /// This piece alone.
+    pub(crate) fn one(bytes: Blob) -> Spent
+        ensures { result ≡ bytes ∷ [] }
     {
-        self.blobs[self.count] = Some(bytes);
-        self.count += 1;
+        Spent {
+            pieces: Pieces::One(bytes),
+        }
+    }
+
+    /// All of these.
+    pub(crate) fn several(several: Several) -> Spent
+        ensures { result ≡ several }
+    {
+        Spent {
+            pieces: Pieces::Many(several),
+        }
     }
 
     /// How many pieces were handed back.
     pub fn len(&self) -> usize
         ensures { result ≡ length self.now }
     {
-        self.count
+        let pieces = &self.pieces;
+        match pieces {
+            Pieces::Nothing => 0,
+            Pieces::One(_) => 1,
+            Pieces::Many(several) => several.len(),
+        }
     }
 
     /// Whether none was.
@@ -68,10 +83,11 @@ impl Spent {
     pub fn get(&self, place: usize) -> Option<&Blob>
         ensures { option_copied result ≡ slice_get self.now place }
     {
-        if place < self.len() {
-            self.blobs[place].as_ref()
-        } else {
-            None
+        let pieces = &self.pieces;
+        match pieces {
+            Pieces::Nothing => None,
+            Pieces::One(bytes) => { if place == 0 { Some(bytes) } else { None } }
+            Pieces::Many(several) => several.get(place),
         }
     }
 }
