@@ -17,10 +17,11 @@ use Rattle.droid_history.specs.World.{World}
 use Rattle.droid_standing.proofs.Replying.{kept_one_more}
 use Rattle.droid_store.specs.declared.rows.Entry as rows
 use Rattle.droid_store.specs.Rows.{Rows, reply_for}
-use Rattle.droid_core.specs.declared.service.Service.{Service}
-use Rattle.droid_core.specs.declared.service.stamps.Stamp.{Stamp}
-use Rattle.droid_core.specs.Changes.{again, stamp_of, Stays, TakesOne, Leaves, Comes}
-use Rattle.droid_core.specs.Standing.{StandsFor, IsIn}
+use Rattle.droid_parts.specs.declared.parts.Parts.{Parts}
+use Rattle.droid_parts.specs.declared.stamps.Stamp.{Stamp}
+use Rattle.droid_parts.specs.Changes.{again, stamp_of, Stays, TakesOne, Leaves, Comes}
+use Rattle.droid_core.specs.Standing.{Stand}
+use Rattle.droid_parts.specs.Standing.{IsIn}
 use Rattle.droid_core.proofs.KeptReplies.{entry_kept, none_kept, reply_spelled}
 
 -- ---- what the answer and the next history are
@@ -54,10 +55,10 @@ GoesOn-push setting before (first ∷ entries) entry legal may =
 -- ---- what a service stands for after a request
 
 -- the same rows stand for the same history
-pub stands_still : (setting : Setting) (service : Service) (store : Rows) (history : History) → store ≡ service.store → StandsFor setting service history → StandsFor setting (record service { store = store }) history
-stands_still setting service store history same stands = subst (λ (rows : Rows). StandsFor setting (record service { store = rows }) history) (sym same) stands
+pub stands_still : (setting : Setting) (service : Parts) (store : Rows) (history : History) → store ≡ service.store → Stand setting service history → Stand setting (record service { store = store }) history
+stands_still setting service store history same stands = subst (λ (rows : Rows). Stand setting (record service { store = rows }) history) (sym same) stands
 
-same_stands : (setting : Setting) (old new : Service) (history : History) → Stays setting (world_of setting history) old new → StandsFor setting old history → StandsFor setting new history
+same_stands : (setting : Setting) (old new : Parts) (history : History) → Stays setting (world_of setting history) old new → Stand setting old history → Stand setting new history
 same_stands setting old new history same stands = record {
   legal = stands.legal;
   replies = record { replies = same.replies ∙ stands.replies.replies; spelled = stands.replies.spelled };
@@ -65,9 +66,9 @@ same_stands setting old new history same stands = record {
 }
 
 -- one entry more, with the world that its verdict leaves
-taken_stands : (setting : Setting) (old new : Service) (history : History) (frame : Frame) (request : Request) (reply : Reply) (after : World) → command frame ≡ Some request → kept history frame.client frame.number ≡ None
-    → judge setting (world_of setting history) request ≡ Accepted reply after → HasReplySpelling reply → TakesOne setting after old new (stamp_of frame) reply → StandsFor setting old history
-    → StandsFor setting new (history ++ entry_of frame reply ∷ [])
+taken_stands : (setting : Setting) (old new : Parts) (history : History) (frame : Frame) (request : Request) (reply : Reply) (after : World) → command frame ≡ Some request → kept history frame.client frame.number ≡ None
+    → judge setting (world_of setting history) request ≡ Accepted reply after → HasReplySpelling reply → TakesOne setting after old new (stamp_of frame) reply → Stand setting old history
+    → Stand setting new (history ++ entry_of frame reply ∷ [])
 taken_stands setting old new history frame request reply after asked is_new accepted spelled takes stands =
     let entry = entry_of frame reply in
     let may : IsNext setting history entry = record { is_new = is_new; marked = refl; request = request; asked = asked; after = after; accepted = accepted } in
@@ -78,9 +79,9 @@ taken_stands setting old new history frame request reply after asked is_new acce
       world = subst (λ (there : World). IsIn setting there new) (sym world) takes.world_is;
     }
 
-leaves_next : (setting : Setting) (old new : Service) (history : History) (frame : Frame) (request : Request) (verdict : Verdict) → command frame ≡ Some request → kept history frame.client frame.number ≡ None
-    → judge setting (world_of setting history) request ≡ verdict → HasReplySpelling (verdict_reply verdict) → Leaves setting (world_of setting history) old new (stamp_of frame) verdict → StandsFor setting old history
-    → StandsFor setting new (next_judged history frame verdict)
+leaves_next : (setting : Setting) (old new : Parts) (history : History) (frame : Frame) (request : Request) (verdict : Verdict) → command frame ≡ Some request → kept history frame.client frame.number ≡ None
+    → judge setting (world_of setting history) request ≡ verdict → HasReplySpelling (verdict_reply verdict) → Leaves setting (world_of setting history) old new (stamp_of frame) verdict → Stand setting old history
+    → Stand setting new (next_judged history frame verdict)
 leaves_next setting old new history frame request (Accepted reply after) asked is_new judged spelled leaves stands = taken_stands setting old new history frame request reply after asked is_new judged spelled leaves stands
 leaves_next setting old new history frame request (Answered reply) asked is_new judged spelled leaves stands = same_stands setting old new history leaves stands
 leaves_next setting old new history frame request (Refuses refusal) asked is_new judged spelled leaves stands = same_stands setting old new history leaves stands
@@ -90,17 +91,17 @@ leaves_next setting old new history frame request (Refuses refusal) asked is_new
 some_is_some : (frame : Frame) (request : Request) → command frame ≡ Some request → IsSome (command frame)
 some_is_some frame request asked = rw asked refl
 
-pub handles_malformed : (setting : Setting) (service : Service) (history : History) (frame : Frame) → command frame ≡ None → StandsFor setting service history → Handles setting history frame (Refused Malformed) (StandsFor setting service)
+pub handles_malformed : (setting : Setting) (service : Parts) (history : History) (frame : Frame) → command frame ≡ None → Stand setting service history → Handles setting history frame (Refused Malformed) (Stand setting service)
 handles_malformed setting service history frame malformed stands =
-    (sym (answer_malformed setting history frame malformed), subst (StandsFor setting service) (sym (next_malformed setting history frame malformed)) stands)
+    (sym (answer_malformed setting history frame malformed), subst (Stand setting service) (sym (next_malformed setting history frame malformed)) stands)
 
 wanting : (b : Bool) (P Q : Type 0) → b ≡ true → P → MatchBool b P Q
 wanting true P Q is it = it
 wanting false P Q is it = absurd cc
 
 -- memory or the database was wanting, and nothing is changed
-pub handles_want : (setting : Setting) (service : Service) (history : History) (frame : Frame) (refusal : Refusal) → IsSome (command frame) → IsTrue (is_want_of refusal) → StandsFor setting service history
-    → Handles setting history frame (Refused refusal) (StandsFor setting service)
+pub handles_want : (setting : Setting) (service : Parts) (history : History) (frame : Frame) (refusal : Refusal) → IsSome (command frame) → IsTrue (is_want_of refusal) → Stand setting service history
+    → Handles setting history frame (Refused refusal) (Stand setting service)
 handles_want setting service history frame refusal asked want stands = wanting (is_want_of refusal) _ _ want (asked, stands)
 
 -- want of memory, or else what follows from an answer
@@ -109,9 +110,9 @@ unless_wanting true is wanting answered = wanting
 unless_wanting false is wanting answered = answered is
 
 -- what a kept row answers is the answer, and the history stays
-pub handles_again : (setting : Setting) (service : Service) (history : History) (frame : Frame) (request : Request) (row : rows.Entry) (reply : Reply) → command frame ≡ Some request
+pub handles_again : (setting : Setting) (service : Parts) (history : History) (frame : Frame) (request : Request) (row : rows.Entry) (reply : Reply) → command frame ≡ Some request
     → reply_for frame.client frame.number service.store ≡ Some row → ((kept : Reply) → SpellsReply row.kind row.body kept → MatchBool (is_want reply) ⊤ (reply ≡ again row (frame_mark frame) kept))
-    → StandsFor setting service history → Handles setting history frame reply (StandsFor setting service)
+    → Stand setting service history → Handles setting history frame reply (Stand setting service)
 handles_again setting service history frame request row reply asked found answers stands =
     let there = entry_kept history service.store frame.client frame.number row stands.replies found in
     let spelled = reply_spelled history frame.client frame.number there.0 stands.replies.spelled there.1 in
@@ -119,16 +120,16 @@ handles_again setting service history frame request row reply asked found answer
     let answer_is : answer setting history frame ≡ kept_answer there.0 (frame_mark frame) = answer_asked_for setting history frame request asked ∙ ap (λ (o : Option Entry). answer_to setting history o (frame_mark frame) request) there.1 in
     let next_is : next setting history frame ≡ history = next_asked_for setting history frame request asked ∙ ap (λ (o : Option Entry). next_new setting history frame o request) there.1 in
     unless_wanting (is_want reply) is (some_is_some frame request asked, stands)
-    (λ same. (same ∙ (ap (λ (r : rows.Entry). again r (frame_mark frame) there.0.reply) (sym there.2) ∙ sym answer_is), subst (StandsFor setting service) (sym next_is) stands))
+    (λ same. (same ∙ (ap (λ (r : rows.Entry). again r (frame_mark frame) there.0.reply) (sym there.2) ∙ sym answer_is), subst (Stand setting service) (sym next_is) stands))
 
 by_wanting : (b : Bool) {P Q R S T U : Type 0} → MatchBool b P (Q × R) → (P → S) → (Q → T) → (Q → R → U) → MatchBool b S (T × U)
 by_wanting true came wanting answered left = wanting came
 by_wanting false came wanting answered left = (answered came.0, left came.0 came.1)
 
 -- what its verdict says, under a new number
-pub handles_anew : (setting : Setting) (old new : Service) (history : History) (frame : Frame) (request : Request) (reply : Reply) → command frame ≡ Some request → StandsFor setting old history
+pub handles_anew : (setting : Setting) (old new : Parts) (history : History) (frame : Frame) (request : Request) (reply : Reply) → command frame ≡ Some request → Stand setting old history
     → reply_for frame.client frame.number old.store ≡ None → HasReplySpelling reply → Comes setting (world_of setting history) old new (stamp_of frame) (judge setting (world_of setting history) request) reply
-    → Handles setting history frame reply (StandsFor setting new)
+    → Handles setting history frame reply (Stand setting new)
 handles_anew setting old new history frame request reply asked stands absent spelled comes =
     let is_new = none_kept history old.store frame.client frame.number stands.replies absent in
     let verdict = judge setting (world_of setting history) request in
@@ -137,21 +138,21 @@ handles_anew setting old new history frame request reply asked stands absent spe
     by_wanting (is_want reply) comes
     (λ same. (some_is_some frame request asked, same_stands setting old new history same stands))
     (λ is. is ∙ sym answer_is)
-    (λ is leaves. subst (StandsFor setting new) (sym next_is) (leaves_next setting old new history frame request verdict asked is_new refl (subst HasReplySpelling is spelled) leaves stands))
+    (λ is leaves. subst (Stand setting new) (sym next_is) (leaves_next setting old new history frame request verdict asked is_new refl (subst HasReplySpelling is spelled) leaves stands))
 
 -- ---- the same, as the code has them
 
-pub answers_again : (setting : Setting) (service : Service) (history : History) (frame : Frame) (request : Request) (stamp : Stamp) (row : rows.Entry) (reply : Reply) → stamp ≡ stamp_of frame → command frame ≡ Some request
+pub answers_again : (setting : Setting) (service : Parts) (history : History) (frame : Frame) (request : Request) (stamp : Stamp) (row : rows.Entry) (reply : Reply) → stamp ≡ stamp_of frame → command frame ≡ Some request
     → reply_for stamp.client stamp.number service.store ≡ Some row → ((kept : Reply) → SpellsReply row.kind row.body kept → MatchBool (is_want reply) ⊤ (reply ≡ again row stamp.mark kept))
-    → StandsFor setting service history → Handles setting history frame reply (StandsFor setting service)
+    → Stand setting service history → Handles setting history frame reply (Stand setting service)
 answers_again setting service history frame request stamp row reply is asked found answers stands =
     handles_again setting service history frame request row reply asked
     (subst (λ (s : Stamp). reply_for s.client s.number service.store ≡ Some row) is found)
     (subst (λ (s : Stamp). (kept : Reply) → SpellsReply row.kind row.body kept → MatchBool (is_want reply) ⊤ (reply ≡ again row s.mark kept)) is answers) stands
 
-pub answers_anew : (setting : Setting) (old new : Service) (history : History) (frame : Frame) (request : Request) (stamp : Stamp) (reply : Reply) → stamp ≡ stamp_of frame → command frame ≡ Some request → StandsFor setting old history
+pub answers_anew : (setting : Setting) (old new : Parts) (history : History) (frame : Frame) (request : Request) (stamp : Stamp) (reply : Reply) → stamp ≡ stamp_of frame → command frame ≡ Some request → Stand setting old history
     → reply_for stamp.client stamp.number old.store ≡ None → HasReplySpelling reply → Comes setting (world_of setting history) old new stamp (judge setting (world_of setting history) request) reply
-    → Handles setting history frame reply (StandsFor setting new)
+    → Handles setting history frame reply (Stand setting new)
 answers_anew setting old new history frame request stamp reply is asked stands absent spelled comes =
     handles_anew setting old new history frame request reply asked stands
     (subst (λ (s : Stamp). reply_for s.client s.number old.store ≡ None) is absent) spelled

@@ -8,9 +8,10 @@ use Rattle.droid_standing.specs.Rows.{KeepsWorld}
 use Rattle.droid_standing.proofs.Made.{world_empty}
 use Rattle.droid_store.specs.Rows.{Rows, no_rows}
 use Rattle.droid_unfinished.specs.Files.{OpenFiles, open_at}
-use Rattle.droid_core.specs.Assemblies.{HasAssemblies, HasItsAssemblyIn}
-use Rattle.droid_core.specs.declared.service.Service.{Service}
-use Rattle.droid_core.specs.Standing.{AreAllowed, StandsFor, limits_of, registry_of}
+use Rattle.droid_parts.specs.Assemblies.{HasAssemblies, HasItsAssemblyIn}
+use Rattle.droid_parts.specs.declared.parts.Parts.{Parts}
+use Rattle.droid_parts.specs.Standing.{limits_given, AreAllowed}
+use Rattle.droid_core.specs.Standing.{Stand}
 
 none_numbered : (number : ℕ) → numbered {A = Profile} [] number ≡ None
 none_numbered zero = refl
@@ -22,8 +23,8 @@ no_assembly files empty number id = rw (none_numbered number) (ap (open_at numbe
 no_assemblies : (files : OpenFiles) → files.files ≡ [] → HasAssemblies empty_world files
 no_assemblies files empty = record { each = no_assembly files empty; count = rw empty refl }
 
-pub starts : (setting : Setting) (service : Service) → setting.limits ≡ limits_of service → AreAllowed (limits_of service) → IsOf (registry_of service) setting
-    → service.store ≡ no_rows → service.files.files ≡ [] → service.files.limit ≡ setting.limits.unfinished → StandsFor setting service []
+pub starts : (setting : Setting) (service : Parts) → setting.limits ≡ limits_given service.limits → AreAllowed (limits_given service.limits) → IsOf (service.registry) setting
+    → service.store ≡ no_rows → service.files.files ≡ [] → service.files.limit ≡ setting.limits.unfinished → Stand setting service []
 unfolding world_of
 starts setting service limits allowed registry rows files room = record {
   legal = tt;

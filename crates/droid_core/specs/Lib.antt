@@ -1,9 +1,3 @@
-pub mod Assemblies
-pub mod Changes
 pub mod KeptBytes
-pub mod LookUps
-pub mod NewAssemblies
-pub mod Places
 pub mod Running
 pub mod Standing
-pub mod Taking

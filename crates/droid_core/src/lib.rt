@@ -4,4 +4,5 @@
 
 mod service;
 
-pub use service::{Limits, Service};
+pub use droid_parts::Limits;
+pub use service::Service;

@@ -1,5 +1,5 @@
--- Lists: tests of two parts, look-ups through a function, what holds of each element and of the one at a place.
-use Rattle.std.proofs.Common.{◌≡◌, inl, inr, ℕ, zero, suc, List, [], ◌∷◌, ◌++◌, map, find, filter, Bool, cond, ◌&&◌, Some, option_map, is_some, slice_get, slice_set, refl, ap, subst}
+-- Lists: tests of two parts, look-ups through a function, and what holds of each element.
+use Rattle.std.proofs.Common.{◌≡◌, inl, inr, List, [], ◌∷◌, ◌++◌, map, find, filter, Bool, cond, ◌&&◌, Some, option_map, is_some, refl, ap}
 use Rattle.std.proofs.lemmas.Bool.{cases_Bool}
 use Rattle.std.specs.List.{AllByRecursion, list_any}
 
@@ -34,24 +34,9 @@ find_mapped f p (x ∷ xs) = elim (cases_Bool (p (f x))) [
 
 -- ---- what holds of each element
 
-module _ {X : Type 0} (P : X → Type 0) where
-  pub each_at : (xs : List X) (place : ℕ) (x : X) → AllByRecursion P xs → slice_get xs place ≡ Some x → P x
-  each_at [] place x all is = absurd cc
-  each_at (y ∷ ys) zero x all is = (let same : y ≡ x = cc in subst P same all.0)
-  each_at (y ∷ ys) (suc place) x all is = each_at ys place x all.1 is
-
-  pub each_of_one_more : (xs : List X) (x : X) → AllByRecursion P xs → P x → AllByRecursion P (xs ++ x ∷ [])
-  each_of_one_more [] x all it = (it, tt)
-  each_of_one_more (y ∷ ys) x all it = (all.0, each_of_one_more ys x all.1 it)
-
-  pub each_of_both : (xs ys : List X) → AllByRecursion P xs → AllByRecursion P ys → AllByRecursion P (xs ++ ys)
-  each_of_both [] ys all more = more
-  each_of_both (x ∷ xs) ys all more = (all.0, each_of_both xs ys all.1 more)
-
-  pub each_of_changed : (xs : List X) (place : ℕ) (x : X) → AllByRecursion P xs → P x → AllByRecursion P (slice_set xs place x)
-  each_of_changed [] place x all it = tt
-  each_of_changed (y ∷ ys) zero x all it = (it, all.1)
-  each_of_changed (y ∷ ys) (suc place) x all it = (all.0, each_of_changed ys place x all.1 it)
+pub each_of_both : {X : Type 0} (P : X → Type 0) (xs ys : List X) → AllByRecursion P xs → AllByRecursion P ys → AllByRecursion P (xs ++ ys)
+each_of_both P [] ys all more = more
+each_of_both P (x ∷ xs) ys all more = (all.0, each_of_both P xs ys all.1 more)
 
 pub each_weaker : {X : Type 0} (P Q : X → Type 0) → ((x : X) → P x → Q x) → (xs : List X) → AllByRecursion P xs → AllByRecursion Q xs
 each_weaker P Q weaker [] all = tt

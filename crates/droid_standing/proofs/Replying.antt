@@ -6,11 +6,11 @@ use Rattle.droid_history.specs.Histories.{Entry, History}
 use Rattle.droid_store.specs.declared.rows.Entry as stores
 use Rattle.droid_store.specs.Rows.{Rows}
 use Rattle.droid_standing.specs.Replies.{entry_row, KeepsReplies}
-use Rattle.droid_standing.proofs.Lists.{each_of_one_more}
+use Rattle.droid_history.proofs.Each.{each_with_one_more}
 
 pub kept_one_more : (history : History) (entry : Entry) (old new : Rows) → KeepsReplies history old → new.replies ≡ old.replies ++ entry_row entry ∷ [] → HasReplySpelling entry.reply
     → KeepsReplies (history ++ entry ∷ []) new
 kept_one_more history entry old new keeps one spelled = record {
   replies = one ∙ ap (λ (rows : List stores.Entry). rows ++ entry_row entry ∷ []) keeps.replies ∙ sym (map_push entry_row history entry);
-  spelled = each_of_one_more (λ (e : Entry). HasReplySpelling e.reply) history entry keeps.spelled spelled;
+  spelled = each_with_one_more (λ (e : Entry). HasReplySpelling e.reply) history entry keeps.spelled spelled;
 }

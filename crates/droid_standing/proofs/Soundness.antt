@@ -7,7 +7,8 @@ use Rattle.droid_history.specs.Judging.{Check, refusal_of, create_checks, place_
 use Rattle.droid_history.specs.Limits.{Limits}
 use Rattle.droid_history.specs.World.{Content, Node, Folder, File, Abandoned, Profile, World, empty_world, world_with, numbered, node_at, unless_abandoned}
 use Rattle.droid_standing.specs.Sound.{is_folder, IsPlace, IsSoundNode, IsSoundProfile, IsSound}
-use Rattle.droid_standing.proofs.Lists.{each_at, each_of_one_more, each_of_changed, each_weaker}
+use Rattle.droid_history.proofs.Each.{each_at, each_with_one_more, each_with_one_set}
+use Rattle.droid_standing.proofs.Lists.{each_weaker}
 
 pub sound_empty : IsSound empty_world
 sound_empty = tt
@@ -15,7 +16,7 @@ sound_empty = tt
 pub sound_made : (world : World) (scan_limit : ℕ) (match_all : Bool) → IsSound world → IsTrue (is_scan_limit scan_limit)
     → IsSound (world_with world (world.profiles ++ record { scan_limit = scan_limit; match_all = match_all; nodes = [] } ∷ []))
 sound_made world scan_limit match_all sound within =
-    each_of_one_more IsSoundProfile world.profiles (record { scan_limit = scan_limit; match_all = match_all; nodes = [] }) sound (record { limit = within; nodes = tt })
+    each_with_one_more IsSoundProfile world.profiles (record { scan_limit = scan_limit; match_all = match_all; nodes = [] }) sound (record { limit = within; nodes = tt })
 
 pub sound_profile : (world : World) (number : ℕ) (profile : Profile) → IsSound world → numbered world.profiles number ≡ Some profile → IsSoundProfile profile
 sound_profile world zero profile sound is = absurd cc
@@ -55,9 +56,9 @@ sound_added world number profile node sound is it =
     let old = sound_profile world number profile sound is in
     let more = profile.nodes ++ node ∷ [] in
     let still = folders_of_more profile.nodes (node ∷ []) in
-    each_of_changed IsSoundProfile world.profiles (number - 1) (with_node profile node) sound (record {
+    each_with_one_set IsSoundProfile world.profiles (number - 1) (with_node profile node) sound (record {
       limit = old.limit;
-      nodes = each_of_one_more (IsSoundNode more) profile.nodes node (nodes_still profile.nodes more still profile.nodes old.nodes) (node_still profile.nodes more still node it);
+      nodes = each_with_one_more (IsSoundNode more) profile.nodes node (nodes_still profile.nodes more still profile.nodes old.nodes) (node_still profile.nodes more still node it);
     })
 
 -- ---- a node in the place of a file
@@ -92,9 +93,9 @@ module _ (world : World) (number : ℕ) (profile : Profile) (id parent : ℕ) (m
       let place = id - 1 in
       let now = slice_set profile.nodes place node in
       let still = folders_of_set profile.nodes place node (ap (λ found. is_folder (unless_abandoned found)) (file_place profile.nodes id parent modified name content there)) in
-      each_of_changed IsSoundProfile world.profiles (number - 1) (node_set profile id node) sound (record {
+      each_with_one_set IsSoundProfile world.profiles (number - 1) (node_set profile id node) sound (record {
         limit = old.limit;
-        nodes = each_of_changed (IsSoundNode now) profile.nodes place node (nodes_still profile.nodes now still profile.nodes old.nodes) (node_still profile.nodes now still node it);
+        nodes = each_with_one_set (IsSoundNode now) profile.nodes place node (nodes_still profile.nodes now still profile.nodes old.nodes) (node_still profile.nodes now still node it);
       })
 
   pub sound_file_set : (after : Content) → IsSound (world_set world number (node_set profile id (File parent modified name after)))

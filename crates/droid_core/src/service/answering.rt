@@ -1,8 +1,9 @@
 //! How a request that is spelled is answered: under a kept number again, under a new one by its kind.
 
 ghost use Rattle.std.specs.Prelude.{◌≡◌, ◌<◌, ◌^◌, None, Some};
-ghost use Rattle.droid_core.specs.Changes.{Comes, answered, stamp_of};
-ghost use Rattle.droid_core.specs.Standing.{StandsFor, IsIn};
+ghost use Rattle.droid_parts.specs.Changes.{Comes, answered, stamp_of};
+ghost use Rattle.droid_core.specs.Standing.{Stand};
+ghost use Rattle.droid_parts.specs.Standing.{IsIn};
 ghost use Rattle.droid_frame.specs.Replies.{HasReplySpelling};
 ghost use Rattle.droid_frame.specs.types.frame.Frame.{Frame};
 ghost use Rattle.droid_history.specs.Histories.{History, Handles, command};
@@ -11,72 +12,73 @@ ghost use Rattle.droid_history.specs.Setting.{Setting};
 ghost use Rattle.droid_history.specs.World.{World};
 ghost use Rattle.droid_store.specs.Rows.{reply_for};
 
-use super::refusals::store_refusal;
-use super::replies::{answer_again, reply_from};
-use super::{Service, Stamp};
+use droid_exporting::export;
+use droid_files::{abandon, finish, status, take_piece};
 use droid_frame::{Refusal, Reply, Request};
+use droid_nodes::{add_file, add_folder, create_profile};
+use droid_parts::{Parts, Stamp, answer_again, reply_from, store_refusal};
 
-impl Service {
-    /// Answers the request of a frame: under a kept number again, and under a new one by its verdict.
-    pub(super) fn answer(&mut self, stamp: Stamp, request: Request) -> Reply
-        requires small { stamp.number < 2 ^ 63 }
-        ensures handles { (setting : Setting) (history : History) (frame : Frame) → stamp ≡ stamp_of frame → command frame ≡ Some request
-            → StandsFor setting self.old history → Handles setting history frame result (StandsFor setting self.new) }
-        ensures spelled { HasReplySpelling result }
-        ensures limits { self.new.limits ≡ self.old.limits }
-        ensures registry { self.new.registry ≡ self.old.registry }
-    {
-        match self.store.reply_of(stamp.client, stamp.number) {
-            Err(fault) => Reply::Refused(store_refusal(fault)),
-            Ok(Some(entry)) => answer_again(self.alloc, entry, stamp.mark),
-            Ok(None) => reply_from(self.apply(stamp, request)),
-        }
+/// Answers the request of a frame: under a kept number again, and under a new one by its verdict.
+pub fn answer(parts: &mut Parts, stamp: Stamp, request: Request) -> Reply
+    requires small { stamp.number < 2 ^ 63 }
+    ensures handles { (setting : Setting) (history : History) (frame : Frame) → stamp ≡ stamp_of frame → command frame ≡ Some request
+        → Stand setting parts.old history → Handles setting history frame result (Stand setting parts.new) }
+    ensures spelled { HasReplySpelling result }
+    ensures limits { parts.new.limits ≡ parts.old.limits }
+    ensures registry { parts.new.registry ≡ parts.old.registry }
+{
+    match parts.store.reply_of(stamp.client, stamp.number) {
+        Err(fault) => Reply::Refused(store_refusal(fault)),
+        Ok(Some(entry)) => answer_again(parts.alloc, entry, stamp.mark),
+        Ok(None) => reply_from(apply(parts, stamp, request)),
     }
+}
 
-    /// Judges a request under a new number, and changes by it where it is an accepted command.
-    fn apply(&mut self, stamp: Stamp, request: Request) -> Result<Reply, Refusal>
-        requires new { reply_for stamp.client stamp.number self.old.store ≡ None }
-        requires small { stamp.number < 2 ^ 63 }
-        ensures comes { (setting : Setting) (world : World) → IsIn setting world self.old
-            → Comes setting world self.old self.new stamp (judge setting world request) (answered result) }
-        ensures spelled { HasReplySpelling (answered result) }
-        ensures limits { self.new.limits ≡ self.old.limits }
-        ensures registry { self.new.registry ≡ self.old.registry }
-    {
-        match request {
-            Request::CreateProfile {
-                scan_limit,
-                match_all,
-            } => self.create_profile(stamp, scan_limit, match_all),
-            Request::AddFolder {
-                profile,
-                parent,
-                modified,
-                name,
-            } => self.add_folder(stamp, profile, parent, modified, name),
-            Request::AddFile {
-                profile,
-                parent,
-                modified,
-                size,
-                piece_size,
-                name,
-            } => self.add_file(stamp, profile, parent, modified, size, piece_size, name),
-            Request::Piece {
-                profile,
-                file,
-                index,
-                bytes,
-            } => self.take_piece(stamp, profile, file, index, bytes),
-            Request::Finish { profile, file } => self.finish(stamp, profile, file),
-            Request::Abandon { profile, file } => self.abandon(stamp, profile, file),
-            Request::Status { profile, file } => self.status(profile, file),
-            Request::Export {
-                profile,
-                from,
-                max,
-                filter,
-            } => self.export(profile, from, max, filter),
-        }
+/// Judges a request under a new number, and changes by it where it is an accepted command.
+fn apply(parts: &mut Parts, stamp: Stamp, request: Request) -> Result<Reply, Refusal>
+    requires new { reply_for stamp.client stamp.number parts.old.store ≡ None }
+    requires small { stamp.number < 2 ^ 63 }
+    ensures comes { (setting : Setting) (world : World) → IsIn setting world parts.old
+        → Comes setting world parts.old parts.new stamp (judge setting world request) (answered result) }
+    ensures spelled { HasReplySpelling (answered result) }
+    ensures limits { parts.new.limits ≡ parts.old.limits }
+    ensures registry { parts.new.registry ≡ parts.old.registry }
+{
+    match request {
+        Request::CreateProfile {
+            scan_limit,
+            match_all,
+        } => create_profile(parts, stamp, scan_limit, match_all),
+        Request::AddFolder {
+            profile,
+            parent,
+            modified,
+            name,
+        } => add_folder(parts, stamp, profile, parent, modified, name),
+        Request::AddFile {
+            profile,
+            parent,
+            modified,
+            size,
+            piece_size,
+            name,
+        } => add_file(
+            parts, stamp, profile, parent, modified, size, piece_size, name,
+        ),
+        Request::Piece {
+            profile,
+            file,
+            index,
+            bytes,
+        } => take_piece(parts, stamp, profile, file, index, bytes),
+        Request::Finish { profile, file } => finish(parts, stamp, profile, file),
+        Request::Abandon { profile, file } => abandon(parts, stamp, profile, file),
+        Request::Status { profile, file } => status(parts, profile, file),
+        Request::Export {
+            profile,
+            from,
+            max,
+            filter,
+        } => export(parts, profile, from, max, filter),
     }
 }

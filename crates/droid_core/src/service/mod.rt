@@ -3,44 +3,28 @@
 ghost use Rattle.std.specs.Prelude.{◌≡◌, ◌≤◌, [], IfOk, OnErr, vec_len};
 ghost use Rattle.droid_core.specs.KeptBytes.{kept_bytes_of};
 ghost use Rattle.droid_core.specs.Running.{Runs};
-ghost use Rattle.droid_core.specs.Standing.{StandsFor, limits_of, limits_given, registry_of};
+ghost use Rattle.droid_core.specs.Standing.{StandsFor, limits_of, registry_of};
+ghost use Rattle.droid_parts.specs.Standing.{limits_given};
 ghost use Rattle.droid_frame.specs.Replies.{HasReplySpelling};
 ghost use Rattle.droid_history.specs.Histories.{History, Handles, world_of};
 ghost use Rattle.droid_history.specs.Identified.{IsOf};
 ghost use Rattle.droid_history.specs.Setting.{Setting};
 
+use answering::answer;
 use droid_frame::{BodyFault, Frame, Refusal, Reply, mark, request_of};
+use droid_parts::{Limits, Parts, Stamp};
 use droid_pronom::Registry;
 use droid_store::{Store, StoreFault};
 use droid_unfinished::UnfinishedFiles;
 use std::alloc::{AllocError, Global};
 
-mod abandoning;
 mod answering;
-mod exporting;
-mod files;
-mod finishing;
-mod limits;
-mod look_ups;
-mod nodes;
-mod pieces;
-mod profiles;
-mod refusals;
-mod replies;
-mod stamps;
-
-pub use limits::Limits;
-pub use stamps::Stamp;
 
 /// The submission service: it judges requests, changes by the accepted ones, and keeps their replies
 /// for good.
 #[derive(Drop)]
 pub struct Service {
-    alloc: Global,
-    limits: Limits,
-    registry: Registry,
-    store: Store,
-    files: UnfinishedFiles,
+    parts: Parts,
 }
 
 impl Service {
@@ -55,13 +39,14 @@ impl Service {
         ensures limits { IfOk result (λ service. limits_of service ≡ limits_given limits) }
         ensures registry { IfOk result (λ service. registry_of service ≡ registry) }
     {
-        Ok(Service {
+        let parts = Parts {
             alloc,
             limits,
             registry,
             store: Store::in_memory(alloc)?,
             files: UnfinishedFiles::new(alloc, limits.unfinished)?,
-        })
+        };
+        Ok(Service { parts })
     }
 
     /// Handles one request, and gives its one reply.
@@ -77,8 +62,8 @@ impl Service {
             number: frame.number,
             mark: mark(frame.kind, frame.body.as_slice()),
         };
-        match request_of(self.alloc, frame) {
-            Ok(request) => self.answer(stamp, request),
+        match request_of(self.parts.alloc, frame) {
+            Ok(request) => answer(&mut self.parts, stamp, request),
             Err(BodyFault::Malformed) => Reply::Refused(Refusal::Malformed),
             Err(BodyFault::Memory) => Reply::Refused(Refusal::Memory),
         }
@@ -94,7 +79,7 @@ impl Service {
         ensures limits { limits_of self.new ≡ limits_of self.old }
         ensures registry { registry_of self.new ≡ registry_of self.old }
     {
-        let mut replies = Vec::with_capacity(self.alloc, frames.len())?;
+        let mut replies = Vec::with_capacity(self.parts.alloc, frames.len())?;
         for frame in frames {
             let reply = self.handle(frame);
             replies.push(reply).unwrap();
@@ -108,7 +93,7 @@ impl Service {
         ensures { (setting : Setting) (history : History) → StandsFor setting self.now history
             → result ≡ kept_bytes_of (world_of setting history) profile file }
     {
-        let place = self.files.place_of(profile, file)?;
-        Some(self.files.kept_bytes(place))
+        let place = self.parts.files.place_of(profile, file)?;
+        Some(self.parts.files.kept_bytes(place))
     }
 }

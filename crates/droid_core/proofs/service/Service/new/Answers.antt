@@ -1,11 +1,11 @@
 use Rattle.std.proofs.Common.{ap, sym, ◌∙◌}
 use Rattle.droid_history.specs.Limits.{Limits}
-use Rattle.droid_core.specs.declared.service.Service.{Service}
+use Rattle.droid_parts.specs.declared.parts.Parts.{Parts}
 use Rattle.droid_core.proofs.Starting.{starts}
 use Rattle.droid_core.proofs.service.Service.new.Goals as goal
 
 pub returns-clause-empty : goal.returns-clause-empty
 returns-clause-empty c = λ setting limits registry.
-    let service : Service = record { alloc = c.args.alloc; limits = c.args.limits; registry = c.args.registry; store = c.in_ok-in_memory.field-0; files = c.in_ok-new.field-0 } in
-    starts setting service limits (record { profiles = c.requires.profiles; nodes = c.requires.nodes; unfinished = c.requires.unfinished }) registry
+    let parts : Parts = record { alloc = c.args.alloc; limits = c.args.limits; registry = c.args.registry; store = c.in_ok-in_memory.field-0; files = c.in_ok-new.field-0 } in
+    starts setting parts limits (record { profiles = c.requires.profiles; nodes = c.requires.nodes; unfinished = c.requires.unfinished }) registry
     c.in_ok-in_memory.ensures c.in_ok-new.ensures.none (c.in_ok-new.ensures.limit ∙ sym (ap (λ (given : Limits). given.unfinished) limits))

@@ -1,4 +1,4 @@
-use Rattle.std.proofs.Common.{◌≡◌, ◌++◌, ◌∷◌, [], map-id, sym, ◌∙◌, arith}
+use Rattle.std.proofs.Common.{◌≡◌, ◌++◌, ◌∷◌, [], cond, is_ok, map-id, sym, ap, ◌∙◌, arith}
 use Rattle.std.proofs.lemmas.Grind.{common_steps}
 use Rattle.std.proofs.lemmas.Iterator.Adapters.{YieldsList-from_vec}
 use Rattle.std.proofs.lemmas.Iterator.Consumers.{YieldsList-turn, YieldsList-end}
@@ -13,7 +13,8 @@ unwrap-requires c =
 
 pub loop-frame-preserved : goal.loop-frame-preserved
 loop-frame-preserved c =
-    let replies : c.push.new.self.items ≡ c.loop-frame.replies.items ++ c.handle-reply.result ∷ [] = grind (arith, common_steps) in
+    let before = c.loop-frame.replies.items in
+    let replies : c.push.new.self.items ≡ before ++ c.handle-reply.result ∷ [] = c.push.ensures.items ∙ ap (λ result. cond (is_ok result) (before ++ c.handle-reply.result ∷ []) before) c.unwrap.ensures in
     record {
       runs = λ setting history stands.
           let runs = c.loop-frame.invariant.runs setting history stands in

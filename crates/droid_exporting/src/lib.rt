@@ -1,0 +1,6 @@
+//! The request for a part of a profile's export.
+#![tactic(auto)]
+
+mod exporting;
+
+pub use exporting::export;

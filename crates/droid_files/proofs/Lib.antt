@@ -1,0 +1,12 @@
+mod Assembled
+mod FileAbandoned
+mod FileFinished
+mod FileProgress
+mod FileVerdicts
+mod FilesFound
+mod FinishJudged
+mod PieceAssemblies
+mod PieceTaken
+mod PuidTexts
+mod PutJudged
+mod UnchangedFiles

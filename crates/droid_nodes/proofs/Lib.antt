@@ -1,0 +1,6 @@
+mod AddedFiles
+mod AddedFolders
+mod AddedNodes
+mod FolderRows
+mod MadeProfiles
+mod PlaceChecks

@@ -1,0 +1,2 @@
+pub mod NewAssemblies
+pub mod Places

@@ -1,0 +1,2 @@
+pub mod ProfileRows
+pub mod Staying

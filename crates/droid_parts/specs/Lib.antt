@@ -1,0 +1,4 @@
+pub mod Assemblies
+pub mod Changes
+pub mod LookUps
+pub mod Standing
