@@ -6,6 +6,7 @@
 #   streams.sh    streams that are interrupted or fail
 #   model.sh      a model in Python, on the same cases
 #   random.sh     the program and the model on random scripts
+#   wire/run.sh   frames on standard streams and on connections, in Python
 set -u
 top=$(cd "$(dirname "$0")/../.." && pwd)
 tests=$top/tests/program
@@ -40,5 +41,6 @@ part sh "$tests/registry.sh" "$program"
 part sh "$tests/streams.sh" "$program"
 part sh "$tests/model.sh"
 part sh "$tests/random.sh" "$program"
+part sh "$tests/wire/run.sh" "$program"
 echo "$passed passed, $failed failed"
 [ "$failed" -eq 0 ]

@@ -1,6 +1,6 @@
 #!/bin/sh
-# Runs the program on its stored script over streams that are interrupted, cut short or fail (streams.c), and
-# compares the status, how many bytes of the replies were written, and the fault.
+# Runs the program on its stored script, and on the same requests as frames, over streams that are interrupted, cut
+# short or fail (streams.c), and compares the status, how many bytes of the replies were written, and the fault.
 set -u
 top=$(cd "$(dirname "$0")/../.." && pwd)
 program=${1:-$top/crates/droid_desk/out/droid_desk}
@@ -8,26 +8,29 @@ work=$(mktemp -d) || exit 1
 trap 'rm -rf "$work"' EXIT
 ${CC:-cc} -shared -fPIC -o "$work/streams.so" "$top/tests/program/streams.c" -ldl || exit 1
 
-input=$top/crates/droid_desk/stdin
-replies=$top/crates/droid_desk/stdout
 passed=0
 failed=0
-# NAME STATUS BYTES FAULT VARIABLE=NUMBER ..
-while read -r name status bytes fault variables; do
-    # shellcheck disable=SC2086
-    env $variables LD_PRELOAD="$work/streams.so" "$program" script <"$input" >"$work/out" 2>"$work/err"
-    ended=$?
-    : >"$work/wanted"
-    [ "$fault" = - ] || echo "fault: $fault" >"$work/wanted"
-    head -c "$bytes" "$replies" >"$work/front"
-    if [ "$ended" = "$status" ] && cmp -s "$work/front" "$work/out" && cmp -s "$work/wanted" "$work/err"; then
-        passed=$((passed + 1))
-    else
-        failed=$((failed + 1))
-        echo "$name: ended with status $ended"
-        cat "$work/out" "$work/err"
-    fi
-done <<'ROWS'
+# COMMAND INPUT REPLIES, and rows: NAME STATUS BYTES FAULT VARIABLE=NUMBER ..
+compare() {
+    while read -r name status bytes fault variables; do
+        # shellcheck disable=SC2086
+        env $variables LD_PRELOAD="$work/streams.so" "$program" "$1" <"$2" >"$work/out" 2>"$work/err"
+        ended=$?
+        : >"$work/wanted"
+        [ "$fault" = - ] || echo "fault: $fault" >"$work/wanted"
+        head -c "$bytes" "$3" >"$work/front"
+        if [ "$ended" = "$status" ] && cmp -s "$work/front" "$work/out" && cmp -s "$work/wanted" "$work/err"; then
+            passed=$((passed + 1))
+        else
+            failed=$((failed + 1))
+            echo "$1: $name: ended with status $ended"
+            od -c "$work/out"
+            cat "$work/err"
+        fi
+    done
+}
+
+compare script "$top/crates/droid_desk/stdin" "$top/crates/droid_desk/stdout" <<'ROWS'
 steady 0 31 - READ_WIDTH=8192
 read_byte_by_byte 0 31 - READ_WIDTH=1
 read_interrupted_64_times 0 31 - READ_INTERRUPTIONS=64
@@ -41,6 +44,44 @@ write_interrupted_65_times 4 0 Write WRITE_INTERRUPTIONS=65
 write_fails_in_the_first_reply 4 3 Write WRITE_ROOM=3
 write_fails_in_the_second_reply 4 10 Write WRITE_ROOM=10 WRITE_WIDTH=2
 write_fails_behind_the_last_reply 0 31 - WRITE_ROOM=31
+write_takes_nothing 4 0 Write WRITE_WIDTH=0
+ROWS
+
+# frames: version and kind, client, number, length of the body, body
+zeros='\0\0\0\0\0\0\0\0'
+client='\0\0\0\001'
+first='\0\0\0\0\0\0\0\001'
+second='\0\0\0\0\0\0\0\002'
+one='\0\0\0\001'
+top_folder="$one\\0\\0\\0\\0$zeros"
+printf '%b' "\\001\\001$client$first\\0\\0\\0\\005\\0\\001\\0\\0\\0" >"$work/requests"
+for _ in 1 2; do
+    printf '%b' "\\001\\002$client$second\\0\\0\\0\\022${top_folder}in" >>"$work/requests"
+done
+printf '%b' "\\001\\002$client$second\\0\\0\\0\\023${top_folder}out" >>"$work/requests"
+printf '%b' "\\001\\0201$client$first\\0\\0\\0\\004$one" >"$work/replies"
+for _ in 1 2; do
+    printf '%b' "\\001\\0202$client$second\\0\\0\\0\\004$one" >>"$work/replies"
+done
+printf '%b' "\\001\\0210$client$second\\0\\0\\0\\001\\002" >>"$work/replies"
+
+# the frames end at 23, 59, 95 and 132, and their replies at 22, 44, 66 and 85
+compare run "$work/requests" "$work/replies" <<'ROWS'
+steady 0 85 - READ_WIDTH=8192
+read_byte_by_byte 0 85 - READ_WIDTH=1
+read_interrupted_64_times 0 85 - READ_INTERRUPTIONS=64
+read_interrupted_65_times 4 0 Read READ_INTERRUPTIONS=65
+read_fails_at_once 4 0 Read READ_ROOM=0
+read_fails_between_frames 4 22 Read READ_ROOM=23
+read_fails_within_a_frame 4 44 Read READ_ROOM=94
+read_fails_once_within_a_frame 4 22 Read READ_FAILS_ONCE=40
+written_byte_by_byte 0 85 - WRITE_WIDTH=1
+write_interrupted_64_times 0 85 - WRITE_INTERRUPTIONS=64
+write_interrupted_65_times 4 0 Write WRITE_INTERRUPTIONS=65
+write_fails_in_the_first_reply 4 3 Write WRITE_ROOM=3
+write_fails_in_the_third_reply 4 50 Write WRITE_ROOM=50 WRITE_WIDTH=7
+write_fails_between_replies 4 44 Write WRITE_ROOM=44
+write_fails_behind_the_last_reply 0 85 - WRITE_ROOM=85
 write_takes_nothing 4 0 Write WRITE_WIDTH=0
 ROWS
 echo "streams: $passed passed, $failed failed"

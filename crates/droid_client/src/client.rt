@@ -111,6 +111,8 @@ impl Client {
             → IfOk result (λ heard. heard ≡ heard_of self.old frame.client frame.number reply) }
         ensures after { (reply : Reply) → SpellsReply frame.kind frame.body reply
             → OnOk result (self.new ≡ core_hearing self.old frame.client frame.number reply) }
+        // Where it is heard, the frame holds one.
+        ensures spelled { OnOk result ((reply : Reply) × SpellsReply frame.kind frame.body reply) }
         // This comes exactly where the frame holds none.
         ensures malformed { IsErrOf result HearFault.Malformed ↔ ((reply : Reply) → ¬ SpellsReply frame.kind frame.body reply) }
         // This comes only for a Finished, whose list takes memory.

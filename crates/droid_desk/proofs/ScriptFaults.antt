@@ -2,7 +2,7 @@
 use Rattle.std.proofs.Common.{◌≡◌, ℕ, ◌+◌, ◌≤◌, arith}
 use Rattle.droid_stream.specs.declared.seen.Seen.{Seen}
 use Rattle.droid_stream.specs.Seen.{Lasts, TellsFault}
-use Rattle.droid_desk.specs.Scripts.{LastsOver, TellsFaultOver}
+use Rattle.droid_wire.specs.Over.{LastsOver, TellsFaultOver}
 
 -- after one reply more
 pub lasts_once_more : (start lines more : ℕ) (old new : Seen) → LastsOver start lines old → Lasts old.interruptions new → more ≡ lines + 1 → LastsOver start more new

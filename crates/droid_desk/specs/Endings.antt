@@ -8,7 +8,7 @@ use Rattle.clap.specs.declared.error.Error.{Error}
 use Rattle.clap.specs.declared.error.kind.ErrorKind.{ErrorKind}
 use Rattle.clap.specs.declared.error.kind.ErrorKind.TheVariants as words
 use Rattle.droid_desk.specs.declared.ending.Ending.{Ending}
-use Rattle.droid_desk.specs.declared.ending.Ending.TheVariants.{Done, Help, CommandLine, NoText, Registry, NoService, Script, BadLine}
+use Rattle.droid_desk.specs.declared.ending.Ending.TheVariants.{Done, Help, CommandLine, NoText, Registry, NoService, Script, Stream, Send, Socket, BadLine}
 use Rattle.droid_desk.specs.declared.script.fault.ScriptFault.{ScriptFault}
 use Rattle.droid_desk.specs.declared.script.fault.ScriptFault.TheVariants.{TooLong, Read, Memory, Write}
 use Rattle.droid_desk.specs.declared.script.tally.Tally.{Tally}
@@ -23,6 +23,9 @@ use Rattle.droid_pronom.specs.declared.registry.fault.RegistryFault.{RegistryFau
 use Rattle.droid_pronom.specs.declared.registry.fault.RegistryFault.TheVariants as registry_faults
 use Rattle.droid_store.specs.declared.fault.StoreFault.{StoreFault}
 use Rattle.droid_store.specs.declared.fault.StoreFault.TheVariants as store_faults
+use Rattle.droid_frame.specs.declared.stream.fault.FrameFault.TheVariants as frame_faults
+use Rattle.droid_wire.specs.declared.fault.ServeFault.{ServeFault}
+use Rattle.droid_wire.specs.declared.fault.ServeFault.TheVariants as serve_faults
 use Rattle.droid_desk.specs.Scripts.{RunsAll, RunsFront, IsTooLong, is_bad}
 
 -- the exit status
@@ -34,12 +37,24 @@ status_of NoText = 2
 status_of (Registry fault) = 3
 status_of (NoService fault) = 6
 status_of (Script fault) = 4
+status_of (Stream fault) = 4
+status_of (Send fault) = 4
+status_of Socket = 4
 status_of BadLine = 5
 
 -- what a fault of the database is called: as the refusal of a request for the same cause
 abbrev pub name_of : StoreFault → List ℕ
 name_of store_faults.Memory = codes "Memory"
 name_of store_faults.Refused = codes "Store"
+
+-- what a fault of a stream of frames is called
+abbrev pub stream_name_of : ServeFault → List ℕ
+stream_name_of (serve_faults.Frame frame_faults.Truncated) = codes "Truncated"
+stream_name_of (serve_faults.Frame frame_faults.BadVersion) = codes "BadVersion"
+stream_name_of (serve_faults.Frame frame_faults.TooLong) = codes "TooLong"
+stream_name_of (serve_faults.Frame frame_faults.Memory) = codes "Memory"
+stream_name_of (serve_faults.Frame frame_faults.Read) = codes "Read"
+stream_name_of (serve_faults.Write written) = codes "Write"
 
 -- the words of the command line could not be had: for want of memory, or one of them is no text
 abbrev pub unread_ending : InputErrorKind → Ending
@@ -86,6 +101,9 @@ EndsAs setting (Script Memory) input old new = PrintsFront setting input old new
 EndsAs setting (Script Write) input old new = PrintsFront setting input old new
 EndsAs setting (NoService fault) input old new = Keeps old new
 EndsAs setting (Registry fault) input old new = ⊥
+EndsAs setting (Stream fault) input old new = ⊥
+EndsAs setting (Send fault) input old new = ⊥
+EndsAs setting Socket input old new = ⊥
 EndsAs setting (Help error) input old new = ⊥
 EndsAs setting (CommandLine error) input old new = ⊥
 EndsAs setting NoText input old new = ⊥

@@ -1,3 +1,6 @@
 pub mod Endings
+pub mod Fresh
 pub mod Sample
 pub mod Scripts
+pub mod Sends
+pub mod Streams

@@ -9,8 +9,6 @@ use Rattle.droid_desk.specs.declared.script.fault.ScriptFault.{ScriptFault}
 use Rattle.droid_desk.specs.declared.script.fault.ScriptFault.TheVariants.{TooLong, Read, Memory, Write}
 use Rattle.droid_stream.specs.declared.fault.InputFault.{InputFault}
 use Rattle.droid_stream.specs.declared.fault.InputFault.TheVariants as inputs
-use Rattle.droid_stream.specs.declared.seen.Seen.{Seen}
-use Rattle.droid_stream.specs.Seen.{GivesUp, IsSound}
 use Rattle.droid_lines.specs.declared.parse.Line.{Line}
 use Rattle.droid_desk.specs.declared.script.tally.Tally.{Tally}
 use Rattle.droid_core.specs.declared.service.Service.{Service}
@@ -99,26 +97,6 @@ abbrev pub reading_fault : InputFault → ScriptFault
 reading_fault inputs.TooLong = TooLong
 reading_fault inputs.Memory = Memory
 reading_fault inputs.Read = Read
-
--- Over the replies of so many lines, each with 64 interruptions of its own that are tried again, a writer
--- hasn't failed since it had been interrupted `start` times.
-pub record LastsOver (start lines : ℕ) (seen : Seen) : Type 0 where
-  pub sound : IsSound seen
-  pub counted : start ≤ seen.interruptions
-  pub within : seen.interruptions ≤ start + 64 * lines
-
--- in one of these replies it was given up
-pub record GivesUpOver (start lines : ℕ) (seen : Seen) : Type 0 where
-  pub from : ℕ
-  pub counted : start ≤ from
-  pub within : from + 64 ≤ start + 64 * lines
-  pub gives_up : GivesUp from seen
-
--- A fault of the writer comes exactly where it is given up in one of the replies; with any other end it
--- lasts.
-pub record TellsFaultOver (start lines : ℕ) (seen : Seen) (is_fault : Type 0) : Type 0 where
-  pub fault : is_fault → GivesUpOver start lines seen
-  pub otherwise : (is_fault → ⊥) → LastsOver start lines seen
 
 -- a line that asks for nothing
 abbrev pub is_bad : List ℕ → Bool

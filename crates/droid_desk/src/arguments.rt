@@ -1,23 +1,108 @@
 //! The command line: its words, and what they ask for.
 
 use crate::help::{ABOUT, HELP, REGISTRY_HELP, SCRIPT_ABOUT, SCRIPT_HELP};
-use clap::{Arg, ArgAction, Command, Error};
+use crate::stream_help::{
+    CLIENT_HELP, CONNECTIONS_HELP, FIRST_HELP, RUN_ABOUT, RUN_HELP, SEND_ABOUT, SEND_HELP,
+    SEND_PORT_HELP, SERVE_ABOUT, SERVE_HELP, SERVE_PORT_HELP,
+};
+use clap::builder::ValueParser;
+use clap::error::ErrorKind;
+use clap::{Arg, ArgAction, ArgMatches, Command, Error};
 use std::alloc::{AllocError, Global};
 
-/// The name of the one command that there is.
+// The names of the commands and of their options.
 const SCRIPT: &str = "script";
 
-/// The name of its option, which takes the path of a registry file.
+const RUN: &str = "run";
+
+const SERVE: &str = "serve";
+
+const SEND: &str = "send";
+
 const REGISTRY: &str = "registry";
 
-/// The path of the registry file that the words name, or `None` where they name none. Words that don't ask
-/// for the one command are an error.
-pub fn registry_path<'a>(alloc: Global, words: &'a [String]) -> Result<Option<&'a str>, Error> {
-    let matches = command(alloc)?.try_get_matches_from(words)?;
-    let Some(script) = matches.subcommand_matches(SCRIPT) else {
-        return Ok(None);
-    };
-    Ok(script.get_str(REGISTRY))
+const PORT: &str = "port";
+
+const CONNECTIONS: &str = "connections";
+
+const CLIENT: &str = "client";
+
+const FIRST: &str = "first";
+
+/// How many connections are served where the command line names no number.
+const DEFAULT_CONNECTIONS: u32 = 1;
+
+/// The number of the first request that is sent where the command line names none.
+const DEFAULT_FIRST: u64 = 1;
+
+/// What the command line asks for. A registry is the path of a registry file; without it the sample registry
+/// is used.
+#[derive(Clone, Copy, Debug, PartialEq, Eq)]
+pub enum Asked<'a> {
+    /// A script is run.
+    Script {
+        registry: Option<&'a str>,
+    },
+    /// A stream of frames is answered.
+    Run {
+        registry: Option<&'a str>,
+    },
+    /// So many connections to a port are served.
+    Serve {
+        registry: Option<&'a str>,
+        port: u16,
+        connections: u32,
+    },
+    /// The requests of lines are sent to a port, under a client's numbers from the first on.
+    Send {
+        port: u16,
+        client: u32,
+        first: u64,
+    },
+}
+
+/// What the words ask for. Words that don't ask for one of the commands are an error.
+pub fn what_is_asked<'a>(alloc: Global, words: &'a [String]) -> Result<Asked<'a>, Error> {
+    let mut command = command(alloc)?;
+    let matches = command.try_get_matches_from_mut(words)?;
+    match asked_by(&matches) {
+        Some(asked) => Ok(asked),
+        None => Err(command.error(ErrorKind::MissingSubcommand, "a command is missing")?),
+    }
+}
+
+/// What the matched words ask for; where the words matched, they ask for something.
+fn asked_by<'a>(matches: &ArgMatches<'a>) -> Option<Asked<'a>> {
+    if let Some(script) = matches.subcommand_matches(SCRIPT) {
+        return Some(Asked::Script {
+            registry: script.get_str(REGISTRY),
+        });
+    }
+    if let Some(run) = matches.subcommand_matches(RUN) {
+        return Some(Asked::Run {
+            registry: run.get_str(REGISTRY),
+        });
+    }
+    if let Some(serve) = matches.subcommand_matches(SERVE) {
+        return serve_asked(serve);
+    }
+    send_asked(matches.subcommand_matches(SEND)?)
+}
+
+fn serve_asked<'a>(serve: &ArgMatches<'a>) -> Option<Asked<'a>> {
+    Some(Asked::Serve {
+        registry: serve.get_str(REGISTRY),
+        port: serve.get_one(PORT)?,
+        connections: serve.get_one(CONNECTIONS).unwrap_or(DEFAULT_CONNECTIONS),
+    })
+}
+
+fn send_asked<'a>(send: &ArgMatches<'a>) -> Option<Asked<'a>> {
+    Some(Asked::Send {
+        port: send.get_one(PORT)?,
+        client: send.get_one(CLIENT)?,
+        first: send.get_one(FIRST).unwrap_or(DEFAULT_FIRST),
+    })
 }
 
 fn command<'a>(alloc: Global) -> Result<Command<'a>, AllocError> {
@@ -25,17 +110,72 @@ fn command<'a>(alloc: Global) -> Result<Command<'a>, AllocError> {
         .about(ABOUT)
         .after_help(HELP)
         .subcommand_required(true)
-        .subcommand(script(alloc)?)
+        .subcommand(script(alloc)?)?
+        .subcommand(run(alloc)?)?
+        .subcommand(serve(alloc)?)?
+        .subcommand(send(alloc)?)
 }
 
 fn script<'a>(alloc: Global) -> Result<Command<'a>, AllocError> {
-    let registry = Arg::new(alloc, REGISTRY)
-        .long(REGISTRY)
-        .value_name("FILE")
-        .help(REGISTRY_HELP)
-        .action(ArgAction::Set);
     Command::new(alloc, SCRIPT)
         .about(SCRIPT_ABOUT)
         .after_help(SCRIPT_HELP)
-        .arg(registry)
+        .arg(registry(alloc))
+}
+
+fn run<'a>(alloc: Global) -> Result<Command<'a>, AllocError> {
+    Command::new(alloc, RUN)
+        .about(RUN_ABOUT)
+        .after_help(RUN_HELP)
+        .arg(registry(alloc))
+}
+
+fn serve<'a>(alloc: Global) -> Result<Command<'a>, AllocError> {
+    let connections = number(alloc, CONNECTIONS, "K", CONNECTIONS_HELP, 1, 1_000);
+    Command::new(alloc, SERVE)
+        .about(SERVE_ABOUT)
+        .after_help(SERVE_HELP)
+        .arg(port(alloc, SERVE_PORT_HELP))?
+        .arg(connections)?
+        .arg(registry(alloc))
+}
+
+fn send<'a>(alloc: Global) -> Result<Command<'a>, AllocError> {
+    let client = number(alloc, CLIENT, "C", CLIENT_HELP, 0, 4_294_967_295).required(true);
+    let first = number(alloc, FIRST, "N", FIRST_HELP, 0, 9_223_372_036_854_775_807);
+    Command::new(alloc, SEND)
+        .about(SEND_ABOUT)
+        .after_help(SEND_HELP)
+        .arg(port(alloc, SEND_PORT_HELP))?
+        .arg(client)?
+        .arg(first)
+}
+
+fn registry<'a>(alloc: Global) -> Arg<'a> {
+    Arg::new(alloc, REGISTRY)
+        .long(REGISTRY)
+        .value_name("FILE")
+        .help(REGISTRY_HELP)
+        .action(ArgAction::Set)
+}
+
+fn port<'a>(alloc: Global, help: &'a str) -> Arg<'a> {
+    number(alloc, PORT, "P", help, 1, 65_535).required(true)
+}
+
+/// An option with a number from `least` to `most`.
+fn number<'a>(
+    alloc: Global,
+    name: &'a str,
+    value: &'a str,
+    help: &'a str,
+    least: u64,
+    most: u64,
+) -> Arg<'a> {
+    Arg::new(alloc, name)
+        .long(name)
+        .value_name(value)
+        .help(help)
+        .value_parser(ValueParser::Unsigned(least, most))
+        .action(ArgAction::Set)
 }

@@ -5,7 +5,7 @@ ghost use Rattle.droid_stream.specs.Seen.{IsSound, TellsFault};
 ghost use Rattle.droid_history.specs.Setting.{Setting};
 ghost use Rattle.droid_lines.specs.Lines.{lines_of};
 ghost use Rattle.droid_desk.specs.Sample.{sample};
-ghost use Rattle.droid_desk.specs.Scripts.{TellsFaultOver};
+ghost use Rattle.droid_wire.specs.Over.{TellsFaultOver};
 ghost use Rattle.droid_desk.specs.Endings.{ending_of, EndsAs, EndsOver, IsProgramSetting};
 
 use crate::ending::Ending;
@@ -17,7 +17,7 @@ use droid_stream::{SteadyRead, SteadyWrite};
 use std::alloc::Global;
 
 /// What the program's service takes at the most.
-const LIMITS: Limits = Limits {
+pub const LIMITS: Limits = Limits {
     profiles: 64,
     nodes: 100_000,
     unfinished: 64,

@@ -1,12 +1,15 @@
 //! How the program ends.
 
 ghost use Rattle.std.specs.Prelude.{◌≡◌};
-ghost use Rattle.droid_desk.specs.Endings.{status_of, name_of};
+ghost use Rattle.droid_desk.specs.Endings.{status_of, name_of, stream_name_of};
 
 use crate::script::ScriptFault;
 use clap::Error;
+use droid_frame::FrameFault;
 use droid_pronom::RegistryFault;
+use droid_sender::SendFault;
 use droid_store::StoreFault;
+use droid_wire::ServeFault;
 use std::io;
 
 /// How the program ends.
@@ -26,7 +29,13 @@ pub enum Ending {
     NoService(StoreFault),
     /// The script ended early.
     Script(ScriptFault),
-    /// Some line of the script was bad.
+    /// A frame could not be read, or a reply not be written.
+    Stream(ServeFault),
+    /// Sending lines ended early.
+    Send(SendFault),
+    /// A port could not be listened on or connected to, or a connection not be taken.
+    Socket,
+    /// Some line was bad.
     BadLine,
 }
 
@@ -40,7 +49,7 @@ impl Ending {
             Ending::CommandLine(_) | Ending::NoText => 2,
             Ending::Registry(_) => 3,
             Ending::NoService(_) => 6,
-            Ending::Script(_) => 4,
+            Ending::Script(_) | Ending::Stream(_) | Ending::Send(_) | Ending::Socket => 4,
             Ending::BadLine => 5,
         }
     }
@@ -56,6 +65,12 @@ impl Ending {
                 eprintln!(rt; "fault: {name}")
             }
             Ending::Script(fault) => eprintln!(rt; "fault: {fault}"),
+            Ending::Stream(fault) => {
+                let name = stream_name_of(*fault);
+                eprintln!(rt; "fault: {name}")
+            }
+            Ending::Send(fault) => eprintln!(rt; "fault: {fault}"),
+            Ending::Socket => eprintln!(rt; "fault: Socket"),
             Ending::Done | Ending::BadLine => Ok(()),
         }
     }
@@ -68,5 +83,19 @@ fn name_of(fault: StoreFault) -> &'static str
     match fault {
         StoreFault::Memory => "Memory",
         StoreFault::Refused => "Store",
+    }
+}
+
+/// What the program calls a fault of a stream of frames.
+fn stream_name_of(fault: ServeFault) -> &'static str
+    ensures { result.now ≡ stream_name_of fault }
+{
+    match fault {
+        ServeFault::Frame(FrameFault::Truncated) => "Truncated",
+        ServeFault::Frame(FrameFault::BadVersion) => "BadVersion",
+        ServeFault::Frame(FrameFault::TooLong) => "TooLong",
+        ServeFault::Frame(FrameFault::Memory) => "Memory",
+        ServeFault::Frame(FrameFault::Read) => "Read",
+        ServeFault::Write { .. } => "Write",
     }
 }

@@ -6,7 +6,8 @@ in pieces in any order, each file is identified by PRONOM's signatures and exten
 request is kept with its reply, so that a request that is sent again is answered again and done once.";
 
 pub const HELP: &str = "\
-`droid_desk script --help` explains the lines, their replies, the refusals and the exit statuses.";
+`droid_desk COMMAND --help` explains each command and its exit statuses; that of `script` explains the
+lines, their replies and the refusals.";
 
 pub const SCRIPT_ABOUT: &str =
     "Read requests as lines from standard input, and write a reply line for each";

@@ -2,12 +2,18 @@
 #![tactic(auto)]
 
 mod arguments;
+mod connections;
 mod desk;
 mod ending;
+mod fresh;
 mod help;
+mod port;
 mod program;
 mod sample;
 mod script;
+mod sending;
+mod stream;
+mod stream_help;
 
 use std::process::ExitCode;
 

@@ -3,7 +3,7 @@ use Rattle.std.proofs.Common.{◌≡◌, ℕ, ◌<◌, List, length, Option, Som
 use Rattle.std.proofs.lemmas.Bool.{lt-ltb, le-ltb}
 use Rattle.std.specs.List.{position_or_len, before_first, after_first}
 use Rattle.std.specs.Option.{option_map}
-use Rattle.droid_lines.specs.Lines.{line_value, text_line}
+use Rattle.droid_lines.specs.Lines.{line_value, request_value, text_line, text_request}
 use Rattle.droid_lines.specs.Words.{is_byte, cut_at}
 use Rattle.droid_frame.specs.Reading.{◌>>=◌, text_at}
 use Rattle.std.specs.Str.{IsUtf8, is_utf8}
@@ -21,10 +21,19 @@ pub line_of_text : (bytes : List ℕ) → IsUtf8 bytes → line_value bytes ≡ 
 unfolding line_value text_at
 line_of_text bytes utf8 = rw (is_utf8-from_IsUtf8 bytes utf8) refl
 
-not_utf8 : (b : Bool) (bytes : List ℕ) → (b ≡ true → IsUtf8 bytes) → (IsUtf8 bytes → ⊥) → (cond b (Some bytes) None >>= text_line) ≡ None
-not_utf8 true bytes is not = absurd (not (is refl))
-not_utf8 false bytes is not = refl
+not_utf8 : {A : Type 0} (read : List ℕ → Option A) (b : Bool) (bytes : List ℕ) → (b ≡ true → IsUtf8 bytes) → (IsUtf8 bytes → ⊥) → (cond b (Some bytes) None >>= read) ≡ None
+not_utf8 read true bytes is not = absurd (not (is refl))
+not_utf8 read false bytes is not = refl
 
 pub line_of_other : (bytes : List ℕ) → (IsUtf8 bytes → ⊥) → line_value bytes ≡ None
 unfolding line_value text_at
-line_of_other bytes not = not_utf8 (is_utf8 bytes) bytes (IsUtf8-from_is_utf8 bytes) not
+line_of_other bytes not = not_utf8 text_line (is_utf8 bytes) bytes (IsUtf8-from_is_utf8 bytes) not
+
+-- the same of a line without client and number
+pub request_of_text : (bytes : List ℕ) → IsUtf8 bytes → request_value bytes ≡ text_request bytes
+unfolding request_value text_at
+request_of_text bytes utf8 = rw (is_utf8-from_IsUtf8 bytes utf8) refl
+
+pub request_of_other : (bytes : List ℕ) → (IsUtf8 bytes → ⊥) → request_value bytes ≡ None
+unfolding request_value text_at
+request_of_other bytes not = not_utf8 text_request (is_utf8 bytes) bytes (IsUtf8-from_is_utf8 bytes) not

@@ -1,4 +1,5 @@
 pub mod Exports
+pub mod InFront
 pub mod Lines
 pub mod Printed
 pub mod Requests

@@ -76,3 +76,22 @@ unfoldable pub line_value : List ℕ → Option Line
 line_value bytes = do
   text ← text_at bytes
   text_line text
+
+-- ---- lines without client and number
+
+-- the request, where it fits into a frame
+unfoldable pub request_where_fitting : Request → Option Request
+request_where_fitting request = if request_fits request then Some request else None
+
+-- `KIND ..`
+unfoldable pub text_request : List ℕ → Option Request
+text_request text = do
+  kind ← word_at text
+  request ← request_words kind.0 kind.1
+  request_where_fitting request
+
+-- the request of a line that has no client and number in front; there is none where the line is bad
+unfoldable pub request_value : List ℕ → Option Request
+request_value bytes = do
+  text ← text_at bytes
+  text_request text

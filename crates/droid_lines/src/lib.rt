@@ -6,11 +6,12 @@
 
 mod cut;
 mod exports;
+pub mod laws;
 mod parse;
 mod print;
 mod requests;
 mod words;
 
 pub use cut::next_line;
-pub use parse::{Line, parse_line};
-pub use print::print_answer;
+pub use parse::{Line, parse_line, parse_request_line};
+pub use print::{print_answer, print_reply};

@@ -3,7 +3,7 @@
 ghost use Rattle.std.specs.Prelude.{◌≡◌, IfOk, IfSome, IsTrue};
 ghost use Rattle.std.specs.Option.{option_map};
 ghost use Rattle.droid_frame.specs.Bodies.{Fits};
-ghost use Rattle.droid_lines.specs.Lines.{head_at, request_fits, text_line, line_value};
+ghost use Rattle.droid_lines.specs.Lines.{head_at, request_fits, request_value, text_line, text_request, line_value};
 
 use crate::requests::parse_request;
 use crate::words::{u32_word, u64_word, word};
@@ -54,6 +54,36 @@ fn parse_text(alloc: Global, text: &str) -> Result<Option<Line>, AllocError>
         number,
         request,
     }))
+}
+
+/// What a line without client and number in front asks for, `KIND ..`, or `None` where it is bad. Only want of
+/// memory refuses it.
+#[tactic(auto, unfolding(crate::specs::Lines::request_value))]
+pub fn parse_request_line(alloc: Global, bytes: &[u8]) -> Result<Option<Request>, AllocError>
+    ensures value { IfOk result (λ request. request ≡ request_value bytes.now) }
+    ensures fits { IfOk result (λ request. IfSome request Fits) }
+{
+    match str::from_utf8(bytes) {
+        Ok(text) => request_in(alloc, text),
+        Err(_) => Ok(None),
+    }
+}
+
+#[tactic(auto, unfolding(crate::specs::Lines::text_request, crate::specs::Lines::request_where_fitting))]
+fn request_in(alloc: Global, text: &str) -> Result<Option<Request>, AllocError>
+    ensures value { IfOk result (λ request. request ≡ text_request text.now) }
+    ensures fits { IfOk result (λ request. IfSome request Fits) }
+{
+    let Some((kind, rest)) = word(text) else {
+        return Ok(None);
+    };
+    let Some(request) = parse_request(alloc, kind, rest)? else {
+        return Ok(None);
+    };
+    if !fits(&request) {
+        return Ok(None);
+    }
+    Ok(Some(request))
 }
 
 /// Whether the request fits into a frame.

@@ -18,6 +18,18 @@ pub fn print_answer(alloc: Global, answer: &Option<Reply>) -> Result<Vec<u8>, Al
     Ok(printed)
 }
 
+/// A reply as it is printed for its line. Only want of memory refuses it.
+#[tactic(auto, unfolding(crate::specs::Printed::answer_text))]
+pub fn print_reply(alloc: Global, reply: &Reply) -> Result<Vec<u8>, AllocError>
+    ensures { IfOk result (λ printed. printed.items ≡ answer_line (Some reply.now)) }
+{
+    let mut line = reply_text(alloc, reply)?;
+    line.push('\n')?;
+    let mut printed = line.into_bytes();
+    append_part(&mut printed, reply)?;
+    Ok(printed)
+}
+
 #[tactic(auto, unfolding(crate::specs::Printed::answer_text))]
 fn answer_text(alloc: Global, answer: &Option<Reply>) -> Result<String, AllocError>
     ensures { IfOk result (λ text. string_bytes text ≡ answer_text answer.now) }
@@ -34,7 +46,18 @@ fn append_following(printed: &mut Vec<u8>, answer: &Option<Reply>) -> Result<(),
     ensures { OnOk result (printed.new.items ≡ printed.old.items ++ following_bytes answer.now) }
 {
     match answer {
-        Some(Reply::Part { bytes, .. }) => printed.extend_from_slice(bytes.as_slice()),
+        Some(reply) => append_part(printed, reply),
+        None => Ok(()),
+    }
+}
+
+/// Adds the bytes of a part of an export at the end, where the reply is one.
+#[tactic(auto, unfolding(crate::specs::Printed::following_bytes))]
+fn append_part(printed: &mut Vec<u8>, reply: &Reply) -> Result<(), AllocError>
+    ensures { OnOk result (printed.new.items ≡ printed.old.items ++ following_bytes (Some reply.now)) }
+{
+    match reply {
+        Reply::Part { bytes, .. } => printed.extend_from_slice(bytes.as_slice()),
         _ => Ok(()),
     }
 }

@@ -1,7 +1,9 @@
 pub mod Ends
+pub mod GoingOn
 pub mod Lasting
 pub mod Passing
 pub mod ReadStreams
+pub mod SentWhole
 pub mod SoFar
 pub mod Turns
 pub mod WholeStreams

@@ -1,6 +1,5 @@
 -- One turn of serving a stream.
-use Rattle.std.proofs.Common.{◌≡◌, ℕ, Bool, true, false, ◌+◌, ◌-◌, List, length, take, Option, Some, None, Ok, Err, IfSome, refl, subst, arith}
-use Rattle.std.specs.Prelude.{MatchBool}
+use Rattle.std.proofs.Common.{◌≡◌, ℕ, ◌+◌, ◌-◌, List, length, take, Option, Some, None, Ok, Err, IfSome, refl, subst, arith}
 use Rattle.std.specs.Io.KnownBytes.{Appends, Consumes}
 use Rattle.droid_frame.specs.Frames.{frame_bytes}
 use Rattle.droid_frame.specs.Replies.{HasReplySpelling, reply_bytes}
@@ -11,10 +10,8 @@ use Rattle.droid_frame.specs.types.frame.Frame.{Frame}
 use Rattle.droid_frame.specs.types.reply.Reply.{Reply}
 use Rattle.droid_core.specs.Standing.{StandsFor}
 use Rattle.droid_core.specs.declared.service.Service.{Service}
-use Rattle.droid_history.specs.Histories.{History, Handles, next}
+use Rattle.droid_history.specs.Histories.{History, Handles}
 use Rattle.droid_history.specs.Setting.{Setting}
-use Rattle.droid_history.specs.Wants.{is_want}
-use Rattle.droid_wire.specs.Serving.{StandsForSome}
 use Rattle.droid_wire.specs.declared.fault.ServeFault.TheVariants as faults
 use Rattle.droid_wire.specs.Steps.{Turn, TurnGives}
 
@@ -59,14 +56,3 @@ gives_cut setting history (Some input) left old new before after count size fram
         written = subst (λ (n : ℕ). Appends old new (take n (reply_frame frame.client frame.number reply))) here stops.front;
       },
     )
-
--- ---- what the service stands for
-
-some_history : (want : Bool) (setting : Setting) (history : History) (after : Service) (P Q : Type 0) (later : History)
-    → MatchBool want (P × StandsFor setting after history) (Q × StandsFor setting after later) → StandsForSome setting after
-some_history true setting history after P Q later handles = (history, handles.1)
-some_history false setting history after P Q later handles = (later, handles.1)
-
--- after one request it stands for this history, or for the next one
-pub stands_on : (setting : Setting) (history : History) (frame : Frame) (reply : Reply) (after : Service) → Handles setting history frame reply (StandsFor setting after) → StandsForSome setting after
-stands_on setting history frame reply after handles = some_history (is_want reply) setting history after _ _ (next setting history frame) handles

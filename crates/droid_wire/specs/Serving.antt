@@ -11,7 +11,7 @@ use Rattle.droid_frame.specs.types.reply.Reply.{Reply}
 use Rattle.droid_core.specs.Running.{Runs}
 use Rattle.droid_core.specs.Standing.{StandsFor}
 use Rattle.droid_core.specs.declared.service.Service.{Service}
-use Rattle.droid_history.specs.Histories.{History}
+use Rattle.droid_history.specs.Histories.{History, history_from}
 use Rattle.droid_history.specs.Setting.{Setting}
 use Rattle.droid_wire.specs.declared.ended.Ended.{Ended}
 use Rattle.droid_wire.specs.declared.ended.Ended.TheVariants.{Closed, Turns}
@@ -66,6 +66,7 @@ Outcome setting history turns input left old new after (Err (faults.Frame fault)
     Serves setting history input old new after (λ count rest. (count < turns) × Tells fault rest × ReadsNoFrame (Some rest) left)
 Outcome setting history turns input left old new after (Err (faults.Write written)) = ServesCut setting history turns input left old new after written
 
--- the service stands for a history
-abbrev pub StandsForSome : Setting → Service → Type 0
-StandsForSome setting service = (history : History) × StandsFor setting service history
+-- the service stands for the history after some requests more
+pub record GoesOnFrom (setting : Setting) (history : History) (service : Service) : Type 0 where
+  pub requests : List Frame
+  pub stands : StandsFor setting service (history_from setting history requests)

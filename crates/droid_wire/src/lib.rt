@@ -5,6 +5,7 @@
 mod ended;
 mod fault;
 pub mod laws;
+mod sending;
 mod serving;
 
 pub use droid_client::{Client, HearFault, Heard, SubmitFault};

@@ -6,22 +6,18 @@ ghost use Rattle.droid_core.specs.Standing.{StandsFor, limits_of, registry_of};
 ghost use Rattle.droid_history.specs.Histories.{History};
 ghost use Rattle.droid_history.specs.Setting.{Setting};
 ghost use Rattle.droid_wire.specs.Over.{TellsFaultOver};
-ghost use Rattle.droid_wire.specs.Serving.{Outcome, StandsForSome};
+ghost use Rattle.droid_wire.specs.Serving.{GoesOnFrom, Outcome};
 ghost use Rattle.droid_wire.specs.Steps.{TurnGives};
 
 use crate::ended::Ended;
 use crate::fault::ServeFault;
+use crate::sending::{HEADER_SIZE, send_reply};
 use droid_core::Service;
-use droid_frame::{
-    Arrival, FrameFault, SteadyRead, SteadyWrite, read_frame, reply_body_len, write_reply,
-};
+use droid_frame::{Arrival, FrameFault, SteadyRead, SteadyWrite, read_frame, reply_body_len};
 use std::alloc::Global;
 
-/// How many bytes a frame has before its body.
-const HEADER_SIZE: u64 = 18;
-
 /// Reads frames, at most `turns` of them, and answers each by one reply frame with its client and number
-/// before the next is read.
+/// before the next is read. A reply's bytes have all gone to the writer by then: none is held back.
 pub fn serve<R: SteadyRead, W: SteadyWrite>(
     alloc: Global,
     service: &mut Service,
@@ -38,8 +34,8 @@ pub fn serve<R: SteadyRead, W: SteadyWrite>(
     // So is a writer with no end of room.
     ensures write_fault { IsSound (W.seen writer.old) → W.room writer.old ≡ None →
         TellsFaultOver (W.seen writer.old).interruptions turns (W.seen writer.new) (IsErrAnd result (λ fault. (written : ℕ) × (fault ≡ ServeFault.Write written))) }
-    // Whatever comes, also of an input that isn't known, the service stands for some history.
-    ensures stands { (setting : Setting) → StandsForSome setting service.old → StandsForSome setting service.new }
+    // Whatever comes, also of an input that isn't known, the service goes on from its history.
+    ensures goes_on { (setting : Setting) (history : History) → StandsFor setting service.old history → GoesOnFrom setting history service.new }
     ensures limits { limits_of service.new ≡ limits_of service.old }
     ensures registry { registry_of service.new ≡ registry_of service.old }
 {
@@ -70,7 +66,7 @@ fn answer_next<R: SteadyRead, W: SteadyWrite>(
         TellsFault (R.seen reader.old).interruptions (R.seen reader.new) (IsErrOf result (ServeFault.Frame FrameFault.Read)) }
     ensures write_fault { IsSound (W.seen writer.old) → W.room writer.old ≡ None →
         TellsFault (W.seen writer.old).interruptions (W.seen writer.new) (IsErrAnd result (λ fault. (cut : ℕ) × (fault ≡ ServeFault.Write cut))) × (W.room writer.new ≡ None) }
-    ensures stands { (setting : Setting) → StandsForSome setting service.old → StandsForSome setting service.new }
+    ensures goes_on { (setting : Setting) (history : History) → StandsFor setting service.old history → GoesOnFrom setting history service.new }
     ensures limits { limits_of service.new ≡ limits_of service.old }
     ensures registry { registry_of service.new ≡ registry_of service.old }
 {
@@ -80,7 +76,7 @@ fn answer_next<R: SteadyRead, W: SteadyWrite>(
     let (client, number) = (frame.client, frame.number);
     let reply = service.handle(frame);
     let size = HEADER_SIZE + reply_body_len(&reply) as u64;
-    match write_reply(client, number, &reply, writer) {
+    match send_reply(alloc, client, number, &reply, writer) {
         Ok(()) => Ok(Some(size)),
         Err(fault) => Err(ServeFault::Write {
             written: written + fault.written as u64,

@@ -2,4 +2,8 @@
 #![tactic(auto)]
 
 #[cfg(test)]
+mod loopback;
+#[cfg(test)]
 mod rows;
+#[cfg(test)]
+mod vectors;

@@ -1,60 +1,13 @@
-//! Streams of frames over memory, and what is written for them. The bytes are those of the format, written
-//! out by hand.
+//! Streams of frames over memory, and what is written for them.
 
-use droid_core::{Limits, Service};
+use crate::vectors::{
+    CREATE, FOLDER, MADE, MALFORMED, NODE, NUMBER_REUSED, OTHER_FOLDER, SHORT_FINISH, joined,
+    service,
+};
 use droid_frame::{FrameFault, Unsteady};
-use droid_pronom::Registry;
 use droid_wire::{Ended, ServeFault, serve};
-use std::alloc::{AllocError, Global};
+use std::alloc::Global;
 use std::test::Fail;
-
-const CREATE: [u8; 23] = [
-    1, 1, 0, 0, 0, 1, 0, 0, 0, 0, 0, 0, 0, 1, 0, 0, 0, 5, 0, 1, 0, 0, 0,
-];
-
-const MADE: [u8; 22] = [
-    1, 129, 0, 0, 0, 1, 0, 0, 0, 0, 0, 0, 0, 1, 0, 0, 0, 4, 0, 0, 0, 1,
-];
-
-const FOLDER: [u8; 36] = [
-    1, 2, 0, 0, 0, 1, 0, 0, 0, 0, 0, 0, 0, 2, 0, 0, 0, 18, 0, 0, 0, 1, 0, 0, 0, 0, 0, 0, 0, 0, 0,
-    0, 0, 0, 105, 110,
-];
-
-const NODE: [u8; 22] = [
-    1, 130, 0, 0, 0, 1, 0, 0, 0, 0, 0, 0, 0, 2, 0, 0, 0, 4, 0, 0, 0, 1,
-];
-
-const OTHER_FOLDER: [u8; 37] = [
-    1, 2, 0, 0, 0, 1, 0, 0, 0, 0, 0, 0, 0, 2, 0, 0, 0, 19, 0, 0, 0, 1, 0, 0, 0, 0, 0, 0, 0, 0, 0,
-    0, 0, 0, 111, 117, 116,
-];
-
-const NUMBER_REUSED: [u8; 19] = [1, 136, 0, 0, 0, 1, 0, 0, 0, 0, 0, 0, 0, 2, 0, 0, 0, 1, 2];
-
-const SHORT_FINISH: [u8; 25] = [
-    1, 5, 0, 0, 0, 1, 0, 0, 0, 0, 0, 0, 0, 9, 0, 0, 0, 7, 0, 0, 0, 1, 0, 0, 0,
-];
-
-const MALFORMED: [u8; 19] = [1, 136, 0, 0, 0, 1, 0, 0, 0, 0, 0, 0, 0, 9, 0, 0, 0, 1, 1];
-
-fn joined(alloc: Global, parts: &[&[u8]]) -> Result<Vec<u8>, AllocError> {
-    let mut bytes = Vec::new(alloc);
-    for part in parts {
-        bytes.extend_from_slice(part)?;
-    }
-    Ok(bytes)
-}
-
-/// An empty service with no format.
-fn service(alloc: Global) -> Result<Service, Fail> {
-    let limits = Limits {
-        profiles: 64,
-        nodes: 100_000,
-        unfinished: 64,
-    };
-    Ok(Service::new(alloc, Registry::parse(alloc, b"")?, limits)?)
-}
 
 /// How a service that is empty ends over these bytes, and what it writes.
 fn served(

@@ -5,7 +5,8 @@ ghost use Rattle.droid_stream.specs.Seen.{IsSound, TellsFault};
 ghost use Rattle.droid_history.specs.Histories.{History};
 ghost use Rattle.droid_history.specs.Setting.{Setting};
 ghost use Rattle.droid_lines.specs.Lines.{lines_of, line_value};
-ghost use Rattle.droid_desk.specs.Scripts.{RunsAll, RunsFront, LineAnswered, Counts, IsOfHandling, TellsFaultOver, is_bad};
+ghost use Rattle.droid_desk.specs.Scripts.{RunsAll, RunsFront, LineAnswered, Counts, IsOfHandling, is_bad};
+ghost use Rattle.droid_wire.specs.Over.{TellsFaultOver};
 ghost use Rattle.droid_core.specs.Standing.{StandsFor, limits_of, registry_of};
 
 use super::fault::ScriptFault;

@@ -1,5 +1,6 @@
 use Rattle.std.proofs.Common.{refl, arith}
-use Rattle.droid_wire.proofs.Turns.{frame_size, gives_answered, gives_cut, stands_on}
+use Rattle.droid_wire.proofs.GoingOn.{goes_nowhere, goes_on}
+use Rattle.droid_wire.proofs.Turns.{frame_size, gives_answered, gives_cut}
 use Rattle.droid_wire.proofs.serving.answer_next.Goals as goal
 
 pub overflow_add-result : goal.overflow_add-result
@@ -17,10 +18,16 @@ returns-clause-gives g c = λ setting history stands.
     gives_cut setting history _ _ _ _ c.args.service.now _ c.args.written _ c.in-Frame.frame c.handle-reply.result (rw c.in-Frame.is at c.in_ok-frame.ensures.brought)
     (c.handle-reply.ensures.handles setting history stands) c.handle-reply.ensures.spelled c.in-Err.ensures.err
 
-pub returns-in-Ok-clause-stands : goal.returns-in-Ok-clause-stands
-returns-in-Ok-clause-stands g c = λ setting some.
-    stands_on setting some.0 c.in-Frame.frame c.handle-reply.result c.handle-reply.new.self (c.handle-reply.ensures.handles setting some.0 some.1)
+pub returns-in_err-frame-clause-goes_on : goal.returns-in_err-frame-clause-goes_on
+returns-in_err-frame-clause-goes_on g c = λ setting history stands. goes_nowhere setting history c.args.service.now stands
 
-pub returns-clause-stands : goal.returns-clause-stands
-returns-clause-stands g c = λ setting some.
-    stands_on setting some.0 c.in-Frame.frame c.handle-reply.result c.handle-reply.new.self (c.handle-reply.ensures.handles setting some.0 some.1)
+pub returns-in_default-clause-goes_on : goal.returns-in_default-clause-goes_on
+returns-in_default-clause-goes_on g c = λ setting history stands. goes_nowhere setting history c.args.service.now stands
+
+pub returns-in-Ok-clause-goes_on : goal.returns-in-Ok-clause-goes_on
+returns-in-Ok-clause-goes_on g c = λ setting history stands.
+    goes_on setting history c.in-Frame.frame c.handle-reply.result c.handle-reply.new.self (c.handle-reply.ensures.handles setting history stands)
+
+pub returns-clause-goes_on : goal.returns-clause-goes_on
+returns-clause-goes_on g c = λ setting history stands.
+    goes_on setting history c.in-Frame.frame c.handle-reply.result c.handle-reply.new.self (c.handle-reply.ensures.handles setting history stands)

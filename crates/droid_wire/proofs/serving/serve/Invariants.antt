@@ -5,7 +5,7 @@ use Rattle.droid_core.specs.Standing.{StandsFor, limits_of, registry_of}
 use Rattle.droid_history.specs.Histories.{History}
 use Rattle.droid_history.specs.Setting.{Setting}
 use Rattle.droid_wire.specs.Over.{LastsOver}
-use Rattle.droid_wire.specs.Serving.{StandsForSome}
+use Rattle.droid_wire.specs.Serving.{GoesOnFrom}
 use Rattle.droid_wire.proofs.SoFar.{SoFar}
 use Rattle.droid_wire.proofs.serving.serve.Given as goal
 
@@ -18,7 +18,7 @@ invariant-loop g l = record {
   reads : IsSound (g.R.SteadyRead.seen l.fn.reader) → LastsOver (g.R.SteadyRead.seen l.fn.reader).interruptions l.counter (g.R.SteadyRead.seen l.reader);
   writes : IsSound (g.W.SteadyWrite.seen l.fn.writer) → g.W.SteadyWrite.room l.fn.writer ≡ None →
       LastsOver (g.W.SteadyWrite.seen l.fn.writer).interruptions l.counter (g.W.SteadyWrite.seen l.writer) × (g.W.SteadyWrite.room l.writer ≡ None);
-  stands : (setting : Setting) → StandsForSome setting l.fn.service → StandsForSome setting l.service;
+  goes_on : (setting : Setting) (history : History) → StandsFor setting l.fn.service history → GoesOnFrom setting history l.service;
   limits : limits_of l.service ≡ limits_of l.fn.service;
   registry : registry_of l.service ≡ registry_of l.fn.service;
 }

@@ -1,6 +1,6 @@
 use Rattle.std.proofs.Common.{◌≡◌, length, None}
 use Rattle.droid_stream.specs.Seen.{IsSound}
-use Rattle.droid_desk.specs.Scripts.{LastsOver}
+use Rattle.droid_wire.specs.Over.{LastsOver}
 use Rattle.droid_desk.proofs.ScriptRuns.{Progress}
 use Rattle.droid_desk.proofs.script.run.run_lines.Given as goal
 

@@ -1,0 +1,8 @@
+pub mod Exchanges
+pub mod Faults
+pub mod Numbering
+pub mod Over
+pub mod Reading
+pub mod Sending
+pub mod Steps
+pub mod Stopping

@@ -1,0 +1,61 @@
+//! Sending a reply.
+
+ghost use Rattle.std.specs.Prelude.{◌≡◌, OnOk, IfErr, IfSome, IsErr, length};
+ghost use Rattle.std.specs.Io.KnownBytes.{Appends};
+ghost use Rattle.droid_stream.specs.Seen.{IsSound};
+ghost use Rattle.droid_stream.specs.Writes.{Takes, TellsWrite};
+ghost use Rattle.droid_frame.specs.Replies.{HasReplySpelling};
+ghost use Rattle.droid_frame.specs.ReplyFrames.{reply_frame};
+ghost use Rattle.droid_frame.specs.StreamWrites.{Stops};
+
+use droid_frame::{Reply, SteadyWrite, Unsteady, WriteFault, reply_body_len, write_reply};
+use droid_stream::{Progress, write_all};
+use std::alloc::Global;
+
+/// How many bytes a frame has before its body.
+pub(crate) const HEADER_SIZE: u64 = 18;
+
+/// How many bytes the body of a reply has at most that is gathered.
+const GATHERED: usize = 4_096;
+
+/// Writes a reply's frame as [`write_reply`] does. A small one goes out in one write, where there is memory to
+/// gather its parts in. Nothing is held back: what is said here is of the writer itself.
+pub(crate) fn send_reply<W: SteadyWrite>(
+    alloc: Global,
+    client: u32,
+    number: u64,
+    reply: &Reply,
+    writer: &mut W,
+) -> Result<(), WriteFault>
+    requires { HasReplySpelling reply.now }
+    ensures ok { OnOk result (Appends (W.contents writer.old) (W.contents writer.new) (reply_frame client number reply.now)) }
+    ensures err { IfErr result (λ fault. Stops (W.contents writer.old) (W.contents writer.new) (reply_frame client number reply.now) fault.written) }
+    ensures failed { IsSound (W.seen writer.old) →
+        TellsWrite (W.seen writer.old).interruptions (W.seen writer.new) (W.room writer.old) (length (reply_frame client number reply.now)) (IsErr result) }
+    ensures room_ok { OnOk result (Takes (W.room writer.old) (W.room writer.new) (length (reply_frame client number reply.now))) }
+    ensures room_err { IfErr result (λ fault. Takes (W.room writer.old) (W.room writer.new) fault.written) }
+{
+    match gathered(alloc, client, number, reply) {
+        Some(frame) => write_all(writer, frame.as_slice(), &mut Progress::new()),
+        None => write_reply(client, number, reply, writer),
+    }
+}
+
+/// The bytes of a small reply's frame, or `None` where it isn't small or memory is refused.
+fn gathered(alloc: Global, client: u32, number: u64, reply: &Reply) -> Option<Vec<u8>>
+    requires { HasReplySpelling reply.now }
+    ensures { IfSome result (λ frame. frame.items ≡ reply_frame client number reply.now) }
+{
+    let size = reply_body_len(reply);
+    if size > GATHERED {
+        return None;
+    }
+    let Ok(bytes) = Vec::with_capacity(alloc, HEADER_SIZE as usize + size) else {
+        return None;
+    };
+    let mut frame = Unsteady::new(bytes);
+    match write_reply(client, number, reply, &mut frame) {
+        Ok(()) => Some(frame.stream),
+        Err(_) => None,
+    }
+}

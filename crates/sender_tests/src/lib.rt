@@ -1,0 +1,5 @@
+//! Tests of sending, over streams in memory.
+#![tactic(auto)]
+
+#[cfg(test)]
+mod sample;

@@ -1,0 +1,55 @@
+//! Frames as the format has them, written out by hand, and a service to answer them.
+
+use droid_core::{Limits, Service};
+use droid_pronom::Registry;
+use std::alloc::{AllocError, Global};
+use std::test::Fail;
+
+pub const CREATE: [u8; 23] = [
+    1, 1, 0, 0, 0, 1, 0, 0, 0, 0, 0, 0, 0, 1, 0, 0, 0, 5, 0, 1, 0, 0, 0,
+];
+
+pub const MADE: [u8; 22] = [
+    1, 129, 0, 0, 0, 1, 0, 0, 0, 0, 0, 0, 0, 1, 0, 0, 0, 4, 0, 0, 0, 1,
+];
+
+pub const FOLDER: [u8; 36] = [
+    1, 2, 0, 0, 0, 1, 0, 0, 0, 0, 0, 0, 0, 2, 0, 0, 0, 18, 0, 0, 0, 1, 0, 0, 0, 0, 0, 0, 0, 0, 0,
+    0, 0, 0, 105, 110,
+];
+
+pub const NODE: [u8; 22] = [
+    1, 130, 0, 0, 0, 1, 0, 0, 0, 0, 0, 0, 0, 2, 0, 0, 0, 4, 0, 0, 0, 1,
+];
+
+pub const OTHER_FOLDER: [u8; 37] = [
+    1, 2, 0, 0, 0, 1, 0, 0, 0, 0, 0, 0, 0, 2, 0, 0, 0, 19, 0, 0, 0, 1, 0, 0, 0, 0, 0, 0, 0, 0, 0,
+    0, 0, 0, 111, 117, 116,
+];
+
+pub const NUMBER_REUSED: [u8; 19] = [1, 136, 0, 0, 0, 1, 0, 0, 0, 0, 0, 0, 0, 2, 0, 0, 0, 1, 2];
+
+pub const SHORT_FINISH: [u8; 25] = [
+    1, 5, 0, 0, 0, 1, 0, 0, 0, 0, 0, 0, 0, 9, 0, 0, 0, 7, 0, 0, 0, 1, 0, 0, 0,
+];
+
+pub const MALFORMED: [u8; 19] = [1, 136, 0, 0, 0, 1, 0, 0, 0, 0, 0, 0, 0, 9, 0, 0, 0, 1, 1];
+
+/// The parts, one after the other.
+pub fn joined(alloc: Global, parts: &[&[u8]]) -> Result<Vec<u8>, AllocError> {
+    let mut bytes = Vec::new(alloc);
+    for part in parts {
+        bytes.extend_from_slice(part)?;
+    }
+    Ok(bytes)
+}
+
+/// An empty service with no format.
+pub fn service(alloc: Global) -> Result<Service, Fail> {
+    let limits = Limits {
+        profiles: 64,
+        nodes: 100_000,
+        unfinished: 64,
+    };
+    Ok(Service::new(alloc, Registry::parse(alloc, b"")?, limits)?)
+}

@@ -1,0 +1,103 @@
+"""What the tests over loopback share: the layout of frames (docs/FORMATS.md), and the program's commands as
+processes. The program's path is in the variable DROID_DESK. Nothing here waits longer than some seconds."""
+
+import os
+import socket
+import struct
+import subprocess
+
+PROGRAM = os.environ["DROID_DESK"]
+HOST = "127.0.0.1"
+SECONDS = 30
+
+HEADER = struct.Struct(">BBIQI")
+
+
+def frame(kind, client, number, body=b"", version=1):
+    """A frame's bytes."""
+    return HEADER.pack(version, kind, client, number, len(body)) + body
+
+
+def read_exactly(stream, count):
+    """So many bytes of a socket, or fewer where it ends before."""
+    read = b""
+    while len(read) < count:
+        part = stream.recv(count - len(read))
+        if not part:
+            break
+        read += part
+    return read
+
+
+def read_frame(stream):
+    """The next frame of a socket as its kind, client, number and body, or None where the socket ends."""
+    header = read_exactly(stream, HEADER.size)
+    if not header:
+        return None
+    version, kind, client, number, length = HEADER.unpack(header)
+    assert version == 1, header
+    body = read_exactly(stream, length)
+    assert len(body) == length, body
+    return kind, client, number, body
+
+
+def connect(port):
+    """A connection to a port of this machine."""
+    stream = socket.create_connection((HOST, port), timeout=SECONDS)
+    stream.settimeout(SECONDS)
+    return stream
+
+
+def listen(port=0):
+    """A listener on this port, or on a free one."""
+    listener = socket.socket()
+    listener.setsockopt(socket.SOL_SOCKET, socket.SO_REUSEADDR, 1)
+    listener.bind((HOST, port))
+    listener.listen(8)
+    listener.settimeout(SECONDS)
+    return listener
+
+
+def free_port():
+    """A port on which nobody listens."""
+    with listen() as listener:
+        return listener.getsockname()[1]
+
+
+def run(arguments, given=b"", out=subprocess.PIPE):
+    """Runs the program over these bytes, and gives its status, what it wrote, and what it said."""
+    done = subprocess.run(
+        [PROGRAM, *map(str, arguments)], input=given, stdout=out, stderr=subprocess.PIPE, timeout=SECONDS
+    )
+    return done.returncode, done.stdout, done.stderr.decode("ascii")
+
+
+def send(port, client, lines, first=None):
+    """Runs `send` over these lines."""
+    more = [] if first is None else ["--first", first]
+    return run(["send", "--port", port, "--client", client, *more], lines)
+
+
+class Serve:
+    """`serve` on a free port, for so many connections. At the end of a `with` it has ended, well and silently."""
+
+    def __init__(self, connections=None, options=()):
+        self.port = free_port()
+        self.arguments = ["serve", "--port", str(self.port), *options]
+        if connections is not None:
+            self.arguments += ["--connections", str(connections)]
+
+    def __enter__(self):
+        self.process = subprocess.Popen(
+            [PROGRAM, *self.arguments], stdin=subprocess.DEVNULL, stdout=subprocess.PIPE, stderr=subprocess.PIPE
+        )
+        said = self.process.stdout.readline()
+        assert said == f"listening {self.port}\n".encode("ascii"), said
+        return self
+
+    def __exit__(self, kind, value, trace):
+        if kind is not None:
+            self.process.kill()
+        out, err = self.process.communicate(timeout=SECONDS)
+        if kind is None:
+            assert (self.process.returncode, out, err) == (0, b"", b""), (self.process.returncode, out, err)

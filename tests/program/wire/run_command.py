@@ -1,0 +1,179 @@
+"""`run`: frames on standard input, reply frames on standard output, and how it ends. And the command line of all
+commands on streams."""
+
+import os
+import socket
+import subprocess
+import tempfile
+import unittest
+
+from harness import HEADER, PROGRAM, SECONDS, frame, free_port, run
+
+CREATE = frame(1, 1, 1, b"\0\1\0\0\0")
+FOLDER = frame(2, 1, 2, b"\0\0\0\1" + bytes(12) + b"in")
+OTHER_FOLDER = frame(2, 1, 2, b"\0\0\0\1" + bytes(12) + b"out")
+MADE = frame(129, 1, 1, b"\0\0\0\1")
+NODE = frame(130, 1, 2, b"\0\0\0\1")
+NUMBER_REUSED = frame(136, 1, 2, b"\2")
+SHORT_FINISH = frame(5, 1, 9, b"\0\0\0\1\0\0\0")
+MALFORMED = frame(136, 1, 9, b"\1")
+
+# the stored session: each request, and its reply
+SESSION = [(CREATE, MADE), (FOLDER, NODE), (FOLDER, NODE), (OTHER_FOLDER, NUMBER_REUSED)]
+REQUESTS = b"".join(request for request, _ in SESSION)
+REPLIES = b"".join(reply for _, reply in SESSION)
+
+MOST_FRAMES = 1_000_000
+
+
+def fault(name):
+    return f"fault: {name}\n"
+
+
+class Run(unittest.TestCase):
+    def test_the_stored_session(self):
+        self.assertEqual((len(REQUESTS), len(REPLIES)), (132, 85))
+        self.assertEqual(run(["run"], REQUESTS), (0, REPLIES, ""))
+
+    def test_an_empty_stream(self):
+        self.assertEqual(run(["run"]), (0, b"", ""))
+
+    def test_a_stream_cut_after_each_byte(self):
+        ends = [0, 23, 59, 95, 132]
+        replied = [0, 22, 44, 66, 85]
+        for size in range(len(REQUESTS)):
+            with self.subTest(size=size):
+                whole = max(place for place, end in enumerate(ends) if end <= size)
+                status, said = (0, "") if size in ends else (4, fault("Truncated"))
+                self.assertEqual(run(["run"], REQUESTS[:size]), (status, REPLIES[: replied[whole]], said))
+
+    def test_what_is_no_frame(self):
+        rows = [
+            (b"\x09" + CREATE[1:], "BadVersion"),
+            (b"\x09" + CREATE[1:17], "Truncated"),
+            (HEADER.pack(1, 1, 1, 1, 1_048_641), "TooLong"),
+            (HEADER.pack(1, 1, 1, 1, 0xFFFFFFFF), "TooLong"),
+            (HEADER.pack(1, 1, 1, 1, 1_048_640), "Truncated"),
+            (HEADER.pack(2, 1, 1, 1, 0xFFFFFFFF), "BadVersion"),
+        ]
+        for rest, name in rows:
+            with self.subTest(name=name, rest=rest):
+                self.assertEqual(run(["run"], CREATE + rest), (4, MADE, fault(name)))
+                self.assertEqual(run(["run"], rest + CREATE)[0], 4)
+
+    def test_a_frame_that_is_no_request_is_answered_and_the_stream_goes_on(self):
+        self.assertEqual(run(["run"], SHORT_FINISH + CREATE), (0, MALFORMED + MADE, ""))
+        unknown = frame(200, 4_294_967_295, 2**64 - 1, b"abc")
+        self.assertEqual(run(["run"], unknown), (0, frame(136, 4_294_967_295, 2**64 - 1, b"\1"), ""))
+
+    def test_the_longest_body(self):
+        longest = frame(4, 1, 3, bytes(1_048_640))
+        self.assertEqual(run(["run"], longest), (0, frame(136, 1, 3, b"\3"), ""))
+
+    def test_an_input_that_can_not_be_read(self):
+        folder = os.open("/", os.O_RDONLY)
+        try:
+            done = subprocess.run([PROGRAM, "run"], stdin=folder, capture_output=True, timeout=SECONDS)
+        finally:
+            os.close(folder)
+        self.assertEqual((done.returncode, done.stdout, done.stderr), (4, b"", b"fault: Read\n"))
+
+    def test_an_output_without_room(self):
+        with open("/dev/full", "wb") as full:
+            status, _, said = run(["run"], REQUESTS, out=full)
+        self.assertEqual((status, said), (4, fault("Write")))
+
+    def test_a_reply_is_there_before_the_next_frame_is_read(self):
+        with subprocess.Popen([PROGRAM, "run"], stdin=subprocess.PIPE, stdout=subprocess.PIPE) as service:
+            for request, reply in SESSION:
+                service.stdin.write(request)
+                service.stdin.flush()
+                self.assertEqual(service.stdout.read(len(reply)), reply)
+            service.stdin.close()
+            self.assertEqual(service.wait(SECONDS), 0)
+
+    def test_no_more_than_a_million_frames_are_answered(self):
+        status, written, said = run(["run"], SHORT_FINISH * (MOST_FRAMES + 1))
+        self.assertEqual((status, said), (0, ""))
+        self.assertTrue(written == MALFORMED * MOST_FRAMES, len(written))
+
+
+class Registries(unittest.TestCase):
+    """A registry at fault is told before anything of the stream or the port."""
+
+    def test_of_run_and_serve(self):
+        with tempfile.TemporaryDirectory() as folder, socket.socket() as taken:
+            taken.bind(("127.0.0.1", 0))
+            taken.listen()
+            bad = os.path.join(folder, "bad.csv")
+            with open(bad, "w", encoding="ascii") as file:
+                file.write("F,dev/1,A,,,\nX\n")
+            missing = os.path.join(folder, "missing.csv")
+            for command in (["run"], ["serve", "--port", taken.getsockname()[1]]):
+                for path, name in ((bad, "BadRecord at 2"), (missing, "Read"), (folder, "Read")):
+                    with self.subTest(command=command, name=name):
+                        told = run([*command, "--registry", path], b"no frame")
+                        self.assertEqual(told, (3, b"", fault(name)))
+
+    def test_files_are_identified_by_it(self):
+        add = frame(3, 1, 2, b"\0\0\0\1" + bytes(20) + b"\0\0\0\4" + b"e.txt")
+        finish = frame(5, 1, 3, b"\0\0\0\1\0\0\0\1")
+        md5 = bytes.fromhex("d41d8cd98f00b204e9800998ecf8427e")
+        by_sample = frame(132, 1, 3, b"\2\0" + md5 + b"\0\1\5dev/4")
+        by_none = frame(132, 1, 3, b"\0\0" + md5 + b"\0\0")
+        for options, reply in (([], by_sample), (["--registry", "/dev/null"], by_none)):
+            with self.subTest(options=options):
+                status, written, said = run(["run", *options], CREATE + add + finish)
+                self.assertEqual((status, said), (0, ""))
+                self.assertEqual(written[44:], reply)
+
+
+class CommandLine(unittest.TestCase):
+    def wrong(self, *words):
+        """The words are no command line: nothing is read, listened on or connected to, and nothing written."""
+        with self.subTest(words=words):
+            status, out, said = run(words)
+            self.assertEqual((status, out), (2, b""))
+            self.assertTrue(said.startswith("error: "), said)
+
+    def test_numbers_outside_their_ranges(self):
+        for port in ("0", "65536", "-1", "x", "", "80 ", "1e3"):
+            self.wrong("serve", "--port", port)
+            self.wrong("send", "--port", port, "--client", "1")
+        for connections in ("0", "1001", "-1", "x"):
+            self.wrong("serve", "--port", free_port(), "--connections", connections)
+        for client in ("-1", "4294967296", "x"):
+            self.wrong("send", "--port", free_port(), "--client", client)
+        for first in ("-1", "9223372036854775808", "18446744073709551616", "x"):
+            self.wrong("send", "--port", free_port(), "--client", "1", "--first", first)
+
+    def test_words_that_are_missing_or_not_known(self):
+        self.wrong("serve")
+        self.wrong("send")
+        self.wrong("send", "--port", free_port())
+        self.wrong("send", "--client", "1")
+        self.wrong("run", "--registry")
+        self.wrong("run", "--port", free_port())
+        self.wrong("run", "more")
+        self.wrong("serve", "--port", free_port(), "--client", "1")
+        self.wrong("send", "--port", free_port(), "--client", "1", "--registry", "/dev/null")
+
+    def test_last_values_are_taken(self):
+        """Nobody listens there, so `send` gets as far as its connection."""
+        no_connection = (4, b"", fault("Socket"))
+        for client in ("0", "4294967295"):
+            self.assertEqual(run(["send", "--port", free_port(), "--client", client]), no_connection)
+        for first in ("0", "9223372036854775807"):
+            self.assertEqual(run(["send", "--port", free_port(), "--client", "1", "--first", first]), no_connection)
+
+    def test_help(self):
+        for command in ("run", "serve", "send"):
+            with self.subTest(command=command):
+                status, out, said = run([command, "--help"])
+                self.assertEqual((status, said), (0, ""))
+                self.assertIn(f"Usage: {os.path.basename(PROGRAM)} {command} ".encode("ascii"), out)
+                self.assertIn(b"Exit status:", out)
+
+
+if __name__ == "__main__":
+    unittest.main()

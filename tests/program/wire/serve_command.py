@@ -1,0 +1,122 @@
+"""`serve`: frames on connections to a port, one connection after the other over one service."""
+
+import socket
+import struct
+import unittest
+
+from harness import HEADER, SECONDS, Serve, connect, frame, listen, read_exactly, read_frame, run
+from run_command import CREATE, FOLDER, MADE, MALFORMED, NODE, REPLIES, REQUESTS, SESSION, SHORT_FINISH
+
+EXPORT = frame(8, 1, 9, b"\0\0\0\1" + bytes(8) + b"\0\x10\0\0" + b"\1\0")
+HEADER_ROW = 193
+FOLDER_ROW = 103
+
+
+def rows_shown(stream):
+    """How many commands were accepted so far, and how long the export of profile 1 is."""
+    stream.sendall(EXPORT)
+    kind, client, number, body = read_frame(stream)
+    assert (kind, client, number) == (135, 1, 9), (kind, client, number)
+    return struct.unpack(">QQ", body[:16])
+
+
+class ServeCommand(unittest.TestCase):
+    def test_the_stored_session(self):
+        with Serve() as service, connect(service.port) as stream:
+            for request, reply in SESSION:
+                stream.sendall(request)
+                self.assertEqual(read_exactly(stream, len(reply)), reply)
+
+    def test_all_at_once_and_then_the_end_of_writing(self):
+        with Serve() as service, connect(service.port) as stream:
+            stream.sendall(REQUESTS)
+            stream.shutdown(socket.SHUT_WR)
+            self.assertEqual(read_exactly(stream, len(REPLIES) + 1), REPLIES)
+
+    def test_the_next_connection_sees_the_same_service(self):
+        """Wherever the first one is cut, the session sent whole then is answered as ever, and done once."""
+        for size in (0, 1, 22, 23, 24, 40, 58, 59, 60, 131, 132):
+            with self.subTest(size=size), Serve(2) as service:
+                with connect(service.port) as first:
+                    first.sendall(REQUESTS[:size])
+                with connect(service.port) as second:
+                    second.sendall(REQUESTS)
+                    self.assertEqual(read_exactly(second, len(REPLIES)), REPLIES)
+                    self.assertEqual(rows_shown(second), (2, HEADER_ROW + FOLDER_ROW))
+
+    def test_what_is_kept_is_kept_over_connections(self):
+        with Serve(3) as service:
+            with connect(service.port) as stream:
+                stream.sendall(CREATE)
+                self.assertEqual(read_exactly(stream, len(MADE)), MADE)
+            with connect(service.port) as stream:
+                stream.sendall(FOLDER)
+                self.assertEqual(read_exactly(stream, len(NODE)), NODE)
+            with connect(service.port) as stream:
+                self.assertEqual(rows_shown(stream), (2, HEADER_ROW + FOLDER_ROW))
+
+    def test_so_many_connections(self):
+        for count in (None, 1, 2, 5):
+            with self.subTest(count=count), Serve(count) as service:
+                for _ in range(count or 1):
+                    with connect(service.port) as stream:
+                        stream.sendall(SHORT_FINISH)
+                        self.assertEqual(read_exactly(stream, len(MALFORMED)), MALFORMED)
+                self.assertEqual(service.process.wait(SECONDS), 0)
+                with self.assertRaises(ConnectionRefusedError):
+                    connect(service.port)
+
+    def test_what_ends_a_connection_ends_that_one_alone(self):
+        rests = [b"\x09" + CREATE[1:], HEADER.pack(1, 1, 1, 1, 1_048_641), CREATE[:17], CREATE[:22], b"GET / HTTP/1.1\r\n\r\n"]
+        with Serve(len(rests) + 1) as service:
+            for rest in rests:
+                with connect(service.port) as stream:
+                    stream.sendall(SHORT_FINISH + rest)
+                    stream.shutdown(socket.SHUT_WR)
+                    self.assertEqual(read_exactly(stream, len(MALFORMED) + 1), MALFORMED)
+            with connect(service.port) as stream:
+                stream.sendall(CREATE)
+                self.assertEqual(read_exactly(stream, len(MADE)), MADE)
+
+    def test_a_client_that_is_gone_before_its_replies(self):
+        with Serve(2) as service:
+            with connect(service.port) as stream:
+                stream.setsockopt(socket.SOL_SOCKET, socket.SO_LINGER, struct.pack("ii", 1, 0))
+                stream.sendall(SHORT_FINISH * 1_000)
+            with connect(service.port) as stream:
+                stream.sendall(CREATE)
+                self.assertEqual(read_exactly(stream, len(MADE)), MADE)
+
+    def test_a_part_comes_whole(self):
+        """An export of some hundred thousand bytes, which is no small reply."""
+        names = [b"%0250d" % number for number in range(200)]
+        with Serve() as service, connect(service.port) as stream:
+            stream.sendall(CREATE)
+            self.assertEqual(read_exactly(stream, len(MADE)), MADE)
+            for number, name in enumerate(names, 2):
+                stream.sendall(frame(2, 1, number, b"\0\0\0\1" + bytes(12) + name))
+                self.assertEqual(read_frame(stream)[0], 130)
+            stream.sendall(frame(8, 1, 900, EXPORT[HEADER.size :]))
+            kind, _, number, body = read_frame(stream)
+            self.assertEqual((kind, number), (135, 900))
+            as_of, total = struct.unpack(">QQ", body[:16])
+            self.assertEqual((as_of, total), (201, len(body) - 16))
+            self.assertEqual(body[16:].count(b"\n"), 201)
+            for name in names:
+                self.assertIn(b'"/' + name + b'"', body)
+
+    def test_a_port_in_use(self):
+        with listen() as listener:
+            told = run(["serve", "--port", listener.getsockname()[1]])
+        self.assertEqual(told, (4, b"", "fault: Socket\n"))
+
+    def test_an_output_without_room(self):
+        with listen() as listener:
+            port = listener.getsockname()[1]
+        with open("/dev/full", "wb") as full:
+            status, _, said = run(["serve", "--port", port], out=full)
+        self.assertEqual((status, said), (4, "fault: Write\n"))
+
+
+if __name__ == "__main__":
+    unittest.main()
