@@ -1,0 +1,4 @@
+pub mod BitLemmas
+pub mod MoveLemmas
+pub mod RowLemmas
+pub mod SetLemmas

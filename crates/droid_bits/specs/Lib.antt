@@ -1,0 +1,2 @@
+-- What the calls on rows of bits promise.
+pub mod Places
