@@ -4,9 +4,11 @@ BENCH = crates/droid_bench/out/droid_bench
 
 .PHONY: run build quick test bench need_rt
 
-# Builds the program and runs a short script on it.
+# Builds the program and runs two short scripts on it: four requests, and a file in pieces with its export.
 run: build
 	@$(PROGRAM) script < crates/droid_desk/stdin
+	@echo
+	@$(PROGRAM) script < examples/deposit.script
 
 # Proves and builds the program, which is then at $(PROGRAM).
 build: need_rt
