@@ -83,6 +83,12 @@ stepped old pushed moved new is moves same q =
           (same q).1 ((moves q).1 (omega arith, (p, rw is ((grown_places old 1 p).1 place), omega arith, omega arith))),
     )
 
+-- with no word nothing moves
+pub stepped_none : (words : List ℕ) → length words ≡ 0 → (q : ℕ) → IsPlace words q ↔ ((p : ℕ) × IsPlace words p × (q ≡ p + 1))
+stepped_none words none q =
+    let gone : (p : ℕ) → IsPlace words p → ⊥ = λ p place. (let inside = place_below words p place in omega arith) in
+    (λ h. absurd (gone q h), λ (p, place, _). absurd (gone p place))
+
 -- what a gap leads to
 abbrev pub Gaps : List ℕ → List ℕ → (least more len : ℕ) → Type 0
 Gaps old new least more len = (q : ℕ) → IsPlace new q ↔ ((q ≤ len) × ((p : ℕ) × IsPlace old p × (p + least ≤ q) × (q ≤ p + (least + more))))

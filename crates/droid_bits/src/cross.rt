@@ -13,6 +13,9 @@ use std::alloc::AllocError;
 pub(crate) fn step(words: &mut Vec<u64>) -> Result<(), AllocError>
     ensures { OnOk result ((q : ℕ) → IsPlace words.new.items q ↔ ((p : ℕ) × IsPlace words.old.items p × (q ≡ p + 1))) }
 {
+    if words.is_empty() {
+        return Ok(());
+    }
     words.push(0)?;
     advance(words, 1);
     trim(words);

@@ -36,6 +36,7 @@ pub(crate) fn push_runs(words: &mut Vec<u64>, low: usize, high: usize) -> Result
 {
     words.clear();
     let count = high / 64 + 1;
+    words.reserve(count + 1)?;
     for place in 0..count {
         let start = 64 * place;
         let word = run_of(low.saturating_sub(start), (high + 1).saturating_sub(start));

@@ -1,8 +1,8 @@
+pub mod ClassLemmas
 pub mod FaultLemmas
 pub mod FrontLemmas
 pub mod LangTests
 pub mod PathLemmas
-pub mod PositionLemmas
 pub mod RunLemmas
 pub mod StepLemmas
 pub mod TextLemmas

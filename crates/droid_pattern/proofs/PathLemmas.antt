@@ -1,11 +1,12 @@
 -- Whole patterns: from position to position, over one element after another.
-use Rattle.std.proofs.Common.{◌≡◌, ◌↔◌, ℕ, ◌+◌, ◌-◌, ◌<◌, ◌≤◌, min, Bool, true, not, get_or, List, [], ◌∷◌, ◌++◌, length, take, drop, map, inl, refl, sym, ap, ◌∙◌, arith, take-add, drop-drop, take_at, drop_at, take-take, length-append, length-take, length-drop}
+use Rattle.std.proofs.Common.{◌≡◌, ◌↔◌, ℕ, ◌+◌, ◌-◌, ◌<◌, ◌≤◌, min, Bool, true, false, not, get_or, List, [], ◌∷◌, ◌++◌, length, take, drop, map, inl, refl, sym, ap, ◌∙◌, arith, take-add, drop-drop, take_at, drop_at, take-take, length-append, length-take, length-drop}
 use Rattle.std.proofs.lemmas.List.{drop-take, drop_more, take_rest, take_more, take_all, map-append}
 use Rattle.std.proofs.lemmas.Bool.{false≢true, not-true, not_from_false, false_from_ne_true}
-use Rattle.droid_pattern.specs.declared.span.Span.{Span}
+use Rattle.droid_pattern.specs.declared.toward.Toward.{Toward}
 use Rattle.droid_pattern.specs.declared.toward.Toward.TheVariants as toward
 use Rattle.droid_pattern.specs.Patterns.{Element, Lang, BeginsWithin, EndsWithin, MatchesTo}
-use Rattle.droid_pattern.specs.Positions.{IsPosition, Leads, Reaches}
+use Rattle.droid_pattern.specs.Positions.{Leads, Reaches, IsAt, IsInside, place_of}
+use Rattle.droid_bits.specs.Places.{IsPlace}
 
 -- from p to q, over one element after another
 abbrev pub Path : List Element → List ℕ → ℕ → ℕ → Type 0
@@ -68,15 +69,10 @@ Path-append (e ∷ es) fs bytes p q = (
   λ (s, (r, leads, path), more). (r, leads, (Path-append es fs bytes r q).1 (s, path, more)),
 )
 
--- a set with a span has a position
-pub some_position : (spans : List Span) → (spans ≡ [] → ⊥) → (p : ℕ) × IsPosition spans p
-some_position [] some = absurd (some refl)
-some_position (s ∷ spans) some = (s.first, inl (omega arith, s.ordered))
-
 -- the first position of a match within these offsets is among the positions
-pub begins_from : (es : List Element) (bytes : List ℕ) (low high : ℕ) (starts : List Span)
-    → ((p : ℕ) → IsPosition starts p ↔ ((low ≤ p) × (p ≤ min high (length bytes))))
-    → BeginsWithin es bytes low high ↔ ((p : ℕ) × IsPosition starts p × ((q : ℕ) × Path es bytes p q))
+pub begins_from : (es : List Element) (bytes : List ℕ) (low high : ℕ) (starts : ℕ → Type 0)
+    → ((p : ℕ) → starts p ↔ ((low ≤ p) × (p ≤ min high (length bytes))))
+    → BeginsWithin es bytes low high ↔ ((p : ℕ) × starts p × ((q : ℕ) × Path es bytes p q))
 begins_from es bytes low high starts says = (
   λ h. (h.offset, (says h.offset).1 (h.from_low, omega (arith, h.to_high, h.inside)), (h.offset + h.count, Path-from_lang es bytes h.offset h.count h.inside h.matched)),
   λ (p, position, (q, path)).
@@ -86,19 +82,19 @@ begins_from es bytes low high starts says = (
 )
 
 -- one step on
-pub begins_more : {B : Type 0} (e : Element) (es : List Element) (bytes : List ℕ) (from to : List Span)
-    → (B ↔ ((p : ℕ) × IsPosition from p × ((q : ℕ) × Path (e ∷ es) bytes p q)))
+pub begins_more : {B : Type 0} (e : Element) (es : List Element) (bytes : List ℕ) (from to : ℕ → Type 0)
+    → (B ↔ ((p : ℕ) × from p × ((q : ℕ) × Path (e ∷ es) bytes p q)))
     → Reaches toward.End e bytes from to
-    → B ↔ ((p : ℕ) × IsPosition to p × ((q : ℕ) × Path es bytes p q))
+    → B ↔ ((p : ℕ) × to p × ((q : ℕ) × Path es bytes p q))
 begins_more e es bytes from to so_far step = (
   λ b. let (p, position, (q, (r, leads, path))) = so_far.0 b in (r, (step r).1 (p, position, leads), (q, path)),
   λ (r, position, (q, path)). let (p, before, leads) = (step r).0 position in so_far.1 (p, before, (q, (r, leads, path))),
 )
 
 -- the last position of a match within these offsets from the end is among the positions
-pub ends_from : (es : List Element) (bytes : List ℕ) (low high : ℕ) (ends : List Span)
-    → ((q : ℕ) → IsPosition ends q ↔ ((low + q ≤ length bytes) × (length bytes ≤ high + q)))
-    → EndsWithin es bytes low high ↔ ((q : ℕ) × IsPosition ends q × ((p : ℕ) × (p ≤ length bytes) × Path es bytes p q))
+pub ends_from : (es : List Element) (bytes : List ℕ) (low high : ℕ) (ends : ℕ → Type 0)
+    → ((q : ℕ) → ends q ↔ ((low + q ≤ length bytes) × (length bytes ≤ high + q)))
+    → EndsWithin es bytes low high ↔ ((q : ℕ) × ends q × ((p : ℕ) × (p ≤ length bytes) × Path es bytes p q))
 ends_from es bytes low high ends says = (
   λ h.
       let inside = h.inside in
@@ -122,10 +118,10 @@ ends_from es bytes low high ends says = (
 )
 
 -- one step on, toward the start
-pub ends_more : {B : Type 0} (e : Element) (es : List Element) (bytes : List ℕ) (from to : List Span)
-    → (B ↔ ((q : ℕ) × IsPosition from q × ((p : ℕ) × (p ≤ length bytes) × Path (es ++ e ∷ []) bytes p q)))
+pub ends_more : {B : Type 0} (e : Element) (es : List Element) (bytes : List ℕ) (from to : ℕ → Type 0)
+    → (B ↔ ((q : ℕ) × from q × ((p : ℕ) × (p ≤ length bytes) × Path (es ++ e ∷ []) bytes p q)))
     → Reaches toward.Start e bytes from to
-    → B ↔ ((q : ℕ) × IsPosition to q × ((p : ℕ) × (p ≤ length bytes) × Path es bytes p q))
+    → B ↔ ((q : ℕ) × to q × ((p : ℕ) × (p ≤ length bytes) × Path es bytes p q))
 ends_more e es bytes from to so_far step = (
   λ b.
       let (q, position, (p, first, path)) = so_far.0 b in
@@ -141,39 +137,44 @@ pub first_and_rest : {X : Type 0} (xs : List X) (x : X) → 0 < length xs → x 
 first_and_rest xs x some read = drop_more xs 0 x some ∙ ap (λ y. y ∷ drop 1 xs) (sym read) ∙ ap (λ ys. x ∷ ys) (sym (take_rest xs 1))
 
 -- with no element left, a match is there exactly where there is a position
-pub begins_last : {B : Type 0} (bytes : List ℕ) (positions : List Span) (empty : Bool) → ((empty ≡ true) ↔ (positions ≡ []))
-    → (B ↔ ((p : ℕ) × IsPosition positions p × ((q : ℕ) × Path [] bytes p q))) → (not empty ≡ true) ↔ B
-begins_last bytes positions empty says so_far = (
-  λ h. let (p, position) = some_position positions (λ e. false≢true (sym (not-true empty h) ∙ says.1 e)) in so_far.1 (p, position, (p, refl)),
-  λ b. let (p, position, more) = so_far.0 b in not_from_false empty (false_from_ne_true empty (λ e. no_position positions (says.0 e) p position)),
+pub begins_last : {B : Type 0} (bytes : List ℕ) (positions : ℕ → Type 0) (empty : Bool) → (empty ≡ true → (p : ℕ) → positions p → ⊥) → (empty ≡ false → (p : ℕ) × positions p)
+    → (B ↔ ((p : ℕ) × positions p × ((q : ℕ) × Path [] bytes p q))) → (not empty ≡ true) ↔ B
+begins_last bytes positions empty none some so_far = (
+  λ h. let (p, position) = some (not-true empty h) in so_far.1 (p, position, (p, refl)),
+  λ b. let (p, position, more) = so_far.0 b in not_from_false empty (false_from_ne_true empty (λ e. none e p position)),
 )
-  where
-    no_position : (spans : List Span) → spans ≡ [] → (p : ℕ) → IsPosition spans p → ⊥
-    no_position spans e p h = rw e at h
 
-pub ends_last : {B : Type 0} (bytes : List ℕ) (positions : List Span) (empty : Bool) → ((empty ≡ true) ↔ (positions ≡ [])) → ((q : ℕ) → IsPosition positions q → q ≤ length bytes)
-    → (B ↔ ((q : ℕ) × IsPosition positions q × ((p : ℕ) × (p ≤ length bytes) × Path [] bytes p q))) → (not empty ≡ true) ↔ B
-ends_last bytes positions empty says inside so_far = (
-  λ h. let (q, position) = some_position positions (λ e. false≢true (sym (not-true empty h) ∙ says.1 e)) in so_far.1 (q, position, (q, inside q position, refl)),
-  λ b. let (q, position, more) = so_far.0 b in not_from_false empty (false_from_ne_true empty (λ e. no_position positions (says.0 e) q position)),
+pub ends_last : {B : Type 0} (bytes : List ℕ) (positions : ℕ → Type 0) (empty : Bool) → (empty ≡ true → (p : ℕ) → positions p → ⊥) → (empty ≡ false → (p : ℕ) × positions p) → ((q : ℕ) → positions q → q ≤ length bytes)
+    → (B ↔ ((q : ℕ) × positions q × ((p : ℕ) × (p ≤ length bytes) × Path [] bytes p q))) → (not empty ≡ true) ↔ B
+ends_last bytes positions empty none some inside so_far = (
+  λ h. let (q, position) = some (not-true empty h) in so_far.1 (q, position, (q, inside q position, refl)),
+  λ b. let (q, position, more) = so_far.0 b in not_from_false empty (false_from_ne_true empty (λ e. none e q position)),
 )
-  where
-    no_position : (spans : List Span) → spans ≡ [] → (p : ℕ) → IsPosition spans p → ⊥
-    no_position spans e p h = rw e at h
+
+-- a row inside the bytes has a place exactly where it has a position
+pub at_none : (way : Toward) (bytes row : List ℕ) → ((p : ℕ) → IsPlace row p → ⊥) → (p : ℕ) → IsAt way bytes row p → ⊥
+at_none way bytes row none p (near, place) = none (place_of way (length bytes) p) place
+
+pub at_some : (way : Toward) (bytes row : List ℕ) → IsInside bytes row → ((p : ℕ) × IsPlace row p) → (p : ℕ) × IsAt way bytes row p
+at_some toward.End bytes row inside (p, place) = (p, (inside p place, place))
+at_some toward.Start bytes row inside (p, place) =
+    let near = inside p place in
+    let back : length bytes - (length bytes - p) ≡ p = omega arith in
+    (length bytes - p, (omega arith, rw back place))
 
 pub no_items : {X : Type 0} (xs : List X) → length xs < 1 → xs ≡ []
 no_items [] h = refl
 no_items (x ∷ xs) h = absurd (omega arith)
 
 -- the same of the parts that stand for the elements
-pub begins_first : (es fs : List Element) (bytes : List ℕ) (low high : ℕ) (starts : List Span) → es ≡ fs
-    → ((p : ℕ) → IsPosition starts p ↔ ((low ≤ p) × (p ≤ min high (length bytes))))
-    → BeginsWithin es bytes low high ↔ ((p : ℕ) × IsPosition starts p × ((q : ℕ) × Path fs bytes p q))
+pub begins_first : (es fs : List Element) (bytes : List ℕ) (low high : ℕ) (starts : ℕ → Type 0) → es ≡ fs
+    → ((p : ℕ) → starts p ↔ ((low ≤ p) × (p ≤ min high (length bytes))))
+    → BeginsWithin es bytes low high ↔ ((p : ℕ) × starts p × ((q : ℕ) × Path fs bytes p q))
 begins_first es fs bytes low high starts e says = rw (← e) (begins_from es bytes low high starts says)
 
-pub ends_first : (es fs : List Element) (bytes : List ℕ) (low high : ℕ) (ends : List Span) → es ≡ fs
-    → ((q : ℕ) → IsPosition ends q ↔ ((low + q ≤ length bytes) × (length bytes ≤ high + q)))
-    → EndsWithin es bytes low high ↔ ((q : ℕ) × IsPosition ends q × ((p : ℕ) × (p ≤ length bytes) × Path fs bytes p q))
+pub ends_first : (es fs : List Element) (bytes : List ℕ) (low high : ℕ) (ends : ℕ → Type 0) → es ≡ fs
+    → ((q : ℕ) → ends q ↔ ((low + q ≤ length bytes) × (length bytes ≤ high + q)))
+    → EndsWithin es bytes low high ↔ ((q : ℕ) × ends q × ((p : ℕ) × (p ≤ length bytes) × Path fs bytes p q))
 ends_first es fs bytes low high ends e says = rw (← e) (ends_from es bytes low high ends says)
 
 -- a list with an element has a last one and those before it
@@ -182,7 +183,7 @@ rest_and_last xs x some read =
     let all : length xs - 1 + 1 ≡ length xs = omega arith in
     sym (take_all (length xs) xs (omega arith)) ∙ ap (λ n. take n xs) (sym all) ∙ take_more xs (length xs - 1) x (omega arith) ∙ ap (λ y. take (length xs - 1) xs ++ y ∷ []) (sym read)
 
-pub reached_inside : (e : Element) (bytes : List ℕ) (from to : List Span) → Reaches toward.Start e bytes from to → (q : ℕ) → IsPosition to q → q ≤ length bytes
+pub reached_inside : (e : Element) (bytes : List ℕ) (from to : ℕ → Type 0) → Reaches toward.Start e bytes from to → (q : ℕ) → to q → q ≤ length bytes
 reached_inside e bytes from to step q position = let (p, before, leads) = (step q).0 position in omega (arith, leads.ordered, leads.inside)
 
 -- the elements of parts with one more at the end

@@ -6,3 +6,4 @@ pub mod LangTest
 pub mod Fronts
 pub mod Parts
 pub mod Positions
+pub mod Classes

@@ -1,22 +1,12 @@
 -- Sets of positions in the bytes, and how an element leads from one to another.
-use Rattle.std.specs.Prelude.{◌⊎◌, ◌↔◌, ℕ, ◌+◌, ◌-◌, ◌≤◌, List, [], ◌∷◌, length, take, drop}
-use Rattle.droid_pattern.specs.declared.span.Span.{Span}
+use Rattle.std.specs.Prelude.{◌≡◌, ◌↔◌, ℕ, ◌+◌, ◌-◌, ◌*◌, ◌≤◌, ◌<◌, true, List, length, take, drop, slice_index, All}
+use Rattle.droid_bits.specs.Places.{IsPlace}
 use Rattle.droid_pattern.specs.declared.toward.Toward.{Toward}
 use Rattle.droid_pattern.specs.declared.toward.Toward.TheVariants as toward
+use Rattle.droid_pattern.specs.declared.class.Class.{Class}
+use Rattle.droid_pattern.specs.declared.classes.ClassRow.{ClassRow}
 use Rattle.droid_pattern.specs.Patterns.{Element, Matches}
-
--- a position lies in a span
-abbrev pub IsWithin : Span → ℕ → Type 0
-IsWithin span p = (span.first ≤ p) × (p ≤ span.last)
-
--- a position lies in one of the spans
-abbrev pub IsPosition : List Span → ℕ → Type 0
-IsPosition [] p = ⊥
-IsPosition (span ∷ spans) p = IsWithin span p ⊎ IsPosition spans p
-
--- the new positions are the old ones and those that P tells
-abbrev pub Adds : List Span → List Span → (ℕ → Type 0) → Type 0
-Adds old new P = (q : ℕ) → IsPosition new q ↔ (IsPosition old q ⊎ P q)
+use Rattle.droid_pattern.specs.Parts.{accepts}
 
 -- the element matches the bytes from one position up to another
 pub record Leads (e : Element) (bytes : List ℕ) (from to : ℕ) : Type 0 where
@@ -30,20 +20,38 @@ Steps toward.End e bytes p q = Leads e bytes p q
 Steps toward.Start e bytes p q = Leads e bytes q p
 
 -- the positions after a step from some of these
-abbrev pub Reaches : Toward → Element → List ℕ → List Span → List Span → Type 0
-Reaches way e bytes from to = (q : ℕ) → IsPosition to q ↔ ((p : ℕ) × IsPosition from p × Steps way e bytes p q)
+abbrev pub Reaches : Toward → Element → List ℕ → (ℕ → Type 0) → (ℕ → Type 0) → Type 0
+Reaches way e bytes from to = (q : ℕ) → to q ↔ ((p : ℕ) × from p × Steps way e bytes p q)
 
--- where a step over so many bytes begins, if the first of them has this position
-abbrev pub origin : Toward → ℕ → ℕ → ℕ
-origin toward.End width s = s
-origin toward.Start width s = s + width
+-- A row of bits counts positions from where the steps come from: from the start, or from the end of so many bytes.
+abbrev pub place_of : Toward → ℕ → ℕ → ℕ
+place_of toward.End len p = p
+place_of toward.Start len p = len - p
 
--- a step over from `least` to `most` bytes, of so many bytes in all
-abbrev pub Crosses : Toward → ℕ → ℕ → ℕ → ℕ → ℕ → Type 0
-Crosses toward.End least most len p q = (p + least ≤ q) × (q ≤ p + most) × (q ≤ len)
-Crosses toward.Start least most len p q = (q + least ≤ p) × (p ≤ q + most) × (p ≤ len)
+-- a position in the bytes is in the row
+abbrev pub IsAt : Toward → List ℕ → List ℕ → ℕ → Type 0
+IsAt way bytes row p = (p ≤ length bytes) × IsPlace row (place_of way (length bytes) p)
 
--- how far that step leads from the position of the first of the bytes
-abbrev pub shift_of : Toward → ℕ → ℕ
-shift_of toward.End width = width
-shift_of toward.Start width = 0
+-- the row has no place past the bytes
+abbrev pub IsInside : List ℕ → List ℕ → Type 0
+IsInside bytes row = (p : ℕ) → IsPlace row p → p ≤ length bytes
+
+-- the byte behind a place, in the direction of the steps
+abbrev pub byte_behind : Toward → List ℕ → ℕ → ℕ
+byte_behind toward.End bytes p = slice_index bytes p
+byte_behind toward.Start bytes p = slice_index bytes (length bytes - 1 - p)
+
+-- the places of the row, as far as it goes, are those behind which a byte of the class stands
+abbrev pub IsRowOf : Toward → List ℕ → Class → List ℕ → Type 0
+IsRowOf way bytes class row =
+    (p : ℕ) → p < 64 * length row → IsPlace row p ↔ ((p < length bytes) × (accepts class (byte_behind way bytes p) ≡ true))
+
+-- each of the rows that are kept is that of its class
+abbrev pub AreRowsOf : Toward → List ℕ → List ClassRow → Type 0
+AreRowsOf way bytes rows = All (λ it. IsRowOf way bytes it.class it.row) rows
+
+-- The places after the first bytes of a literal, so many of them, in the direction of the steps.
+abbrev pub IsChain : Toward → (bytes literal : List ℕ) → ℕ → (old new : List ℕ) → Type 0
+IsChain way bytes literal count old new =
+    (q : ℕ) → IsPlace new q ↔ ((p : ℕ) × IsPlace old p × (q ≡ p + count)
+    × ((j : ℕ) → j < count → (p + j < length bytes) × (byte_behind way bytes (p + j) ≡ byte_behind way literal j)))

@@ -1,14 +1,7 @@
 //! Tests of one byte.
 
-ghost use Rattle.std.specs.Prelude.{◌≡◌, ◌≤◌, ◌<◌, ◌+◌, ℕ, true, not, OnOk, length, slice_index};
-ghost use Rattle.memchr.specs.Find.{IsFirstByte};
+ghost use Rattle.std.specs.Prelude.{◌≡◌, ◌<◌};
 ghost use Rattle.droid_pattern.specs.Parts.{accepts};
-ghost use Rattle.droid_pattern.specs.Positions.{IsWithin, Adds};
-
-use crate::positions::Positions;
-use crate::span::Span;
-use memchr::memchr;
-use std::alloc::AllocError;
 
 /// What one byte of a match has to be.
 #[derive(Clone, Copy, Debug, PartialEq, Eq)]
@@ -33,57 +26,14 @@ impl Class {
         }
     }
 
-    /// The position of the first byte that passes.
-    pub(crate) fn find(self, bytes: &[u8]) -> Option<usize>
-        ensures { IsFirstByte (accepts self) bytes.now result }
+    /// In which slot its row is kept: one for each byte, each barred byte, and each first byte of a range.
+    pub(crate) fn slot(self) -> usize
+        ensures { result < 768 }
     {
-        if let Class::Byte(wanted) = self {
-            return memchr(wanted, bytes);
+        match self {
+            Class::Byte(wanted) => usize::from(wanted),
+            Class::Except(barred) => 256 + usize::from(barred),
+            Class::Range { low, .. } => 512 + usize::from(low),
         }
-        for (position, byte) in bytes.iter().enumerate() {
-            if self.accepts(*byte) {
-                return Some(position);
-            }
-        }
-        None
-    }
-
-    /// The position of the first byte that doesn't pass.
-    pub(crate) fn find_other(self, bytes: &[u8]) -> Option<usize>
-        ensures { IsFirstByte (λ byte. not (accepts self byte)) bytes.now result }
-    {
-        for (position, byte) in bytes.iter().enumerate() {
-            if !self.accepts(*byte) {
-                return Some(position);
-            }
-        }
-        None
-    }
-
-    /// Adds the position of each byte of `starts` that passes, moved by `shift`.
-    pub(crate) fn add_positions(
-        self,
-        bytes: &[u8],
-        starts: Span,
-        shift: usize,
-        positions: &mut Positions,
-    ) -> Result<(), AllocError>
-        requires inside { starts.last < length bytes.now }
-        requires shift { shift ≤ 1 }
-        ensures { OnOk result (Adds positions.old.spans.items positions.new.spans.items (λ q. (s : ℕ)
-            × IsWithin starts s × (accepts self (slice_index bytes.now s) ≡ true) × (q ≡ s + shift))) }
-    {
-        let end = starts.last + 1;
-        let mut at = starts.first;
-        while let Some(skipped) = self.find(&bytes[at..end]) {
-            let first = at + skipped;
-            let rest = &bytes[first + 1..end];
-            at = first + 1 + self.find_other(rest).unwrap_or(rest.len());
-            positions.add(Span {
-                first: first + shift,
-                last: at - 1 + shift,
-            })?;
-        }
-        Ok(())
     }
 }

@@ -2,15 +2,15 @@
 #![tactic(auto)]
 
 mod class;
+mod classes;
 mod fault;
-mod literal;
 mod part;
 mod pattern;
-mod positions;
 mod reading;
-mod span;
 mod step;
 mod toward;
+mod window;
 
 pub use fault::PatternFault;
 pub use pattern::Pattern;
+pub use window::Classes;

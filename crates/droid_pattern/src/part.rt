@@ -1,15 +1,15 @@
 //! An element of a pattern, as it is kept.
 
-ghost use Rattle.std.specs.Prelude.{◌≡◌, IfOk, map};
+ghost use Rattle.std.specs.Prelude.{◌≡◌, OnOk, map};
 ghost use Rattle.droid_pattern.specs.Patterns.{is_gap, has_byte};
 ghost use Rattle.droid_pattern.specs.Parts.{element_of};
-ghost use Rattle.droid_pattern.specs.Positions.{Reaches};
+ghost use Rattle.droid_pattern.specs.Positions.{Reaches, IsAt, IsInside, AreRowsOf};
 
 use crate::class::Class;
-use crate::positions::Positions;
-use crate::span::Span;
-use crate::step::{choice, gap, one};
+use crate::classes::ClassRow;
+use crate::step::{choice, one};
 use crate::toward::Toward;
+use droid_bits::Row;
 use std::alloc::{AllocError, Global};
 
 /// An element of a pattern.
@@ -35,29 +35,28 @@ impl Part {
         matches!(self, Part::Gap { .. } | Part::OpenGap { .. })
     }
 
-    /// The positions after a step over this element from one of `from`.
+    /// Makes the places those after a step over this element.
     pub(crate) fn step(
         &self,
+        rows: &mut Vec<ClassRow>,
+        row: &mut Row,
         alloc: Global,
         bytes: &[u8],
-        from: &[Span],
         toward: Toward,
-    ) -> Result<Positions, AllocError>
-        ensures { IfOk result (λ to. Reaches toward (element_of self.now) bytes.now from.now to.spans.items) }
+    ) -> Result<(), AllocError>
+        requires rows { AreRowsOf toward bytes.now rows.old.items }
+        requires inside { IsInside bytes.now row.old }
+        ensures rows { AreRowsOf toward bytes.now rows.new.items }
+        ensures inside { OnOk result (IsInside bytes.now row.new) }
+        ensures reaches { OnOk result (Reaches toward (element_of self.now) bytes.now (IsAt toward bytes.now row.old) (IsAt toward bytes.now row.new)) }
     {
         let len = bytes.len();
         match self {
-            Part::One(class) => one(*class, alloc, bytes, from, toward),
-            Part::AnyByte => gap(1, 1, alloc, len, from, toward),
-            Part::Gap { least, more } => {
-                let least = usize::from(*least);
-                gap(least, least + usize::from(*more), alloc, len, from, toward)
-            }
-            Part::OpenGap { least } => {
-                let least = usize::from(*least);
-                gap(least, least.max(len), alloc, len, from, toward)
-            }
-            Part::Choice(alternatives) => choice(alternatives, alloc, bytes, from, toward),
+            Part::One(class) => one(rows, row, *class, alloc, bytes, toward),
+            Part::AnyByte => row.cross(1, 0, len),
+            Part::Gap { least, more } => row.cross(usize::from(*least), usize::from(*more), len),
+            Part::OpenGap { least } => row.cross(usize::from(*least), len, len),
+            Part::Choice(alternatives) => choice(rows, row, alternatives, alloc, bytes, toward),
         }
     }
 }

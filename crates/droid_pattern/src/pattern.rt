@@ -3,12 +3,14 @@
 ghost use Rattle.std.specs.Prelude.{◌≡◌, ◌↔◌, ◌≤◌, List, length, IsTrue, IfOk, OnErr, IsErrOf};
 ghost use Rattle.droid_pattern.specs.Patterns.{Element, MatchesFrom, MatchesTo, BeginsWithin, EndsWithin};
 ghost use Rattle.droid_pattern.specs.PatternText.{Spells};
+ghost use Rattle.droid_pattern.specs.Classes.{AreOf};
 
 use crate::fault::PatternFault;
 use crate::part::{Part, any_byte};
 use crate::reading::parts_of;
-use crate::span::Span;
 use crate::toward::Toward;
+use crate::window::Classes;
+use droid_bits::Row;
 use std::alloc::{AllocError, Global};
 use std::marker::Model;
 
@@ -81,20 +83,33 @@ impl Pattern {
     ) -> Result<bool, AllocError>
         ensures { IfOk result (λ found. IsTrue found ↔ BeginsWithin self.now bytes.now low high) }
     {
-        let Some(start) = Span::new(low, high.min(bytes.len())) else {
-            return Ok(false);
-        };
-        let [first, rest @ ..] = self.parts.as_slice() else {
-            return Ok(true);
-        };
-        let mut positions = first.step(alloc, bytes, &[start], Toward::End)?;
-        for part in rest {
-            if positions.is_empty() {
+        let mut classes = Classes::new(alloc);
+        self.begins_with(alloc, bytes, low, high, &mut classes)
+    }
+
+    /// The same, with what is kept of these bytes between one pattern and the next.
+    pub fn begins_with(
+        &self,
+        alloc: Global,
+        bytes: &[u8],
+        low: usize,
+        high: usize,
+        classes: &mut Classes,
+    ) -> Result<bool, AllocError>
+        requires { AreOf bytes.now classes.old }
+        ensures classes { AreOf bytes.now classes.new }
+        ensures found { IfOk result (λ found. IsTrue found ↔ BeginsWithin self.now bytes.now low high) }
+    {
+        let len = bytes.len();
+        let mut row = Row::new(alloc);
+        row.set_range(low, high.min(len))?;
+        for part in &self.parts {
+            if row.is_empty() {
                 return Ok(false);
             }
-            positions = part.step(alloc, bytes, positions.as_slice(), Toward::End)?;
+            part.step(&mut classes.toward_end, &mut row, alloc, bytes, Toward::End)?;
         }
-        Ok(!positions.is_empty())
+        Ok(!row.is_empty())
     }
 
     /// Whether a match ends at an offset from `low` to `high` before the end of the bytes.
@@ -107,25 +122,40 @@ impl Pattern {
     ) -> Result<bool, AllocError>
         ensures { IfOk result (λ found. IsTrue found ↔ EndsWithin self.now bytes.now low high) }
     {
+        let mut classes = Classes::new(alloc);
+        self.ends_with(alloc, bytes, low, high, &mut classes)
+    }
+
+    /// The same, with what is kept of these bytes between one pattern and the next.
+    pub fn ends_with(
+        &self,
+        alloc: Global,
+        bytes: &[u8],
+        low: usize,
+        high: usize,
+        classes: &mut Classes,
+    ) -> Result<bool, AllocError>
+        requires { AreOf bytes.now classes.old }
+        ensures classes { AreOf bytes.now classes.new }
+        ensures found { IfOk result (λ found. IsTrue found ↔ EndsWithin self.now bytes.now low high) }
+    {
         let len = bytes.len();
-        if low > len {
-            return Ok(false);
-        }
-        let Some(end) = Span::new(len - high.min(len), len - low) else {
-            return Ok(false);
-        };
-        let [front @ .., last] = self.parts.as_slice() else {
-            return Ok(true);
-        };
-        let mut rest = front;
-        let mut positions = last.step(alloc, bytes, &[end], Toward::Start)?;
+        let mut row = Row::new(alloc);
+        row.set_range(low, len.min(high))?;
+        let mut rest = self.parts.as_slice();
         while let [before @ .., part] = rest {
-            if positions.is_empty() {
+            if row.is_empty() {
                 return Ok(false);
             }
-            positions = part.step(alloc, bytes, positions.as_slice(), Toward::Start)?;
+            part.step(
+                &mut classes.toward_start,
+                &mut row,
+                alloc,
+                bytes,
+                Toward::Start,
+            )?;
             rest = before;
         }
-        Ok(!positions.is_empty())
+        Ok(!row.is_empty())
     }
 }

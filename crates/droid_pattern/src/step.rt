@@ -1,92 +1,76 @@
-//! One step of a match: the positions that an element leads to.
+//! One step of a match: the places that an element leads to.
 
-ghost use Rattle.std.specs.Prelude.{◌≡◌, ◌↔◌, ◌≤◌, ◌<◌, ◌-◌, ◌^◌, ℕ, IfOk, [], ◌∷◌, map};
+ghost use Rattle.std.specs.Prelude.{◌≡◌, ◌↔◌, ◌≤◌, ◌<◌, ◌+◌, ◌^◌, ℕ, true, OnOk, [], ◌∷◌, length, map};
+ghost use Rattle.droid_bits.specs.Places.{IsPlace};
 ghost use Rattle.droid_pattern.specs.Patterns.{Choice};
-ghost use Rattle.droid_pattern.specs.Parts.{element_of_class};
-ghost use Rattle.droid_pattern.specs.Positions.{IsPosition, Reaches, Crosses};
+ghost use Rattle.droid_pattern.specs.Parts.{accepts};
+ghost use Rattle.droid_pattern.specs.Positions.{Reaches, IsAt, IsInside, AreRowsOf, IsChain, byte_behind};
 
 use crate::class::Class;
-use crate::literal::add_occurrences;
-use crate::positions::Positions;
-use crate::span::Span;
+use crate::classes::{ClassRow, keep_class};
 use crate::toward::Toward;
+use droid_bits::Row;
 use std::alloc::{AllocError, Global};
 
-/// The positions after a step over one byte of the class.
+/// Makes the places those after a step over one byte of the class.
 pub(crate) fn one(
+    rows: &mut Vec<ClassRow>,
+    row: &mut Row,
     class: Class,
     alloc: Global,
     bytes: &[u8],
-    from: &[Span],
     toward: Toward,
-) -> Result<Positions, AllocError>
-    ensures { IfOk result (λ to. Reaches toward (element_of_class class) bytes.now from.now to.spans.items) }
+) -> Result<(), AllocError>
+    requires rows { AreRowsOf toward bytes.now rows.old.items }
+    ensures rows { AreRowsOf toward bytes.now rows.new.items }
+    ensures moved { OnOk result ((q : ℕ) → IsPlace row.new q ↔ ((p : ℕ) × IsPlace row.old p × (q ≡ p + 1)
+        × (p < length bytes.now) × (accepts class (byte_behind toward bytes.now p) ≡ true))) }
 {
-    let mut to = Positions::new(alloc);
-    for span in from {
-        if let Some(starts) = span.starts(toward, 1, bytes.len()) {
-            class.add_positions(bytes, starts, toward.shift(1), &mut to)?;
-        }
-    }
-    Ok(to)
+    keep_class(rows, row, class, alloc, bytes, toward)?;
+    row.step()
 }
 
-/// The positions after a step over from `least` to `most` bytes, of `len` bytes in all.
-pub(crate) fn gap(
-    least: usize,
-    most: usize,
-    alloc: Global,
-    len: usize,
-    from: &[Span],
-    toward: Toward,
-) -> Result<Positions, AllocError>
-    requires gap { least ≤ most }
-    requires len { len < 2 ^ 64 - 1 }
-    ensures { IfOk result (λ to. (q : ℕ) → IsPosition to.spans.items q
-        ↔ ((p : ℕ) × IsPosition from.now p × Crosses toward least most len p q)) }
-{
-    let mut to = Positions::new(alloc);
-    for span in from {
-        if let Some(reached) = span.across(toward, least, most, len) {
-            to.add(reached)?;
-        }
-    }
-    Ok(to)
-}
-
-/// The positions after a step over one of the alternatives.
+/// Makes the places those after a step over one of the alternatives.
 pub(crate) fn choice(
+    rows: &mut Vec<ClassRow>,
+    row: &mut Row,
     alternatives: &[Vec<u8>],
     alloc: Global,
     bytes: &[u8],
-    from: &[Span],
     toward: Toward,
-) -> Result<Positions, AllocError>
-    ensures { IfOk result (λ to. Reaches toward (Choice (map (λ v. v.items) alternatives.now)) bytes.now from.now to.spans.items) }
+) -> Result<(), AllocError>
+    requires rows { AreRowsOf toward bytes.now rows.old.items }
+    requires inside { IsInside bytes.now row.old }
+    ensures rows { AreRowsOf toward bytes.now rows.new.items }
+    ensures inside { OnOk result (IsInside bytes.now row.new) }
+    ensures reaches { OnOk result (Reaches toward (Choice (map (λ v. v.items) alternatives.now)) bytes.now (IsAt toward bytes.now row.old) (IsAt toward bytes.now row.new)) }
 {
-    let mut to = Positions::new(alloc);
+    let mut found = Row::new(alloc);
+    let mut chain = Row::new(alloc);
     for literal in alternatives {
-        let found = alternative(literal, alloc, bytes, from, toward)?;
-        to = to.union(alloc, &found)?;
+        chain.set_from(row)?;
+        follow(rows, &mut chain, literal, alloc, bytes, toward)?;
+        found.join(&chain)?;
     }
-    Ok(to)
+    row.set_from(&found)
 }
 
-/// The positions after a step over this run of bytes.
-fn alternative(
+/// Makes the places those after a step over this run of bytes.
+fn follow(
+    rows: &mut Vec<ClassRow>,
+    row: &mut Row,
     literal: &[u8],
     alloc: Global,
     bytes: &[u8],
-    from: &[Span],
     toward: Toward,
-) -> Result<Positions, AllocError>
-    ensures { IfOk result (λ to. Reaches toward (Choice (literal.now ∷ [])) bytes.now from.now to.spans.items) }
+) -> Result<(), AllocError>
+    requires rows { AreRowsOf toward bytes.now rows.old.items }
+    ensures rows { AreRowsOf toward bytes.now rows.new.items }
+    ensures chain { OnOk result (IsChain toward bytes.now literal.now (length literal.now) row.old row.new) }
 {
-    let mut to = Positions::new(alloc);
-    for span in from {
-        if let Some(starts) = span.starts(toward, literal.len(), bytes.len()) {
-            add_occurrences(literal, bytes, starts, toward.shift(literal.len()), &mut to)?;
-        }
+    for place in 0..literal.len() {
+        let wanted = toward.byte_behind(literal, place);
+        one(rows, row, Class::Byte(wanted), alloc, bytes, toward)?;
     }
-    Ok(to)
+    Ok(())
 }

@@ -1,7 +1,7 @@
 //! The direction in which a pattern is gone through.
 
-ghost use Rattle.std.specs.Prelude.{◌≡◌};
-ghost use Rattle.droid_pattern.specs.Positions.{shift_of};
+ghost use Rattle.std.specs.Prelude.{◌≡◌, ◌<◌, length};
+ghost use Rattle.droid_pattern.specs.Positions.{byte_behind};
 
 /// The direction in which a pattern is gone through.
 #[derive(Clone, Copy, Debug, PartialEq, Eq)]
@@ -13,13 +13,14 @@ pub(crate) enum Toward {
 }
 
 impl Toward {
-    /// How far a step over `width` bytes leads from the first of them.
-    pub(crate) fn shift(self, width: usize) -> usize
-        ensures { result ≡ shift_of self width }
+    /// The byte behind so many others, in this direction.
+    pub(crate) fn byte_behind(self, bytes: &[u8], place: usize) -> u8
+        requires { place < length bytes.now }
+        ensures { result ≡ byte_behind self bytes.now place }
     {
         match self {
-            Toward::End => width,
-            Toward::Start => 0,
+            Toward::End => bytes[place],
+            Toward::Start => bytes[bytes.len() - 1 - place],
         }
     }
 }

@@ -2,6 +2,10 @@
 #![tactic(auto)]
 
 #[cfg(test)]
+mod chance;
+#[cfg(test)]
+mod comparison;
+#[cfg(test)]
 mod identification;
 #[cfg(test)]
 mod largest;
@@ -11,6 +15,8 @@ mod memory;
 mod offsets;
 #[cfg(test)]
 mod patterns;
+#[cfg(test)]
+mod plain;
 #[cfg(test)]
 mod registry_files;
 #[cfg(test)]

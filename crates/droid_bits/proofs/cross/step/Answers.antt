@@ -1,7 +1,10 @@
--- The words, one more of them, after they were moved.
-use Rattle.std.proofs.Common.{◌∙◌}
-use Rattle.droid_bits.proofs.RowLemmas.{written_back, stepped}
+-- No word, or the words, one more of them, after they were moved.
+use Rattle.std.proofs.Common.{◌∙◌, rules}
+use Rattle.droid_bits.proofs.RowLemmas.{written_back, stepped, stepped_none}
 use Rattle.droid_bits.proofs.cross.step.Goals as goal
+
+pub returns-then-is_empty : goal.returns-then-is_empty
+returns-then-is_empty c = stepped_none c.args.words.now.items (search rules)
 
 pub returns : goal.returns
 returns c =

@@ -1,0 +1,53 @@
+-- From the offsets before the end, over one element after another toward the start.
+use Rattle.std.proofs.Common.{◌≡◌, ◌↔◌, ◌+◌, ◌-◌, ◌≤◌, ◌++◌, ℕ, [], ◌∷◌, map, length, take, refl, sym, ap, ◌∙◌, arith, length-take}
+use Rattle.std.proofs.lemmas.Bool.{false≢true}
+use Rattle.droid_pattern.specs.Patterns.{EndsWithin}
+use Rattle.droid_pattern.specs.Parts.{element_of}
+use Rattle.droid_pattern.specs.Positions.{IsAt}
+use Rattle.droid_pattern.specs.declared.toward.Toward.TheVariants as toward
+use Rattle.droid_pattern.proofs.PathLemmas.{ends_first, ends_more, ends_last, rest_and_last, no_items, map_last, at_none, at_some}
+use Rattle.droid_pattern.proofs.pattern.Pattern.ends_with.Goals as goal
+
+pub loop-rest-init : goal.loop-rest-init
+loop-rest-init c =
+    let bytes = c.args.bytes.now in
+    let row = c.set_range.new.self in
+    let least = c.min.ensures in
+    let says : (q : ℕ) → IsAt toward.Start bytes row q ↔ ((c.args.low + q ≤ length bytes) × (length bytes ≤ c.args.high + q)) = λ q. (
+      λ h. let w = (c.in_ok-set_range.ensures (length bytes - q)).0 h.1 in let near = h.0 in let low = w.0 in let high = w.1 in (omega arith, omega arith),
+      λ h. let low = h.0 in let high = h.1 in (omega arith, (c.in_ok-set_range.ensures (length bytes - q)).1 (omega arith, omega arith)),
+    ) in
+    record {
+      shrinks = omega arith;
+      inside = λ p h. let w = ((c.in_ok-set_range.ensures p).0 h).1 in omega arith;
+      rows = c.requires;
+      so_far = ends_first c.args.self.now (map element_of c.as_slice-rest.result.now) bytes c.args.low c.args.high (IsAt toward.Start bytes row)
+          (sym c.self.view_is ∙ ap (map element_of) (sym c.as_slice-rest.ensures.value)) says;
+    }
+
+pub loop-rest-preserved : goal.loop-rest-preserved
+loop-rest-preserved c =
+    let bytes = c.args.bytes.now in
+    let rest = c.loop-rest.rest.now in
+    let before = take (length rest - 1) rest in
+    let part = c.part-item.result in
+    let more : map element_of rest ≡ map element_of before ++ element_of part ∷ [] =
+    ap (map element_of) (rest_and_last rest part (omega arith) c.part-item.is) ∙ map_last element_of before part in
+    record {
+      shrinks = omega (arith, length-take (length rest - 1) rest, c.loop-rest.invariant.shrinks);
+      inside = c.in_ok-step.ensures.inside;
+      rows = (c.loop-rest.invariant.rows.0, c.step.ensures.rows);
+      so_far = ends_more (element_of part) (map element_of before) bytes (IsAt toward.Start bytes c.loop-rest.row) (IsAt toward.Start bytes c.step.new.row)
+          (rw more at c.loop-rest.invariant.so_far) c.in_ok-step.ensures.reaches;
+    }
+
+pub returns-clause-found : goal.returns-clause-found
+returns-clause-found c =
+    let bytes = c.args.bytes.now in
+    let row = c.loop-rest.row in
+    let none = no_items c.loop-rest.rest.now (omega arith) in
+    ends_last bytes (IsAt toward.Start bytes row) c.is_empty-2.result
+    (λ e. at_none toward.Start bytes row (c.is_empty-2.ensures.none e))
+    (λ e. at_some toward.Start bytes row c.loop-rest.invariant.inside (c.is_empty-2.ensures.some e))
+    (λ q h. h.0)
+    (rw none at c.loop-rest.invariant.so_far)

@@ -1,0 +1,27 @@
+//! What is kept of the bytes of a file between one pattern and the next.
+
+ghost use Rattle.std.specs.Prelude.{List, ℕ};
+ghost use Rattle.droid_pattern.specs.Classes.{AreOf};
+
+use crate::classes::ClassRow;
+use std::alloc::Global;
+
+/// Behind which places of some bytes those of each class stand, as far as patterns asked for it, so that
+/// it is worked out once for all patterns.
+#[derive(Debug, Drop)]
+pub struct Classes {
+    pub(crate) toward_end: Vec<ClassRow>,
+    pub(crate) toward_start: Vec<ClassRow>,
+}
+
+impl Classes {
+    /// Nothing was asked for yet. It takes no memory.
+    pub fn new(alloc: Global) -> Classes
+        ensures { (bytes : List ℕ) → AreOf bytes result }
+    {
+        Classes {
+            toward_end: Vec::new(alloc),
+            toward_start: Vec::new(alloc),
+        }
+    }
+}
