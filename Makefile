@@ -27,12 +27,14 @@ test: need_rt
 	sh tests/memory/run.sh
 
 # What the costly calls cost: a large registry read, files identified by it, a large export, a folder in a large
-# store, and files piece by piece; with the same in Python beside it, where that is there.
-bench: need_rt
+# store, files piece by piece, and a service with its program; with the same in Python beside it, where that is there.
+bench: build
 	@cd crates/droid_bench && $(RT) run -- times
 	@$(BENCH) assembly
+	@$(BENCH) service
 	@if command -v python3 > /dev/null 2>&1; then \
-	    python3 tests/bench/compare_export.py $(BENCH) && python3 tests/bench/compare_store.py $(BENCH); \
+	    python3 tests/bench/compare_export.py $(BENCH) && python3 tests/bench/compare_store.py $(BENCH) && \
+	    python3 tests/bench/compare_run.py $(PROGRAM) $(BENCH); \
 	else $(BENCH) store; fi
 
 need_rt:

@@ -23,16 +23,17 @@ pub enum Order {
     Turned,
 }
 
-/// So many pieces of so many bytes, in this order.
+/// So many pieces of so many bytes from an index on, in this order.
 pub fn pieces(
     alloc: Global,
+    from: u32,
     count: u32,
     length: u32,
     order: Order,
 ) -> Result<Vec<Piece>, AllocError> {
     let mut all = Vec::with_capacity(alloc, count as usize)?;
     let bytes = content(alloc, length)?;
-    for place in 0..count {
+    for place in from..from.saturating_add(count) {
         let index = match order {
             Order::Rising => place,
             Order::Turned => place ^ 15,
@@ -66,15 +67,24 @@ pub fn of_single_bytes(alloc: Global) -> Result<Assembly, AllocError>
     Assembly::new(alloc, 1_048_576, 1, 65_536)
 }
 
-/// Takes the pieces one after another, and gives the digest of the file that they make, if they do.
-pub fn digest_of(mut assembly: Assembly, pieces: Vec<Piece>) -> Option<[u8; 16]>
-    requires { assembly.pending ≡ None }
+/// Takes the pieces one after another, and tells whether none was refused.
+pub fn take_all(assembly: &mut Assembly, pieces: Vec<Piece>) -> bool
+    requires { assembly.old.pending ≡ None }
+    ensures { assembly.new.pending ≡ None }
 {
     for piece in pieces {
-        if !take(&mut assembly, piece) {
-            return None;
+        if !take(assembly, piece) {
+            return false;
         }
     }
+    true
+}
+
+/// The digest of the file that the pieces make, if they do.
+pub fn digest_of(assembly: &mut Assembly) -> Option<[u8; 16]>
+    requires { assembly.old.pending ≡ None }
+    ensures { assembly.new.pending ≡ None }
+{
     assembly.seal().ok().map(|sealed| sealed.md5)
 }
 

@@ -1,26 +1,33 @@
 //! Measures what a large registry costs: reading it once, and identifying a file with it; what a large export
-//! costs; what one folder more costs in a store that has many; and what a file costs piece by piece.
+//! costs; what one folder more costs in a store that has many; what a file costs piece by piece; and what a large
+//! file and many folders cost a service.
 //!
 //! Without a word on the command line it prints what came out; with the word `times` how long it took too; with the
-//! word `text` the text of the export alone; with the words `store` and `assembly` the times of those alone.
+//! word `text` the text of the export alone; with the words `store`, `assembly` and `service` the times of those
+//! alone. With the words `frames folders`, `frames status` and `frames pieces` it writes such frames, and with the
+//! word `answer` it answers the frames on its input in memory, and prints how long that took.
 #![tactic(auto)]
 
 mod assembly;
 mod bytes;
 mod export;
+mod files;
 mod generated;
+mod requests;
+mod service;
 mod store;
+mod streams;
 
 ghost use Rattle.std.specs.Prelude.{◌≤◌, length};
 
 use anyhow::{Context, Error};
-use assembly::Order;
 use droid_frame::Method;
 use droid_pronom::{Found, Registry};
 use std::alloc::{AllocError, Global};
 use std::rt::{Clock, Env};
 use std::time::Instant;
 use std::{env, io};
+use streams::Load;
 
 /// How often a file is identified in one measurement.
 const ROUNDS: u32 = 20;
@@ -30,15 +37,41 @@ fn main(rt: HostRuntime) -> Result<(), Error> {
         return measure_store(&rt);
     }
     if wants(&rt, "assembly")? {
-        return measure_assembly(&rt);
+        return files::measure(&rt);
     }
-    let with_times = wants(&rt, "times")?;
+    if wants(&rt, "service")? {
+        return service::measure(&rt);
+    }
+    if wants(&rt, "answer")? {
+        return streams::answer(&rt);
+    }
+    if wants(&rt, "frames")? {
+        return write_frames(&rt);
+    }
+    measure_registry(&rt)
+}
+
+/// Writes the frames that the command line names.
+fn write_frames<R: Env + Print + AllocGlobal>(rt: &R) -> Result<(), Error> {
+    let load = if wants(rt, "pieces")? {
+        Load::Pieces
+    } else if wants(rt, "status")? {
+        Load::Status
+    } else {
+        Load::Folders
+    };
+    streams::write(rt, load)
+}
+
+/// Reads a large registry, identifies files with it, and makes an export; and prints what came out.
+fn measure_registry<R: Env + Print + Clock + AllocGlobal>(rt: &R) -> Result<(), Error> {
+    let with_times = wants(rt, "times")?;
     let text = generated::registry_text(rt.alloc())?;
-    let start = Instant::now(&rt)?;
+    let start = Instant::now(rt)?;
     let registry = Registry::parse(rt.alloc(), text.as_str().as_bytes()).context("the registry")?;
-    let read = start.elapsed(&rt)?;
-    if wants(&rt, "text")? {
-        return print_export(&rt, &registry);
+    let read = start.elapsed(rt)?;
+    if wants(rt, "text")? {
+        return print_export(rt, &registry);
     }
     println!(rt;
         "registry: {} bytes, {} formats, {} signatures",
@@ -49,9 +82,9 @@ fn main(rt: HostRuntime) -> Result<(), Error> {
     if with_times {
         println!(rt; "  read in {} microseconds", read.as_micros())?;
     }
-    measure_file(&rt, &registry, "nothing.found", None, with_times)?;
-    measure_file(&rt, &registry, "begins.e1234", Some(1234), with_times)?;
-    measure_export(&rt, &registry, with_times)
+    measure_file(rt, &registry, "nothing.found", None, with_times)?;
+    measure_file(rt, &registry, "begins.e1234", Some(1234), with_times)?;
+    measure_export(rt, &registry, with_times)
 }
 
 /// Makes the text of an export, and prints how long it is.
@@ -86,58 +119,6 @@ fn measure_store<R: Print + Clock + AllocGlobal>(rt: &R) -> Result<(), Error> {
         let each = took.as_nanos() / store::MEASURED as u128;
         println!(rt; "store: a folder at {count} nodes in {each} nanoseconds")?;
     }
-    Ok(())
-}
-
-/// Prints how long a file takes in pieces of 1 MiB, in order and with as many waiting as can, and in pieces of
-/// one byte; and how long the hash of its bytes takes alone.
-fn measure_assembly<R: Print + Clock + AllocGlobal>(rt: &R) -> Result<(), Error> {
-    measure_hash(rt, "256 MiB", 1 << 20, 256)?;
-    measure_pieces(rt, "256 MiB in order", 256, 1 << 20, Order::Rising)?;
-    measure_pieces(rt, "256 MiB, sixteen turned", 256, 1 << 20, Order::Turned)?;
-    measure_hash(rt, "1 MiB in blocks", 64, 1 << 14)?;
-    measure_pieces(rt, "1 MiB in pieces of a byte", 1 << 20, 1, Order::Rising)
-}
-
-fn measure_hash<R: Print + Clock + AllocGlobal>(
-    rt: &R,
-    what: &str,
-    length: u32,
-    times: u32,
-) -> Result<(), Error> {
-    let bytes = assembly::content(rt.alloc(), length)?;
-    let start = Instant::now(rt)?;
-    let digest = assembly::digest_alone(bytes.as_slice(), times);
-    let took = start.elapsed(rt)?;
-    println!(rt;
-        "hash: {what}, ends in {}, in {} microseconds",
-        digest[15],
-        took.as_micros()
-    )?;
-    Ok(())
-}
-
-fn measure_pieces<R: Print + Clock + AllocGlobal>(
-    rt: &R,
-    what: &str,
-    count: u32,
-    length: u32,
-    order: Order,
-) -> Result<(), Error> {
-    let pieces = assembly::pieces(rt.alloc(), count, length, order)?;
-    let assembly = if length == 1 {
-        assembly::of_single_bytes(rt.alloc())?
-    } else {
-        assembly::of_large_pieces(rt.alloc())?
-    };
-    let start = Instant::now(rt)?;
-    let digest = assembly::digest_of(assembly, pieces).context("the pieces")?;
-    let took = start.elapsed(rt)?;
-    println!(rt;
-        "assembly: {what}, ends in {}, in {} microseconds",
-        digest[15],
-        took.as_micros()
-    )?;
     Ok(())
 }
 

@@ -1,6 +1,6 @@
 use Rattle.std.proofs.Common.{◌≡◌}
 use Rattle.std.specs.Prelude.{None}
-use Rattle.droid_bench.proofs.assembly.digest_of.Given as goal
+use Rattle.droid_bench.proofs.assembly.take_all.Given as goal
 
 -- no piece is pending between two
 abbrev pub invariant-loop-piece : goal.invariant-loop-piece

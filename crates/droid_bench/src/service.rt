@@ -1,0 +1,139 @@
+//! What requests cost a service: a large file piece by piece, and many folders in one profile.
+
+use crate::files::percent;
+use crate::requests;
+use anyhow::{Context, Error};
+use droid_core::{Limits, Service};
+use droid_frame::{Frame, Reply};
+use droid_pronom::Registry;
+use md5::{Digest, Md5};
+use std::alloc::Global;
+use std::rt::Clock;
+use std::time::{Duration, Instant};
+
+/// How often the file is sent; the shortest time counts.
+const ROUNDS: u32 = 3;
+
+/// How many folders there are.
+const FOLDERS: u32 = 50_000;
+
+/// How many of them the first and the last measurement go over.
+const MEASURED: u32 = 1_000;
+
+/// The kind of a frame that brings a piece, and how many bytes of its body come before the piece's own.
+const PIECE_KIND: u8 = 4;
+
+const PIECE_FIELDS: usize = 12;
+
+/// A registry of one format, so that a file's bytes and not the formats are what costs.
+const REGISTRY: &str = "F,bench/1,Format,1.0,application/x-bench,\nE,bench/1,bin,,,\n";
+
+/// A service with the largest limits and nothing in it.
+pub fn empty(alloc: Global) -> Result<Service, Error> {
+    let registry = Registry::parse(alloc, REGISTRY.as_bytes()).context("the registry")?;
+    let limits = Limits {
+        profiles: 64,
+        nodes: 100_000,
+        unfinished: 64,
+    };
+    Service::new(alloc, registry, limits).context("the service")
+}
+
+/// Prints what a file in pieces and many folders cost.
+pub fn measure<R: Print + Clock + AllocGlobal>(rt: &R) -> Result<(), Error> {
+    measure_file(rt)?;
+    measure_folders(rt)
+}
+
+/// Sends a file in pieces, and prints how long that took beside two passes of the hash over the same bytes: no
+/// service can do without the mark of each request and the digest of the file.
+fn measure_file<R: Print + Clock + AllocGlobal>(rt: &R) -> Result<(), Error> {
+    let mut own = u128::MAX;
+    let mut alone = u128::MAX;
+    for _ in 0..ROUNDS {
+        let frames = requests::of_file(rt.alloc())?;
+        let start = Instant::now(rt)?;
+        let (digest, _) = two_passes(frames.as_slice());
+        alone = alone.min(start.elapsed(rt)?.as_micros());
+        let took = send_file(rt, frames, digest)?;
+        own = own.min(took.as_micros());
+    }
+    println!(rt;
+        "service: 256 MiB in pieces of 1 MiB in {own} microseconds, two passes of the hash in {alone}; {} percent of them",
+        percent(own, alone)
+    )?;
+    Ok(())
+}
+
+/// How long the service takes for these frames, the last of which finishes a file of this digest.
+fn send_file<R: Clock + AllocGlobal>(
+    rt: &R,
+    frames: Vec<Frame>,
+    digest: [u8; 16],
+) -> Result<Duration, Error> {
+    let mut service = empty(rt.alloc())?;
+    let start = Instant::now(rt)?;
+    let replies = service.run(frames)?;
+    let took = start.elapsed(rt)?;
+    match replies.as_slice().last() {
+        Some(Reply::Finished { md5, .. }) if *md5 == digest => Ok(took),
+        _ => None.context("the file was not finished"),
+    }
+}
+
+/// The digest of all pieces after the mark of each, both by the hash alone.
+fn two_passes(frames: &[Frame]) -> ([u8; 16], [u8; 16]) {
+    let mut content = Md5::new();
+    let mut last = [0; 16];
+    for frame in frames {
+        last = mark(frame);
+        if frame.kind == PIECE_KIND {
+            content.update(&frame.body.as_slice()[PIECE_FIELDS.min(frame.body.len())..]);
+        }
+    }
+    (content.finalize(), last)
+}
+
+fn mark(frame: &Frame) -> [u8; 16] {
+    let mut hash = Md5::new();
+    hash.update(&[frame.kind]);
+    hash.update(frame.body.as_slice());
+    hash.finalize()
+}
+
+/// Adds many folders to one profile, and prints how long one takes among the first and among the last.
+fn measure_folders<R: Print + Clock + AllocGlobal>(rt: &R) -> Result<(), Error> {
+    let alloc = rt.alloc();
+    let mut service = empty(alloc)?;
+    let _ = service.handle(requests::of_profile(alloc)?);
+    let last = FOLDERS - MEASURED;
+    let first = add_folders(rt, &mut service, 1, MEASURED + 1)?;
+    let between = add_folders(rt, &mut service, MEASURED + 1, last + 1)?;
+    let end = add_folders(rt, &mut service, last + 1, FOLDERS + 1)?;
+    let all = first.saturating_add(between).saturating_add(end) / FOLDERS as u128;
+    println!(rt; "service: {FOLDERS} folders of one profile, each in {all} nanoseconds")?;
+    println!(rt;
+        "  of the first thousand each in {} nanoseconds, of the last in {}; {} percent of the first",
+        first / MEASURED as u128,
+        end / MEASURED as u128,
+        percent(end, first)
+    )?;
+    Ok(())
+}
+
+/// How many nanoseconds the service takes for the folders under the numbers from one to before another.
+fn add_folders<R: Clock + AllocGlobal>(
+    rt: &R,
+    service: &mut Service,
+    from: u32,
+    to: u32,
+) -> Result<u128, Error> {
+    let frames = requests::of_folders(rt.alloc(), from, to)?;
+    let start = Instant::now(rt)?;
+    let replies = service.run(frames)?;
+    let took = start.elapsed(rt)?;
+    match replies.as_slice().last() {
+        Some(Reply::Node { id }) if id.saturating_add(1) == to => Ok(took.as_nanos()),
+        _ => None.context("a folder was refused"),
+    }
+}
