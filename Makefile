@@ -34,7 +34,7 @@ bench: build
 	@$(BENCH) service
 	@if command -v python3 > /dev/null 2>&1; then \
 	    python3 tests/bench/compare_export.py $(BENCH) && python3 tests/bench/compare_store.py $(BENCH) && \
-	    python3 tests/bench/compare_run.py $(PROGRAM) $(BENCH); \
+	    python3 tests/bench/compare_run.py $(PROGRAM) $(BENCH) && python3 tests/bench/memory_of_run.py $(PROGRAM); \
 	else $(BENCH) store; fi
 
 need_rt:

@@ -5,14 +5,14 @@ use Rattle.std.specs.Io.KnownBytes.{Keeps}
 use Rattle.std.proofs.KnownBytes.{Keeps-refl}
 use Rattle.std.proofs.lemmas.Bool.{eqb-true, eqb-false}
 use Rattle.droid_desk.specs.declared.ending.Ending.TheVariants.{Done, BadLine}
-use Rattle.droid_desk.specs.declared.script.fault.ScriptFault.{ScriptFault}
-use Rattle.droid_desk.specs.declared.script.fault.ScriptFault.TheVariants.{TooLong, Read, Memory, Write}
-use Rattle.droid_desk.specs.declared.script.tally.Tally.{Tally}
+use Rattle.droid_script.specs.declared.fault.ScriptFault.{ScriptFault}
+use Rattle.droid_script.specs.declared.fault.ScriptFault.TheVariants.{TooLong, Read, Memory, Write}
+use Rattle.droid_script.specs.declared.tally.Tally.{Tally}
 use Rattle.droid_core.specs.declared.service.Service.{Service}
 use Rattle.droid_history.specs.Setting.{Setting}
 use Rattle.droid_desk.specs.Endings.{ending_of, EndsAs, PrintsAll}
 use Rattle.droid_lines.specs.Lines.{lines_of}
-use Rattle.droid_desk.specs.Scripts.{RunsAll, RunsFront, Counts, IsOfReading, IsOfHandling, IsTooLong}
+use Rattle.droid_script.specs.Scripts.{RunsAll, RunsFront, Counts, IsOfReading, IsOfHandling, IsTooLong}
 
 pub keeps_same : (old new : Option (List ℕ)) → new ≡ old → Keeps old new
 keeps_same old new e = subst (Keeps old) (sym e) (Keeps-refl old)

@@ -9,9 +9,9 @@ use Rattle.clap.specs.declared.error.kind.ErrorKind.{ErrorKind}
 use Rattle.clap.specs.declared.error.kind.ErrorKind.TheVariants as words
 use Rattle.droid_desk.specs.declared.ending.Ending.{Ending}
 use Rattle.droid_desk.specs.declared.ending.Ending.TheVariants.{Done, Help, CommandLine, NoText, Registry, NoService, Script, Stream, Send, Socket, BadLine}
-use Rattle.droid_desk.specs.declared.script.fault.ScriptFault.{ScriptFault}
-use Rattle.droid_desk.specs.declared.script.fault.ScriptFault.TheVariants.{TooLong, Read, Memory, Write}
-use Rattle.droid_desk.specs.declared.script.tally.Tally.{Tally}
+use Rattle.droid_script.specs.declared.fault.ScriptFault.{ScriptFault}
+use Rattle.droid_script.specs.declared.fault.ScriptFault.TheVariants.{TooLong, Read, Memory, Write}
+use Rattle.droid_script.specs.declared.tally.Tally.{Tally}
 use Rattle.droid_core.specs.declared.service.Service.{Service}
 use Rattle.droid_history.specs.Identified.{IsOf}
 use Rattle.droid_history.specs.Limits.{Limits}
@@ -26,7 +26,7 @@ use Rattle.droid_store.specs.declared.fault.StoreFault.TheVariants as store_faul
 use Rattle.droid_frame.specs.declared.stream.fault.FrameFault.TheVariants as frame_faults
 use Rattle.droid_wire.specs.declared.fault.ServeFault.{ServeFault}
 use Rattle.droid_wire.specs.declared.fault.ServeFault.TheVariants as serve_faults
-use Rattle.droid_desk.specs.Scripts.{RunsAll, RunsFront, IsTooLong, is_bad}
+use Rattle.droid_script.specs.Scripts.{RunsAll, RunsFront, IsTooLong, is_bad}
 
 -- the exit status
 abbrev pub status_of : Ending → ℕ

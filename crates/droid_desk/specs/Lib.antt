@@ -1,6 +1,5 @@
 pub mod Endings
 pub mod Fresh
 pub mod Sample
-pub mod Scripts
 pub mod Sends
 pub mod Streams

@@ -10,9 +10,9 @@ ghost use Rattle.droid_desk.specs.Endings.{ending_of, EndsAs, EndsOver, IsProgra
 
 use crate::ending::Ending;
 use crate::sample::sample_registry;
-use crate::script::{ScriptFault, Tally, script};
 use droid_core::{Limits, Service};
 use droid_pronom::{Registry, RegistryFault};
+use droid_script::{ScriptFault, Tally, script};
 use droid_stream::{SteadyRead, SteadyWrite};
 use std::alloc::Global;
 

@@ -3,10 +3,10 @@
 ghost use Rattle.std.specs.Prelude.{◌≡◌};
 ghost use Rattle.droid_desk.specs.Endings.{status_of, name_of, stream_name_of};
 
-use crate::script::ScriptFault;
 use clap::Error;
 use droid_frame::FrameFault;
 use droid_pronom::RegistryFault;
+use droid_script::ScriptFault;
 use droid_sender::SendFault;
 use droid_store::StoreFault;
 use droid_wire::ServeFault;

@@ -10,7 +10,6 @@ mod help;
 mod port;
 mod program;
 mod sample;
-mod script;
 mod sending;
 mod stream;
 mod stream_help;

@@ -1,7 +1,7 @@
 use Rattle.std.proofs.Common.{[], IfErr, IfSome, ap, ◌∙◌, sym}
 use Rattle.std.specs.Io.KnownBytes.{Keeps}
 use Rattle.droid_desk.specs.Endings.{ending_of, EndsAs}
-use Rattle.droid_desk.specs.Scripts.{IsOfReading}
+use Rattle.droid_script.specs.Scripts.{IsOfReading}
 use Rattle.droid_desk.proofs.ScriptEndings.{ends, keeps_same, if_err_then}
 use Rattle.droid_desk.proofs.desk.run_script.Goals as goal
 

@@ -5,12 +5,12 @@ use Rattle.std.specs.Io.KnownBytes.{Appends}
 use Rattle.droid_frame.specs.types.frame.Frame.{Frame}
 use Rattle.droid_frame.specs.types.reply.Reply.{Reply}
 use Rattle.droid_frame.specs.Bodies.{request_kind, request_body}
-use Rattle.droid_desk.specs.declared.script.fault.ScriptFault.{ScriptFault}
-use Rattle.droid_desk.specs.declared.script.fault.ScriptFault.TheVariants.{TooLong, Read, Memory, Write}
+use Rattle.droid_script.specs.declared.fault.ScriptFault.{ScriptFault}
+use Rattle.droid_script.specs.declared.fault.ScriptFault.TheVariants.{TooLong, Read, Memory, Write}
 use Rattle.droid_stream.specs.declared.fault.InputFault.{InputFault}
 use Rattle.droid_stream.specs.declared.fault.InputFault.TheVariants as inputs
 use Rattle.droid_lines.specs.declared.parse.Line.{Line}
-use Rattle.droid_desk.specs.declared.script.tally.Tally.{Tally}
+use Rattle.droid_script.specs.declared.tally.Tally.{Tally}
 use Rattle.droid_core.specs.declared.service.Service.{Service}
 use Rattle.droid_history.specs.Setting.{Setting}
 use Rattle.droid_history.specs.Histories.{History, Handles}

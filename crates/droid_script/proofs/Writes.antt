@@ -2,7 +2,7 @@
 use Rattle.std.proofs.Common.{ℕ, ◌-◌, List, take, drop, Option, Some, None, Result, Ok, Err, sym, OnErr, IfErr, IfSome}
 use Rattle.std.proofs.lemmas.List.{take-append-drop}
 use Rattle.droid_stream.specs.Writes.{StopsWithin}
-use Rattle.droid_desk.specs.Scripts.{WritesFront}
+use Rattle.droid_script.specs.Scripts.{WritesFront}
 
 -- a write that stopped wrote the first bytes
 pub front_written : (old new : Option (List ℕ)) (text : List ℕ) (before count : ℕ) → StopsWithin old new text before count → WritesFront old new text

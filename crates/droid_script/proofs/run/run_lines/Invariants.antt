@@ -1,8 +1,8 @@
 use Rattle.std.proofs.Common.{◌≡◌, length, None}
 use Rattle.droid_stream.specs.Seen.{IsSound}
 use Rattle.droid_wire.specs.Over.{LastsOver}
-use Rattle.droid_desk.proofs.ScriptRuns.{Progress}
-use Rattle.droid_desk.proofs.script.run.run_lines.Given as goal
+use Rattle.droid_script.proofs.Runs.{Progress}
+use Rattle.droid_script.proofs.run.run_lines.Given as goal
 
 -- the first lines ran, and in their replies the writer lasted
 abbrev pub invariant-loop-line : goal.invariant-loop-line

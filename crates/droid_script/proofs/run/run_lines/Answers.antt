@@ -1,10 +1,10 @@
 use Rattle.std.proofs.Common.{rules, ◌≡◌, true, false, length, refl, arith}
-use Rattle.droid_desk.specs.Scripts.{is_bad}
+use Rattle.droid_script.specs.Scripts.{is_bad}
 use Rattle.droid_lines.specs.Lines.{lines_of}
-use Rattle.droid_desk.proofs.ScriptFaults.{lasts_once_more, told_none, told_over}
-use Rattle.droid_desk.proofs.ScriptRuns.{start, step, stop, line_is_left, lines_are_within}
-use Rattle.droid_desk.proofs.ScriptWrites.{on_err}
-use Rattle.droid_desk.proofs.script.run.run_lines.Goals as goal
+use Rattle.droid_script.proofs.Faults.{lasts_once_more, told_none, told_over}
+use Rattle.droid_script.proofs.Runs.{start, step, stop, line_is_left, lines_are_within}
+use Rattle.droid_script.proofs.Writes.{on_err}
+use Rattle.droid_script.proofs.run.run_lines.Goals as goal
 
 pub loop-line-init : goal.loop-line-init
 loop-line-init g c = record {

@@ -1,7 +1,7 @@
 use Rattle.std.proofs.Common.{◌≡◌, Some, sym, ◌∙◌}
 use Rattle.droid_lines.specs.Lines.{line_value}
-use Rattle.droid_desk.proofs.ScriptRuns.{frame_is, line_handled}
-use Rattle.droid_desk.proofs.script.run.handle_line.Goals as goal
+use Rattle.droid_script.proofs.Runs.{frame_is, line_handled}
+use Rattle.droid_script.proofs.run.handle_line.Goals as goal
 
 pub returns-clause-ok : goal.returns-clause-ok
 returns-clause-ok c = λ setting history stands.

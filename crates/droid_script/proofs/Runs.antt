@@ -11,14 +11,14 @@ use Rattle.droid_frame.specs.Bodies.{SpellsRequest, request_kind, request_body}
 use Rattle.droid_frame.specs.Frames.{frame_bytes, spelling}
 use Rattle.droid_frame.specs.types.reply.Reply.{Reply}
 use Rattle.droid_lines.specs.declared.parse.Line.{Line}
-use Rattle.droid_desk.specs.declared.script.tally.Tally.{Tally}
+use Rattle.droid_script.specs.declared.tally.Tally.{Tally}
 use Rattle.droid_core.specs.declared.service.Service.{Service}
 use Rattle.droid_history.specs.Setting.{Setting}
 use Rattle.droid_history.specs.Histories.{History, command, answer, next, Handles}
 use Rattle.droid_lines.specs.Lines.{lines_of}
 use Rattle.droid_lines.specs.Lines.{line_value}
 use Rattle.droid_lines.specs.Printed.{answer_line}
-use Rattle.droid_desk.specs.Scripts.{frame_of, ScriptRun, script_text, LineAnswered, WritesFront, RunsAll, RunsFront, is_bad, Counts, StandsForSome}
+use Rattle.droid_script.specs.Scripts.{frame_of, ScriptRun, script_text, LineAnswered, WritesFront, RunsAll, RunsFront, is_bad, Counts, StandsForSome}
 use Rattle.droid_core.specs.Standing.{StandsFor, limits_of, registry_of}
 use Rattle.droid_history.specs.Wants.{is_want}
 

@@ -1,11 +1,12 @@
 //! Scripts: requests as lines of text, and their replies as lines of text.
+#![tactic(auto)]
 
 ghost use Rattle.std.specs.Prelude.{◌≡◌, ◌≢◌, length, IfOk, IfSome, IfErr, OnOk, IsErrOf, IsErrAnd};
 ghost use Rattle.droid_stream.specs.Seen.{IsSound, TellsFault};
 ghost use Rattle.droid_history.specs.Histories.{History};
 ghost use Rattle.droid_history.specs.Setting.{Setting};
 ghost use Rattle.droid_lines.specs.Lines.{lines_of};
-ghost use Rattle.droid_desk.specs.Scripts.{RunsAll, RunsFront, Counts, IsOfHandling, IsOfReading, IsTooLong, StandsForSome};
+ghost use Rattle.droid_script.specs.Scripts.{RunsAll, RunsFront, Counts, IsOfHandling, IsOfReading, IsTooLong, StandsForSome};
 ghost use Rattle.droid_wire.specs.Over.{TellsFaultOver};
 ghost use Rattle.droid_core.specs.Standing.{StandsFor, limits_of, registry_of};
 

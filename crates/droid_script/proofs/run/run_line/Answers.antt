@@ -2,15 +2,15 @@ use Rattle.std.proofs.Common.{◌≡◌, [], ◌∷◌, sym, subst, ◌∙◌}
 use Rattle.std.specs.Io.KnownBytes.{Appends}
 use Rattle.droid_core.specs.declared.service.Service.{Service}
 use Rattle.droid_lines.specs.Printed.{answer_line}
-use Rattle.droid_desk.specs.Scripts.{RunsFront, WritesFront}
-use Rattle.droid_desk.proofs.ScriptRuns.{line_runs, line_runs_front, writes_nothing, runs_nothing}
-use Rattle.droid_desk.proofs.ScriptWrites.{front_written, on_err}
+use Rattle.droid_script.specs.Scripts.{RunsFront, WritesFront}
+use Rattle.droid_script.proofs.Runs.{line_runs, line_runs_front, writes_nothing, runs_nothing}
+use Rattle.droid_script.proofs.Writes.{front_written, on_err}
 use Rattle.std.proofs.Common.{rules}
 use Rattle.droid_stream.specs.Seen.{Counts}
 use Rattle.droid_stream.proofs.Scopes.{counts_none, is_error, told_fault, told_none}
 use Rattle.droid_stream.proofs.Stopping.{given_up_only, room_stays}
-use Rattle.droid_desk.specs.declared.script.fault.ScriptFault.TheVariants.{Write}
-use Rattle.droid_desk.proofs.script.run.run_line.Goals as goal
+use Rattle.droid_script.specs.declared.fault.ScriptFault.TheVariants.{Write}
+use Rattle.droid_script.proofs.run.run_line.Goals as goal
 
 pub returns-in_err-answer-clause-front : goal.returns-in_err-answer-clause-front
 returns-in_err-answer-clause-front g c = λ setting history stands.

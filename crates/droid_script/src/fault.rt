@@ -24,7 +24,7 @@ pub enum ScriptFault {
 }
 
 impl From<AllocError> for ScriptFault {
-    ghost use Rattle.droid_desk.specs.declared.script.fault.ScriptFault.TheVariants.{Memory};
+    ghost use Rattle.droid_script.specs.declared.fault.ScriptFault.TheVariants.{Memory};
 
     ghost from_gives = { λ _ fault. fault ≡ Memory };
 
@@ -34,7 +34,7 @@ impl From<AllocError> for ScriptFault {
 }
 
 impl From<InputFault> for ScriptFault {
-    ghost use Rattle.droid_desk.specs.Scripts.{reading_fault};
+    ghost use Rattle.droid_script.specs.Scripts.{reading_fault};
 
     ghost from_gives = { λ input fault. fault ≡ reading_fault input };
 
@@ -48,7 +48,7 @@ impl From<InputFault> for ScriptFault {
 }
 
 impl From<WriteFault> for ScriptFault {
-    ghost use Rattle.droid_desk.specs.declared.script.fault.ScriptFault.TheVariants.{Write};
+    ghost use Rattle.droid_script.specs.declared.fault.ScriptFault.TheVariants.{Write};
 
     ghost from_gives = { λ _ fault. fault ≡ Write };
 

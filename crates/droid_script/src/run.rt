@@ -5,12 +5,12 @@ ghost use Rattle.droid_stream.specs.Seen.{IsSound, TellsFault};
 ghost use Rattle.droid_history.specs.Histories.{History};
 ghost use Rattle.droid_history.specs.Setting.{Setting};
 ghost use Rattle.droid_lines.specs.Lines.{lines_of, line_value};
-ghost use Rattle.droid_desk.specs.Scripts.{RunsAll, RunsFront, LineAnswered, Counts, IsOfHandling, is_bad};
+ghost use Rattle.droid_script.specs.Scripts.{RunsAll, RunsFront, LineAnswered, Counts, IsOfHandling, is_bad};
 ghost use Rattle.droid_wire.specs.Over.{TellsFaultOver};
 ghost use Rattle.droid_core.specs.Standing.{StandsFor, limits_of, registry_of};
 
-use super::fault::ScriptFault;
-use super::tally::Tally;
+use crate::fault::ScriptFault;
+use crate::tally::Tally;
 use droid_core::Service;
 use droid_frame::{Reply, request_frame};
 use droid_lines::{next_line, parse_line, print_answer};

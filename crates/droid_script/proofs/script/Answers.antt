@@ -1,10 +1,10 @@
 use Rattle.std.proofs.Common.{List, ℕ, IfSome}
-use Rattle.droid_desk.specs.declared.script.fault.ScriptFault.{ScriptFault}
+use Rattle.droid_script.specs.declared.fault.ScriptFault.{ScriptFault}
 use Rattle.droid_lines.specs.Lines.{lines_of}
-use Rattle.droid_desk.specs.Scripts.{RunsFront, IsOfHandling}
-use Rattle.droid_desk.proofs.ScriptRuns.{runs_nothing, kept_up}
-use Rattle.droid_desk.proofs.ScriptWrites.{if_err, if_some}
-use Rattle.droid_desk.proofs.script.script.Goals as goal
+use Rattle.droid_script.specs.Scripts.{RunsFront, IsOfHandling}
+use Rattle.droid_script.proofs.Runs.{runs_nothing, kept_up}
+use Rattle.droid_script.proofs.Writes.{if_err, if_some}
+use Rattle.droid_script.proofs.script.Goals as goal
 
 pub returns-in_err-input-clause-front : goal.returns-in_err-input-clause-front
 returns-in_err-input-clause-front g c = λ setting history stands.
