@@ -44,13 +44,14 @@ fn is_made(answer: Option<&Reply>, wanted: Option<u32>) -> bool {
 fn client_core(rt: HostRuntime) -> Result<(), Fail> {
     let one = [0, 0, 0, 1];
     let refused = Some(Refusal::Memory);
-    let steps: [(Arriving, Heard, usize, Option<u32>, Option<Refusal>); 9] = [
+    let steps: [(Arriving, Heard, usize, Option<u32>, Option<Refusal>); 10] = [
         ((1, 2, MADE, &one), Heard::Stranger, 1, None, None),
         ((2, 1, MADE, &one), Heard::Stranger, 1, None, None),
         ((1, 1, REFUSED, &[18]), Heard::Refused, 1, None, refused),
         ((1, 1, NODE, &one), Heard::Stranger, 1, None, refused),
         ((1, 1, MADE, &one), Heard::Answered, 0, Some(1), refused),
         ((1, 1, MADE, &one), Heard::Repeated, 0, Some(1), refused),
+        ((1, 1, REFUSED, &[18]), Heard::Repeated, 0, Some(1), refused),
         ((1, 1, REFUSED, &[19]), Heard::Repeated, 0, Some(1), refused),
         ((1, 1, NODE, &one), Heard::Stranger, 0, Some(1), refused),
         ((1, 0, MADE, &one), Heard::Stranger, 0, Some(1), refused),

@@ -2,7 +2,7 @@
 
 ghost use Rattle.std.specs.Prelude.{◌≡◌, IfOk, None};
 
-use droid_assembly::Assembly;
+use droid_assembly::{Assembly, Spent};
 use droid_frame::Blob;
 use md5::{Digest, Md5};
 use std::alloc::{AllocError, Global};
@@ -80,6 +80,19 @@ pub fn take_all(assembly: &mut Assembly, pieces: Vec<Piece>) -> bool
     true
 }
 
+/// Takes the pieces one after another and keeps what is handed back, and tells whether none was refused.
+pub fn keep_all(assembly: &mut Assembly, pieces: Vec<Piece>, kept: &mut Vec<Spent>) -> bool
+    requires { assembly.old.pending ≡ None }
+    ensures { assembly.new.pending ≡ None }
+{
+    for piece in pieces {
+        if !keep(assembly, piece, kept) {
+            return false;
+        }
+    }
+    true
+}
+
 /// The digest of the file that the pieces make, if they do.
 pub fn digest_of(assembly: &mut Assembly) -> Option<[u8; 16]>
     requires { assembly.old.pending ≡ None }
@@ -98,6 +111,17 @@ fn take(assembly: &mut Assembly, piece: Piece) -> bool
     }
     let _ = assembly.settle();
     true
+}
+
+/// Takes one piece and keeps what is handed back, unless the piece is refused.
+fn keep(assembly: &mut Assembly, piece: Piece, kept: &mut Vec<Spent>) -> bool
+    requires { assembly.old.pending ≡ None }
+    ensures { assembly.new.pending ≡ None }
+{
+    if assembly.put(piece.index, piece.bytes).is_err() {
+        return false;
+    }
+    kept.push(assembly.settle()).is_ok()
 }
 
 /// The digest of these bytes so many times, in blocks of so many.

@@ -2,4 +2,13 @@
 #![tactic(auto)]
 
 #[cfg(test)]
+mod frames;
+#[cfg(test)]
+mod memory;
+#[cfg(test)]
 mod sample;
+#[cfg(test)]
+mod sending;
+#[cfg(test)]
+#[cfg(test)]
+mod stopping;

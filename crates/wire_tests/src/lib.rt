@@ -4,6 +4,13 @@
 #[cfg(test)]
 mod loopback;
 #[cfg(test)]
+mod memory;
+#[cfg(test)]
 mod rows;
+#[cfg(test)]
+mod sending;
+#[cfg(test)]
+#[cfg(test)]
+mod stopping;
 #[cfg(test)]
 mod vectors;

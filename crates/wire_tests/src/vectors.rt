@@ -44,12 +44,28 @@ pub fn joined(alloc: Global, parts: &[&[u8]]) -> Result<Vec<u8>, AllocError> {
     Ok(bytes)
 }
 
-/// An empty service with no format.
+/// The frame that refuses a request of client 1 by a number without a detail.
+pub fn refused(number: u8, refusal: u8) -> [u8; 19] {
+    let mut frame = MALFORMED;
+    frame[13] = number;
+    frame[18] = refusal;
+    frame
+}
+
+const LIMITS: Limits = Limits {
+    profiles: 64,
+    nodes: 100_000,
+    unfinished: 64,
+};
+
+/// An empty service with no format. What finds no memory is tried once more.
 pub fn service(alloc: Global) -> Result<Service, Fail> {
-    let limits = Limits {
-        profiles: 64,
-        nodes: 100_000,
-        unfinished: 64,
-    };
-    Ok(Service::new(alloc, Registry::parse(alloc, b"")?, limits)?)
+    if let Ok(service) = Service::new(alloc, registry(alloc)?, LIMITS) {
+        return Ok(service);
+    }
+    Ok(Service::new(alloc, registry(alloc)?, LIMITS)?)
+}
+
+fn registry(alloc: Global) -> Result<Registry, Fail> {
+    Ok(Registry::parse(alloc, b"").or_else(|_| Registry::parse(alloc, b""))?)
 }

@@ -1,0 +1,85 @@
+// The test passes too where any one allocation is refused: tests/memory refuses each in turn.
+//! Want of memory while a stream is served: it ends the stream where a frame can't be kept, with all frames before it
+//! answered, or it is the answer to one request; and the same stream again is answered as it would have been.
+
+use crate::vectors::{
+    CREATE, FOLDER, MADE, NODE, NUMBER_REUSED, OTHER_FOLDER, joined, refused, service,
+};
+use droid_core::Service;
+use droid_frame::FrameFault;
+use droid_wire::{Ended, ServeFault, serve};
+use std::alloc::{AllocError, Global};
+use std::test::Fail;
+
+const ANSWERS: [&[u8]; 4] = [&MADE, &NODE, &NODE, &NUMBER_REUSED];
+
+fn requests(alloc: Global) -> Result<Vec<u8>, AllocError> {
+    joined(alloc, &[&CREATE, &FOLDER, &FOLDER, &OTHER_FOLDER])
+}
+
+/// Serves these frames into this buffer, so that writing takes no memory; how it ended, and how many bytes were
+/// written.
+fn served(
+    alloc: Global,
+    service: &mut Service,
+    requests: &[u8],
+    buffer: &mut [u8],
+) -> (Result<Ended, ServeFault>, usize) {
+    let mut input = requests;
+    let room = buffer.len();
+    let mut left = buffer;
+    let ended = serve(alloc, service, &mut input, &mut left, 9);
+    (ended, room.saturating_sub(left.len()))
+}
+
+/// Whether these bytes are these frames, one after the other.
+fn are_joined(bytes: &[u8], frames: &[&[u8]]) -> bool {
+    let mut rest = bytes;
+    for frame in frames {
+        match rest.strip_prefix(*frame) {
+            Some(others) => rest = others,
+            None => return false,
+        }
+    }
+    rest.is_empty()
+}
+
+/// Whether memory (18) was refused to one of the requests; without a profile the others find none (3).
+fn are_wanting(bytes: &[u8]) -> bool {
+    let (first, second, no_profile) = (refused(1, 18), refused(2, 18), refused(2, 3));
+    let rows: [[&[u8]; 4]; 4] = [
+        [&first, &no_profile, &no_profile, &no_profile],
+        [&MADE, &second, &NODE, &NUMBER_REUSED],
+        [&MADE, &NODE, &second, &NUMBER_REUSED],
+        [&MADE, &NODE, &NODE, &second],
+    ];
+    rows.iter().any(|row| are_joined(bytes, row))
+}
+
+/// Whether serving ended early for want of memory, or one request was refused for it.
+fn wants(ended: Result<Ended, ServeFault>, written: &[u8]) -> bool {
+    match ended {
+        Ok(Ended::Closed) => are_wanting(written),
+        Err(ServeFault::Frame(FrameFault::Memory)) => {
+            (0..4).any(|count| are_joined(written, &ANSWERS[..count.min(4)]))
+        }
+        _ => false,
+    }
+}
+
+#[test]
+fn each_growth_of_serving(rt: HostRuntime) -> Result<(), Fail> {
+    let alloc = rt.alloc();
+    let mut service = service(alloc)?;
+    let requests = requests(alloc).or_else(|_| requests(alloc))?;
+    let mut buffer = [0; 128];
+    for _ in 0..2 {
+        let (ended, count) = served(alloc, &mut service, requests.as_slice(), &mut buffer);
+        let written = &buffer[..count.min(128)];
+        if ended == Ok(Ended::Closed) && are_joined(written, &ANSWERS) {
+            return Ok(());
+        }
+        assert!(rt; wants(ended, written), "{ended:?} {written:?}");
+    }
+    panic!(rt; "memory was refused twice");
+}
