@@ -31,6 +31,7 @@ test: need_rt
 bench: build
 	@cd crates/droid_bench && $(RT) run -- times
 	@$(BENCH) assembly
+	@$(BENCH) patterns
 	@$(BENCH) service
 	@if command -v python3 > /dev/null 2>&1; then \
 	    python3 tests/bench/compare_export.py $(BENCH) && python3 tests/bench/compare_store.py $(BENCH) && \

@@ -3,8 +3,8 @@
 //! file and many folders cost a service.
 //!
 //! Without a word on the command line it prints what came out; with the word `times` how long it took too; with the
-//! word `text` the text of the export alone; with the words `store`, `assembly` and `service` the times of those
-//! alone. With the words `frames folders`, `frames status` and `frames pieces` it writes such frames, and with the
+//! word `text` the text of the export alone; with the words `store`, `assembly`, `patterns` and `service` the times of
+//! those alone. With the words `frames folders`, `frames status` and `frames pieces` it writes such frames, and with the
 //! word `answer` it answers the frames on its input in memory, and prints how long that took.
 #![tactic(auto)]
 
@@ -13,6 +13,7 @@ mod bytes;
 mod export;
 mod files;
 mod generated;
+mod patterns;
 mod requests;
 mod service;
 mod store;
@@ -38,6 +39,9 @@ fn main(rt: HostRuntime) -> Result<(), Error> {
     }
     if wants(&rt, "assembly")? {
         return files::measure(&rt);
+    }
+    if wants(&rt, "patterns")? {
+        return patterns::measure(&rt);
     }
     if wants(&rt, "service")? {
         return service::measure(&rt);

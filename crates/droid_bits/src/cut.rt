@@ -18,7 +18,7 @@ pub(crate) fn bound(words: &mut Vec<u64>, last: usize)
 }
 
 /// Drops the places past `last` of the last word.
-fn clear_past(words: &mut [u64], last: usize)
+pub(crate) fn clear_past(words: &mut [u64], last: usize)
     requires { length words.old ≤ last / 64 + 1 }
     ensures len { length words.new ≡ length words.old }
     ensures places { (p : ℕ) → IsPlace words.new p ↔ (IsPlace words.old p × (p ≤ last)) }

@@ -5,6 +5,7 @@ mod both;
 mod cross;
 mod cut;
 mod ends;
+mod kept;
 mod row;
 mod run;
 mod shift;

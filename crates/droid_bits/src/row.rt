@@ -6,6 +6,7 @@ ghost use Rattle.droid_bits.specs.Places.{IsPlace};
 use crate::both::{join, keep};
 use crate::cross::{cross, step};
 use crate::ends::has_none;
+use crate::kept::keep_step;
 use crate::run::push_runs;
 use std::alloc::{AllocError, Global};
 use std::marker::Model;
@@ -81,6 +82,13 @@ impl Row {
         ensures { (p : ℕ) → IsPlace self.new p ↔ (IsPlace self.old p × IsPlace other.now p) }
     {
         keep(&mut self.words, &other.words);
+    }
+
+    /// Keeps the places that the other has too, and moves each by one.
+    pub fn keep_step(&mut self, other: &Row) -> Result<(), AllocError>
+        ensures { OnOk result ((q : ℕ) → IsPlace self.new q ↔ ((p : ℕ) × IsPlace self.old p × IsPlace other.now p × (q ≡ p + 1))) }
+    {
+        keep_step(&mut self.words, &other.words)
     }
 
     /// Adds the places of the other.

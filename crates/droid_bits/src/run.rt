@@ -1,9 +1,10 @@
 //! Words whose bits stand next to each other.
 
-ghost use Rattle.std.specs.Prelude.{◌≡◌, ◌↔◌, ◌<◌, ◌≤◌, ◌-◌, ◌^◌, ℕ, OnOk};
+ghost use Rattle.std.specs.Prelude.{◌≡◌, ◌↔◌, ◌<◌, ◌≤◌, ◌-◌, ◌^◌, ℕ, OnOk, length};
 ghost use Rattle.std.specs.Int.{bit_at};
 ghost use Rattle.droid_bits.specs.Places.{IsPlace};
 
+use crate::cut::clear_past;
 use std::alloc::AllocError;
 
 /// The word with the bits from `low` on that lie below `high`.
@@ -35,12 +36,21 @@ pub(crate) fn push_runs(words: &mut Vec<u64>, low: usize, high: usize) -> Result
     ensures { OnOk result ((p : ℕ) → IsPlace words.new.items p ↔ ((low ≤ p) × (p ≤ high))) }
 {
     words.clear();
-    let count = high / 64 + 1;
-    words.reserve(count + 1)?;
-    for place in 0..count {
-        let start = 64 * place;
-        let word = run_of(low.saturating_sub(start), (high + 1).saturating_sub(start));
-        words.push(word)?;
-    }
+    words.resize(high / 64 + 1, run_of(0, 64))?;
+    clear_before(words, low);
+    clear_past(words, high);
     Ok(())
+}
+
+/// Drops the places before `first`.
+fn clear_before(words: &mut [u64], first: usize)
+    ensures len { length words.new ≡ length words.old }
+    ensures places { (p : ℕ) → IsPlace words.new p ↔ (IsPlace words.old p × (first ≤ p)) }
+{
+    for place in 0..words.len().min(first / 64) {
+        words[place] = 0;
+    }
+    if first / 64 < words.len() {
+        words[first / 64] &= run_of(first % 64, 64);
+    }
 }

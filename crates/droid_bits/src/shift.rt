@@ -22,6 +22,28 @@ fn moved(words: &[u64], place: usize, whole: usize, part: u32) -> u64
     high | (words[place - whole - 1] >> (64 - part))
 }
 
+/// The same where words before it give it bits.
+#[inline(always)]
+fn joined(words: &[u64], place: usize, whole: usize, part: u32) -> u64
+    requires inside { (whole < place) × (place < length words.now) }
+    requires part { (0 < part) × (part < 64) }
+    ensures { (i : ℕ) → i < 64 → (bit_at result i ≡ 1)
+        ↔ ((64 * whole + part ≤ 64 * place + i) × IsPlace words.now (64 * place + i - (64 * whole + part))) }
+{
+    (words[place - whole] << part) | (words[place - whole - 1] >> (64 - part))
+}
+
+/// How many words at the front don't take bits of two words before them.
+fn edge(len: usize, whole: usize, part: u32) -> usize
+    ensures most { result ≤ len }
+    ensures rest { result < len → (whole < result) × (0 < part) }
+{
+    if part == 0 {
+        return len;
+    }
+    len.min(whole.saturating_add(1))
+}
+
 /// Moves each place by `count`; what comes to lie past the last word is lost.
 pub(crate) fn advance(words: &mut [u64], count: usize)
     ensures len { length words.new ≡ length words.old }
@@ -29,7 +51,11 @@ pub(crate) fn advance(words: &mut [u64], count: usize)
 {
     let whole = count / 64;
     let part = (count % 64) as u32;
-    for place in (0..words.len()).rev() {
+    let edge = edge(words.len(), whole, part);
+    for place in (edge..words.len()).rev() {
+        words[place] = joined(words, place, whole, part);
+    }
+    for place in (0..edge).rev() {
         words[place] = moved(words, place, whole, part);
     }
 }
@@ -41,7 +67,11 @@ fn spread(words: &mut [u64], count: usize)
 {
     let whole = count / 64;
     let part = (count % 64) as u32;
-    for place in (0..words.len()).rev() {
+    let edge = edge(words.len(), whole, part);
+    for place in (edge..words.len()).rev() {
+        words[place] |= joined(words, place, whole, part);
+    }
+    for place in (0..edge).rev() {
         words[place] |= moved(words, place, whole, part);
     }
 }

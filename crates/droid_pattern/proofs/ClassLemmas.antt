@@ -1,14 +1,15 @@
 -- Rows of the places behind which a byte of a class stands.
-use Rattle.std.proofs.Common.{◌≡◌, ◌↔◌, ◌⊎◌, ℕ, ◌+◌, ◌*◌, ◌-◌, ◌/◌, ◌%◌, ◌^◌, ◌<◌, ◌≤◌, true, List, [], ◌∷◌, ◌++◌, length, get_or, w64, inl, inr, ⊎_elim, refl, sym, ap, ◌∙◌, arith, length-append}
-use Rattle.std.proofs.lemmas.Bool.{cases_lt, cases_eq}
+use Rattle.std.proofs.Common.{◌≡◌, ◌↔◌, ◌⊎◌, ℕ, ◌+◌, ◌*◌, ◌-◌, ◌/◌, ◌%◌, ◌^◌, ◌<◌, ◌≤◌, true, List, [], ◌∷◌, ◌++◌, length, get_or, w64, inl, inr, ⊎_elim, sym, ap, ◌∙◌, arith, length-append}
+use Rattle.std.proofs.lemmas.Bool.{cases_lt, cases_eq, leb-true, le-leb, and_parts, and_from}
 use Rattle.std.proofs.lemmas.List.{get_or_append_left, get_or-append_right}
 use Rattle.std.proofs.lemmas.Nat.Bits.{bit_at_set_same, bit_at_set_other, bit_at-zero}
-use Rattle.std.specs.Prelude.{bit_or}
+use Rattle.std.specs.Prelude.{bit_or, nat_le, ◌&&◌}
 use Rattle.std.specs.Int.{bit_at}
 use Rattle.droid_bits.specs.Places.{IsPlace}
 use Rattle.droid_bits.proofs.BitLemmas.{place_same, place_bit}
 use Rattle.droid_pattern.specs.declared.toward.Toward.{Toward}
 use Rattle.droid_pattern.specs.declared.class.Class.{Class}
+use Rattle.droid_pattern.specs.declared.class.Class.TheVariants as classes
 use Rattle.droid_pattern.specs.Parts.{accepts}
 use Rattle.droid_pattern.specs.Positions.{IsRowOf, byte_behind}
 
@@ -82,4 +83,42 @@ pub kept_by : (way : Toward) (bytes : List ℕ) (class wanted : Class) (old row 
 kept_by way bytes class wanted old row new is long says inside both p = (
   λ h. let b = (both p).0 h in let near = inside p b.0 in let w = (says p (omega arith)).0 b.1 in (b.0, w.0, rw is at w.1),
   λ (there, near, passes). (both p).1 (there, (says p (let close = inside p there in omega arith)).1 (near, rw is passes)),
+)
+
+-- the places after a byte of the class
+pub one_by : (way : Toward) (bytes : List ℕ) (class wanted : Class) (old row new : List ℕ) → class ≡ wanted → length old ≤ length row → IsRowOf way bytes class row
+    → ((p : ℕ) → IsPlace old p → p < 64 * length old)
+    → ((q : ℕ) → IsPlace new q ↔ ((p : ℕ) × IsPlace old p × IsPlace row p × (q ≡ p + 1)))
+    → (q : ℕ) → IsPlace new q ↔ ((p : ℕ) × IsPlace old p × (q ≡ p + 1) × (p < length bytes) × (accepts wanted (byte_behind way bytes p) ≡ true))
+one_by way bytes class wanted old row new is long says inside both q = (
+  λ h. let (p, there, kept, next) = (both q).0 h in let near = inside p there in let w = (says p (omega arith)).0 kept in (p, there, next, w.0, rw is at w.1),
+  λ (p, there, next, near, passes). (both q).1 (p, there, (says p (let close = inside p there in omega arith)).1 (near, rw is passes), next),
+)
+
+-- a number of a range is one from its first number on, up to its last one
+in_halves : (low high x : ℕ) → high < 256 → (nat_le low x && nat_le x high ≡ true) → (nat_le low x && nat_le x 255 ≡ true) × (nat_le 0 x && nat_le x high ≡ true)
+in_halves low high x small passes =
+    let both = and_parts (nat_le low x) (nat_le x high) passes in
+    let under = leb-true x high both.1 in (
+      and_from (nat_le low x) (nat_le x 255) both.0 (le-leb x 255 (omega arith)),
+      and_from (nat_le 0 x) (nat_le x high) (le-leb 0 x (omega arith)) both.1,
+    )
+
+of_halves : (low high x : ℕ) → (nat_le low x && nat_le x 255 ≡ true) → (nat_le 0 x && nat_le x high ≡ true) → (nat_le low x && nat_le x high ≡ true)
+of_halves low high x above below =
+    and_from (nat_le low x) (nat_le x high) (and_parts (nat_le low x) (nat_le x 255) above).0 (and_parts (nat_le 0 x) (nat_le x high) below).1
+
+-- so the places after a byte of a range come by two rows
+pub one_range : (way : Toward) (bytes : List ℕ) (low high : ℕ) (old mid new : List ℕ) → high < 256
+    → ((p : ℕ) → IsPlace mid p ↔ (IsPlace old p × (p < length bytes) × (accepts (classes.Range low 255) (byte_behind way bytes p) ≡ true)))
+    → ((q : ℕ) → IsPlace new q ↔ ((p : ℕ) × IsPlace mid p × (q ≡ p + 1) × (p < length bytes) × (accepts (classes.Range 0 high) (byte_behind way bytes p) ≡ true)))
+    → (q : ℕ) → IsPlace new q ↔ ((p : ℕ) × IsPlace old p × (q ≡ p + 1) × (p < length bytes) × (accepts (classes.Range low high) (byte_behind way bytes p) ≡ true))
+one_range way bytes low high old mid new small keeps steps q = (
+  λ h.
+      let (p, there, next, near, below) = (steps q).0 h in
+      let (place, inside, above) = (keeps p).0 there in
+      (p, place, next, near, of_halves low high (byte_behind way bytes p) above below),
+  λ (p, place, next, near, passes).
+      let both = in_halves low high (byte_behind way bytes p) small passes in
+      (steps q).1 (p, (keeps p).1 (place, near, both.0), next, near, both.1),
 )

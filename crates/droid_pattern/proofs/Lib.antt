@@ -1,6 +1,7 @@
 pub mod ClassLemmas
 pub mod FaultLemmas
 pub mod FrontLemmas
+pub mod HeadLemmas
 pub mod LangTests
 pub mod PathLemmas
 pub mod RunLemmas

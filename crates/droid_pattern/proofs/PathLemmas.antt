@@ -1,17 +1,12 @@
 -- Whole patterns: from position to position, over one element after another.
-use Rattle.std.proofs.Common.{◌≡◌, ◌↔◌, ℕ, ◌+◌, ◌-◌, ◌<◌, ◌≤◌, min, Bool, true, false, not, get_or, List, [], ◌∷◌, ◌++◌, length, take, drop, map, inl, refl, sym, ap, ◌∙◌, arith, take-add, drop-drop, take_at, drop_at, take-take, length-append, length-take, length-drop}
+use Rattle.std.proofs.Common.{◌≡◌, ◌↔◌, ℕ, ◌+◌, ◌-◌, ◌<◌, ◌≤◌, min, Bool, true, false, not, get_or, List, [], ◌∷◌, ◌++◌, length, take, drop, map, refl, sym, ap, ◌∙◌, arith, take-add, drop-drop, take_at, drop_at, take-take, length-append, length-take, length-drop}
 use Rattle.std.proofs.lemmas.List.{drop-take, drop_more, take_rest, take_more, take_all, map-append}
-use Rattle.std.proofs.lemmas.Bool.{false≢true, not-true, not_from_false, false_from_ne_true}
+use Rattle.std.proofs.lemmas.Bool.{not-true, not_from_false, false_from_ne_true}
 use Rattle.droid_pattern.specs.declared.toward.Toward.{Toward}
 use Rattle.droid_pattern.specs.declared.toward.Toward.TheVariants as toward
 use Rattle.droid_pattern.specs.Patterns.{Element, Lang, BeginsWithin, EndsWithin, MatchesTo}
-use Rattle.droid_pattern.specs.Positions.{Leads, Reaches, IsAt, IsInside, place_of}
+use Rattle.droid_pattern.specs.Positions.{Path, Reaches, IsAt, IsInside, place_of}
 use Rattle.droid_bits.specs.Places.{IsPlace}
-
--- from p to q, over one element after another
-abbrev pub Path : List Element → List ℕ → ℕ → ℕ → Type 0
-Path [] bytes p q = p ≡ q
-Path (e ∷ es) bytes p q = (r : ℕ) × Leads e bytes p r × Path es bytes r q
 
 -- where a list that is cut in two begins and goes on
 cut : (k : ℕ) (xs front back : List ℕ) → k ≤ length xs → take k xs ≡ front ++ back

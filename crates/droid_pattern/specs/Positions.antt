@@ -1,5 +1,5 @@
 -- Sets of positions in the bytes, and how an element leads from one to another.
-use Rattle.std.specs.Prelude.{◌≡◌, ◌↔◌, ℕ, ◌+◌, ◌-◌, ◌*◌, ◌≤◌, ◌<◌, true, List, length, take, drop, slice_index, All}
+use Rattle.std.specs.Prelude.{◌≡◌, ◌↔◌, ℕ, ◌+◌, ◌-◌, ◌*◌, ◌≤◌, ◌<◌, true, List, [], ◌∷◌, length, take, drop, slice_index, All}
 use Rattle.droid_bits.specs.Places.{IsPlace}
 use Rattle.droid_pattern.specs.declared.toward.Toward.{Toward}
 use Rattle.droid_pattern.specs.declared.toward.Toward.TheVariants as toward
@@ -55,3 +55,8 @@ abbrev pub IsChain : Toward → (bytes literal : List ℕ) → ℕ → (old new 
 IsChain way bytes literal count old new =
     (q : ℕ) → IsPlace new q ↔ ((p : ℕ) × IsPlace old p × (q ≡ p + count)
     × ((j : ℕ) → j < count → (p + j < length bytes) × (byte_behind way bytes (p + j) ≡ byte_behind way literal j)))
+
+-- from p to q, over one element after another
+abbrev pub Path : List Element → List ℕ → ℕ → ℕ → Type 0
+Path [] bytes p q = p ≡ q
+Path (e ∷ es) bytes p q = (r : ℕ) × Leads e bytes p r × Path es bytes r q

@@ -75,6 +75,18 @@ fn word_of(class: Class, place: usize, bytes: &[u8], toward: Toward) -> u64
         ↔ ((64 * place + i < length bytes.now) × (accepts class (byte_behind toward bytes.now (64 * place + i)) ≡ true)) }
 {
     let start = place.saturating_mul(64);
+    let absent = toward.lacks(class, bytes, start);
+    if absent {
+        return 0;
+    }
+    word_by_byte(class, start, bytes, toward)
+}
+
+/// The bits of 64 bytes behind so many others: which of them are of the class.
+fn word_by_byte(class: Class, start: usize, bytes: &[u8], toward: Toward) -> u64
+    ensures { (i : ℕ) → i < 64 → (bit_at result i ≡ 1)
+        ↔ ((start + i < length bytes.now) × (accepts class (byte_behind toward bytes.now (start + i)) ≡ true)) }
+{
     let mut word = 0;
     for i in 0..bytes.len().saturating_sub(start).min(64) {
         if class.accepts(toward.byte_behind(bytes, start + i)) {
@@ -84,8 +96,68 @@ fn word_of(class: Class, place: usize, bytes: &[u8], toward: Toward) -> u64
     word
 }
 
+/// Makes the places those after a step over one byte of the class.
+pub(crate) fn one(
+    rows: &mut Vec<ClassRow>,
+    row: &mut Row,
+    class: Class,
+    alloc: Global,
+    bytes: &[u8],
+    toward: Toward,
+) -> Result<(), AllocError>
+    requires rows { AreRowsOf toward bytes.now rows.old.items }
+    ensures rows { AreRowsOf toward bytes.now rows.new.items }
+    ensures moved { OnOk result ((q : ℕ) → IsPlace row.new q ↔ ((p : ℕ) × IsPlace row.old p × (q ≡ p + 1)
+        × (p < length bytes.now) × (accepts class (byte_behind toward bytes.now p) ≡ true))) }
+{
+    match class {
+        // By the rows of its first and of its last byte, so that there are few rows however many ranges there are.
+        Class::Range { low, high } => {
+            keep_class(
+                rows,
+                row,
+                Class::Range { low, high: 255 },
+                alloc,
+                bytes,
+                toward,
+            )?;
+            step_class(
+                rows,
+                row,
+                Class::Range { low: 0, high },
+                alloc,
+                bytes,
+                toward,
+            )
+        }
+        Class::Byte(_) | Class::Except(_) => step_class(rows, row, class, alloc, bytes, toward),
+    }
+}
+
+/// The same by one row.
+fn step_class(
+    rows: &mut Vec<ClassRow>,
+    row: &mut Row,
+    class: Class,
+    alloc: Global,
+    bytes: &[u8],
+    toward: Toward,
+) -> Result<(), AllocError>
+    requires rows { AreRowsOf toward bytes.now rows.old.items }
+    ensures rows { AreRowsOf toward bytes.now rows.new.items }
+    ensures moved { OnOk result ((q : ℕ) → IsPlace row.new q ↔ ((p : ℕ) × IsPlace row.old p × (q ≡ p + 1)
+        × (p < length bytes.now) × (accepts class (byte_behind toward bytes.now p) ≡ true))) }
+{
+    let slot = class.slot();
+    fill_slots(rows, alloc, slot + 1, bytes, toward)?;
+    // A word more than it has, so that what is kept moves in the same pass.
+    let count = row.len().saturating_add(1);
+    rows[slot].prepare(alloc, class, count, bytes, toward)?;
+    row.keep_step(&rows[slot].row)
+}
+
 /// Keeps of a row the places behind which a byte of the class stands.
-pub(crate) fn keep_class(
+fn keep_class(
     rows: &mut Vec<ClassRow>,
     row: &mut Row,
     class: Class,

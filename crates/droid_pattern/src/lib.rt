@@ -4,6 +4,7 @@
 mod class;
 mod classes;
 mod fault;
+mod head;
 mod part;
 mod pattern;
 mod reading;

@@ -1,13 +1,13 @@
 //! An element of a pattern, as it is kept.
 
-ghost use Rattle.std.specs.Prelude.{◌≡◌, OnOk, map};
+ghost use Rattle.std.specs.Prelude.{◌≡◌, ◌↔◌, ◌+◌, ℕ, IfSome, IsTrue, OnOk, map};
 ghost use Rattle.droid_pattern.specs.Patterns.{is_gap, has_byte};
 ghost use Rattle.droid_pattern.specs.Parts.{element_of};
-ghost use Rattle.droid_pattern.specs.Positions.{Reaches, IsAt, IsInside, AreRowsOf};
+ghost use Rattle.droid_pattern.specs.Positions.{Leads, Reaches, IsAt, IsInside, AreRowsOf};
 
 use crate::class::Class;
-use crate::classes::ClassRow;
-use crate::step::{choice, one};
+use crate::classes::{ClassRow, one};
+use crate::step::choice;
 use crate::toward::Toward;
 use droid_bits::Row;
 use std::alloc::{AllocError, Global};
@@ -33,6 +33,17 @@ impl Part {
         ensures { result ≡ is_gap (element_of self.now) }
     {
         matches!(self, Part::Gap { .. } | Part::OpenGap { .. })
+    }
+
+    /// Whether it matches at this place, where it is one byte; `None` where it isn't.
+    pub(crate) fn passes(&self, bytes: &[u8], place: usize) -> Option<bool>
+        ensures { IfSome result (λ passes. (q : ℕ) → Leads (element_of self.now) bytes.now place q ↔ (IsTrue passes × (q ≡ place + 1))) }
+    {
+        match self {
+            Part::One(class) => Some(class.is_at(bytes, place)),
+            Part::AnyByte => Some(place < bytes.len()),
+            Part::Gap { .. } | Part::OpenGap { .. } | Part::Choice(_) => None,
+        }
     }
 
     /// Makes the places those after a step over this element.

@@ -1,16 +1,16 @@
 //! Byte sequences of signatures: their text, and the bytes that they match.
 
-ghost use Rattle.std.specs.Prelude.{◌≡◌, ◌↔◌, ◌≤◌, List, length, IsTrue, IfOk, OnErr, IsErrOf};
+ghost use Rattle.std.specs.Prelude.{◌≡◌, ◌↔◌, ◌≤◌, List, length, IsTrue, IfOk, IfSome, OnErr, IsErrOf};
 ghost use Rattle.droid_pattern.specs.Patterns.{Element, MatchesFrom, MatchesTo, BeginsWithin, EndsWithin};
 ghost use Rattle.droid_pattern.specs.PatternText.{Spells};
 ghost use Rattle.droid_pattern.specs.Classes.{AreOf};
 
 use crate::fault::PatternFault;
+use crate::head::told_at;
 use crate::part::{Part, any_byte};
 use crate::reading::parts_of;
 use crate::toward::Toward;
 use crate::window::Classes;
-use droid_bits::Row;
 use std::alloc::{AllocError, Global};
 use std::marker::Model;
 
@@ -100,16 +100,52 @@ impl Pattern {
         ensures classes { AreOf bytes.now classes.new }
         ensures found { IfOk result (λ found. IsTrue found ↔ BeginsWithin self.now bytes.now low high) }
     {
+        if low == high {
+            if let Some(found) = self.told_from(bytes, low) {
+                return Ok(found);
+            }
+        }
+        self.begins_in_rows(alloc, bytes, low, high, classes)
+    }
+
+    /// Whether a match begins at this offset, where the bytes there tell it; `None` where rows have to.
+    fn told_from(&self, bytes: &[u8], at: usize) -> Option<bool>
+        ensures { IfSome result (λ found. IsTrue found ↔ BeginsWithin self.now bytes.now at at) }
+    {
+        if bytes.len() < at {
+            return Some(false);
+        }
+        told_at(&self.parts, bytes, at)
+    }
+
+    /// The same as `begins_with`, by rows of places.
+    fn begins_in_rows(
+        &self,
+        alloc: Global,
+        bytes: &[u8],
+        low: usize,
+        high: usize,
+        classes: &mut Classes,
+    ) -> Result<bool, AllocError>
+        requires { AreOf bytes.now classes.old }
+        ensures classes { AreOf bytes.now classes.new }
+        ensures found { IfOk result (λ found. IsTrue found ↔ BeginsWithin self.now bytes.now low high) }
+    {
         let len = bytes.len();
-        let mut row = Row::new(alloc);
-        row.set_range(low, high.min(len))?;
+        classes.places.set_range(low, high.min(len))?;
         for part in &self.parts {
-            if row.is_empty() {
+            if classes.places.is_empty() {
                 return Ok(false);
             }
-            part.step(&mut classes.toward_end, &mut row, alloc, bytes, Toward::End)?;
+            part.step(
+                &mut classes.toward_end,
+                &mut classes.places,
+                alloc,
+                bytes,
+                Toward::End,
+            )?;
         }
-        Ok(!row.is_empty())
+        Ok(!classes.places.is_empty())
     }
 
     /// Whether a match ends at an offset from `low` to `high` before the end of the bytes.
@@ -140,22 +176,21 @@ impl Pattern {
         ensures found { IfOk result (λ found. IsTrue found ↔ EndsWithin self.now bytes.now low high) }
     {
         let len = bytes.len();
-        let mut row = Row::new(alloc);
-        row.set_range(low, len.min(high))?;
+        classes.places.set_range(low, len.min(high))?;
         let mut rest = self.parts.as_slice();
         while let [before @ .., part] = rest {
-            if row.is_empty() {
+            if classes.places.is_empty() {
                 return Ok(false);
             }
             part.step(
                 &mut classes.toward_start,
-                &mut row,
+                &mut classes.places,
                 alloc,
                 bytes,
                 Toward::Start,
             )?;
             rest = before;
         }
-        Ok(!row.is_empty())
+        Ok(!classes.places.is_empty())
     }
 }

@@ -1,34 +1,14 @@
 //! One step of a match: the places that an element leads to.
 
-ghost use Rattle.std.specs.Prelude.{◌≡◌, ◌↔◌, ◌≤◌, ◌<◌, ◌+◌, ◌^◌, ℕ, true, OnOk, [], ◌∷◌, length, map};
-ghost use Rattle.droid_bits.specs.Places.{IsPlace};
+ghost use Rattle.std.specs.Prelude.{OnOk, length, map};
 ghost use Rattle.droid_pattern.specs.Patterns.{Choice};
-ghost use Rattle.droid_pattern.specs.Parts.{accepts};
-ghost use Rattle.droid_pattern.specs.Positions.{Reaches, IsAt, IsInside, AreRowsOf, IsChain, byte_behind};
+ghost use Rattle.droid_pattern.specs.Positions.{Reaches, IsAt, IsInside, AreRowsOf, IsChain};
 
 use crate::class::Class;
-use crate::classes::{ClassRow, keep_class};
+use crate::classes::{ClassRow, one};
 use crate::toward::Toward;
 use droid_bits::Row;
 use std::alloc::{AllocError, Global};
-
-/// Makes the places those after a step over one byte of the class.
-pub(crate) fn one(
-    rows: &mut Vec<ClassRow>,
-    row: &mut Row,
-    class: Class,
-    alloc: Global,
-    bytes: &[u8],
-    toward: Toward,
-) -> Result<(), AllocError>
-    requires rows { AreRowsOf toward bytes.now rows.old.items }
-    ensures rows { AreRowsOf toward bytes.now rows.new.items }
-    ensures moved { OnOk result ((q : ℕ) → IsPlace row.new q ↔ ((p : ℕ) × IsPlace row.old p × (q ≡ p + 1)
-        × (p < length bytes.now) × (accepts class (byte_behind toward bytes.now p) ≡ true))) }
-{
-    keep_class(rows, row, class, alloc, bytes, toward)?;
-    row.step()
-}
 
 /// Makes the places those after a step over one of the alternatives.
 pub(crate) fn choice(

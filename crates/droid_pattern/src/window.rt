@@ -4,14 +4,16 @@ ghost use Rattle.std.specs.Prelude.{List, ℕ};
 ghost use Rattle.droid_pattern.specs.Classes.{AreOf};
 
 use crate::classes::ClassRow;
+use droid_bits::Row;
 use std::alloc::Global;
 
 /// Behind which places of some bytes those of each class stand, as far as patterns asked for it, so that
-/// it is worked out once for all patterns.
+/// it is worked out once for all patterns; and a row for the places of one pattern after another.
 #[derive(Debug, Drop)]
 pub struct Classes {
     pub(crate) toward_end: Vec<ClassRow>,
     pub(crate) toward_start: Vec<ClassRow>,
+    pub(crate) places: Row,
 }
 
 impl Classes {
@@ -22,6 +24,7 @@ impl Classes {
         Classes {
             toward_end: Vec::new(alloc),
             toward_start: Vec::new(alloc),
+            places: Row::new(alloc),
         }
     }
 }

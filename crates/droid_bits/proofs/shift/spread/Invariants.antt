@@ -8,3 +8,10 @@ invariant-loop-place l =
     (length l.words ≡ length l.fn.words)
     × ((j : ℕ) → l.place ≤ j → j < length l.words → IsSpreadWord l.fn.words (64 * l.whole + l.part) j (get_or l.words j 0))
     × ((j : ℕ) → j < l.place → get_or l.words j 0 ≡ get_or l.fn.words j 0)
+    × (l.edge ≤ l.place)
+
+abbrev pub invariant-loop-place-2 : goal.invariant-loop-place-2
+invariant-loop-place-2 l =
+    (length l.words ≡ length l.fn.words)
+    × ((j : ℕ) → l.place ≤ j → j < length l.words → IsSpreadWord l.fn.words (64 * l.whole + l.part) j (get_or l.words j 0))
+    × ((j : ℕ) → j < l.place → get_or l.words j 0 ≡ get_or l.fn.words j 0)

@@ -1,5 +1,5 @@
 -- One more word.
-use Rattle.std.proofs.Common.{◌≡◌, ◌+◌, ◌∷◌, [], length, length-append, ap, ◌∙◌, arith}
+use Rattle.std.proofs.Common.{◌∷◌, [], length-append, arith}
 use Rattle.droid_pattern.proofs.ClassLemmas.{row_more}
 use Rattle.droid_pattern.proofs.classes.extend.Goals as goal
 

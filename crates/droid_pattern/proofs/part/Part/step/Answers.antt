@@ -1,5 +1,5 @@
 -- Each kind of element.
-use Rattle.std.proofs.Common.{◌≡◌, ℕ, ◌+◌, length, arith}
+use Rattle.std.proofs.Common.{◌+◌, length, arith}
 use Rattle.std.proofs.lemmas.Result.{on_ok_weaker}
 use Rattle.droid_pattern.specs.Patterns.{Gap, OpenGap, AnyByte}
 use Rattle.droid_pattern.proofs.StepLemmas.{one_reaches, gap_reaches, gap_leads, open_leads, any_leads}

@@ -1,7 +1,5 @@
 -- From the offsets before the end, over one element after another toward the start.
-use Rattle.std.proofs.Common.{◌≡◌, ◌↔◌, ◌+◌, ◌-◌, ◌≤◌, ◌++◌, ℕ, [], ◌∷◌, map, length, take, refl, sym, ap, ◌∙◌, arith, length-take}
-use Rattle.std.proofs.lemmas.Bool.{false≢true}
-use Rattle.droid_pattern.specs.Patterns.{EndsWithin}
+use Rattle.std.proofs.Common.{◌≡◌, ◌↔◌, ◌+◌, ◌-◌, ◌≤◌, ◌++◌, ℕ, [], ◌∷◌, map, length, take, sym, ap, ◌∙◌, arith, length-take}
 use Rattle.droid_pattern.specs.Parts.{element_of}
 use Rattle.droid_pattern.specs.Positions.{IsAt}
 use Rattle.droid_pattern.specs.declared.toward.Toward.TheVariants as toward
@@ -37,14 +35,14 @@ loop-rest-preserved c =
       shrinks = omega (arith, length-take (length rest - 1) rest, c.loop-rest.invariant.shrinks);
       inside = c.in_ok-step.ensures.inside;
       rows = (c.loop-rest.invariant.rows.0, c.step.ensures.rows);
-      so_far = ends_more (element_of part) (map element_of before) bytes (IsAt toward.Start bytes c.loop-rest.row) (IsAt toward.Start bytes c.step.new.row)
+      so_far = ends_more (element_of part) (map element_of before) bytes (IsAt toward.Start bytes c.loop-rest.classes.places) (IsAt toward.Start bytes c.step.new.row)
           (rw more at c.loop-rest.invariant.so_far) c.in_ok-step.ensures.reaches;
     }
 
 pub returns-clause-found : goal.returns-clause-found
 returns-clause-found c =
     let bytes = c.args.bytes.now in
-    let row = c.loop-rest.row in
+    let row = c.loop-rest.classes.places in
     let none = no_items c.loop-rest.rest.now (omega arith) in
     ends_last bytes (IsAt toward.Start bytes row) c.is_empty-2.result
     (λ e. at_none toward.Start bytes row (c.is_empty-2.ensures.none e))

@@ -2,19 +2,18 @@
 use Rattle.std.proofs.Common.{◌↔◌, ◌≤◌, ℕ, length, map}
 use Rattle.droid_pattern.specs.Patterns.{EndsWithin}
 use Rattle.droid_pattern.specs.Parts.{element_of}
-use Rattle.droid_pattern.specs.Positions.{IsAt, IsInside}
+use Rattle.droid_pattern.specs.Positions.{IsAt, IsInside, Path}
 use Rattle.droid_pattern.specs.Classes.{AreOf}
 use Rattle.droid_pattern.specs.declared.toward.Toward.TheVariants as toward
-use Rattle.droid_pattern.proofs.PathLemmas.{Path}
 use Rattle.droid_pattern.proofs.pattern.Pattern.ends_with.Given as goal
 
 abbrev pub invariant-loop-rest : goal.invariant-loop-rest
 invariant-loop-rest l = record {
   shrinks : length l.rest ≤ length l.initial.rest;
-  inside : IsInside l.bytes l.row;
+  inside : IsInside l.bytes l.classes.places;
   rows : AreOf l.bytes l.classes;
   so_far : EndsWithin l.fn.self l.bytes l.fn.low l.fn.high
-      ↔ ((q : ℕ) × IsAt toward.Start l.bytes l.row q × ((p : ℕ) × (p ≤ length l.bytes) × Path (map element_of l.rest) l.bytes p q));
+      ↔ ((q : ℕ) × IsAt toward.Start l.bytes l.classes.places q × ((p : ℕ) × (p ≤ length l.bytes) × Path (map element_of l.rest) l.bytes p q));
 }
 
 abbrev pub decreases-loop-rest : goal.decreases-loop-rest

@@ -7,7 +7,7 @@ use Rattle.droid_pattern.specs.Parts.{element_of}
 use Rattle.droid_pattern.specs.Positions.{IsAt}
 use Rattle.droid_pattern.specs.declared.toward.Toward.TheVariants as toward
 use Rattle.droid_pattern.proofs.PathLemmas.{begins_first, begins_more, begins_last, at_none, at_some}
-use Rattle.droid_pattern.proofs.pattern.Pattern.begins_with.Goals as goal
+use Rattle.droid_pattern.proofs.pattern.Pattern.begins_in_rows.Goals as goal
 
 pub loop-part-init : goal.loop-part-init
 loop-part-init c =
@@ -30,7 +30,7 @@ returns-then-is_empty-clause-found c = (
   λ h. absurd (false≢true h),
   λ (b : BeginsWithin c.args.self.now c.args.bytes.now c.args.low c.args.high).
       let (p, position, more) = c.loop-part.invariant.so_far.0 b in
-      absurd (at_none toward.End c.args.bytes.now c.loop-part.row (c.is_empty.ensures.none c.if-is_empty.true) p position),
+      absurd (at_none toward.End c.args.bytes.now c.loop-part.classes.places (c.is_empty.ensures.none c.if-is_empty.true) p position),
 )
 
 pub loop-part-preserved : goal.loop-part-preserved
@@ -43,7 +43,7 @@ loop-part-preserved c =
     record {
       inside = c.in_ok-step.ensures.inside;
       rows = (c.step.ensures.rows, c.loop-part.invariant.rows.1);
-      so_far = begins_more (element_of part) (map element_of (drop (i + 1) parts)) bytes (IsAt toward.End bytes c.loop-part.row) (IsAt toward.End bytes c.step.new.row)
+      so_far = begins_more (element_of part) (map element_of (drop (i + 1) parts)) bytes (IsAt toward.End bytes c.loop-part.classes.places) (IsAt toward.End bytes c.step.new.row)
           (rw more at c.loop-part.invariant.so_far) c.in_ok-step.ensures.reaches;
     }
 
@@ -51,7 +51,7 @@ pub returns-clause-found : goal.returns-clause-found
 returns-clause-found c =
     let bytes = c.args.bytes.now in
     let parts = c.deref-part-items.result.now in
-    let row = c.loop-part.row in
+    let row = c.loop-part.classes.places in
     let none : drop c.loop-part.part-index parts ≡ [] = drop_all c.loop-part.part-index parts (omega arith) in
     begins_last bytes (IsAt toward.End bytes row) c.is_empty-2.result
     (λ e. at_none toward.End bytes row (c.is_empty-2.ensures.none e))
