@@ -11,7 +11,7 @@ ghost use Rattle.std.specs.Borrow.{sem};
 
 use crate::fault::{Incomplete, PutFault};
 use crate::front::Front;
-use crate::places::{AHEAD, empty_places, pass};
+use crate::places::{AHEAD, arrive, empty_places};
 use crate::sealed::Sealed;
 use crate::spent::Spent;
 use crate::windows::Windows;
@@ -140,6 +140,7 @@ impl Assembly {
     }
 
     /// Takes the pending piece for good. The pieces that are no longer needed then are handed back.
+    #[inline(always)]
     pub fn settle(&mut self) -> Spent
         requires { IsSome self.old.pending }
         ensures stands { (pieces : List Piece) (piece : Piece) → StandsFor self.old pieces
@@ -157,10 +158,8 @@ impl Assembly {
         let (index, bytes) = self.pending.take().unwrap();
         self.held += 1;
         self.settled_bytes += bytes.len() as u64;
-        self.waiting[(index % AHEAD) as usize] = Some(bytes);
-        let spent = pass(&mut self.waiting, &mut self.front, self.missing);
-        self.missing += spent.len() as u32;
-        spent
+        let (waiting, front) = (&mut self.waiting, &mut self.front);
+        arrive(waiting, front, &mut self.missing, index, bytes)
     }
 
     /// How many pieces are settled.

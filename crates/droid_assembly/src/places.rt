@@ -1,6 +1,6 @@
 //! The places of pieces that wait for an earlier one.
 
-ghost use Rattle.std.specs.Prelude.{◌≡◌, ◌<◌, ◌≤◌, ◌+◌, ◌%◌, ◌^◌, ℕ, List, length, None, IfOk, IsSome, IsTrue, replicate, slice_set};
+ghost use Rattle.std.specs.Prelude.{◌≡◌, ◌<◌, ◌≤◌, ◌+◌, ◌%◌, ◌^◌, ℕ, List, length, None, Some, IfOk, IsSome, IsTrue, replicate, slice_set};
 ghost use Rattle.std.specs.Bool.{OnFalse};
 ghost use Rattle.droid_assembly.specs.Pieces.{Piece};
 ghost use Rattle.droid_assembly.specs.State.{slot};
@@ -28,34 +28,70 @@ pub(crate) fn empty_places(alloc: Global) -> Result<Vec<Option<Blob>>, AllocErro
     Ok(places)
 }
 
-/// Takes the pieces that follow one another from this index on out of their places, shows them to the
-/// front, and hands them back.
-pub(crate) fn pass(waiting: &mut [Option<Blob>], front: &mut Front, from: u32) -> Spent
+/// Puts a piece into its free place, takes the pieces that follow one another from an index on out of
+/// theirs, shows them to the front, and hands them back.
+#[inline(always)]
+pub(crate) fn arrive(
+    waiting: &mut [Option<Blob>],
+    front: &mut Front,
+    from: &mut u32,
+    index: u32,
+    bytes: Blob,
+) -> Spent
     requires places { length waiting.old ≡ 16 }
     requires sound { IsFront front.old }
-    requires small { from + 16 < 2 ^ 32 }
+    requires small { from.old + 16 < 2 ^ 32 }
+    requires free { slot waiting.old index ≡ None }
     ensures sound { IsFront front.new }
     ensures width { front.new.width ≡ front.old.width }
-    ensures along { (pieces : List Piece) (total count : ℕ) → IsAlong front.old waiting.old from pieces total count
-        → IsAlong front.new waiting.new (from + length result) pieces total count }
-    ensures passed { (pieces : List Piece) (total count : ℕ) → IsAlong front.old waiting.old from pieces total count
-        → result ≡ pieces_from from (length result) pieces }
-    ensures stopped { slot waiting.new (from + length result) ≡ None }
+    ensures along { (pieces : List Piece) (total count : ℕ)
+        → IsAlong front.old (slice_set waiting.old (index % 16) (Some bytes)) from.old pieces total count
+        → IsAlong front.new waiting.new from.new pieces total count }
+    ensures passed { (pieces : List Piece) (total count : ℕ)
+        → IsAlong front.old (slice_set waiting.old (index % 16) (Some bytes)) from.old pieces total count
+        → result ≡ pieces_from from.old (length result) pieces }
+    ensures stopped { slot waiting.new from.new ≡ None }
+    ensures counted { from.new ≡ from.old + length result }
     ensures few { length result ≤ 16 }
 {
-    if two_wait(waiting, from) {
-        return Spent::several(pass_several(waiting, front, from));
+    // Mostly the piece is the next one and no other waits for it, and then it needs no place.
+    if index == *from && !waits(waiting, *from + 1) {
+        front.take(bytes.as_slice());
+        *from += 1;
+        return Spent::one(bytes);
     }
-    match take_out(waiting, from) {
-        Some(bytes) => {
-            front.take(bytes.as_slice());
-            Spent::one(bytes)
-        }
-        None => Spent::none(),
+    waiting[(index % AHEAD) as usize] = Some(bytes);
+    if waits(waiting, *from) {
+        return pass(waiting, front, from);
     }
+    Spent::none()
 }
 
-// Does the same where any number of pieces may follow one another.
+// Takes the pieces that follow one another from this index on out of their places, shows them to the
+// front, and hands them back. It stands by itself, so that a piece that comes in order doesn't clear the
+// places of several.
+#[inline(always)]
+fn pass(waiting: &mut [Option<Blob>], front: &mut Front, from: &mut u32) -> Spent
+    requires places { length waiting.old ≡ 16 }
+    requires sound { IsFront front.old }
+    requires small { from.old + 16 < 2 ^ 32 }
+    ensures sound { IsFront front.new }
+    ensures width { front.new.width ≡ front.old.width }
+    ensures along { (pieces : List Piece) (total count : ℕ) → IsAlong front.old waiting.old from.old pieces total count
+        → IsAlong front.new waiting.new from.new pieces total count }
+    ensures passed { (pieces : List Piece) (total count : ℕ) → IsAlong front.old waiting.old from.old pieces total count
+        → result ≡ pieces_from from.old (length result) pieces }
+    ensures stopped { slot waiting.new from.new ≡ None }
+    ensures counted { from.new ≡ from.old + length result }
+    ensures few { length result ≤ 16 }
+{
+    let several = pass_several(waiting, front, *from);
+    *from += several.len() as u32;
+    Spent::several(several)
+}
+
+// Does the same, and gives the pieces as they are put together.
+#[inline(never)]
 fn pass_several(waiting: &mut [Option<Blob>], front: &mut Front, from: u32) -> Several
     requires places { length waiting.old ≡ 16 }
     requires sound { IsFront front.old }
@@ -80,15 +116,6 @@ fn pass_several(waiting: &mut [Option<Blob>], front: &mut Front, from: u32) -> S
         }
     }
     several
-}
-
-// Whether the piece of this index waits, and the next one too.
-fn two_wait(waiting: &[Option<Blob>], from: u32) -> bool
-    requires places { length waiting.now ≡ 16 }
-    requires small { from + 1 < 2 ^ 32 }
-    ensures { OnFalse result (IsSome (slot waiting.now from) → slot waiting.now (from + 1) ≡ None) }
-{
-    waits(waiting, from) && waits(waiting, from + 1)
 }
 
 // Whether the piece of this index waits.
