@@ -4,7 +4,7 @@ use Rattle.std.specs.Str.{bytes_eq}
 use Rattle.droid_frame.specs.Replies.{reply_kind, reply_bytes}
 use Rattle.droid_frame.specs.types.frame.Frame.{Frame}
 use Rattle.droid_frame.specs.types.refusal.Refusal.{Refusal}
-use Rattle.droid_frame.specs.types.refusal.Refusal.TheVariants.{NumberReused}
+use Rattle.droid_frame.specs.types.refusal.Refusal.TheVariants.{Memory, Store, NumberReused}
 use Rattle.droid_frame.specs.types.reply.Reply.{Reply}
 use Rattle.droid_frame.specs.types.reply.Reply.TheVariants.{Refused}
 use Rattle.droid_history.specs.Histories.{frame_mark, verdict_reply}
@@ -12,6 +12,8 @@ use Rattle.droid_history.specs.Judging.{Verdict, Accepted, Answered, Refuses}
 use Rattle.droid_history.specs.Setting.{Setting}
 use Rattle.droid_history.specs.Wants.{is_want}
 use Rattle.droid_history.specs.World.{World}
+use Rattle.droid_store.specs.declared.fault.StoreFault.{StoreFault}
+use Rattle.droid_store.specs.declared.fault.StoreFault.TheVariants as faults
 use Rattle.droid_store.specs.declared.rows.Entry as rows
 use Rattle.droid_parts.specs.declared.parts.Parts.{Parts}
 use Rattle.droid_parts.specs.declared.stamps.Stamp.{Stamp}
@@ -21,6 +23,11 @@ use Rattle.droid_parts.specs.Standing.{IsIn}
 abbrev pub answered : Result Reply Refusal → Reply
 answered (Ok reply) = reply
 answered (Err refusal) = Refused refusal
+
+-- what a client is told where a call of the store gave up
+abbrev pub told_of : StoreFault → Refusal
+told_of faults.Memory = Memory
+told_of faults.Refused = Store
 
 -- the row of a reply to the request with this stamp
 abbrev pub stamped : Stamp → Reply → rows.Entry

@@ -1,14 +1,16 @@
 //! Which refusal a fault of the layers below comes to.
 
-ghost use Rattle.std.specs.Prelude.{IsTrue};
+ghost use Rattle.std.specs.Prelude.{◌≡◌, IsTrue};
 ghost use Rattle.droid_history.specs.Wants.{is_want_of};
+ghost use Rattle.droid_parts.specs.Changes.{told_of};
 
 use droid_frame::Refusal;
 use droid_store::StoreFault;
 
 /// The refusal that a fault of the store comes to.
 pub fn store_refusal(fault: StoreFault) -> Refusal
-    ensures { IsTrue (is_want_of result) }
+    ensures want { IsTrue (is_want_of result) }
+    ensures told { result ≡ told_of fault }
 {
     match fault {
         StoreFault::Memory => Refusal::Memory,
