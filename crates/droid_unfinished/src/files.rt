@@ -65,6 +65,14 @@ impl UnfinishedFiles {
         self.files.len() as u32
     }
 
+    /// How many files there can be.
+    pub fn limit(&self) -> u32
+        ensures limit { result ≡ self.now.limit }
+        ensures few { result ≤ 64 }
+    {
+        self.limit
+    }
+
     /// Whether there is no file.
     pub fn is_empty(&self) -> bool
         ensures { IsTrue result ↔ (self.now.files ≡ []) }

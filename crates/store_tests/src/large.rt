@@ -65,8 +65,15 @@ fn many_identifiers(rt: HostRuntime) -> Result<(), Fail> {
 /// Sixteen folders, each in the one before: the last one's path has 4,096 bytes.
 #[test]
 fn long_path(rt: HostRuntime) -> Result<(), Fail> {
-    let alloc = rt.alloc();
-    let mut store = with_profile(&rt, alloc)?;
+    let mut store = with_profile(&rt, rt.alloc())?;
+    let path = long_path_made(&rt, rt.alloc(), &mut store)?;
+    assert_eq!(rt; path.len(), 4_096);
+    path_is_shown(&rt, &mut store, path.as_str())?;
+    Ok(())
+}
+
+// Makes the folders, and gives the last one's path.
+fn long_path_made(rt: &impl Abort, alloc: Global, store: &mut Store) -> Result<String, Fail> {
     let mut name = String::new(alloc);
     for _ in 0..255 {
         name.push('n')?;
@@ -75,25 +82,41 @@ fn long_path(rt: HostRuntime) -> Result<(), Fail> {
     for parent in 0..16 {
         path.push('/')?;
         path.push_str(name.as_str())?;
-        let id: u32 = parent + 1;
-        let place = Place {
-            profile: 1,
-            id,
-            parent,
-            modified: 0,
-            name: name.as_str(),
-            path: path.as_str(),
-        };
-        let step: Step<'_> = ((1, u64::from(id), 0, NODE, b""), Change::Folder(place));
-        commit(&rt, alloc, &mut store, &step)?;
-        assert_eq!(rt; store.child(1, parent, name.as_str())?, Some(id));
+        make_folder(rt, alloc, store, parent, name.as_str(), path.as_str())?;
     }
-    assert_eq!(rt; path.len(), 4_096);
-    let row = store.node(1, 16)?.expect(&rt, "the folder is there");
-    assert_eq!(rt; row.item.path.as_str(), path.as_str());
+    Ok(path)
+}
+
+// Makes the next folder, in the one before.
+fn make_folder(
+    rt: &impl Abort,
+    alloc: Global,
+    store: &mut Store,
+    parent: u32,
+    name: &str,
+    path: &str,
+) -> Result<(), StoreFault> {
+    let id = parent.wrapping_add(1);
+    let place = Place {
+        profile: 1,
+        id,
+        parent,
+        modified: 0,
+        name,
+        path,
+    };
+    let step: Step<'_> = ((1, u64::from(id), 0, NODE, b""), Change::Folder(place));
+    commit(rt, alloc, store, &step)?;
+    assert_eq!(rt; store.child(1, parent, name)?, Some(id));
+    Ok(())
+}
+
+fn path_is_shown(rt: &impl Abort, store: &mut Store, path: &str) -> Result<(), StoreFault> {
+    let row = store.node(1, 16)?.expect(rt, "the folder is there");
+    assert_eq!(rt; row.item.path.as_str(), path);
     let records = store.records(1)?;
     assert_eq!(rt; records.len(), 16);
-    assert_eq!(rt; records[15].path.as_str(), path.as_str());
+    assert_eq!(rt; records[15].path.as_str(), path);
     Ok(())
 }
 

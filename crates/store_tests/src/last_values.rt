@@ -1,10 +1,11 @@
 //! First and last values of each field come back as they were sent.
 
 use crate::commits::commit;
-use crate::steps::{Change, Found, Kept, MADE, NODE, NOTHING, Place, Step, is_entry};
+use crate::steps::{Change, Found, Kept, MADE, NODE, NOTHING, Place, Step, is_kept};
 use crate::views::Shown;
 use droid_frame::Method;
-use droid_store::{NodeState, Store};
+use droid_store::{NodeState, ProfileRow, Store, StoreFault};
+use std::alloc::Global;
 use std::process::Abort;
 use std::test::Fail;
 
@@ -43,21 +44,47 @@ const NO_ENTRIES: [(u32, u64); 9] = [
 
 #[test]
 fn replies(rt: HostRuntime) -> Result<(), Fail> {
-    let alloc = rt.alloc();
-    let mut store = Store::in_memory(alloc)?;
-    for kept in &ENTRIES {
-        let step: Step<'_> = (*kept, Change::Piece);
-        commit(&rt, alloc, &mut store, &step)?;
-    }
+    let mut store = Store::in_memory(rt.alloc())?;
+    keep_each(&rt, rt.alloc(), &mut store, &ENTRIES)?;
     assert_eq!(rt; store.counts()?.accepted, 14);
-    for kept in &ENTRIES {
+    each_is_kept(&rt, &mut store, &ENTRIES)?;
+    none_is_kept(&rt, &mut store, &NO_ENTRIES)?;
+    Ok(())
+}
+
+fn keep_each(
+    rt: &impl Abort,
+    alloc: Global,
+    store: &mut Store,
+    entries: &[Kept<'_>],
+) -> Result<(), StoreFault> {
+    for kept in entries {
+        let step: Step<'_> = (*kept, Change::Piece);
+        commit(rt, alloc, store, &step)?;
+    }
+    Ok(())
+}
+
+fn each_is_kept(
+    rt: &impl Abort,
+    store: &mut Store,
+    entries: &[Kept<'_>],
+) -> Result<(), StoreFault> {
+    for kept in entries {
         let (client, number, ..) = *kept;
         assert!(rt; number <= LAST_NUMBER);
         let found = store.reply_of(client, number)?;
-        let is_found = found.as_ref().is_some_and(|entry| is_entry(entry, kept));
-        assert!(rt; is_found, "{kept:?}");
+        assert!(rt; is_kept(found.as_ref(), kept), "{kept:?}");
     }
-    for (client, number) in &NO_ENTRIES {
+    Ok(())
+}
+
+fn none_is_kept(
+    rt: &impl Abort,
+    store: &mut Store,
+    numbers: &[(u32, u64)],
+) -> Result<(), StoreFault> {
+    for (client, number) in numbers {
         let number = *number;
         assert!(rt; number <= LAST_NUMBER);
         let found = store.reply_of(*client, number)?;
@@ -159,50 +186,71 @@ fn made(id: u32, numbers: Numbers) -> Shown<'static> {
     }
 }
 
-fn expect_node(rt: &impl Abort, store: &mut Store, shown: &Shown<'_>) -> Result<(), Fail> {
+fn expect_node(rt: &impl Abort, store: &mut Store, shown: &Shown<'_>) -> Result<(), StoreFault> {
     let row = store.node(shown.place.profile, shown.place.id)?;
-    let is_shown = row.as_ref().is_some_and(|row| shown.is_row(row));
-    assert!(rt; is_shown, "{row:?}");
+    assert!(rt; shown.is_shown_by(row.as_ref()), "{row:?}");
     Ok(())
 }
 
 #[test]
 fn files(rt: HostRuntime) -> Result<(), Fail> {
-    let alloc = rt.alloc();
-    let mut store = Store::in_memory(alloc)?;
+    let mut store = Store::in_memory(rt.alloc())?;
+    make_profile(&rt, rt.alloc(), &mut store)?;
+    make_each(&rt, rt.alloc(), &mut store, &FILES)?;
+    finish_each(&rt, rt.alloc(), &mut store, &FILES)?;
+    Ok(())
+}
+
+fn make_profile(rt: &impl Abort, alloc: Global, store: &mut Store) -> Result<(), StoreFault> {
     let profile = Change::Profile {
         profile: 1,
         scan_limit: 4_294_967_295,
         match_all: true,
     };
-    commit(&rt, alloc, &mut store, &((1, 0, 0, MADE, b""), profile))?;
-    let row = store.profile(1)?;
-    assert!(rt; row.is_some_and(|row| (row.scan_limit, row.match_all) == (4_294_967_295, true)));
+    commit(rt, alloc, store, &((1, 0, 0, MADE, b""), profile))?;
+    let row = ProfileRow {
+        scan_limit: 4_294_967_295,
+        match_all: true,
+        nodes: 0,
+    };
+    assert_eq!(rt; store.profile(1)?, Some(row));
+    Ok(())
+}
+
+fn make_each(
+    rt: &impl Abort,
+    alloc: Global,
+    store: &mut Store,
+    files: &[(Numbers, Found<'_>)],
+) -> Result<(), StoreFault> {
     let mut id = 0;
-    for (numbers, _) in &FILES {
+    for (numbers, _) in files {
         id = u32::wrapping_add(id, 1);
         let shown = made(id, *numbers);
-        let Shown {
-            place,
-            size,
-            piece_size,
-            ..
-        } = shown;
         let change = Change::File {
-            place,
-            size,
-            piece_size,
+            place: shown.place,
+            size: shown.size,
+            piece_size: shown.piece_size,
         };
         commit(
-            &rt,
+            rt,
             alloc,
-            &mut store,
+            store,
             &((1, u64::from(id), 1, NODE, b""), change),
         )?;
-        expect_node(&rt, &mut store, &shown)?;
+        expect_node(rt, store, &shown)?;
     }
+    Ok(())
+}
+
+fn finish_each(
+    rt: &impl Abort,
+    alloc: Global,
+    store: &mut Store,
+    files: &[(Numbers, Found<'_>)],
+) -> Result<(), StoreFault> {
     let mut file = 0;
-    for (numbers, found) in &FILES {
+    for (numbers, found) in files {
         file = u32::wrapping_add(file, 1);
         let change = Change::Finish {
             profile: 1,
@@ -210,9 +258,9 @@ fn files(rt: HostRuntime) -> Result<(), Fail> {
             found: *found,
         };
         commit(
-            &rt,
+            rt,
             alloc,
-            &mut store,
+            store,
             &((2, u64::from(file), 1, NODE, b""), change),
         )?;
         let shown = Shown {
@@ -220,7 +268,7 @@ fn files(rt: HostRuntime) -> Result<(), Fail> {
             found: *found,
             ..made(file, *numbers)
         };
-        expect_node(&rt, &mut store, &shown)?;
+        expect_node(rt, store, &shown)?;
     }
     Ok(())
 }

@@ -4,9 +4,13 @@
 #[cfg(test)]
 mod commits;
 #[cfg(test)]
+mod faults;
+#[cfg(test)]
 mod large;
 #[cfg(test)]
 mod last_values;
+#[cfg(test)]
+mod many;
 #[cfg(test)]
 mod memory;
 #[cfg(test)]

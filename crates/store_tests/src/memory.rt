@@ -3,32 +3,56 @@
 
 use crate::commits::commit;
 use crate::row::{STEPS, VIEWS};
+use crate::steps::Step;
 use crate::views::{EMPTY, View, look};
 use droid_store::{Store, StoreFault};
+use std::alloc::Global;
 use std::process::Abort;
 use std::test::Fail;
 
+// A new store, once more where the first one met a fault.
+fn made_again(alloc: Global) -> Result<Store, StoreFault> {
+    match Store::in_memory(alloc) {
+        Ok(store) => Ok(store),
+        Err(_) => Store::in_memory(alloc),
+    }
+}
+
 // Looks at the store, once more where the first look met a fault.
-fn look_again(rt: &impl Abort, store: &mut Store, view: &View<'_>) -> Result<(), StoreFault> {
-    if look(rt, store, view, &STEPS).is_ok() {
+fn look_again(
+    rt: &impl Abort,
+    store: &mut Store,
+    view: &View<'_>,
+    steps: &[Step<'_>],
+) -> Result<(), StoreFault> {
+    if look(rt, store, view, steps).is_ok() {
         return Ok(());
     }
-    look(rt, store, view, &STEPS)
+    look(rt, store, view, steps)
 }
 
 #[test]
 fn each_growth_of_the_store(rt: HostRuntime) -> Result<(), Fail> {
-    let alloc = rt.alloc();
-    let mut store = Store::in_memory(alloc).or_else(|_| Store::in_memory(alloc))?;
+    each_step(&rt, rt.alloc(), &STEPS, &VIEWS)?;
+    Ok(())
+}
+
+fn each_step(
+    rt: &impl Abort,
+    alloc: Global,
+    steps: &[Step<'_>],
+    views: &[View<'_>],
+) -> Result<(), StoreFault> {
+    let mut store = made_again(alloc)?;
     let mut before = EMPTY;
-    for (step, after) in STEPS.iter().zip(&VIEWS) {
-        if commit(&rt, alloc, &mut store, step).is_err() {
-            look(&rt, &mut store, &before, &STEPS)?;
-            commit(&rt, alloc, &mut store, step)?;
-            look(&rt, &mut store, after, &STEPS)?;
+    for (step, after) in steps.iter().zip(views) {
+        if commit(rt, alloc, &mut store, step).is_err() {
+            look(rt, &mut store, &before, steps)?;
+            commit(rt, alloc, &mut store, step)?;
+            look(rt, &mut store, after, steps)?;
         }
         if after.counts.accepted >= 6 {
-            look_again(&rt, &mut store, after)?;
+            look_again(rt, &mut store, after, steps)?;
         }
         before = *after;
     }

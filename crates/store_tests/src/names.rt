@@ -1,8 +1,9 @@
 //! Names are told apart byte for byte, in each folder of each profile.
 
 use crate::commits::commit;
-use crate::steps::{Change, MADE, NODE, Place, Step};
-use droid_store::{Store, StoreFault};
+use crate::steps::{Change, MADE, NODE, NOTHING, Place, Step};
+use crate::views::Shown;
+use droid_store::{NodeState, Store, StoreFault};
 use std::alloc::Global;
 use std::process::Abort;
 use std::test::Fail;
@@ -119,47 +120,99 @@ fn make_folder(
 
 #[test]
 fn byte_for_byte(rt: HostRuntime) -> Result<(), Fail> {
-    let alloc = rt.alloc();
-    let mut store = Store::in_memory(alloc)?;
-    make_profile(&rt, alloc, &mut store, 0, 1)?;
+    let mut store = Store::in_memory(rt.alloc())?;
+    make_profile(&rt, rt.alloc(), &mut store, 0, 1)?;
+    make_each(&rt, rt.alloc(), &mut store, &NAMES)?;
+    each_is_found(&rt, rt.alloc(), &mut store, &NAMES)?;
+    none_is_found(&rt, rt.alloc(), &mut store, &ABSENT)
+}
+
+// Makes a folder at the top for each name, which isn't there before.
+fn make_each(
+    rt: &impl Abort,
+    alloc: Global,
+    store: &mut Store,
+    names: &[Name<'_>],
+) -> Result<(), Fail> {
     let mut id = 0;
-    for name in &NAMES {
+    for name in names {
         id = u32::wrapping_add(id, 1);
         let text = name_of(alloc, name)?;
-        assert_eq!(rt; store.child(1, 0, text.as_str())?, None, "{name:?}");
-        let place = Place {
-            profile: 1,
-            id,
-            parent: 0,
-            modified: 0,
-            name: text.as_str(),
-            path: text.as_str(),
-        };
-        make_folder(&rt, alloc, &mut store, u64::from(id), place)?;
-    }
-    each_is_found(&rt, alloc, &mut store)?;
-    for name in &ABSENT {
-        let text = name_of(alloc, name)?;
-        assert_eq!(rt; store.child(1, 0, text.as_str())?, None, "{name:?}");
+        none_lies_under(rt, store, text.as_str())?;
+        make_folder(
+            rt,
+            alloc,
+            store,
+            u64::from(id),
+            at_the_top(id, text.as_str()),
+        )?;
     }
     Ok(())
 }
 
+fn none_is_found(
+    rt: &impl Abort,
+    alloc: Global,
+    store: &mut Store,
+    names: &[Name<'_>],
+) -> Result<(), Fail> {
+    for name in names {
+        let text = name_of(alloc, name)?;
+        none_lies_under(rt, store, text.as_str())?;
+    }
+    Ok(())
+}
+
+// Nothing lies at the top of the first profile under this name.
+fn none_lies_under(rt: &impl Abort, store: &mut Store, name: &str) -> Result<(), StoreFault> {
+    assert_eq!(rt; store.child(1, 0, name)?, None, "{name}");
+    Ok(())
+}
+
+// The folder as it is made under this number.
+fn folder(id: u32, name: &str) -> Shown<'_> {
+    Shown {
+        place: at_the_top(id, name),
+        state: NodeState::Folder,
+        size: 0,
+        piece_size: 0,
+        found: NOTHING,
+    }
+}
+
+fn at_the_top(id: u32, name: &str) -> Place<'_> {
+    Place {
+        profile: 1,
+        id,
+        parent: 0,
+        modified: 0,
+        name,
+        path: name,
+    }
+}
+
 // Each name has the number of its place, and is shown under it as it was sent; it lies in no other folder.
-fn each_is_found(rt: &impl Abort, alloc: Global, store: &mut Store) -> Result<(), Fail> {
+fn each_is_found(
+    rt: &impl Abort,
+    alloc: Global,
+    store: &mut Store,
+    names: &[Name<'_>],
+) -> Result<(), Fail> {
     let mut id = 0;
-    for name in &NAMES {
+    for name in names {
         id = u32::wrapping_add(id, 1);
         let text = name_of(alloc, name)?;
-        assert_eq!(rt; store.child(1, 0, text.as_str())?, Some(id), "{name:?}");
-        assert_eq!(rt; store.child(1, id, text.as_str())?, None, "{name:?}");
-        assert_eq!(rt; store.child(2, 0, text.as_str())?, None, "{name:?}");
-        let row = store.node(1, id)?;
-        let is_shown = row.as_ref().is_some_and(|row| {
-            row.item.name.as_str() == text.as_str() && row.item.path.as_str() == text.as_str()
-        });
-        assert!(rt; is_shown, "{row:?}");
+        is_found(rt, store, id, text.as_str())?;
     }
+    Ok(())
+}
+
+fn is_found(rt: &impl Abort, store: &mut Store, id: u32, name: &str) -> Result<(), StoreFault> {
+    assert_eq!(rt; store.child(1, 0, name)?, Some(id), "{name}");
+    assert_eq!(rt; store.child(1, id, name)?, None, "{name}");
+    assert_eq!(rt; store.child(2, 0, name)?, None, "{name}");
+    let row = store.node(1, id)?;
+    assert!(rt; folder(id, name).is_shown_by(row.as_ref()), "{row:?}");
     Ok(())
 }
 
@@ -174,43 +227,60 @@ const SAME_NAME: [(u32, u32, u32); 7] = [
     (1, 4, 3),
 ];
 
+/// Folders in which nothing lies under it: profile, number.
+const EMPTY_FOLDERS: [(u32, u32); 7] = [
+    (1, 4),
+    (2, 2),
+    (3, 1),
+    (4, 0),
+    (0, 0),
+    (1, 4_294_967_295),
+    (4_294_967_295, 0),
+];
+
 #[test]
 fn one_name_in_many_folders(rt: HostRuntime) -> Result<(), Fail> {
-    let alloc = rt.alloc();
-    let mut store = Store::in_memory(alloc)?;
+    let mut store = Store::in_memory(rt.alloc())?;
     for profile in 1..4 {
-        make_profile(&rt, alloc, &mut store, u64::from(profile), profile)?;
+        make_profile(&rt, rt.alloc(), &mut store, u64::from(profile), profile)?;
     }
+    make_same_name(&rt, rt.alloc(), &mut store, &SAME_NAME)?;
+    same_name_is_found(&rt, &mut store, &SAME_NAME, &EMPTY_FOLDERS)?;
+    Ok(())
+}
+
+fn make_same_name(
+    rt: &impl Abort,
+    alloc: Global,
+    store: &mut Store,
+    places: &[(u32, u32, u32)],
+) -> Result<(), StoreFault> {
     let mut number = 3;
-    for (profile, id, parent) in &SAME_NAME {
+    for (profile, id, parent) in places {
         number = u64::wrapping_add(number, 1);
         let place = Place {
             profile: *profile,
-            id: *id,
             parent: *parent,
-            modified: 0,
-            name: "in",
-            path: "/in",
+            ..at_the_top(*id, "in")
         };
-        make_folder(&rt, alloc, &mut store, number, place)?;
+        make_folder(rt, alloc, store, number, place)?;
     }
-    for (profile, id, parent) in &SAME_NAME {
-        assert_eq!(rt;
-            store.child(*profile, *parent, "in")?,
-            Some(*id),
-            "{profile}"
-        );
+    Ok(())
+}
+
+fn same_name_is_found(
+    rt: &impl Abort,
+    store: &mut Store,
+    places: &[(u32, u32, u32)],
+    empty: &[(u32, u32)],
+) -> Result<(), StoreFault> {
+    for (profile, id, parent) in places {
+        let found = store.child(*profile, *parent, "in")?;
+        assert_eq!(rt; found, Some(*id), "{profile}");
     }
-    for (profile, parent) in &[
-        (1, 4),
-        (2, 2),
-        (3, 1),
-        (4, 0),
-        (0, 0),
-        (1, u32::MAX),
-        (u32::MAX, 0),
-    ] {
-        assert_eq!(rt; store.child(*profile, *parent, "in")?, None, "{profile}");
+    for (profile, parent) in empty {
+        let found = store.child(*profile, *parent, "in")?;
+        assert_eq!(rt; found, None, "{profile}");
     }
     Ok(())
 }

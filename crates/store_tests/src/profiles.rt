@@ -4,7 +4,9 @@ use crate::commits::commit;
 use crate::steps::{ABANDONED, Change, FINISHED, Found, MADE, NODE, NOTHING, Place, Step, TAKEN};
 use crate::views::{Shown, View, look};
 use droid_frame::Method;
-use droid_store::{Counts, NodeState, ProfileRow, Store};
+use droid_store::{Counts, NodeState, ProfileRow, Store, StoreFault};
+use std::alloc::Global;
+use std::process::Abort;
 use std::test::Fail;
 
 const A_OF_2: Place<'static> = Place {
@@ -269,11 +271,22 @@ const COUNTS: [(u64, u64); 15] = [
 
 #[test]
 fn side_by_side(rt: HostRuntime) -> Result<(), Fail> {
-    let alloc = rt.alloc();
-    let mut store = Store::in_memory(alloc)?;
+    let mut store = Store::in_memory(rt.alloc())?;
+    each_step(&rt, rt.alloc(), &mut store, &STEPS, &COUNTS)?;
+    look(&rt, &mut store, &LAST_VIEW, &STEPS)?;
+    Ok(())
+}
+
+fn each_step(
+    rt: &impl Abort,
+    alloc: Global,
+    store: &mut Store,
+    steps: &[Step<'_>],
+    wanted: &[(u64, u64)],
+) -> Result<(), StoreFault> {
     let mut accepted = 0;
-    for (step, (profiles, unfinished)) in STEPS.iter().zip(&COUNTS) {
-        commit(&rt, alloc, &mut store, step)?;
+    for (step, (profiles, unfinished)) in steps.iter().zip(wanted) {
+        commit(rt, alloc, store, step)?;
         accepted = u64::wrapping_add(accepted, 1);
         let counts = Counts {
             profiles: *profiles,
@@ -282,6 +295,5 @@ fn side_by_side(rt: HostRuntime) -> Result<(), Fail> {
         };
         assert_eq!(rt; store.counts()?, counts);
     }
-    look(&rt, &mut store, &LAST_VIEW, &STEPS)?;
     Ok(())
 }

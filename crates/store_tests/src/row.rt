@@ -5,7 +5,9 @@ use crate::commits::commit;
 use crate::steps::{ABANDONED, Change, FINISHED, Found, MADE, NODE, NOTHING, Place, Step, TAKEN};
 use crate::views::{EMPTY, Shown, View, look};
 use droid_frame::Method;
-use droid_store::{Counts, NodeState, ProfileRow, Store};
+use droid_store::{Counts, NodeState, ProfileRow, Store, StoreFault};
+use std::alloc::Global;
+use std::process::Abort;
 use std::test::Fail;
 
 const FOLDER: Place<'static> = Place {
@@ -220,12 +222,22 @@ pub const VIEWS: [View<'static>; 7] = [
 
 #[test]
 fn store_alone(rt: HostRuntime) -> Result<(), Fail> {
-    let alloc = rt.alloc();
-    let mut store = Store::in_memory(alloc)?;
+    let mut store = Store::in_memory(rt.alloc())?;
     look(&rt, &mut store, &EMPTY, &STEPS)?;
-    for (step, view) in STEPS.iter().zip(&VIEWS) {
-        commit(&rt, alloc, &mut store, step)?;
-        look(&rt, &mut store, view, &STEPS)?;
+    each_step(&rt, rt.alloc(), &mut store, &STEPS, &VIEWS)?;
+    Ok(())
+}
+
+fn each_step(
+    rt: &impl Abort,
+    alloc: Global,
+    store: &mut Store,
+    steps: &[Step<'_>],
+    views: &[View<'_>],
+) -> Result<(), StoreFault> {
+    for (step, view) in steps.iter().zip(views) {
+        commit(rt, alloc, store, step)?;
+        look(rt, store, view, steps)?;
         assert_eq!(rt; store.child(1, 0, "out")?, None);
     }
     Ok(())

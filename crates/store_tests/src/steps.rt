@@ -37,6 +37,14 @@ pub fn is_entry(entry: &Entry, kept: &Kept<'_>) -> bool {
     numbers == (client, number, kind) && entry.mark == [byte; 16] && entry.body.as_slice() == body
 }
 
+/// Whether there is an entry, and it is this one.
+pub fn is_kept(found: Option<&Entry>, kept: &Kept<'_>) -> bool {
+    match found {
+        Some(entry) => is_entry(entry, kept),
+        None => false,
+    }
+}
+
 /// Where a node lies, and what it is called.
 #[derive(Clone, Copy)]
 pub struct Place<'a> {

@@ -33,6 +33,21 @@ impl Shown<'_> {
         row.state == self.state && row.piece_size == self.piece_size && self.is_record(&row.item)
     }
 
+    /// Whether there is a row, and it shows this node.
+    pub fn is_shown_by(&self, row: Option<&NodeRow>) -> bool {
+        match row {
+            Some(row) => self.is_row(row),
+            None => false,
+        }
+    }
+
+    fn is_listed_as(&self, record: Option<&Record>) -> bool {
+        match record {
+            Some(record) => self.is_record(record),
+            None => false,
+        }
+    }
+
     /// Whether the record shows this node, field by field.
     pub fn is_record(&self, record: &Record) -> bool {
         let place = (record.id, record.parent, record.modified);
@@ -131,12 +146,22 @@ fn look_at_nodes(
 ) -> Result<(), StoreFault> {
     for id in 0..accepted.saturating_add(2) {
         let row = store.node(profile, id)?;
-        match nodes.iter().find(|shown| shown.is_under(profile, id)) {
+        match shown_under(nodes, profile, id) {
             Some(shown) => look_at_node(rt, store, shown, row)?,
             None => assert!(rt; row.is_none(), "{row:?}"),
         }
     }
     Ok(())
+}
+
+// The one among them with this number in this profile.
+fn shown_under<'a, 'b>(nodes: &'b [Shown<'a>], profile: u32, id: u32) -> Option<&'b Shown<'a>> {
+    for shown in nodes {
+        if shown.is_under(profile, id) {
+            return Some(shown);
+        }
+    }
+    None
 }
 
 fn look_at_node(
@@ -152,8 +177,7 @@ fn look_at_node(
         name,
         ..
     } = shown.place;
-    let is_shown = row.as_ref().is_some_and(|row| shown.is_row(row));
-    assert!(rt; is_shown, "{row:?}");
+    assert!(rt; shown.is_shown_by(row.as_ref()), "{row:?}");
     assert_eq!(rt; store.child(profile, parent, name)?, Some(id), "{name}");
     Ok(())
 }
@@ -170,8 +194,7 @@ fn look_at_records(
     for shown in nodes {
         if shown.place.profile == profile && shown.state != NodeState::Unfinished {
             let record = records.get(place);
-            let is_shown = record.is_some_and(|record| shown.is_record(record));
-            assert!(rt; is_shown, "{record:?}");
+            assert!(rt; shown.is_listed_as(record), "{record:?}");
             place = place.wrapping_add(1);
         }
     }

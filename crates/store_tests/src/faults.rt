@@ -1,0 +1,17 @@
+//! How the store's faults are printed.
+
+use droid_store::StoreFault;
+use std::test::Fail;
+
+#[test]
+fn texts(rt: HostRuntime) -> Result<(), Fail> {
+    let alloc = rt.alloc();
+    for (fault, text) in [
+        (StoreFault::Memory, "out of memory"),
+        (StoreFault::Refused, "the database refused"),
+    ] {
+        let printed = format!(in alloc; "{fault}")?;
+        assert_eq!(rt; printed.as_str(), text);
+    }
+    Ok(())
+}
