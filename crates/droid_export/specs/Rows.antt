@@ -8,7 +8,7 @@ use Rattle.droid_frame.specs.types.method.Method.TheVariants.{Unidentified, Sign
 use Rattle.droid_frame.specs.types.node_kind.NodeKind.{NodeKind}
 use Rattle.droid_frame.specs.types.record.Record.{Record}
 use Rattle.droid_pronom.specs.Registry.{Contents, place_of}
-use Rattle.droid_pronom.specs.declared.registry.format.Format.{Format}
+use Rattle.droid_pronom.specs.types.format.Format.{Format}
 use Rattle.droid_export.specs.Filters.{extension, is_file, mismatch}
 use Rattle.droid_export.specs.Moments.{moment_text}
 use Rattle.droid_export.specs.Uris.{uri}

@@ -16,8 +16,8 @@ use Rattle.droid_history.specs.Setting.{Setting, Finding}
 use Rattle.droid_history.specs.Wants.{is_want, is_want_of}
 use Rattle.droid_history.specs.World.{Content, File, Profile, World}
 use Rattle.droid_pronom.specs.Found.{Hits, IsFound}
-use Rattle.droid_pronom.specs.declared.identify.found.Found.{Found}
-use Rattle.droid_pronom.proofs.FoundOnce.{found_once}
+use Rattle.droid_pronom.specs.types.found.Found.{Found}
+use Rattle.droid_formats.proofs.FoundOnce.{found_once}
 use Rattle.droid_standing.specs.Rows.{KeepsWorld}
 use Rattle.droid_standing.proofs.Finished.{file_finished}
 use Rattle.droid_standing.proofs.Soundness.{sound_file_set}

@@ -5,7 +5,7 @@ use Rattle.droid_pattern.specs.PatternText.{Spells}
 use Rattle.droid_pronom.specs.RegistryRecords.{Draft, RecordFault, WithPattern, ReadsAs, Judged, Step, judged, no_text}
 use Rattle.droid_pronom.specs.RegistryRecords as faults
 use Rattle.droid_pronom.specs.RegistryCalls.{Gives, Tells}
-use Rattle.droid_pronom.specs.RegistryFields.{kind_of}
+use Rattle.droid_formats.specs.RegistryFields.{kind_of}
 use Rattle.csv.specs.Records.{AllText}
 use Rattle.droid_pronom.specs.declared.registry.fault.Refusal.{Refusal}
 use Rattle.droid_pronom.specs.declared.registry.fault.Refusal.TheVariants as refusals

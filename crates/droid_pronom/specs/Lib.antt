@@ -4,15 +4,16 @@ pub use Rattle.droid_pattern.specs.PatternText
 pub use Rattle.droid_pattern.specs.LangTest
 -- What a stream did, and when it is said to have failed.
 pub use Rattle.droid_stream.specs.Seen
--- What the public calls promise: what a registry says, what a registry file comes to, and what is found in a file.
-pub mod Found
-pub mod Finding
-pub mod Registry
-pub mod RegistryFields
+-- What a registry says, the forms of its fields, what is found in a file, and the types of these.
+pub use Rattle.droid_formats.specs.Found
+pub use Rattle.droid_formats.specs.Finding
+pub use Rattle.droid_formats.specs.Registry
+pub use Rattle.droid_formats.specs.RegistryFields
+pub use Rattle.droid_formats.specs.declared as types
+-- What a registry file comes to.
 pub mod RegistryFile
 pub mod RegistryGrowth
 pub mod RegistryRecords
--- What the steps of reading and of identification promise each other.
-pub mod FoundWindows
+-- What the steps of reading promise each other.
 pub mod RegistryCalls
 pub mod RegistryKept

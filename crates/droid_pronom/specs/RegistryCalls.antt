@@ -4,7 +4,7 @@ use Rattle.csv.specs.declared.error.ErrorKind.{ErrorKind}
 use Rattle.csv.specs.declared.error.ErrorKind.TheVariants as csv
 use Rattle.droid_pattern.specs.Patterns.{Element}
 use Rattle.droid_pattern.specs.PatternText.{Spells}
-use Rattle.droid_pronom.specs.RegistryFields as kind
+use Rattle.droid_formats.specs.RegistryFields as kind
 use Rattle.droid_pronom.specs.RegistryFile.{fault_at}
 use Rattle.droid_pronom.specs.RegistryRecords as record_fault
 use Rattle.droid_pronom.specs.RegistryRecords.{Draft, RecordFault, ReadsAs}
@@ -15,8 +15,8 @@ use Rattle.droid_pronom.specs.declared.registry.fault.Refusal.{Refusal}
 use Rattle.droid_pronom.specs.declared.registry.fault.Refusal.TheVariants as refusals
 use Rattle.droid_pronom.specs.declared.registry.fault.RegistryFault.{RegistryFault}
 use Rattle.droid_pronom.specs.declared.registry.fault.RegistryFault.TheVariants as registry_faults
-use Rattle.droid_pronom.specs.declared.registry.fields.RecordKind.{RecordKind}
-use Rattle.droid_pronom.specs.declared.registry.fields.RecordKind.TheVariants as kinds
+use Rattle.droid_pronom.specs.declared.registry.record_kind.RecordKind.{RecordKind}
+use Rattle.droid_pronom.specs.declared.registry.record_kind.RecordKind.TheVariants as kinds
 
 -- what the code's draft says
 abbrev pub draft_of : inside.Draft → Draft

@@ -3,29 +3,23 @@
 ghost use Rattle.std.specs.Prelude.{◌≡◌, ◌≢◌, ℕ, List, ◌+◌, ◌-◌, ◌<◌, ◌≤◌, ◌++◌, ◌∷◌, [], length, take, drop, min, IsTrue, IfSome, option_map, Some, None, Err, IfOk, IsErrOf, OnOk, OnErr, slice_get, true, ◌↔◌};
 ghost use Rattle.std.specs.Option.{option_copied};
 ghost use Rattle.std.specs.List.{AllByRecursion};
-ghost use Rattle.droid_pronom.specs.Found.{IsFound};
-ghost use Rattle.droid_pronom.specs.RegistryFields.{is_puid};
+ghost use Rattle.droid_formats.specs.Found.{IsFound};
+ghost use Rattle.droid_formats.specs.RegistryFields.{is_puid};
 ghost use Rattle.droid_pronom.specs.RegistryFile.{File};
 ghost use Rattle.droid_stream.specs.Seen.{IsSound, TellsFault};
 
 mod draft;
 pub mod fault;
-mod fields;
-pub mod format;
-pub(crate) mod lower_case;
-mod record_forms;
+mod record_kind;
 mod row_text;
-pub(crate) mod rows;
 mod unread;
 
-use crate::identify::file::identify_windows;
-use crate::identify::found::Found;
+use crate::identify::identify_windows;
 use crate::registry::draft::Draft;
 use crate::registry::fault::RegistryFault;
-use crate::registry::format::Format;
-use crate::registry::rows::{ByteSequence, ListedExtension, Priority, Signature};
 use crate::registry::unread::unread;
 use csv::ReaderBuilder;
+use droid_formats::{ByteSequence, Format, Found, ListedExtension, Priority, Signature};
 use droid_stream::{InputFault, SteadyRead, read_to_end};
 use std::alloc::{AllocError, Global};
 use std::collections::BTreeMap;
@@ -50,7 +44,7 @@ pub struct Registry {
 }
 
 impl Model for Registry {
-    ghost use Rattle.droid_pronom.specs.Registry.{Contents};
+    ghost use Rattle.droid_formats.specs.Registry.{Contents};
 
     ghost Value = { Contents };
 
@@ -62,7 +56,7 @@ impl Model for Registry {
 }
 
 impl Registry {
-    ghost use Rattle.droid_pronom.specs.Registry.{nothing, place_of, IsRegistry, IsSigned};
+    ghost use Rattle.droid_formats.specs.Registry.{nothing, place_of, IsRegistry, IsSigned};
     ghost use Rattle.droid_pronom.specs.RegistryGrowth.{with_format, with_extension, with_priority, with_signature, with_sequence};
 
     /// Reads a registry file. It is CSV as `csv` reads it with its default settings and no header;

@@ -1,5 +1,5 @@
 use Rattle.std.specs.Prelude.{refl}
-use Rattle.droid_pronom.proofs.FoundTests.{found_is}
+use Rattle.droid_formats.proofs.FoundTests.{found_is}
 use Rattle.droid_history.proofs.laws.a_setting_is_there.Goals as goal
 
 pub returns : goal.returns

@@ -6,10 +6,9 @@ ghost use Rattle.droid_pronom.specs.RegistryRecords.{format_taken, extension_tak
 use crate::registry::FORMATS_LIMIT;
 use crate::registry::draft::{Draft, ROWS_LIMIT};
 use crate::registry::fault::{Fault, Refusal, check};
-use crate::registry::format::Format;
-use crate::registry::lower_case::lower_case;
-use crate::registry::record_forms::{is_format, is_listing, is_priority};
-use crate::registry::rows::{ListedExtension, Priority};
+use droid_formats::{
+    Format, ListedExtension, Priority, is_format, is_listing, is_priority, lower_case,
+};
 use droid_frame::Text;
 use std::alloc::Global;
 

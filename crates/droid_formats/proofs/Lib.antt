@@ -1,0 +1,8 @@
+pub mod Flags
+pub mod FoundExtension
+pub mod FoundOnce
+mod FoundRows
+pub mod FoundTests
+pub mod MarkSteps
+pub mod Marks
+pub mod RegistryForms

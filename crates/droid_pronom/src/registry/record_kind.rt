@@ -1,0 +1,39 @@
+//! What a record is about.
+
+ghost use Rattle.std.specs.Prelude.{◌≡◌, option_map};
+ghost use Rattle.droid_formats.specs.RegistryFields as field;
+ghost use Rattle.droid_pronom.specs.RegistryCalls.{kind_is};
+
+/// What a record is about: its first field is the letter.
+#[derive(Clone, Copy, Debug, PartialEq, Eq)]
+pub(crate) enum RecordKind {
+    /// `F`: a format.
+    Format,
+    /// `E`: a format lists an extension.
+    Extension,
+    /// `P`: a format has priority over another.
+    Priority,
+    /// `S`: a new signature of a format, with its first byte sequence.
+    Signature,
+    /// `B`: one more byte sequence of the signature just before.
+    Sequence,
+}
+
+/// What a record is about, by its first field.
+pub(crate) fn kind_of(text: &str) -> Option<RecordKind>
+    ensures { option_map kind_is result ≡ field.kind_of text.now }
+{
+    if text == "F" {
+        Some(RecordKind::Format)
+    } else if text == "E" {
+        Some(RecordKind::Extension)
+    } else if text == "P" {
+        Some(RecordKind::Priority)
+    } else if text == "S" {
+        Some(RecordKind::Signature)
+    } else if text == "B" {
+        Some(RecordKind::Sequence)
+    } else {
+        None
+    }
+}
