@@ -1,3 +1,4 @@
+pub mod CellLemmas
 pub mod ClassLemmas
 pub mod FaultLemmas
 pub mod FrontLemmas

@@ -5,5 +5,6 @@ pub mod LangTest
 -- What the steps of reading and matching promise each other.
 pub mod Fronts
 pub mod Parts
+pub mod Cells
 pub mod Positions
 pub mod Classes

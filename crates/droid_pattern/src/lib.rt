@@ -1,13 +1,17 @@
 //! The patterns of PRONOM's byte sequences: their text, and the bytes that they match.
 #![tactic(auto)]
 
+mod cell;
 mod class;
 mod classes;
 mod fault;
 mod head;
+mod packed;
 mod part;
 mod pattern;
+mod pool;
 mod reading;
+mod short;
 mod step;
 mod toward;
 mod window;

@@ -1,16 +1,10 @@
-//! An element of a pattern, as it is kept.
+//! An element of a pattern, as it is read.
 
-ghost use Rattle.std.specs.Prelude.{◌≡◌, ◌↔◌, ◌+◌, ℕ, IfSome, IsTrue, OnOk, map};
+ghost use Rattle.std.specs.Prelude.{◌≡◌, map};
 ghost use Rattle.droid_pattern.specs.Patterns.{is_gap, has_byte};
 ghost use Rattle.droid_pattern.specs.Parts.{element_of};
-ghost use Rattle.droid_pattern.specs.Positions.{Leads, Reaches, IsAt, IsInside, AreRowsOf};
 
 use crate::class::Class;
-use crate::classes::{ClassRow, one};
-use crate::step::choice;
-use crate::toward::Toward;
-use droid_bits::Row;
-use std::alloc::{AllocError, Global};
 
 /// An element of a pattern.
 #[derive(Debug, Drop)]
@@ -35,41 +29,23 @@ impl Part {
         matches!(self, Part::Gap { .. } | Part::OpenGap { .. })
     }
 
-    /// Whether it matches at this place, where it is one byte; `None` where it isn't.
-    pub(crate) fn passes(&self, bytes: &[u8], place: usize) -> Option<bool>
-        ensures { IfSome result (λ passes. (q : ℕ) → Leads (element_of self.now) bytes.now place q ↔ (IsTrue passes × (q ≡ place + 1))) }
-    {
+    /// How many bytes of a pool it takes.
+    pub(crate) fn pool_len(&self) -> usize {
         match self {
-            Part::One(class) => Some(class.is_at(bytes, place)),
-            Part::AnyByte => Some(place < bytes.len()),
-            Part::Gap { .. } | Part::OpenGap { .. } | Part::Choice(_) => None,
+            Part::One(_) | Part::AnyByte | Part::OpenGap { .. } => 0,
+            Part::Gap { .. } => 4,
+            Part::Choice(alternatives) => runs_len(alternatives).saturating_add(2),
         }
     }
+}
 
-    /// Makes the places those after a step over this element.
-    pub(crate) fn step(
-        &self,
-        rows: &mut Vec<ClassRow>,
-        row: &mut Row,
-        alloc: Global,
-        bytes: &[u8],
-        toward: Toward,
-    ) -> Result<(), AllocError>
-        requires rows { AreRowsOf toward bytes.now rows.old.items }
-        requires inside { IsInside bytes.now row.old }
-        ensures rows { AreRowsOf toward bytes.now rows.new.items }
-        ensures inside { OnOk result (IsInside bytes.now row.new) }
-        ensures reaches { OnOk result (Reaches toward (element_of self.now) bytes.now (IsAt toward bytes.now row.old) (IsAt toward bytes.now row.new)) }
-    {
-        let len = bytes.len();
-        match self {
-            Part::One(class) => one(rows, row, *class, alloc, bytes, toward),
-            Part::AnyByte => row.cross(1, 0, len),
-            Part::Gap { least, more } => row.cross(usize::from(*least), usize::from(*more), len),
-            Part::OpenGap { least } => row.cross(usize::from(*least), len, len),
-            Part::Choice(alternatives) => choice(rows, row, alternatives, alloc, bytes, toward),
-        }
+/// How many bytes these runs take, each behind its length.
+fn runs_len(runs: &[Vec<u8>]) -> usize {
+    let mut len = 0usize;
+    for run in runs {
+        len = len.saturating_add(run.len()).saturating_add(2);
     }
+    len
 }
 
 /// Whether some element is no gap.

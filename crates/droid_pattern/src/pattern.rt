@@ -7,7 +7,8 @@ ghost use Rattle.droid_pattern.specs.Classes.{AreOf};
 
 use crate::fault::PatternFault;
 use crate::head::told_at;
-use crate::part::{Part, any_byte};
+use crate::packed::{Packed, pack};
+use crate::part::any_byte;
 use crate::reading::parts_of;
 use crate::toward::Toward;
 use crate::window::Classes;
@@ -20,18 +21,18 @@ const TEXT_LIMIT: usize = 4096;
 /// A byte sequence of a signature, in PRONOM's syntax. Contracts see the list of its elements.
 #[derive(Debug, Drop)]
 pub struct Pattern {
-    parts: Vec<Part>,
+    packed: Packed,
 }
 
 impl Model for Pattern {
-    ghost use Rattle.std.specs.Prelude.{List, map};
+    ghost use Rattle.std.specs.Prelude.{List};
     ghost use Rattle.droid_pattern.specs.Patterns.{Element};
 
     ghost Value = { List Element };
 
-    ghost use Rattle.droid_pattern.specs.Parts.{element_of};
+    ghost use Rattle.droid_pattern.specs.Cells.{elements_of};
 
-    ghost view = { λ pattern. map element_of pattern.parts.items };
+    ghost view = { λ pattern. elements_of pattern.packed };
 }
 
 impl Pattern {
@@ -54,7 +55,8 @@ impl Pattern {
         if !any_byte(&parts) {
             return Err(PatternFault::BadPattern);
         }
-        Ok(Pattern { parts })
+        let packed = pack(alloc, &parts)?;
+        Ok(Pattern { packed })
     }
 
     /// Whether a match begins at this position.
@@ -115,7 +117,7 @@ impl Pattern {
         if bytes.len() < at {
             return Some(false);
         }
-        told_at(&self.parts, bytes, at)
+        told_at(&self.packed.cells, &self.packed.pool, bytes, at)
     }
 
     /// The same as `begins_with`, by rows of places.
@@ -133,11 +135,13 @@ impl Pattern {
     {
         let len = bytes.len();
         classes.places.set_range(low, high.min(len))?;
-        for part in &self.parts {
+        let pool = self.packed.pool.as_slice();
+        for cell in &self.packed.cells {
             if classes.places.is_empty() {
                 return Ok(false);
             }
-            part.step(
+            cell.step(
+                pool,
                 &mut classes.toward_end,
                 &mut classes.places,
                 alloc,
@@ -177,12 +181,14 @@ impl Pattern {
     {
         let len = bytes.len();
         classes.places.set_range(low, len.min(high))?;
-        let mut rest = self.parts.as_slice();
-        while let [before @ .., part] = rest {
+        let pool = self.packed.pool.as_slice();
+        let mut rest = self.packed.cells.as_slice();
+        while let [before @ .., cell] = rest {
             if classes.places.is_empty() {
                 return Ok(false);
             }
-            part.step(
+            cell.step(
+                pool,
                 &mut classes.toward_start,
                 &mut classes.places,
                 alloc,

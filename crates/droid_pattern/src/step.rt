@@ -1,20 +1,23 @@
 //! One step of a match: the places that an element leads to.
 
-ghost use Rattle.std.specs.Prelude.{OnOk, length, map};
+ghost use Rattle.std.specs.Prelude.{OnOk, length};
 ghost use Rattle.droid_pattern.specs.Patterns.{Choice};
+ghost use Rattle.droid_pattern.specs.Cells.{alternatives_in};
 ghost use Rattle.droid_pattern.specs.Positions.{Reaches, IsAt, IsInside, AreRowsOf, IsChain};
 
 use crate::class::Class;
 use crate::classes::{ClassRow, one};
+use crate::pool::{cut_run, rest_from};
+use crate::short::front_number;
 use crate::toward::Toward;
 use droid_bits::Row;
 use std::alloc::{AllocError, Global};
 
-/// Makes the places those after a step over one of the alternatives.
+/// Makes the places those after a step over one of the alternatives at the front of these bytes of a pool.
 pub(crate) fn choice(
     rows: &mut Vec<ClassRow>,
     row: &mut Row,
-    alternatives: &[Vec<u8>],
+    packed: &[u8],
     alloc: Global,
     bytes: &[u8],
     toward: Toward,
@@ -23,14 +26,17 @@ pub(crate) fn choice(
     requires inside { IsInside bytes.now row.old }
     ensures rows { AreRowsOf toward bytes.now rows.new.items }
     ensures inside { OnOk result (IsInside bytes.now row.new) }
-    ensures reaches { OnOk result (Reaches toward (Choice (map (λ v. v.items) alternatives.now)) bytes.now (IsAt toward bytes.now row.old) (IsAt toward bytes.now row.new)) }
+    ensures reaches { OnOk result (Reaches toward (Choice (alternatives_in packed.now)) bytes.now (IsAt toward bytes.now row.old) (IsAt toward bytes.now row.new)) }
 {
     let mut found = Row::new(alloc);
     let mut chain = Row::new(alloc);
-    for literal in alternatives {
+    let mut rest = rest_from(packed, 2);
+    for _ in 0..front_number(packed) {
+        let (run, after) = cut_run(rest);
         chain.set_from(row)?;
-        follow(rows, &mut chain, literal, alloc, bytes, toward)?;
+        follow(rows, &mut chain, run, alloc, bytes, toward)?;
         found.join(&chain)?;
+        rest = after;
     }
     row.set_from(&found)
 }

@@ -1,32 +1,47 @@
 -- No alternative, one more, and all of them.
-use Rattle.std.proofs.Common.{◌≡◌, ◌++◌, ◌+◌, ◌∷◌, [], map, take, take_all, sym, ap, ◌∙◌, arith}
-use Rattle.std.proofs.lemmas.List.{take_more, map-append}
+use Rattle.std.proofs.Common.{◌≡◌, ◌++◌, ◌-◌, ◌∷◌, [], sym, ap, ◌∙◌, arith}
+use Rattle.std.proofs.lemmas.List.{append-nil}
 use Rattle.std.proofs.lemmas.Result.{on_ok_weaker}
+use Rattle.droid_pattern.specs.Cells.{front_number, runs_in, alternatives_in}
 use Rattle.droid_pattern.specs.Positions.{IsAt}
+use Rattle.droid_pattern.proofs.CellLemmas.{runs_left}
 use Rattle.droid_pattern.proofs.StepLemmas.{choice_none, none_inside, choice_more, chain_reaches, chain_inside, at_join, inside_join}
 use Rattle.droid_pattern.proofs.step.choice.Goals as goal
 
-pub loop-literal-init : goal.loop-literal-init
-loop-literal-init c = rw c.new-found.ensures (c.requires.rows, none_inside c.args.bytes.now, choice_none c.args.toward c.args.bytes.now (IsAt c.args.toward c.args.bytes.now c.args.row.now))
+pub loop-init : goal.loop-init
+loop-init c =
+    let packed = c.args.packed.now in
+    let count = front_number packed in
+    let whole : count - 0 ≡ count = omega arith in
+    let first : runs_in (count - 0) c.rest_from-rest.result.now ≡ alternatives_in packed = ap (λ n. runs_in n c.rest_from-rest.result.now) whole ∙ ap (runs_in count) c.rest_from-rest.ensures in
+    rw c.new-found.ensures (record {
+      rows = c.requires.rows;
+      inside = none_inside c.args.bytes.now;
+      so_far = ([], first, choice_none c.args.toward c.args.bytes.now (IsAt c.args.toward c.args.bytes.now c.args.row.now));
+    })
 
-pub loop-literal-preserved : goal.loop-literal-preserved
-loop-literal-preserved c =
-    let v = c.literal-item.result in
-    let i = c.loop-literal.literal-index in
+pub loop-preserved : goal.loop-preserved
+loop-preserved c =
+    let run = c.cut_run.result.0.now in
     let bytes = c.args.bytes.now in
     let way = c.args.toward in
-    let before = map (λ v. v.items) (take i c.args.alternatives.now) in
-    let more : map (λ v. v.items) (take (i + 1) c.args.alternatives.now) ≡ before ++ v.items ∷ [] =
-    ap (map (λ v. v.items)) (take_more c.args.alternatives.now i v (omega arith)) ∙ map-append (λ v. v.items) (take i c.args.alternatives.now) _ ∙ ap (λ x. before ++ x.items ∷ []) (sym c.literal-item.is) in
-    let chain = rw (c.in_ok-set_from.ensures, c.deref.ensures.value) at c.in_ok-follow.ensures.chain in
-    rw more (
-      c.follow.ensures.rows,
-      inside_join bytes c.loop-literal.found c.follow.new.row c.join.new.self c.in_ok-join.ensures c.loop-literal.invariant.1 (chain_inside way bytes v.items _ c.args.row.now c.follow.new.row c.requires.inside chain),
-      choice_more way before v.items bytes (IsAt way bytes c.args.row.now) (IsAt way bytes c.loop-literal.found) (IsAt way bytes c.follow.new.row) (IsAt way bytes c.join.new.self)
-          c.loop-literal.invariant.2 (chain_reaches way bytes v.items c.args.row.now c.follow.new.row chain) (at_join way bytes c.loop-literal.found c.follow.new.row c.join.new.self c.in_ok-join.ensures),
-    )
+    let (done, all, reached) = c.loop.invariant.so_far in
+    let chain = rw c.in_ok-set_from.ensures at c.in_ok-follow.ensures.chain in
+    record {
+      rows = c.follow.ensures.rows;
+      inside = inside_join bytes c.loop.found c.follow.new.row c.join.new.self c.in_ok-join.ensures c.loop.invariant.inside (chain_inside way bytes run _ c.args.row.now c.follow.new.row c.requires.inside chain);
+      so_far = (
+        done ++ run ∷ [],
+        rw (c.cut_run.ensures.run, c.cut_run.ensures.after) (runs_left (front_number c.args.packed.now) c.loop.counter done c.loop.rest.now _ (omega arith) all),
+        choice_more way done run bytes (IsAt way bytes c.args.row.now) (IsAt way bytes c.loop.found) (IsAt way bytes c.follow.new.row) (IsAt way bytes c.join.new.self)
+            reached (chain_reaches way bytes run c.args.row.now c.follow.new.row chain) (at_join way bytes c.loop.found c.follow.new.row c.join.new.self c.in_ok-join.ensures),
+      );
+    }
 
 pub returns-clause-reaches : goal.returns-clause-reaches
 returns-clause-reaches c =
-    let all = rw (take_all c.loop-literal.literal-index c.args.alternatives.now (omega arith)) at c.loop-literal.invariant.2 in
-    on_ok_weaker c.set_from-2.result (λ same. rw same all) c.set_from-2.ensures
+    let (done, all, reached) = c.loop.invariant.so_far in
+    let none : front_number c.args.packed.now - c.loop.counter ≡ 0 = omega arith in
+    let whole : done ≡ alternatives_in c.args.packed.now = sym (append-nil done) ∙ (rw none at all) in
+    let last = rw whole at reached in
+    on_ok_weaker c.set_from-2.result (λ same. rw same last) c.set_from-2.ensures

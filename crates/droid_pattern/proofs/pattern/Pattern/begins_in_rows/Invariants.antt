@@ -1,16 +1,16 @@
 -- A match is there exactly where one of what is left begins at one of the positions.
 use Rattle.std.proofs.Common.{◌↔◌, ℕ, map, drop}
 use Rattle.droid_pattern.specs.Patterns.{BeginsWithin}
-use Rattle.droid_pattern.specs.Parts.{element_of}
+use Rattle.droid_pattern.specs.Cells.{element_at}
 use Rattle.droid_pattern.specs.Positions.{IsAt, IsInside, Path}
 use Rattle.droid_pattern.specs.Classes.{AreOf}
 use Rattle.droid_pattern.specs.declared.toward.Toward.TheVariants as toward
 use Rattle.droid_pattern.proofs.pattern.Pattern.begins_in_rows.Given as goal
 
-abbrev pub invariant-loop-part : goal.invariant-loop-part
-invariant-loop-part l = record {
+abbrev pub invariant-loop-cell : goal.invariant-loop-cell
+invariant-loop-cell l = record {
   inside : IsInside l.bytes l.classes.places;
   rows : AreOf l.bytes l.classes;
   so_far : BeginsWithin l.fn.self l.bytes l.fn.low l.fn.high
-      ↔ ((p : ℕ) × IsAt toward.End l.bytes l.classes.places p × ((q : ℕ) × Path (map element_of (drop l.part-index l.part-items)) l.bytes p q));
+      ↔ ((p : ℕ) × IsAt toward.End l.bytes l.classes.places p × ((q : ℕ) × Path (map (element_at l.pool) (drop l.cell-index l.cell-items)) l.bytes p q));
 }
