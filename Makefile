@@ -32,6 +32,11 @@ bench: build
 	@cd crates/droid_bench && $(RT) run -- times
 	@$(BENCH) assembly
 	@$(BENCH) patterns
+	@$(BENCH) memory '*61(62' '|62' ')00'
+	@$(BENCH) memory '' 61 ''
+	@$(BENCH) memory '' '(61)' ''
+	@$(BENCH) memory 61 '{3}' ''
+	@$(BENCH) memory 61 '*' ''
 	@$(BENCH) service
 	@if command -v python3 > /dev/null 2>&1; then \
 	    python3 tests/bench/compare_export.py $(BENCH) && python3 tests/bench/compare_store.py $(BENCH) && \

@@ -4,8 +4,9 @@
 //!
 //! Without a word on the command line it prints what came out; with the word `times` how long it took too; with the
 //! word `text` the text of the export alone; with the words `store`, `assembly`, `patterns` and `service` the times of
-//! those alone. With the words `frames folders`, `frames status` and `frames pieces` it writes such frames, and with the
-//! word `answer` it answers the frames on its input in memory, and prints how long that took.
+//! those alone; with the word `memory` and the three parts of a pattern, the memory of a registry of such patterns.
+//! With the words `frames folders`, `frames status` and `frames pieces` it writes such frames, and with the word
+//! `answer` it answers the frames on its input in memory, and prints how long that took.
 #![tactic(auto)]
 
 mod assembly;
@@ -13,6 +14,7 @@ mod bytes;
 mod export;
 mod files;
 mod generated;
+mod memory;
 mod patterns;
 mod requests;
 mod service;
@@ -25,7 +27,7 @@ use anyhow::{Context, Error};
 use droid_frame::Method;
 use droid_pronom::{Found, Registry};
 use std::alloc::{AllocError, Global};
-use std::rt::{Clock, Env};
+use std::rt::{Clock, Env, Files};
 use std::time::Instant;
 use std::{env, io};
 use streams::Load;
@@ -43,6 +45,9 @@ fn main(rt: HostRuntime) -> Result<(), Error> {
     if wants(&rt, "patterns")? {
         return patterns::measure(&rt);
     }
+    if wants(&rt, "memory")? {
+        return measure_memory(&rt);
+    }
     if wants(&rt, "service")? {
         return service::measure(&rt);
     }
@@ -53,6 +58,17 @@ fn main(rt: HostRuntime) -> Result<(), Error> {
         return write_frames(&rt);
     }
     measure_registry(&rt)
+}
+
+/// Reads a registry of the patterns that the three words after the first one make.
+fn measure_memory<R: Env + Files + Print + AllocGlobal>(rt: &R) -> Result<(), Error> {
+    let words: Vec<String> = env::args(rt)?.collect(rt.alloc())?;
+    match words.as_slice() {
+        [_, _, first, unit, last] => {
+            memory::measure(rt, first.as_str(), unit.as_str(), last.as_str())
+        }
+        _ => None.context("a pattern's beginning, what repeats in it, and its end are wanted"),
+    }
 }
 
 /// Writes the frames that the command line names.
