@@ -5,7 +5,6 @@ ghost use Rattle.clap.specs.Values.{kind_of};
 ghost use Rattle.std.specs.IoError.{error_kind};
 ghost use Rattle.droid_desk.specs.Endings.{unread_ending, unused_ending};
 
-use crate::arguments::{Asked, what_is_asked};
 use crate::connections::serve_connections;
 use crate::desk::{run_desk, run_sample};
 use crate::ending::Ending;
@@ -16,6 +15,7 @@ use crate::sending::send_lines;
 use crate::stream::answer_stream;
 use clap::Error;
 use clap::error::ErrorKind;
+use droid_arguments::{Asked, what_is_asked};
 use droid_core::Service;
 use droid_frame::{FrameFault, NUMBER_LIMIT};
 use droid_pronom::RegistryFault;

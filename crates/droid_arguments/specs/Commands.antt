@@ -1,0 +1,60 @@
+-- The program's commands and their options, as a parse reads them (this project's own).
+use Rattle.std.specs.Prelude.{ℕ, true, Some, codes}
+use Rattle.clap.specs.Words.{App, Rule, Text, new_app, new_rule, with_rule, with_subcommand}
+use Rattle.clap.specs.declared.builder.action.ArgAction.TheVariants.{Set}
+use Rattle.clap.specs.declared.builder.value_parser.ValueParser.TheVariants.{Unsigned}
+
+-- an option with one value: `--NAME VALUE`
+abbrev pub option_named : Text → Rule
+option_named name = record (new_rule name) { long = Some name; value_names = 1; action = Some Set }
+
+-- an option with a number from `least` to `most`
+abbrev pub number_named : Text → ℕ → ℕ → Rule
+number_named name least most = record (option_named name) { parser = Some (Unsigned least most) }
+
+-- the option must be there
+abbrev pub wanted : Rule → Rule
+wanted rule = record rule { required = true }
+
+abbrev pub registry_option : Rule
+registry_option = option_named (codes "registry")
+
+abbrev pub port_option : Rule
+port_option = wanted (number_named (codes "port") 1 65535)
+
+abbrev pub connections_option : Rule
+connections_option = number_named (codes "connections") 1 1000
+
+abbrev pub client_option : Rule
+client_option = wanted (number_named (codes "client") 0 4294967295)
+
+abbrev pub first_option : Rule
+first_option = number_named (codes "first") 0 9223372036854775807
+
+abbrev pub script_command : App
+script_command = with_rule (new_app (codes "script")) registry_option
+
+abbrev pub run_command : App
+run_command = with_rule (new_app (codes "run")) registry_option
+
+abbrev pub serve_command : App
+serve_command =
+    with_rule (with_rule (with_rule (new_app (codes "serve")) port_option) connections_option) registry_option
+
+abbrev pub send_command : App
+send_command = with_rule (with_rule (with_rule (new_app (codes "send")) port_option) client_option) first_option
+
+-- one of the commands must be named
+abbrev pub wanting_command : App → App
+wanting_command a = record a { top = record a.top { subcommand_required = true } }
+
+-- the program with its four commands
+abbrev pub program : App
+program =
+    with_subcommand
+    (with_subcommand
+    (with_subcommand
+    (with_subcommand (wanting_command (new_app (codes "droid_desk"))) script_command.top)
+    run_command.top)
+    serve_command.top)
+    send_command.top

@@ -1,0 +1,8 @@
+//! The command line of the program: what its words ask for, and what the program says of itself.
+#![tactic(auto)]
+
+mod arguments;
+mod help;
+mod stream_help;
+
+pub use arguments::{Asked, what_is_asked};
