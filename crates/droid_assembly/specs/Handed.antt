@@ -1,10 +1,8 @@
 -- What is handed back.
-use Rattle.std.specs.Prelude.{ℕ, List, [], ◌∷◌}
-use Rattle.droid_assembly.specs.declared.spent.Pieces.{Pieces}
-use Rattle.droid_assembly.specs.declared.spent.Pieces.TheVariants.{Nothing, One, Many}
+use Rattle.std.specs.Prelude.{ℕ, List, [], ◌∷◌, Option, None, Some}
 
--- the bytes of each piece, in order of index
-abbrev pub pieces_of : Pieces → List (List ℕ)
-pieces_of Nothing = []
-pieces_of (One bytes) = bytes ∷ []
-pieces_of (Many several) = several
+-- the bytes of each piece, in order of index: of one piece, or of several
+abbrev pub pieces_of : Option (List ℕ) → Option (List (List ℕ)) → List (List ℕ)
+pieces_of (Some bytes) several = bytes ∷ []
+pieces_of None (Some several) = several
+pieces_of None None = []

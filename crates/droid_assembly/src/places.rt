@@ -1,6 +1,6 @@
 //! The places of pieces that wait for an earlier one.
 
-ghost use Rattle.std.specs.Prelude.{◌≡◌, ◌<◌, ◌≤◌, ◌+◌, ◌%◌, ◌^◌, ℕ, List, length, None, Some, IfOk, IsSome, IsTrue, replicate, slice_set};
+ghost use Rattle.std.specs.Prelude.{◌≡◌, ◌<◌, ◌≤◌, ◌+◌, ◌%◌, ◌^◌, [], ℕ, List, length, None, Some, IfOk, IsSome, IsTrue, replicate, slice_set};
 ghost use Rattle.std.specs.Bool.{OnFalse};
 ghost use Rattle.droid_assembly.specs.Pieces.{Piece};
 ghost use Rattle.droid_assembly.specs.State.{slot};
@@ -85,37 +85,37 @@ fn pass(waiting: &mut [Option<Blob>], front: &mut Front, from: &mut u32) -> Spen
     ensures counted { from.new ≡ from.old + length result }
     ensures few { length result ≤ 16 }
 {
-    let several = pass_several(waiting, front, *from);
+    let mut several = Several::none();
+    pass_several(waiting, front, *from, &mut several);
     *from += several.len() as u32;
     Spent::several(several)
 }
 
-// Does the same, and gives the pieces as they are put together.
+// Does the same, and puts the pieces where they are to lie.
 #[inline(never)]
-fn pass_several(waiting: &mut [Option<Blob>], front: &mut Front, from: u32) -> Several
+fn pass_several(waiting: &mut [Option<Blob>], front: &mut Front, from: u32, several: &mut Several)
     requires places { length waiting.old ≡ 16 }
     requires sound { IsFront front.old }
     requires small { from + 16 < 2 ^ 32 }
+    requires none { several.old ≡ [] }
     ensures sound { IsFront front.new }
     ensures width { front.new.width ≡ front.old.width }
     ensures along { (pieces : List Piece) (total count : ℕ) → IsAlong front.old waiting.old from pieces total count
-        → IsAlong front.new waiting.new (from + length result) pieces total count }
+        → IsAlong front.new waiting.new (from + length several.new) pieces total count }
     ensures passed { (pieces : List Piece) (total count : ℕ) → IsAlong front.old waiting.old from pieces total count
-        → result ≡ pieces_from from (length result) pieces }
-    ensures stopped { slot waiting.new (from + length result) ≡ None }
-    ensures few { length result ≤ 16 }
+        → several.new ≡ pieces_from from (length several.new) pieces }
+    ensures stopped { slot waiting.new (from + length several.new) ≡ None }
+    ensures few { length several.new ≤ 16 }
 {
-    let mut several = Several::none();
     for index in from..from + AHEAD {
         match take_out(waiting, index) {
             Some(bytes) => {
                 front.take(bytes.as_slice());
                 several.push(bytes);
             }
-            None => return several,
+            None => return,
         }
     }
-    several
 }
 
 // Whether the piece of this index waits.

@@ -39,6 +39,17 @@ impl Ring {
         if self.bytes.len() == self.width && bytes.len() <= self.width - self.turn {
             return self.write(bytes);
         }
+        self.extend_over(bytes);
+    }
+
+    // Does the same where the block isn't full, or its end comes first.
+    #[inline(never)]
+    fn extend_over(&mut self, bytes: &[u8])
+        requires { IsRing self.old }
+        ensures sound { IsRing self.new }
+        ensures width { self.new.width ≡ self.old.width }
+        ensures items { ring_items self.new ≡ last_window self.old.width (ring_items self.old ++ bytes.now) }
+    {
         let bytes = &bytes[bytes.len().saturating_sub(self.width)..];
         let count = bytes.len().min(self.width - self.bytes.len());
         append(&mut self.bytes, &bytes[..count]);
@@ -98,18 +109,44 @@ impl Ring {
 }
 
 /// Appends bytes for which there is room.
+#[inline(always)]
 pub(crate) fn append(window: &mut Vec<u8>, bytes: &[u8])
     requires { vec_len window.old + length bytes.now ≤ vec_capacity window.old }
     ensures items { window.new.items ≡ window.old.items ++ bytes.now }
     ensures capacity { vec_capacity window.old ≤ vec_capacity window.new }
 {
     if bytes.len() > 0 {
-        window.extend_from_slice(bytes).unwrap();
+        append_some(window, bytes);
     }
 }
 
+// Appends at least one byte.
+#[inline(never)]
+fn append_some(window: &mut Vec<u8>, bytes: &[u8])
+    requires { vec_len window.old + length bytes.now ≤ vec_capacity window.old }
+    ensures items { window.new.items ≡ window.old.items ++ bytes.now }
+    ensures capacity { vec_capacity window.old ≤ vec_capacity window.new }
+{
+    window.extend_from_slice(bytes).unwrap();
+}
+
 // Puts bytes in the place of those from `at` on.
+#[inline(always)]
 fn overwrite(block: &mut [u8], at: usize, bytes: &[u8])
+    requires { at + length bytes.now ≤ length block.old }
+    ensures { block.new ≡ take at block.old ++ bytes.now ++ drop (at + length bytes.now) block.old }
+{
+    // To call for a copy of one byte would cost more than the byte.
+    if bytes.len() == 1 {
+        block[at] = bytes[0];
+    } else {
+        copy_over(block, at, bytes);
+    }
+}
+
+// Puts bytes in the place of those from `at` on, by a copy.
+#[inline(never)]
+fn copy_over(block: &mut [u8], at: usize, bytes: &[u8])
     requires { at + length bytes.now ≤ length block.old }
     ensures { block.new ≡ take at block.old ++ bytes.now ++ drop (at + length bytes.now) block.old }
 {

@@ -10,17 +10,12 @@ use std::marker::Model;
 
 /// The pieces that an assembly needs no longer, in order of index. It holds them without memory of
 /// its own. Contracts see the list of their bytes.
+// Mostly one piece is handed back, or none. The places of several lie apart from the one, so that they
+// are not cleared then.
 #[derive(Debug, Drop)]
 pub struct Spent {
-    pieces: Pieces,
-}
-
-/// Mostly one piece is handed back, or none, and the places of several are not made then.
-#[derive(Debug, Drop)]
-pub(crate) enum Pieces {
-    Nothing,
-    One(Blob),
-    Many(Several),
+    one: Option<Blob>,
+    several: Option<Several>,
 }
 
 impl Model for Spent {
@@ -29,7 +24,7 @@ impl Model for Spent {
 
     ghost Value = { List (List ℕ) };
 
-    ghost view = { λ spent. pieces_of spent.pieces };
+    ghost view = { λ spent. pieces_of spent.one spent.several };
 }
 
 impl Spent {
@@ -38,7 +33,8 @@ impl Spent {
         ensures { result ≡ [] }
     {
         Spent {
-            pieces: Pieces::Nothing,
+            one: None,
+            several: None,
         }
     }
 
@@ -47,7 +43,8 @@ impl Spent {
         ensures { result ≡ bytes ∷ [] }
     {
         Spent {
-            pieces: Pieces::One(bytes),
+            one: Some(bytes),
+            several: None,
         }
     }
 
@@ -56,7 +53,8 @@ impl Spent {
         ensures { result ≡ several }
     {
         Spent {
-            pieces: Pieces::Many(several),
+            one: None,
+            several: Some(several),
         }
     }
 
@@ -64,11 +62,10 @@ impl Spent {
     pub fn len(&self) -> usize
         ensures { result ≡ length self.now }
     {
-        let pieces = &self.pieces;
-        match pieces {
-            Pieces::Nothing => 0,
-            Pieces::One(_) => 1,
-            Pieces::Many(several) => several.len(),
+        match (&self.one, &self.several) {
+            (Some(_), _) => 1,
+            (None, Some(several)) => several.len(),
+            (None, None) => 0,
         }
     }
 
@@ -83,11 +80,10 @@ impl Spent {
     pub fn get(&self, place: usize) -> Option<&Blob>
         ensures { option_copied result ≡ slice_get self.now place }
     {
-        let pieces = &self.pieces;
-        match pieces {
-            Pieces::Nothing => None,
-            Pieces::One(bytes) => { if place == 0 { Some(bytes) } else { None } }
-            Pieces::Many(several) => several.get(place),
+        match (&self.one, &self.several) {
+            (Some(bytes), _) => { if place == 0 { Some(bytes) } else { None } }
+            (None, Some(several)) => several.get(place),
+            (None, None) => None,
         }
     }
 }

@@ -1,7 +1,7 @@
 use Rattle.std.proofs.Common.{◌≡◌, ◌∙◌, ◌-◌, length, take, drop, ap, arith}
 use Rattle.droid_assembly.specs.Pieces.{last_window}
 use Rattle.droid_assembly.proofs.Ends.{rest_is, extended_by}
-use Rattle.droid_assembly.proofs.ring.Ring.extend.Goals as goal
+use Rattle.droid_assembly.proofs.ring.Ring.extend_over.Goals as goal
 
 pub returns-clause-items : goal.returns-clause-items
 returns-clause-items c =
