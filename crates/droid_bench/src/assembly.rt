@@ -124,11 +124,26 @@ fn keep(assembly: &mut Assembly, piece: Piece, kept: &mut Vec<Spent>) -> bool
     kept.push(assembly.settle()).is_ok()
 }
 
-/// The digest of these bytes so many times, in blocks of so many.
-pub fn digest_alone(bytes: &[u8], times: u32) -> [u8; 16] {
+/// The digest of the file that the pieces make, by the hash alone over their own bytes.
+pub fn digest_alone(pieces: &[Piece], order: Order) -> [u8; 16] {
     let mut hash = Md5::new();
-    for _ in 0..times {
-        hash.update(bytes);
+    for index in 0..pieces.len() {
+        let place = match order {
+            Order::Rising => index,
+            Order::Turned => index ^ 15,
+        };
+        if let Some(piece) = pieces.get(place) {
+            hash.update(piece.bytes.as_slice());
+        }
+    }
+    hash.finalize()
+}
+
+/// The digest of these bytes, by the hash alone in blocks of 64 bytes.
+pub fn digest_in_blocks(bytes: &[u8]) -> [u8; 16] {
+    let mut hash = Md5::new();
+    for block in bytes.chunks(64) {
+        hash.update(block);
     }
     hash.finalize()
 }

@@ -9,23 +9,25 @@ use std::alloc::Global;
 use std::rt::Clock;
 use std::time::Instant;
 
-/// How often each file is measured; the shortest time counts.
-const ROUNDS: u32 = 5;
+/// How often each file is measured; the shortest time of each counts.
+const ROUNDS: u32 = 7;
 
-/// How many pieces of one byte are made at a time, as they come and go where a stream brings them.
-const BATCH: u32 = 1 << 12;
+/// How many pieces of one byte are made at a time. A stream brings them one by one, and more than these would measure
+/// the allocator.
+const BATCH: u32 = 1 << 6;
 
 /// How many pieces of one byte a file has.
 const SMALL_PIECES: u32 = 1 << 20;
 
+/// How many pieces of 1 MiB a file has.
+const LARGE_PIECES: u32 = 256;
+
 /// Prints how long a file of 256 MiB takes in pieces of 1 MiB, in order and with as many waiting as can, and one of
 /// 1 MiB in pieces of a byte.
 pub fn measure<R: Print + Clock + AllocGlobal>(rt: &R) -> Result<(), Error> {
-    let whole = hash_alone(rt, 1 << 20, 256)?;
-    println!(rt; "hash: 256 MiB in {} microseconds", whole / 1_000)?;
-    print_large(rt, "in order", Order::Rising, whole)?;
-    print_large(rt, "sixteen turned", Order::Turned, whole)?;
-    let blocks = hash_alone(rt, 64, 1 << 14)?;
+    print_large(rt, "in order", Order::Rising)?;
+    print_large(rt, "sixteen turned", Order::Turned)?;
+    let blocks = hash_in_blocks(rt)?;
     println!(rt;
         "hash: 1 MiB in blocks of 64 bytes in {} microseconds",
         blocks / 1_000
@@ -34,18 +36,14 @@ pub fn measure<R: Print + Clock + AllocGlobal>(rt: &R) -> Result<(), Error> {
     print_small(rt, "sixteen turned", Order::Turned, blocks)
 }
 
-/// How many nanoseconds the hash takes alone, of so many bytes so many times.
-fn hash_alone<R: Print + Clock + AllocGlobal>(
-    rt: &R,
-    length: u32,
-    times: u32,
-) -> Result<u128, Error> {
-    let bytes = assembly::content(rt.alloc(), length)?;
+/// How many nanoseconds the hash takes alone for 1 MiB in blocks of 64 bytes.
+fn hash_in_blocks<R: Print + Clock + AllocGlobal>(rt: &R) -> Result<u128, Error> {
+    let bytes = assembly::content(rt.alloc(), SMALL_PIECES)?;
     let mut least = u128::MAX;
     let mut last = 0;
     for _ in 0..ROUNDS {
         let start = Instant::now(rt)?;
-        let digest = assembly::digest_alone(bytes.as_slice(), times);
+        let digest = assembly::digest_in_blocks(bytes.as_slice());
         least = least.min(start.elapsed(rt)?.as_nanos());
         last = digest[15];
     }
@@ -53,23 +51,55 @@ fn hash_alone<R: Print + Clock + AllocGlobal>(
     Ok(least)
 }
 
+/// Prints how long a file of 256 MiB takes beside the hash alone over the same pieces: where what is handed back is
+/// kept aside, as the hash keeps the pieces, and where each piece is dropped as it comes back.
 fn print_large<R: Print + Clock + AllocGlobal>(
     rt: &R,
     what: &str,
     order: Order,
-    alone: u128,
 ) -> Result<(), Error> {
-    let mut least = u128::MAX;
+    let mut alone = u128::MAX;
+    let mut kept = u128::MAX;
+    let mut dropped = u128::MAX;
     for _ in 0..ROUNDS {
+        let (hash, own) = beside_the_hash(rt, order)?;
+        alone = alone.min(hash);
+        kept = kept.min(own);
         let assembly = assembly::of_large_pieces(rt.alloc())?;
-        least = least.min(time_of(rt, assembly, 256, 256, 1 << 20, order)?);
+        dropped = dropped.min(time_of(rt, assembly, LARGE_PIECES, LARGE_PIECES, 1 << 20, order)?);
     }
     println!(rt;
-        "assembly: 256 MiB {what} in {} microseconds, {} percent of the hash",
-        least / 1_000,
-        percent(least, alone)
+        "assembly: 256 MiB {what} in {} microseconds, the hash alone over the same 256 buffers in {}; {} percent of it",
+        kept / 1_000,
+        alone / 1_000,
+        percent(kept, alone)
+    )?;
+    println!(rt;
+        "  with each buffer freed as it comes back in {} microseconds, {} percent",
+        dropped / 1_000,
+        percent(dropped, alone)
     )?;
     Ok(())
+}
+
+/// How many nanoseconds the hash takes alone over the pieces of a large file, and how many an assembly takes for these
+/// very pieces, where what is handed back is dropped outside of what is measured.
+fn beside_the_hash<R: Clock + AllocGlobal>(rt: &R, order: Order) -> Result<(u128, u128), Error> {
+    let alloc = rt.alloc();
+    let pieces = assembly::pieces(alloc, 0, LARGE_PIECES, 1 << 20, order)?;
+    let start = Instant::now(rt)?;
+    let alone = assembly::digest_alone(pieces.as_slice(), order);
+    let hash = start.elapsed(rt)?.as_nanos();
+    let mut assembly = assembly::of_large_pieces(alloc)?;
+    let mut kept: Vec<Spent> = Vec::with_capacity(alloc, LARGE_PIECES as usize)?;
+    let start = Instant::now(rt)?;
+    let _ = assembly::keep_all(&mut assembly, pieces, &mut kept);
+    let digest = assembly::digest_of(&mut assembly);
+    let own = start.elapsed(rt)?.as_nanos();
+    match digest {
+        Some(digest) if digest == alone => Ok((hash, own)),
+        _ => None.context("the pieces make another file"),
+    }
 }
 
 /// Prints how long a file in pieces of a byte takes: where each piece is dropped as it is handed back, and where all of
