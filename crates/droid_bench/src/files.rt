@@ -22,6 +22,15 @@ const SMALL_PIECES: u32 = 1 << 20;
 /// How many pieces of 1 MiB a file has.
 const LARGE_PIECES: u32 = 256;
 
+/// What becomes of what an assembly hands back.
+#[derive(Clone, Copy, Debug, PartialEq, Eq)]
+enum Fate {
+    /// It is dropped at once.
+    Dropped,
+    /// It is kept aside, and dropped outside of what is measured.
+    Kept,
+}
+
 /// Prints how long a file of 256 MiB takes in pieces of 1 MiB, in order and with as many waiting as can, and one of
 /// 1 MiB in pieces of a byte.
 pub fn measure<R: Print + Clock + AllocGlobal>(rt: &R) -> Result<(), Error> {
@@ -62,11 +71,12 @@ fn print_large<R: Print + Clock + AllocGlobal>(
     let mut kept = u128::MAX;
     let mut dropped = u128::MAX;
     for _ in 0..ROUNDS {
-        let (hash, own) = beside_the_hash(rt, order)?;
+        let (hash, own) = times_of_large(rt, order, Fate::Kept)?;
         alone = alone.min(hash);
         kept = kept.min(own);
-        let assembly = assembly::of_large_pieces(rt.alloc())?;
-        dropped = dropped.min(time_of(rt, assembly, LARGE_PIECES, LARGE_PIECES, 1 << 20, order)?);
+        let (hash, own) = times_of_large(rt, order, Fate::Dropped)?;
+        alone = alone.min(hash);
+        dropped = dropped.min(own);
     }
     println!(rt;
         "assembly: 256 MiB {what} in {} microseconds, the hash alone over the same 256 buffers in {}; {} percent of it",
@@ -82,26 +92,6 @@ fn print_large<R: Print + Clock + AllocGlobal>(
     Ok(())
 }
 
-/// How many nanoseconds the hash takes alone over the pieces of a large file, and how many an assembly takes for these
-/// very pieces, where what is handed back is dropped outside of what is measured.
-fn beside_the_hash<R: Clock + AllocGlobal>(rt: &R, order: Order) -> Result<(u128, u128), Error> {
-    let alloc = rt.alloc();
-    let pieces = assembly::pieces(alloc, 0, LARGE_PIECES, 1 << 20, order)?;
-    let start = Instant::now(rt)?;
-    let alone = assembly::digest_alone(pieces.as_slice(), order);
-    let hash = start.elapsed(rt)?.as_nanos();
-    let mut assembly = assembly::of_large_pieces(alloc)?;
-    let mut kept: Vec<Spent> = Vec::with_capacity(alloc, LARGE_PIECES as usize)?;
-    let start = Instant::now(rt)?;
-    let _ = assembly::keep_all(&mut assembly, pieces, &mut kept);
-    let digest = assembly::digest_of(&mut assembly);
-    let own = start.elapsed(rt)?.as_nanos();
-    match digest {
-        Some(digest) if digest == alone => Ok((hash, own)),
-        _ => None.context("the pieces make another file"),
-    }
-}
-
 /// Prints how long a file in pieces of a byte takes: where each piece is dropped as it is handed back, and where all of
 /// a batch are kept aside and dropped outside of what is measured; and how long it takes to drop such pieces alone.
 fn print_small<R: Print + Clock + AllocGlobal>(
@@ -114,10 +104,8 @@ fn print_small<R: Print + Clock + AllocGlobal>(
     let mut kept = u128::MAX;
     let mut dropping = u128::MAX;
     for _ in 0..ROUNDS {
-        let assembly = assembly::of_single_bytes(rt.alloc())?;
-        dropped = dropped.min(time_of(rt, assembly, SMALL_PIECES, BATCH, 1, order)?);
-        let assembly = assembly::of_single_bytes(rt.alloc())?;
-        kept = kept.min(time_of_kept(rt, assembly, order)?);
+        dropped = dropped.min(time_of_small(rt, order, Fate::Dropped)?);
+        kept = kept.min(time_of_small(rt, order, Fate::Kept)?);
         dropping = dropping.min(time_to_drop(rt, order)?);
     }
     println!(rt;
@@ -139,66 +127,69 @@ fn print_small<R: Print + Clock + AllocGlobal>(
     Ok(())
 }
 
-/// How many nanoseconds a file takes whose pieces are made so many at a time, outside of what is measured.
-fn time_of<R: Clock + AllocGlobal>(
+/// How many nanoseconds the hash takes alone over the pieces of a large file, and how many an assembly takes for these
+/// very pieces.
+fn times_of_large<R: Clock + AllocGlobal>(
     rt: &R,
-    mut assembly: Assembly,
-    count: u32,
-    batch: u32,
-    length: u32,
     order: Order,
-) -> Result<u128, Error>
-    requires { assembly.pending ≡ None }
-{
-    let mut took = 0u128;
-    for turn in 0..count / batch.max(1) {
-        let pieces = assembly::pieces(
-            rt.alloc(),
-            turn.saturating_mul(batch),
-            batch,
-            length,
-            order,
-        )?;
-        let start = Instant::now(rt)?;
-        let taken = assembly::take_all(&mut assembly, pieces);
-        took = took.saturating_add(start.elapsed(rt)?.as_nanos());
-        if !taken {
-            return None.context("a piece was refused");
-        }
-    }
+    fate: Fate,
+) -> Result<(u128, u128), Error> {
+    let pieces = assembly::pieces(rt.alloc(), 0, LARGE_PIECES, 1 << 20, order)?;
     let start = Instant::now(rt)?;
-    let digest = assembly::digest_of(&mut assembly);
-    let end = start.elapsed(rt)?.as_nanos();
-    digest.context("the pieces")?;
-    Ok(took.saturating_add(end))
+    let alone = assembly::digest_alone(pieces.as_slice(), order);
+    let hash = start.elapsed(rt)?.as_nanos();
+    let mut assembly = assembly::of_large_pieces(rt.alloc())?;
+    let taking = time_to_take(rt, &mut assembly, pieces, fate)?;
+    let (digest, sealing) = seal(rt, &mut assembly)?;
+    if digest != alone {
+        return None.context("the pieces make another file");
+    }
+    Ok((hash, taking.saturating_add(sealing)))
 }
 
-/// How many nanoseconds a file in pieces of a byte takes where what is handed back is kept, so many at a time, and
-/// dropped outside of what is measured.
-fn time_of_kept<R: Clock + AllocGlobal>(
-    rt: &R,
-    mut assembly: Assembly,
-    order: Order,
-) -> Result<u128, Error>
-    requires { assembly.pending ≡ None }
-{
+/// How many nanoseconds an assembly takes for a file in pieces of a byte.
+fn time_of_small<R: Clock + AllocGlobal>(rt: &R, order: Order, fate: Fate) -> Result<u128, Error> {
+    let mut assembly = assembly::of_single_bytes(rt.alloc())?;
     let mut took = 0u128;
-    let mut kept: Vec<Spent> = Vec::with_capacity(rt.alloc(), BATCH as usize)?;
     for turn in 0..SMALL_PIECES / BATCH {
-        kept.clear();
         let pieces = small_pieces(rt.alloc(), turn, order)?;
-        let start = Instant::now(rt)?;
-        let taken = assembly::keep_all(&mut assembly, pieces, &mut kept);
-        took = took.saturating_add(start.elapsed(rt)?.as_nanos());
-        if !taken {
-            return None.context("a piece was refused");
-        }
+        took = took.saturating_add(time_to_take(rt, &mut assembly, pieces, fate)?);
     }
+    let (_, sealing) = seal(rt, &mut assembly)?;
+    Ok(took.saturating_add(sealing))
+}
+
+/// How many nanoseconds an assembly takes to take these pieces, which were made before.
+fn time_to_take<R: Clock + AllocGlobal>(
+    rt: &R,
+    assembly: &mut Assembly,
+    pieces: Vec<Piece>,
+    fate: Fate,
+) -> Result<u128, Error>
+    requires { assembly.old.pending ≡ None }
+    ensures { assembly.new.pending ≡ None }
+{
+    let mut kept: Vec<Spent> = Vec::with_capacity(rt.alloc(), pieces.len())?;
     let start = Instant::now(rt)?;
-    let digest = assembly::digest_of(&mut assembly);
-    let end = start.elapsed(rt)?.as_nanos();
-    digest.context("the pieces")?;
-    Ok(took.saturating_add(end))
+    let taken = match fate {
+        Fate::Dropped => assembly::take_all(assembly, pieces),
+        Fate::Kept => assembly::keep_all(assembly, pieces, &mut kept),
+    };
+    let took = start.elapsed(rt)?.as_nanos();
+    if !taken {
+        return None.context("a piece was refused");
+    }
+    Ok(took)
+}
+
+/// The digest of the file that was taken, and how many nanoseconds it takes to ask for it.
+fn seal<R: Clock + AllocGlobal>(rt: &R, assembly: &mut Assembly) -> Result<([u8; 16], u128), Error>
+    requires { assembly.old.pending ≡ None }
+{
+    let start = Instant::now(rt)?;
+    let digest = assembly::digest_of(assembly);
+    let took = start.elapsed(rt)?.as_nanos();
+    Ok((digest.context("the pieces")?, took))
 }
 
 /// How many nanoseconds it takes to drop the pieces of a file in pieces of a byte.

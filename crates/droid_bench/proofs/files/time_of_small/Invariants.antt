@@ -1,6 +1,6 @@
 use Rattle.std.proofs.Common.{◌≡◌}
 use Rattle.std.specs.Prelude.{None}
-use Rattle.droid_bench.proofs.files.time_of.Given as goal
+use Rattle.droid_bench.proofs.files.time_of_small.Given as goal
 
 -- no piece is pending between two
 abbrev pub invariant-loop-turn : goal.invariant-loop-turn
