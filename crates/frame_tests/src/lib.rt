@@ -18,8 +18,6 @@ mod reply_bodies;
 #[cfg(test)]
 mod requests;
 #[cfg(test)]
-mod shaky;
-#[cfg(test)]
 mod stream_faults;
 #[cfg(test)]
 mod streams;

@@ -1,57 +1,74 @@
 //! Values: copies, lists and numbers.
 
-use droid_frame::*;
+use droid_frame::{
+    Blob, Criteria, Criterion, Filter, Limit, Method, NodeKind, Refusal, Text, Texts,
+};
+use std::alloc::{AllocError, Global};
 use std::test::Fail;
+
+fn one_text(alloc: Global) -> Result<Texts, AllocError> {
+    let mut texts = Texts::new(alloc);
+    texts.push(Text::copy_of(alloc, "dev/1")?)?;
+    Ok(texts)
+}
+
+fn has_len(text: Option<&Text>, len: usize) -> bool {
+    match text {
+        Some(text) => text.len() == len,
+        None => false,
+    }
+}
 
 #[test]
 fn texts(rt: HostRuntime) -> Result<(), Fail> {
-    let mut texts = Texts::new(rt.alloc());
-    assert!(rt; texts.is_empty());
-    texts.push(Text::copy_of(rt.alloc(), "dev/1")?)?;
-    let copy = texts.try_clone(rt.alloc())?;
-    assert_eq!(rt; copy.len(), 1);
-    assert_eq!(rt; copy.get(0).map(|text| text.len()), Some(5));
-    assert_eq!(rt; copy.as_slice().len(), 1);
-    assert!(rt; copy.get(1).is_none());
+    assert!(rt; Texts::new(rt.alloc()).is_empty());
+    let copy = one_text(rt.alloc())?.try_clone(rt.alloc())?;
+    assert!(rt; copy.len() == 1 && copy.as_slice().len() == 1);
+    assert!(rt; has_len(copy.get(0), 5) && copy.get(1).is_none());
     Ok(())
 }
 
 #[test]
 fn bytes_and_text(rt: HostRuntime) -> Result<(), Fail> {
     let blob = Blob::copy_of(rt.alloc(), b"abc")?.try_clone(rt.alloc())?;
-    assert_eq!(rt; blob.len(), 3);
-    assert!(rt; !blob.is_empty());
-    assert_eq!(rt; Blob::from(blob.into_vec()).as_slice(), b"abc".as_slice());
+    assert!(rt; blob.len() == 3 && !blob.is_empty());
+    assert!(rt; Blob::from(blob.into_vec()).as_slice() == b"abc".as_slice());
     let text = Text::copy_of(rt.alloc(), "abc")?.try_clone(rt.alloc())?;
-    assert_eq!(rt; Text::from(text.into_string()).as_str(), "abc");
+    assert!(rt; Text::from(text.into_string()).as_str() == "abc");
     Ok(())
+}
+
+fn one_criterion(alloc: Global) -> Result<Criteria, AllocError> {
+    let mut criteria = Criteria::new(alloc);
+    criteria.push(Criterion::MismatchIs(true))?;
+    Ok(criteria)
 }
 
 #[test]
 fn criteria(rt: HostRuntime) -> Result<(), Fail> {
-    let mut criteria = Criteria::new(rt.alloc());
-    assert!(rt; criteria.is_empty());
-    criteria.push(Criterion::MismatchIs(true))?;
-    let copy = criteria.try_clone(rt.alloc())?;
-    assert_eq!(rt; copy.len(), 1);
-    assert!(rt; !copy.is_empty());
-    assert_eq!(rt; copy.as_slice().len(), 1);
+    assert!(rt; Criteria::new(rt.alloc()).is_empty());
+    let copy = one_criterion(rt.alloc())?.try_clone(rt.alloc())?;
+    assert!(rt; copy.len() == 1 && !copy.is_empty() && copy.as_slice().len() == 1);
     assert!(rt; matches!(copy.get(0), Some(Criterion::MismatchIs(true))));
     assert!(rt; copy.get(1).is_none());
+    Ok(())
+}
+
+#[test]
+fn filters(rt: HostRuntime) -> Result<(), Fail> {
     let filter = Filter {
         all: true,
-        criteria: copy,
+        criteria: one_criterion(rt.alloc())?,
     };
     let filter = filter.try_clone(rt.alloc())?;
-    assert!(rt; filter.all);
-    assert_eq!(rt; filter.criteria.len(), 1);
+    assert!(rt; filter.all && filter.criteria.len() == 1);
     Ok(())
 }
 
 #[test]
 fn numbers(rt: HostRuntime) {
-    assert_eq!(rt; Refusal::LimitReached(Limit::Nodes).number(), 17);
-    assert_eq!(rt; Limit::Nodes.number(), 2);
-    assert_eq!(rt; Method::Extension.number(), 2);
-    assert_eq!(rt; NodeKind::Folder.number(), 1);
+    assert!(rt; Refusal::LimitReached(Limit::Nodes).number() == 17);
+    assert!(rt; Limit::Nodes.number() == 2);
+    assert!(rt; Method::Extension.number() == 2);
+    assert!(rt; NodeKind::Folder.number() == 1);
 }

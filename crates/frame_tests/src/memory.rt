@@ -1,7 +1,8 @@
 // Each test passes too where any one allocation is refused: tests/memory refuses each in turn.
 //! Want of memory: a refused call answers it, and the same call again does its work.
 
-use droid_frame::*;
+use crate::vectors::frame;
+use droid_frame::{BodyFault, Frame, Reply, Request, Texts, reply_of, request_frame, request_of};
 use std::alloc::{AllocError, Global};
 use std::test::Fail;
 
@@ -17,48 +18,69 @@ const FINISHED: [u8; 28] = [
 ];
 
 fn frame_of(alloc: Global, kind: u8, body: &[u8]) -> Result<Frame, AllocError> {
-    let body = Blob::copy_of(alloc, body).or_else(|_| Blob::copy_of(alloc, body))?;
-    Ok(Frame {
-        version: VERSION,
-        kind,
-        client: 1,
-        number: 9,
-        body,
-    })
+    match frame(alloc, kind, 9, body) {
+        Ok(made) => Ok(made),
+        Err(_) => frame(alloc, kind, 9, body),
+    }
+}
+
+fn request(alloc: Global) -> Result<Request, Fail> {
+    match request_of(alloc, frame_of(alloc, 8, &EXPORT)?) {
+        Ok(request) => Ok(request),
+        Err(BodyFault::Memory) => Ok(request_of(alloc, frame_of(alloc, 8, &EXPORT)?)?),
+        Err(fault) => Err(Fail::from(fault)),
+    }
+}
+
+// Whether the request is written as these bytes.
+fn is_written(alloc: Global, request: &Request, body: &[u8]) -> Result<bool, AllocError> {
+    if !request.fits() {
+        return Ok(false);
+    }
+    let frame = match request_frame(alloc, 1, 9, request) {
+        Ok(frame) => frame,
+        Err(_) => request_frame(alloc, 1, 9, request)?,
+    };
+    Ok(frame.body.as_slice() == body)
 }
 
 #[test]
 fn each_growth_of_a_request(rt: HostRuntime) -> Result<(), Fail> {
-    let alloc = rt.alloc();
-    let mut read = request_of(alloc, frame_of(alloc, 8, &EXPORT)?);
-    if matches!(read, Err(BodyFault::Memory)) {
-        read = request_of(alloc, frame_of(alloc, 8, &EXPORT)?);
-    }
-    let request = read?;
-    assert!(rt; request.fits());
-    let frame = request_frame(alloc, 1, 9, &request).or_else(|_| request_frame(
-        alloc, 1, 9, &request,
-    ))?;
-    assert_eq!(rt; frame.body.as_slice(), EXPORT.as_slice());
+    let request = request(rt.alloc())?;
+    assert!(rt; is_written(rt.alloc(), &request, &EXPORT)?);
     Ok(())
+}
+
+fn reply(alloc: Global) -> Result<Reply, Fail> {
+    match reply_of(alloc, frame_of(alloc, 132, &FINISHED)?) {
+        Ok(reply) => Ok(reply),
+        Err(BodyFault::Memory) => Ok(reply_of(alloc, frame_of(alloc, 132, &FINISHED)?)?),
+        Err(fault) => Err(Fail::from(fault)),
+    }
+}
+
+fn copy(alloc: Global, reply: &Reply) -> Result<Reply, AllocError> {
+    match reply.try_clone(alloc) {
+        Ok(copy) => Ok(copy),
+        Err(_) => reply.try_clone(alloc),
+    }
+}
+
+fn are_both(puids: &Texts) -> bool {
+    match (puids.get(0), puids.get(1)) {
+        (Some(first), Some(second)) => {
+            puids.len() == 2 && first.as_str() == "dev/4" && second.as_str() == "a"
+        }
+        _ => false,
+    }
 }
 
 #[test]
 fn each_growth_of_a_reply(rt: HostRuntime) -> Result<(), Fail> {
-    let alloc = rt.alloc();
-    let mut read = reply_of(alloc, frame_of(alloc, 132, &FINISHED)?);
-    if matches!(read, Err(BodyFault::Memory)) {
-        read = reply_of(alloc, frame_of(alloc, 132, &FINISHED)?);
-    }
-    let reply = read?;
-    let copy = reply.try_clone(alloc).or_else(|_| reply.try_clone(alloc))?;
-    match copy {
-        Reply::Finished { puids, .. } => {
-            assert_eq!(rt; puids.len(), 2);
-            assert_eq!(rt; puids.get(0).map(|puid| puid.as_str()), Some("dev/4"));
-            assert_eq!(rt; puids.get(1).map(|puid| puid.as_str()), Some("a"));
-        }
-        other => panic!(rt; "{other:?}"),
-    }
+    let copy = copy(rt.alloc(), &reply(rt.alloc())?)?;
+    assert!(rt;
+        matches!(&copy, Reply::Finished { puids, .. } if are_both(puids)),
+        "{copy:?}"
+    );
     Ok(())
 }

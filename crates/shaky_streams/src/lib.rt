@@ -1,7 +1,13 @@
-//! Streams for tests: a reader and a writer that are interrupted, give or take one byte at a time, and stop.
+//! Streams for tests: a reader and a writer that are interrupted, give or take few bytes at a time, and stop once.
 #![tactic(auto)]
 
 use std::io::{self, ErrorKind, Read, Write};
+
+/// Where a stream is interrupted: how many bytes stand before, and how many calls are interrupted there.
+pub type Place = (usize, u32);
+
+/// No interruption.
+pub const NOWHERE: Place = (0, 0);
 
 /// How a stream behaves before it stops.
 #[derive(Clone, Copy)]
@@ -10,25 +16,45 @@ pub struct Manner {
     pub width: usize,
     /// How many of its first calls are interrupted.
     pub interruptions: u32,
+    /// Where it is interrupted besides.
+    pub places: [Place; 3],
 }
 
 /// As many bytes as are asked for, without an interruption.
 pub const STEADY: Manner = Manner {
     width: usize::MAX,
     interruptions: 0,
+    places: [NOWHERE; 3],
 };
 
 /// One byte at a time.
 pub const BYTE_BY_BYTE: Manner = Manner { width: 1, ..STEADY };
 
 impl Manner {
-    /// Whether this call is interrupted.
-    fn interrupts(&mut self) -> bool {
-        if self.interruptions == 0 {
-            return false;
+    /// Whether the call after so many bytes is interrupted.
+    fn interrupts(&mut self, before: usize) -> bool {
+        if self.interruptions > 0 {
+            self.interruptions -= 1;
+            return true;
         }
-        self.interruptions -= 1;
-        true
+        for (at, times) in &mut self.places {
+            if *at == before && *times > 0 {
+                *times -= 1;
+                return true;
+            }
+        }
+        false
+    }
+
+    /// How many bytes it gives or takes after so many: none past the next interruption.
+    fn width(&self, before: usize) -> usize {
+        let mut width = self.width;
+        for (at, times) in &self.places {
+            if *at > before && *times > 0 {
+                width = width.min(*at - before);
+            }
+        }
+        width
     }
 }
 
@@ -41,49 +67,73 @@ pub enum Stop {
     Ends,
 }
 
-/// A reader of some bytes, which stops behind them.
+/// A reader of some bytes, which stops behind them. It fails once: whoever asks again gets what is behind the fault.
 #[derive(Drop)]
 pub struct ShakyReader<'a> {
     bytes: &'a [u8],
-    stop: Stop,
+    behind_the_fault: Option<&'a [u8]>,
+    given: usize,
     manner: Manner,
 }
 
 impl<'a> ShakyReader<'a> {
-    /// A reader that stops in this way behind the bytes.
+    /// A reader that stops in this way behind the bytes, and ends then.
     pub fn new(bytes: &'a [u8], stop: Stop, manner: Manner) -> ShakyReader<'a> {
+        let behind_the_fault = match stop {
+            Stop::Fails => Some(b"".as_slice()),
+            Stop::Ends => None,
+        };
         ShakyReader {
             bytes,
-            stop,
+            behind_the_fault,
+            given: 0,
             manner,
         }
+    }
+
+    /// A reader that fails between the bytes and those behind the fault.
+    pub fn broken(bytes: &'a [u8], behind: &'a [u8], manner: Manner) -> ShakyReader<'a> {
+        ShakyReader {
+            bytes,
+            behind_the_fault: Some(behind),
+            given: 0,
+            manner,
+        }
+    }
+
+    /// How many bytes weren't read, those behind a fault that is to come left out.
+    pub fn left(&self) -> usize {
+        self.bytes.len()
     }
 }
 
 impl Read for ShakyReader<'_> {
     fn read(&mut self, buf: &mut [u8]) -> io::Result<usize> {
-        if self.manner.interrupts() {
+        if self.manner.interrupts(self.given) {
             return Err(io::Error::from(ErrorKind::Interrupted));
         }
         if self.bytes.is_empty() {
-            return match self.stop {
-                Stop::Fails => Err(io::Error::from(ErrorKind::ConnectionReset)),
-                Stop::Ends => Ok(0),
-            };
+            if let Some(behind) = self.behind_the_fault.take() {
+                self.bytes = behind;
+                return Err(io::Error::from(ErrorKind::ConnectionReset));
+            }
         }
-        let count = self.bytes.len().min(buf.len()).min(self.manner.width);
+        let width = self.manner.width(self.given);
+        let count = self.bytes.len().min(buf.len()).min(width);
         buf[..count].copy_from_slice(&self.bytes[..count]);
         self.bytes = &self.bytes[count..];
+        self.given = self.given.saturating_add(count);
         Ok(count)
     }
 }
 
-/// A writer that takes so many bytes, and then stops.
+/// A writer that takes so many bytes, then stops once, and then takes all.
 #[derive(Drop)]
 pub struct ShakyWriter {
     taken: Vec<u8>,
     room: usize,
     stop: Stop,
+    flushes: u32,
     manner: Manner,
 }
 
@@ -94,6 +144,7 @@ impl ShakyWriter {
             taken,
             room,
             stop,
+            flushes: 0,
             manner,
         }
     }
@@ -102,26 +153,35 @@ impl ShakyWriter {
     pub fn taken(&self) -> &[u8] {
         self.taken.as_slice()
     }
+
+    /// How often it was flushed.
+    pub fn flushes(&self) -> u32 {
+        self.flushes
+    }
 }
 
 impl Write for ShakyWriter {
     fn write(&mut self, buf: &[u8]) -> io::Result<usize> {
-        if self.manner.interrupts() {
+        let taken = self.taken.len();
+        if self.manner.interrupts(taken) {
             return Err(io::Error::from(ErrorKind::Interrupted));
         }
         if self.room == 0 {
+            self.room = usize::MAX;
             return match self.stop {
                 Stop::Fails => Err(io::Error::from(ErrorKind::BrokenPipe)),
                 Stop::Ends => Ok(0),
             };
         }
-        let count = buf.len().min(self.manner.width).min(self.room);
+        let width = self.manner.width(taken);
+        let count = buf.len().min(width).min(self.room);
         self.taken.extend_from_slice(&buf[..count])?;
         self.room -= count;
         Ok(count)
     }
 
     fn flush(&mut self) -> io::Result<()> {
+        self.flushes = self.flushes.saturating_add(1);
         Ok(())
     }
 }
