@@ -1,12 +1,9 @@
 -- What is written into a pool is read from it.
-use Rattle.std.proofs.Common.{◌≡◌, ℕ, suc, ◌+◌, ◌*◌, ◌/◌, ◌%◌, List, [], ◌∷◌, ◌++◌, ◌-◌, ◌<◌, length, take, drop, map, refl, sym, ap, ◌∙◌, arith, append_assoc, take_at, drop_at}
-use Rattle.std.proofs.lemmas.List.{append-nil, map-append, flat_map_more}
+use Rattle.std.proofs.Common.{◌≡◌, ℕ, suc, ◌+◌, ◌*◌, ◌/◌, ◌%◌, List, [], ◌∷◌, ◌++◌, ◌-◌, ◌<◌, length, take, drop, refl, sym, ap, ◌∙◌, arith, append_assoc, take_at, drop_at}
+use Rattle.std.proofs.lemmas.List.{append-nil, flat_map_more}
 use Rattle.std.specs.List.{flat_map}
-use Rattle.droid_pattern.specs.declared.cell.Cell.{Cell}
-use Rattle.droid_pattern.specs.declared.part.Part.{Part}
-use Rattle.droid_pattern.specs.Parts.{element_of}
 use Rattle.droid_pattern.specs.Patterns.{Gap, Choice}
-use Rattle.droid_pattern.specs.Cells.{element_at, number_bytes, front_number, runs_in, run_bytes, choice_bytes, alternatives_in, gap_in}
+use Rattle.droid_pattern.specs.Cells.{number_bytes, front_number, runs_in, run_bytes, choice_bytes, alternatives_in, gap_in}
 
 -- the two bytes of a number
 pub read_number : (n : ℕ) → 256 * (n / 256) + n % 256 ≡ n
@@ -28,16 +25,6 @@ read_choice runs more = rw (read_number (length runs)) (read_runs runs more)
 -- what was written behind the pool is read at the place where the pool ended
 pub read_at : (old added more : List ℕ) (place : ℕ) → place ≡ length old → drop place (old ++ added ++ more) ≡ added ++ more
 read_at old added more place at = rw (append_assoc old added more) (drop_at old (added ++ more) place (sym at))
-
--- one more cell, with what was written for it
-pub cell_more : (old new : List ℕ) (cells : List Cell) (parts : List Part) (cell : Cell) (part : Part)
-    → ((added : List ℕ) × (new ≡ old ++ added)) → ((more : List ℕ) → element_at (new ++ more) cell ≡ element_of part)
-    → ((more : List ℕ) → map (element_at (old ++ more)) cells ≡ map element_of parts)
-    → (more : List ℕ) → map (element_at (new ++ more)) (cells ++ cell ∷ []) ≡ map element_of (parts ++ part ∷ [])
-cell_more old new cells parts cell part (added, grown) stays so_far more =
-    let group : new ++ more ≡ old ++ (added ++ more) = ap (λ xs. xs ++ more) grown ∙ append_assoc old added more in
-    let before : map (element_at (new ++ more)) cells ≡ map element_of parts = ap (λ pool. map (element_at pool) cells) group ∙ so_far (added ++ more) in
-    rw (map-append (element_at (new ++ more)) cells (cell ∷ []), map-append element_of parts (part ∷ []), before, stays more) refl
 
 -- one more run is read
 pub runs_left : (count turn : ℕ) (done : List (List ℕ)) (bytes : List ℕ) (all : List (List ℕ)) → turn < count

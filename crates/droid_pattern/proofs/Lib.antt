@@ -6,5 +6,6 @@ pub mod HeadLemmas
 pub mod LangTests
 pub mod PathLemmas
 pub mod RunLemmas
+pub mod StarLemmas
 pub mod StepLemmas
 pub mod TextLemmas

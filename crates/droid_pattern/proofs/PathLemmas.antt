@@ -1,6 +1,6 @@
 -- Whole patterns: from position to position, over one element after another.
-use Rattle.std.proofs.Common.{◌≡◌, ◌↔◌, ℕ, ◌+◌, ◌-◌, ◌<◌, ◌≤◌, min, Bool, true, false, not, get_or, List, [], ◌∷◌, ◌++◌, length, take, drop, map, refl, sym, ap, ◌∙◌, arith, take-add, drop-drop, take_at, drop_at, take-take, length-append, length-take, length-drop}
-use Rattle.std.proofs.lemmas.List.{drop-take, drop_more, take_rest, take_more, take_all, map-append}
+use Rattle.std.proofs.Common.{◌≡◌, ◌↔◌, ℕ, ◌+◌, ◌-◌, ◌<◌, ◌≤◌, min, Bool, true, false, not, get_or, List, [], ◌∷◌, ◌++◌, length, take, drop, refl, sym, ap, ◌∙◌, arith, take-add, drop-drop, take_at, drop_at, take-take, length-append, length-take, length-drop}
+use Rattle.std.proofs.lemmas.List.{drop-take, drop_more, take_rest, take_more, take_all}
 use Rattle.std.proofs.lemmas.Bool.{not-true, not_from_false, false_from_ne_true}
 use Rattle.droid_pattern.specs.declared.toward.Toward.{Toward}
 use Rattle.droid_pattern.specs.declared.toward.Toward.TheVariants as toward
@@ -180,10 +180,6 @@ rest_and_last xs x some read =
 
 pub reached_inside : (e : Element) (bytes : List ℕ) (from to : ℕ → Type 0) → Reaches toward.Start e bytes from to → (q : ℕ) → to q → q ≤ length bytes
 reached_inside e bytes from to step q position = let (p, before, leads) = (step q).0 position in omega (arith, leads.ordered, leads.inside)
-
--- the elements of parts with one more at the end
-pub map_last : {X : Type 0} (f : X → Element) (xs : List X) (x : X) → map f (xs ++ x ∷ []) ≡ map f xs ++ f x ∷ []
-map_last f xs x = map-append f xs (x ∷ [])
 
 -- what stands before a position of the first bytes is what stands before it in all
 part_of_front : (bytes : List ℕ) (end k : ℕ) → k ≤ end → take k (drop (end - k) (take end bytes)) ≡ take k (drop (end - k) bytes)

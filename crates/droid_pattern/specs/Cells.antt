@@ -1,5 +1,5 @@
--- What is kept of a pattern: three bytes for each element, and a pool for what has no room in them.
-use Rattle.std.specs.Prelude.{ℕ, zero, suc, ◌+◌, ◌*◌, ◌/◌, ◌%◌, List, [], ◌∷◌, ◌++◌, length, take, drop, map}
+-- What is kept of a pattern: three bytes for each element or run of stars, and a pool for what has no room in them.
+use Rattle.std.specs.Prelude.{ℕ, zero, suc, ◌+◌, ◌*◌, ◌/◌, ◌%◌, List, [], ◌∷◌, ◌++◌, length, take, drop, replicate}
 use Rattle.std.specs.List.{flat_map}
 use Rattle.droid_pattern.specs.declared.short.Short.{Short}
 use Rattle.droid_pattern.specs.declared.cell.Cell.{Cell}
@@ -41,16 +41,32 @@ choice_bytes alternatives = number_bytes (length alternatives) ++ flat_map run_b
 abbrev pub gap_in : List ℕ → Element
 gap_in bytes = Gap (front_number bytes) (front_number bytes + front_number (drop 2 bytes))
 
--- the element that a cell stands for
+-- the element that a cell stands for, once or several times
 abbrev pub element_at : List ℕ → Cell → Element
 element_at pool (cells.Byte b) = Byte b
 element_at pool (cells.Range low high) = Range low high
 element_at pool (cells.Except b) = Except b
 element_at pool cells.AnyByte = AnyByte
 element_at pool (cells.OpenGap least) = OpenGap (number_of least)
+element_at pool (cells.Stars more) = OpenGap 0
 element_at pool (cells.Gap at) = gap_in (drop (number_of at) pool)
 element_at pool (cells.Choice at) = Choice (alternatives_in (drop (number_of at) pool))
 
+-- how many times more: only stars are joined
+abbrev pub more_of : Cell → ℕ
+more_of (cells.Byte b) = 0
+more_of (cells.Range low high) = 0
+more_of (cells.Except b) = 0
+more_of cells.AnyByte = 0
+more_of (cells.OpenGap least) = 0
+more_of (cells.Stars more) = number_of more
+more_of (cells.Gap at) = 0
+more_of (cells.Choice at) = 0
+
+-- the elements that a cell stands for
+abbrev pub elements_at : List ℕ → Cell → List Element
+elements_at pool cell = element_at pool cell ∷ replicate (more_of cell) (element_at pool cell)
+
 -- the elements of a pattern
 abbrev pub elements_of : Packed → List Element
-elements_of packed = map (element_at packed.pool.items) packed.cells.items
+elements_of packed = flat_map (elements_at packed.pool.items) packed.cells.items

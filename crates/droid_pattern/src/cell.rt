@@ -1,20 +1,21 @@
-//! An element of a pattern in three bytes.
+//! An element of a pattern, or several stars, in three bytes.
 
-ghost use Rattle.std.specs.Prelude.{◌≡◌, ◌↔◌, ◌+◌, ℕ, IfSome, IsTrue, OnOk};
-ghost use Rattle.droid_pattern.specs.Cells.{element_at};
+ghost use Rattle.std.specs.Prelude.{◌≡◌, ◌↔◌, ◌+◌, ◌++◌, ℕ, List, IfSome, IsTrue, OnOk};
+ghost use Rattle.droid_pattern.specs.Cells.{element_at, elements_at};
 ghost use Rattle.droid_pattern.specs.Positions.{Leads, Reaches, IsAt, IsInside, AreRowsOf};
 
 use crate::class::Class;
 use crate::classes::{ClassRow, one};
-use crate::pool::rest_from;
+use crate::pool::{rest_from, short_of};
 use crate::short::{Short, front_number};
 use crate::step::choice;
 use crate::toward::Toward;
 use droid_bits::Row;
 use std::alloc::{AllocError, Global};
 
-/// An element of a pattern, as it is kept: what needs more than two bytes stands at a place of a pool.
-#[derive(Clone, Copy, Debug)]
+/// An element of a pattern, or several stars, as they are kept: what needs more than two bytes stands at a
+/// place of a pool.
+#[derive(Clone, Copy)]
 pub(crate) enum Cell {
     /// This byte.
     Byte(u8),
@@ -26,6 +27,8 @@ pub(crate) enum Cell {
     AnyByte,
     /// Any bytes, at least `least` of them.
     OpenGap { least: Short },
+    /// Any bytes, and then `more` times any bytes again: stars beside one another.
+    Stars { more: Short },
     /// Any bytes: how many at least, and how many more at most, are two numbers in the pool.
     Gap { at: Short },
     /// One of the runs of bytes in the pool.
@@ -47,8 +50,27 @@ impl Cell {
             }
             Cell::Except(barred) => Some(Class::Except(*barred).is_at(bytes, place)),
             Cell::AnyByte => Some(place < bytes.len()),
-            Cell::OpenGap { .. } | Cell::Gap { .. } | Cell::Choice { .. } => None,
+            Cell::OpenGap { .. } | Cell::Stars { .. } | Cell::Gap { .. } | Cell::Choice { .. } =>
+                None,
         }
+    }
+
+    /// The one cell that stands for this one and the next, where there is such a cell.
+    pub(crate) fn joined(self, next: Cell) -> Option<Cell>
+        ensures { IfSome result (λ cell. (pool : List ℕ) → elements_at pool cell ≡ elements_at pool self ++ elements_at pool next) }
+    {
+        let Cell::Stars { more } = self else {
+            return None;
+        };
+        let Cell::Stars { more: further } = next else {
+            return None;
+        };
+        let Ok(stars) = short_of(more.get() + 1 + further.get()) else {
+            return None;
+        };
+        Some(Cell::Stars {
+            more: Short::new(stars),
+        })
     }
 
     /// Makes the places those after a step over this element.
@@ -77,6 +99,8 @@ impl Cell {
             Cell::Except(barred) => one(rows, row, Class::Except(*barred), alloc, bytes, toward),
             Cell::AnyByte => row.cross(1, 0, len),
             Cell::OpenGap { least } => row.cross(least.get(), len, len),
+            // A star behind a star leads to nothing new.
+            Cell::Stars { .. } => row.cross(0, len, len),
             Cell::Gap { at } => {
                 let gap = rest_from(pool, at.get());
                 let least = front_number(gap);

@@ -12,7 +12,7 @@ use droid_bits::Row;
 use std::alloc::{AllocError, Global};
 
 /// A class, and behind which places its bytes stand, as far as was asked for.
-#[derive(Debug, Drop)]
+#[derive(Drop)]
 pub(crate) struct ClassRow {
     pub(crate) class: Class,
     pub(crate) row: Row,

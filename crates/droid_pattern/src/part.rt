@@ -7,7 +7,7 @@ ghost use Rattle.droid_pattern.specs.Parts.{element_of};
 use crate::class::Class;
 
 /// An element of a pattern.
-#[derive(Debug, Drop)]
+#[derive(Drop)]
 pub(crate) enum Part {
     /// One byte that passes a test.
     One(Class),
@@ -27,6 +27,11 @@ impl Part {
         ensures { result ≡ is_gap (element_of self.now) }
     {
         matches!(self, Part::Gap { .. } | Part::OpenGap { .. })
+    }
+
+    /// Whether the element is a star: any bytes, none included.
+    pub(crate) fn is_star(&self) -> bool {
+        matches!(self, Part::OpenGap { least: 0 })
     }
 
     /// How many bytes of a pool it takes.

@@ -13,13 +13,14 @@ use crate::reading::parts_of;
 use crate::toward::Toward;
 use crate::window::Classes;
 use std::alloc::{AllocError, Global};
+use std::fmt;
 use std::marker::Model;
 
 /// How many bytes the text of a pattern may have: this project's own limit.
 const TEXT_LIMIT: usize = 4096;
 
 /// A byte sequence of a signature, in PRONOM's syntax. Contracts see the list of its elements.
-#[derive(Debug, Drop)]
+#[derive(Drop)]
 pub struct Pattern {
     packed: Packed,
 }
@@ -33,6 +34,12 @@ impl Model for Pattern {
     ghost use Rattle.droid_pattern.specs.Cells.{elements_of};
 
     ghost view = { λ pattern. elements_of pattern.packed };
+}
+
+impl fmt::Debug for Pattern {
+    fn fmt<W: fmt::Write>(&self, f: &mut fmt::Formatter<W>) -> fmt::Result {
+        f.debug_struct("Pattern").finish_non_exhaustive()
+    }
 }
 
 impl Pattern {

@@ -6,7 +6,7 @@ ghost use Rattle.droid_pattern.specs.Cells.{number_of, number_bytes, front_numbe
 use std::alloc::AllocError;
 
 /// A number up to 65,535 as two bytes, the high one first, so that what has it needs no more room than bytes.
-#[derive(Clone, Copy, Debug, PartialEq, Eq)]
+#[derive(Clone, Copy)]
 pub(crate) struct Short {
     high: u8,
     low: u8,

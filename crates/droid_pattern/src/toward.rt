@@ -8,7 +8,7 @@ use crate::class::Class;
 use memchr::memchr;
 
 /// The direction in which a pattern is gone through.
-#[derive(Clone, Copy, Debug, PartialEq, Eq)]
+#[derive(Clone, Copy)]
 pub(crate) enum Toward {
     /// From its first element to its last.
     End,

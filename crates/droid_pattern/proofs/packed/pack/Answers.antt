@@ -1,7 +1,7 @@
 -- No cell, one more, and all of them.
 use Rattle.std.proofs.Common.{◌≡◌, ◌++◌, ◌+◌, ◌∷◌, [], take, take_all, sym, ap, ◌∙◌, arith}
 use Rattle.std.proofs.lemmas.List.{append-nil, take_more}
-use Rattle.droid_pattern.proofs.CellLemmas.{cell_more}
+use Rattle.droid_pattern.proofs.StarLemmas.{part_more}
 use Rattle.droid_pattern.proofs.packed.pack.Goals as goal
 
 pub loop-part-preserved : goal.loop-part-preserved
@@ -10,9 +10,9 @@ loop-part-preserved c =
     let i = c.loop-part.part-index in
     let part = c.part-item.result in
     let next : take (i + 1) parts ≡ take i parts ++ part ∷ [] = take_more parts i part (omega arith) ∙ ap (λ x. take i parts ++ x ∷ []) (sym c.part-item.is) in
-    rw (next, c.in_ok-push.ensures.items) (
-    cell_more c.loop-part.pool.items c.put.new.pool.items c.loop-part.cells.items (take i parts) c.in_ok-cell.cell part
-    c.in_ok-cell.ensures.grown c.in_ok-cell.ensures.stays c.loop-part.invariant
+    rw next (
+    part_more c.loop-part.pool.items c.put.new.pool.items c.loop-part.cells.items c.add.new.cells.items (take i parts) c.in_ok-cell.cell part
+    c.in_ok-cell.ensures.grown c.in_ok-cell.ensures.one c.in_ok-cell.ensures.stays c.in_ok-add.ensures c.loop-part.invariant
     )
 
 pub returns : goal.returns

@@ -37,3 +37,8 @@ returns-in-Gap-clause-reaches c =
     let least = front_number gap in
     let more = front_number (drop 2 gap) in
     rw c.in-Gap.is (on_ok_weaker c.cross-in-Gap.result (gap_reaches c.args.toward (Gap least (least + more)) least (least + more) bytes c.args.row.now c.cross-in-Gap.new.self (λ p q near inside. gap_leads least (least + more) bytes p q near inside (omega arith))) (rw (c.front_number-least.ensures.value, c.front_number-more.ensures.value, c.rest_from.ensures, c.rest_from-gap.ensures, c.get-in-Gap.ensures.value) at c.cross-in-Gap.ensures))
+
+pub returns-in-Stars-clause-reaches : goal.returns-in-Stars-clause-reaches
+returns-in-Stars-clause-reaches c =
+    let bytes = c.args.bytes.now in
+    rw c.in-Stars.is (on_ok_weaker c.cross-in-Stars.result (gap_reaches c.args.toward (OpenGap 0) 0 (0 + length bytes) bytes c.args.row.now c.cross-in-Stars.new.self (open_leads 0 bytes)) c.cross-in-Stars.ensures)

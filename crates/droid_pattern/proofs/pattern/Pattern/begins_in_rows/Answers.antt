@@ -1,13 +1,15 @@
 -- From the offsets on, over one element after another.
-use Rattle.std.proofs.Common.{◌≡◌, ◌↔◌, ◌+◌, ◌≤◌, ℕ, [], ◌∷◌, min, get_or, map, length, drop, sym, arith}
+use Rattle.std.proofs.Common.{◌≡◌, ◌↔◌, ◌+◌, ◌≤◌, ℕ, [], ◌∷◌, min, get_or, length, drop, sym, arith}
+use Rattle.std.specs.List.{flat_map}
 use Rattle.std.proofs.lemmas.List.{drop_more, drop_all}
 use Rattle.std.proofs.lemmas.Bool.{false≢true}
 use Rattle.droid_pattern.specs.Patterns.{BeginsWithin}
 use Rattle.droid_pattern.specs.declared.cell.Cell.TheVariants as cell
-use Rattle.droid_pattern.specs.Cells.{element_at}
+use Rattle.droid_pattern.specs.Cells.{elements_at}
 use Rattle.droid_pattern.specs.Positions.{IsAt}
 use Rattle.droid_pattern.specs.declared.toward.Toward.TheVariants as toward
-use Rattle.droid_pattern.proofs.PathLemmas.{begins_first, begins_more, begins_last, at_none, at_some}
+use Rattle.droid_pattern.proofs.PathLemmas.{begins_first, begins_last, at_none, at_some}
+use Rattle.droid_pattern.proofs.StarLemmas.{begins_cell}
 use Rattle.droid_pattern.proofs.pattern.Pattern.begins_in_rows.Goals as goal
 
 pub loop-cell-init : goal.loop-cell-init
@@ -22,7 +24,7 @@ loop-cell-init c =
     record {
       inside = λ p h. let w = ((c.in_ok-set_range.ensures p).0 h).1 in omega arith;
       rows = c.requires;
-      so_far = begins_first c.args.self.now (map (element_at c.as_slice-pool.result.now) c.deref-cell-items.result.now) bytes c.args.low c.args.high (IsAt toward.End bytes row)
+      so_far = begins_first c.args.self.now (flat_map (elements_at c.as_slice-pool.result.now) c.deref-cell-items.result.now) bytes c.args.low c.args.high (IsAt toward.End bytes row)
           (rw (c.as_slice-pool.ensures.value, c.deref-cell-items.ensures.value) (sym c.self.view_is)) says;
     }
 
@@ -45,8 +47,8 @@ loop-cell-preserved c =
     record {
       inside = c.in_ok-step.ensures.inside;
       rows = (c.step.ensures.rows, c.loop-cell.invariant.rows.1);
-      so_far = begins_more (element_at pool here) (map (element_at pool) (drop (i + 1) cells)) bytes (IsAt toward.End bytes c.loop-cell.classes.places) (IsAt toward.End bytes c.step.new.row)
-          (rw more at c.loop-cell.invariant.so_far) c.in_ok-step.ensures.reaches;
+      so_far = begins_cell pool (drop i cells) here (drop (i + 1) cells) bytes (IsAt toward.End bytes c.loop-cell.classes.places) (IsAt toward.End bytes c.step.new.row)
+          more c.loop-cell.invariant.so_far c.in_ok-step.ensures.reaches;
     }
 
 pub returns-clause-found : goal.returns-clause-found

@@ -1,7 +1,8 @@
 -- A match is there exactly where one of what is left begins at one of the positions.
-use Rattle.std.proofs.Common.{◌↔◌, ℕ, map, drop}
+use Rattle.std.proofs.Common.{◌↔◌, ℕ, drop}
+use Rattle.std.specs.List.{flat_map}
 use Rattle.droid_pattern.specs.Patterns.{BeginsWithin}
-use Rattle.droid_pattern.specs.Cells.{element_at}
+use Rattle.droid_pattern.specs.Cells.{elements_at}
 use Rattle.droid_pattern.specs.Positions.{IsAt, IsInside, Path}
 use Rattle.droid_pattern.specs.Classes.{AreOf}
 use Rattle.droid_pattern.specs.declared.toward.Toward.TheVariants as toward
@@ -12,5 +13,5 @@ invariant-loop-cell l = record {
   inside : IsInside l.bytes l.classes.places;
   rows : AreOf l.bytes l.classes;
   so_far : BeginsWithin l.fn.self l.bytes l.fn.low l.fn.high
-      ↔ ((p : ℕ) × IsAt toward.End l.bytes l.classes.places p × ((q : ℕ) × Path (map (element_at l.pool) (drop l.cell-index l.cell-items)) l.bytes p q));
+      ↔ ((p : ℕ) × IsAt toward.End l.bytes l.classes.places p × ((q : ℕ) × Path (flat_map (elements_at l.pool) (drop l.cell-index l.cell-items)) l.bytes p q));
 }

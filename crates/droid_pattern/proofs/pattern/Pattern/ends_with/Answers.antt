@@ -1,11 +1,13 @@
 -- From the offsets before the end, over one element after another toward the start.
-use Rattle.std.proofs.Common.{◌≡◌, ◌↔◌, ◌+◌, ◌-◌, ◌≤◌, ◌++◌, ℕ, [], ◌∷◌, get_or, map, length, take, sym, ap, ◌∙◌, arith, length-take}
+use Rattle.std.proofs.Common.{◌≡◌, ◌↔◌, ◌+◌, ◌-◌, ◌≤◌, ◌++◌, ℕ, [], ◌∷◌, get_or, length, take, sym, arith, length-take}
+use Rattle.std.specs.List.{flat_map}
 use Rattle.std.proofs.lemmas.List.{get_or_default}
 use Rattle.droid_pattern.specs.declared.cell.Cell.TheVariants as cell
-use Rattle.droid_pattern.specs.Cells.{element_at}
+use Rattle.droid_pattern.specs.Cells.{elements_at}
 use Rattle.droid_pattern.specs.Positions.{IsAt}
 use Rattle.droid_pattern.specs.declared.toward.Toward.TheVariants as toward
-use Rattle.droid_pattern.proofs.PathLemmas.{ends_first, ends_more, ends_last, rest_and_last, no_items, map_last, at_none, at_some}
+use Rattle.droid_pattern.proofs.PathLemmas.{ends_first, ends_last, rest_and_last, no_items, at_none, at_some}
+use Rattle.droid_pattern.proofs.StarLemmas.{ends_cell}
 use Rattle.droid_pattern.proofs.pattern.Pattern.ends_with.Goals as goal
 
 pub loop-rest-init : goal.loop-rest-init
@@ -21,7 +23,7 @@ loop-rest-init c =
       shrinks = omega arith;
       inside = λ p h. let w = ((c.in_ok-set_range.ensures p).0 h).1 in omega arith;
       rows = c.requires;
-      so_far = ends_first c.args.self.now (map (element_at c.as_slice-pool.result.now) c.as_slice-rest.result.now) bytes c.args.low c.args.high (IsAt toward.Start bytes row)
+      so_far = ends_first c.args.self.now (flat_map (elements_at c.as_slice-pool.result.now) c.as_slice-rest.result.now) bytes c.args.low c.args.high (IsAt toward.Start bytes row)
           (rw (c.as_slice-pool.ensures.value, c.as_slice-rest.ensures.value) (sym c.self.view_is)) says;
     }
 
@@ -32,14 +34,13 @@ loop-rest-preserved c =
     let before = take (length rest - 1) rest in
     let here = get_or rest (length rest - 1) (cell.Byte 0) in
     let pool = c.as_slice-pool.result.now in
-    let more : map (element_at pool) rest ≡ map (element_at pool) before ++ element_at pool here ∷ [] =
-    ap (map (element_at pool)) (rest_and_last rest here (omega arith) (get_or_default rest (length rest - 1) (cell.Byte 0) here (omega arith))) ∙ map_last (element_at pool) before here in
+    let last : rest ≡ before ++ here ∷ [] = rest_and_last rest here (omega arith) (get_or_default rest (length rest - 1) (cell.Byte 0) here (omega arith)) in
     record {
       shrinks = omega (arith, length-take (length rest - 1) rest, c.loop-rest.invariant.shrinks);
       inside = c.in_ok-step.ensures.inside;
       rows = (c.loop-rest.invariant.rows.0, c.step.ensures.rows);
-      so_far = ends_more (element_at pool here) (map (element_at pool) before) bytes (IsAt toward.Start bytes c.loop-rest.classes.places) (IsAt toward.Start bytes c.step.new.row)
-          (rw more at c.loop-rest.invariant.so_far) c.in_ok-step.ensures.reaches;
+      so_far = ends_cell pool rest before here bytes (IsAt toward.Start bytes c.loop-rest.classes.places) (IsAt toward.Start bytes c.step.new.row)
+          last c.loop-rest.invariant.so_far c.in_ok-step.ensures.reaches;
     }
 
 pub returns-clause-found : goal.returns-clause-found

@@ -1,7 +1,8 @@
 -- A match is there exactly where one of what is left ends at one of the positions.
-use Rattle.std.proofs.Common.{◌↔◌, ◌≤◌, ℕ, length, map}
+use Rattle.std.proofs.Common.{◌↔◌, ◌≤◌, ℕ, length}
+use Rattle.std.specs.List.{flat_map}
 use Rattle.droid_pattern.specs.Patterns.{EndsWithin}
-use Rattle.droid_pattern.specs.Cells.{element_at}
+use Rattle.droid_pattern.specs.Cells.{elements_at}
 use Rattle.droid_pattern.specs.Positions.{IsAt, IsInside, Path}
 use Rattle.droid_pattern.specs.Classes.{AreOf}
 use Rattle.droid_pattern.specs.declared.toward.Toward.TheVariants as toward
@@ -13,7 +14,7 @@ invariant-loop-rest l = record {
   inside : IsInside l.bytes l.classes.places;
   rows : AreOf l.bytes l.classes;
   so_far : EndsWithin l.fn.self l.bytes l.fn.low l.fn.high
-      ↔ ((q : ℕ) × IsAt toward.Start l.bytes l.classes.places q × ((p : ℕ) × (p ≤ length l.bytes) × Path (map (element_at l.pool) l.rest) l.bytes p q));
+      ↔ ((q : ℕ) × IsAt toward.Start l.bytes l.classes.places q × ((p : ℕ) × (p ≤ length l.bytes) × Path (flat_map (elements_at l.pool) l.rest) l.bytes p q));
 }
 
 abbrev pub decreases-loop-rest : goal.decreases-loop-rest
