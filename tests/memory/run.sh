@@ -13,7 +13,7 @@ failed=0
 for test in core_tests:memory::one_after_the_other core_tests:memory::in_one_run \
     assembly_tests:memory::each_growth_refused pronom_tests:memory::each_growth_of_a_registry \
     pronom_tests:memory::each_growth_of_a_search frame_tests:memory::each_growth_of_a_request \
-    frame_tests:memory::each_growth_of_a_reply frame_tests:streams::growths_refused \
+    frame_tests:memory::each_growth_of_a_reply stream_tests:streams::growths_refused \
     client_tests:memory::wanting_and_again sender_tests:memory::each_growth_of_a_sending \
     wire_tests:memory::each_growth_of_serving \
     export_tests:memory::each_growth_of_small_texts export_tests:memory::each_growth_of_an_export \

@@ -6,8 +6,6 @@ mod faults;
 #[cfg(test)]
 mod filters;
 #[cfg(test)]
-mod inputs;
-#[cfg(test)]
 mod lists;
 #[cfg(test)]
 mod memory;
@@ -17,9 +15,3 @@ mod replies;
 mod reply_bodies;
 #[cfg(test)]
 mod requests;
-#[cfg(test)]
-mod stream_faults;
-#[cfg(test)]
-mod streams;
-#[cfg(test)]
-mod vectors;

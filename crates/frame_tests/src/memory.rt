@@ -1,8 +1,8 @@
 // Each test passes too where any one allocation is refused: tests/memory refuses each in turn.
 //! Want of memory: a refused call answers it, and the same call again does its work.
 
-use crate::vectors::frame;
 use droid_frame::{BodyFault, Frame, Reply, Request, Texts, reply_of, request_frame, request_of};
+use frame_vectors::frame;
 use std::alloc::{AllocError, Global};
 use std::test::Fail;
 

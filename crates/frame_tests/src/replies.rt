@@ -3,14 +3,13 @@
 ghost use Rattle.droid_value.specs.Replies.{HasReplySpelling};
 
 use crate::faults::is_shown;
-use crate::vectors::{
+use droid_frame::{
+    Arrival, Frame, Method, NodeKind, Record, Reply, Text, Texts, read_frame, reply_body, reply_of,
+    write_reply,
+};
+use frame_vectors::{
     FINISHED, INCOMPLETE, MADE, MALFORMED, NODE, NODES_REACHED, NUMBER_REUSED, body_of,
 };
-use droid_frame::{
-    Arrival, Frame, Method, NodeKind, Record, Reply, Text, Texts, Unsteady, WriteFault, read_frame,
-    reply_body, reply_of, write_reply,
-};
-use shaky_streams::{BYTE_BY_BYTE, Manner, STEADY, ShakyWriter, Stop};
 use std::alloc::{AllocError, Global};
 use std::process::Abort;
 use std::test::Fail;
@@ -172,54 +171,6 @@ fn each_body(rt: &impl Abort, alloc: Global, rows: &[(u8, &[u8], &str)]) -> Resu
         assert!(rt; shows(alloc, reply, shown)?, "{shown}");
     }
     Ok(())
-}
-
-/// Writes the reply of a frame; how that ends, where the bytes are a reply's.
-pub fn written(
-    alloc: Global,
-    bytes: &[u8],
-    writer: &mut Unsteady<ShakyWriter>,
-) -> Option<Result<(), WriteFault>> {
-    let mut input = bytes;
-    match read_frame(alloc, &mut input) {
-        Ok(Arrival::Frame(frame)) => {
-            let (client, number) = (frame.client, frame.number);
-            match reply_of(alloc, frame) {
-                Ok(reply) => Some(write_reply(client, number, &reply, writer)),
-                Err(_) => None,
-            }
-        }
-        _ => None,
-    }
-}
-
-// A writer that fails after so many bytes took exactly these, in the header, the fields and the list.
-#[test]
-fn writes_cut_short(rt: HostRuntime) {
-    for bytes in [MADE, FINISHED, NODES_REACHED] {
-        for manner in [STEADY, BYTE_BY_BYTE] {
-            assert_eq!(rt; wrong_room(rt.alloc(), bytes, manner), None, "{bytes:?}");
-        }
-    }
-}
-
-/// For how many bytes a writer has room that ends otherwise than it should, where one does.
-fn wrong_room(alloc: Global, bytes: &[u8], manner: Manner) -> Option<usize> {
-    for room in 0..=bytes.len() {
-        let writer = ShakyWriter::new(Vec::new(alloc), room, Stop::Fails, manner);
-        let mut writer = Unsteady::new(writer);
-        let wanted = if room < bytes.len() {
-            Err(WriteFault { written: room })
-        } else {
-            Ok(())
-        };
-        if written(alloc, bytes, &mut writer) != Some(wanted)
-            || bytes.get(..room) != Some(writer.stream.taken())
-        {
-            return Some(room);
-        }
-    }
-    None
 }
 
 const RECORD: &str =

@@ -1,8 +1,8 @@
 //! Bodies of replies within their bounds and past them, and bodies that are no reply.
 
 use crate::replies::{MD5_OF_NOTHING, reply_with};
-use crate::vectors::{VECTORS, Vector, body_of, frame};
 use droid_frame::{BodyFault, PART_LIMIT, Reply, reply_of};
+use frame_vectors::{VECTORS, Vector, body_of, frame};
 use std::alloc::Global;
 use std::process::Abort;
 use std::test::Fail;

@@ -1,8 +1,8 @@
 //! Requests: bytes to values and values to bytes, and what is no request.
 
 use crate::faults::is_shown;
-use crate::vectors::frame;
 use droid_frame::{BodyFault, Frame, NUMBER_LIMIT, mark, request_frame, request_of};
+use frame_vectors::frame;
 use std::alloc::Global;
 use std::process::Abort;
 use std::test::Fail;

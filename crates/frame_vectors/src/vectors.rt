@@ -1,7 +1,6 @@
-//! Frames whose bytes are written out, and how a frame is read.
+//! Frames whose bytes are written out.
 
-use droid_frame::{Arrival, Blob, Frame, FrameFault, SteadyRead, Unsteady, VERSION, read_frame};
-use shaky_streams::{Manner, ShakyReader, Stop};
+use droid_frame::{Blob, Frame, VERSION};
 use std::alloc::{AllocError, Global};
 
 /// How many bytes a header has.
@@ -140,32 +139,4 @@ pub fn body_of(bytes: &[u8]) -> &[u8] {
         Some(body) => body,
         None => &[],
     }
-}
-
-/// A reader that ends behind the bytes.
-pub fn reader_of(bytes: &[u8], manner: Manner) -> Unsteady<ShakyReader<'_>> {
-    Unsteady::new(ShakyReader::new(bytes, Stop::Ends, manner))
-}
-
-/// The fault of the next frame, or `None` where a frame or the end comes.
-pub fn fault_of<R: SteadyRead>(alloc: Global, reader: &mut R) -> Option<FrameFault> {
-    read_frame(alloc, reader).err()
-}
-
-/// Whether the end comes.
-pub fn is_end<R: SteadyRead>(alloc: Global, reader: &mut R) -> bool {
-    matches!(read_frame(alloc, reader), Ok(Arrival::End))
-}
-
-/// Reads the frame of a vector, and says whether it is that frame.
-pub fn comes<R: SteadyRead>(alloc: Global, reader: &mut R, vector: &Vector) -> bool {
-    match read_frame(alloc, reader) {
-        Ok(Arrival::Frame(frame)) => is_frame(&frame, vector),
-        _ => false,
-    }
-}
-
-fn is_frame(frame: &Frame, vector: &Vector) -> bool {
-    (frame.version, frame.kind, frame.client, frame.number) == (1, vector.kind, 1, vector.number)
-        && frame.body.as_slice() == body_of(vector.bytes)
 }

@@ -1,9 +1,12 @@
 //! Reading and writing over streams: buffers, inputs and texts that are interrupted, fail or are too long.
 
+use crate::interruptions::{is_seen, with_places};
+use crate::writers::ended;
 use droid_stream::{
     Condition, InputFault, Progress, ReadFault, Retries, Seen, SteadyRead, Unsteady, WriteFault,
     fill, read_some, read_to_end, write_all,
 };
+use frame_vectors::reader_of;
 use shaky_streams::{BYTE_BY_BYTE, Manner, NOWHERE, Place, STEADY, ShakyReader, ShakyWriter, Stop};
 use std::alloc::{AllocError, Global};
 use std::io::{Write, sink};
@@ -19,10 +22,6 @@ fn bytes_of(alloc: Global, count: usize) -> Result<Vec<u8>, AllocError> {
         next = next.wrapping_add(7);
     }
     Ok(bytes)
-}
-
-fn reader_of(bytes: &[u8], manner: Manner) -> Unsteady<ShakyReader<'_>> {
-    Unsteady::new(ShakyReader::new(bytes, Stop::Ends, manner))
 }
 
 // An input that has as many bytes as it may is whole; of a longer one, one byte past the limit is read.
@@ -96,7 +95,7 @@ fn fails_once(alloc: Global, reader: &mut Unsteady<ShakyReader<'_>>) -> bool {
 
 /// A manner with these interruptions.
 fn interrupted(places: [Place; 3]) -> Manner {
-    Manner { places, ..STEADY }
+    with_places(usize::MAX, &places)
 }
 
 /// Sixty-four interruptions of one input are tried again, wherever they come, and the next is a fault: how many are
@@ -135,10 +134,6 @@ fn is_so(alloc: Global, reader: &mut Unsteady<ShakyReader<'_>>, comes: bool) -> 
         Ok(input) => comes && input.as_slice() == b"abcdef".as_slice(),
         Err(fault) => !comes && fault == InputFault::Read,
     }
-}
-
-fn is_seen(seen: &Seen, interruptions: u64, condition: Condition) -> bool {
-    seen.interruptions == interruptions && seen.condition == condition
 }
 
 // One count for several buffers; a short input fills less than the buffer.
@@ -199,7 +194,7 @@ fn each_writing(rt: &impl Abort, alloc: Global, rows: &[Writing]) -> Result<(), 
         let writer = ShakyWriter::new(Vec::new(alloc), *room, *stop, interrupted(*places));
         let mut writer = Unsteady::new(writer);
         let given = two_parts(&mut writer);
-        assert!(rt; given == ended(*count), "{room} {places:?}");
+        assert!(rt; given == ended(*count, 9), "{room} {places:?}");
         assert!(rt;
             Some(writer.stream.taken()) == b"abcdefghi".get(..*count),
             "{room} {places:?}"
@@ -208,14 +203,6 @@ fn each_writing(rt: &impl Abort, alloc: Global, rows: &[Writing]) -> Result<(), 
         assert!(rt; writer.stream.flushes() == 1, "{room} {places:?}");
     }
     Ok(())
-}
-
-/// How writing nine bytes ends of which so many are taken.
-fn ended(count: usize) -> Result<(), WriteFault> {
-    if count == 9 {
-        return Ok(());
-    }
-    Err(WriteFault { written: count })
 }
 
 /// Writes `abcd`, and then `efghi`.

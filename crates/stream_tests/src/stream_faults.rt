@@ -1,17 +1,13 @@
 //! Frames over streams that are interrupted or fail.
 
-use crate::replies::written;
-use crate::vectors::{
-    FINISHED, FOLDER, VECTORS, Vector, body_of, comes, fault_of, frame, is_end, reader_of,
-};
-use droid_frame::{BODY_LIMIT, Condition, FrameFault, Seen, Unsteady, WriteFault, write_frame};
-use shaky_streams::{BYTE_BY_BYTE, Manner, NOWHERE, Place, STEADY, ShakyReader, ShakyWriter, Stop};
+use crate::interruptions::{Row, is_seen, once_more, with_places};
+use crate::writers::{ended, interrupted, took};
+use droid_frame::{BODY_LIMIT, Condition, FrameFault, Unsteady, WriteFault, write_frame};
+use frame_vectors::{FOLDER, VECTORS, Vector, body_of, comes, fault_of, frame, is_end, reader_of};
+use shaky_streams::{BYTE_BY_BYTE, Manner, NOWHERE, STEADY, ShakyReader, ShakyWriter, Stop};
 use std::alloc::Global;
 use std::process::Abort;
 use std::test::Fail;
-
-/// Interruptions of one frame, and the place of the last.
-type Row = ([Place; 3], usize);
 
 /// Sixty-four interruptions before the header, within it, behind it and within a body of 18 bytes.
 const INTERRUPTED: [Row; 8] = [
@@ -24,26 +20,6 @@ const INTERRUPTED: [Row; 8] = [
     ([(0, 1), (18, 63), NOWHERE], 18),
     ([(7, 20), (18, 20), (25, 24)], 25),
 ];
-
-/// A manner with these interruptions.
-fn with_places(width: usize, places: &[Place; 3]) -> Manner {
-    Manner {
-        width,
-        places: *places,
-        ..STEADY
-    }
-}
-
-/// The places with one interruption more before the last.
-fn once_more(places: &[Place; 3], last: usize) -> [Place; 3] {
-    let mut more = *places;
-    for (at, times) in &mut more {
-        if *at == last && *times > 0 {
-            *times = times.saturating_add(1);
-        }
-    }
-    more
-}
 
 // The count is one for the whole frame, its header and its body: 64 are tried again, and the next is a fault.
 #[test]
@@ -61,21 +37,17 @@ fn each_read_interrupted(rt: &impl Abort, alloc: Global, rows: &[Row], width: us
     }
 }
 
-fn is_seen(seen: &Seen, interruptions: u64) -> bool {
-    seen.interruptions == interruptions && seen.condition == Condition::Sound
-}
-
 /// Whether the frame comes after 64 interruptions.
 fn comes_after(alloc: Global, vector: &Vector, manner: Manner) -> bool {
     let mut reader = reader_of(vector.bytes, manner);
-    comes(alloc, &mut reader, vector) && is_seen(&reader.seen, 64)
+    comes(alloc, &mut reader, vector) && is_seen(&reader.seen, 64, Condition::Sound)
 }
 
 /// Whether the 65th interruption, behind so many of these bytes, is a fault.
 fn fails_at(alloc: Global, bytes: &[u8], manner: Manner, last: usize) -> bool {
     let mut reader = reader_of(bytes, manner);
     fault_of(alloc, &mut reader) == Some(FrameFault::Read)
-        && is_seen(&reader.seen, 65)
+        && is_seen(&reader.seen, 65, Condition::Sound)
         && bytes.len().checked_sub(last) == Some(reader.stream.left())
 }
 
@@ -157,14 +129,6 @@ fn ends(
     Ok(answer == wanted && took(&writer.stream, vector.bytes, answer))
 }
 
-fn took(writer: &ShakyWriter, bytes: &[u8], answer: Result<(), WriteFault>) -> bool {
-    let count = match answer {
-        Ok(()) => bytes.len(),
-        Err(fault) => fault.written,
-    };
-    bytes.get(..count) == Some(writer.taken())
-}
-
 // What is written is the vector; a writer that fails once after so many bytes, or takes no byte once, and would take
 // the rest then, took exactly these.
 #[test]
@@ -200,12 +164,7 @@ fn wrong_room(
     let all = vector.bytes.len();
     for room in 0..=all {
         let writer = ShakyWriter::new(Vec::new(alloc), room, stop, manner);
-        let wanted = if room < all {
-            Err(WriteFault { written: room })
-        } else {
-            Ok(())
-        };
-        if !ends(alloc, vector, writer, wanted)? {
+        if !ends(alloc, vector, writer, ended(room, all))? {
             return Ok(Some(room));
         }
     }
@@ -233,64 +192,4 @@ fn each_write_interrupted(
         assert!(rt; ends(alloc, &FOLDER, writer, Err(fault))?, "{last}");
     }
     Ok(())
-}
-
-/// A writer that takes all, with these interruptions.
-fn interrupted(alloc: Global, width: usize, places: &[Place; 3]) -> ShakyWriter {
-    let manner = with_places(width, places);
-    ShakyWriter::new(Vec::new(alloc), usize::MAX, Stop::Fails, manner)
-}
-
-/// The bytes `abc` of a text of nine, after two commands: a Part under number 4.
-const PART: &[u8] = &[
-    1, 0x87, 0, 0, 0, 1, 0, 0, 0, 0, 0, 0, 0, 4, 0, 0, 0, 0x13, 0, 0, 0, 0, 0, 0, 0, 2, 0, 0, 0, 0,
-    0, 0, 0, 9, 0x61, 0x62, 0x63,
-];
-
-/// A Finished and a Part with a list or bytes of their own, interrupted before the frame, behind the header, behind the
-/// first fields and in all of these.
-const REPLIES: [(&[u8], Row); 8] = [
-    (FINISHED, ([(0, 64), NOWHERE, NOWHERE], 0)),
-    (FINISHED, ([(18, 64), NOWHERE, NOWHERE], 18)),
-    (FINISHED, ([(38, 64), NOWHERE, NOWHERE], 38)),
-    (FINISHED, ([(0, 20), (18, 20), (38, 24)], 38)),
-    (PART, ([(0, 64), NOWHERE, NOWHERE], 0)),
-    (PART, ([(18, 64), NOWHERE, NOWHERE], 18)),
-    (PART, ([(34, 64), NOWHERE, NOWHERE], 34)),
-    (PART, ([(0, 20), (18, 20), (34, 24)], 34)),
-];
-
-// The count is one for the whole frame.
-#[test]
-fn replies_interrupted(rt: HostRuntime) {
-    each_reply_interrupted(&rt, rt.alloc(), &REPLIES);
-}
-
-fn each_reply_interrupted(rt: &impl Abort, alloc: Global, rows: &[(&[u8], Row)]) {
-    for (bytes, (places, last)) in rows {
-        assert!(rt;
-            reply_ends(alloc, bytes, places, Ok(())),
-            "{last} {bytes:?}"
-        );
-        let places = once_more(places, *last);
-        let fault = WriteFault { written: *last };
-        assert!(rt;
-            reply_ends(alloc, bytes, &places, Err(fault)),
-            "{last} {bytes:?}"
-        );
-    }
-}
-
-/// Whether writing this reply ends so, over a writer that never failed, and exactly the bytes that the answer speaks
-/// of were taken.
-fn reply_ends(
-    alloc: Global,
-    bytes: &[u8],
-    places: &[Place; 3],
-    wanted: Result<(), WriteFault>,
-) -> bool {
-    let mut writer = Unsteady::new(interrupted(alloc, usize::MAX, places));
-    written(alloc, bytes, &mut writer) == Some(wanted)
-        && took(&writer.stream, bytes, wanted)
-        && writer.seen.condition == Condition::Sound
 }

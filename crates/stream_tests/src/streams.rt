@@ -1,7 +1,7 @@
 //! Frames on streams: whole, in pieces, cut short, and with headers that are refused.
 
-use crate::vectors::{VECTORS, Vector, body_of, comes, fault_of, frame, is_end, reader_of};
 use droid_frame::{Arrival, BODY_LIMIT, FrameFault, WriteFault, read_frame, write_frame};
+use frame_vectors::{VECTORS, Vector, body_of, comes, fault_of, frame, is_end, reader_of};
 use shaky_streams::{BYTE_BY_BYTE, Manner, STEADY};
 use std::alloc::Global;
 use std::process::Abort;
