@@ -1,6 +1,6 @@
 -- One piece more before the first missing one.
 use Rattle.std.proofs.Common.{◌≡◌, ◌≢◌, ℕ, ◌+◌, ◌%◌, ◌<◌, ◌≤◌, List, [], ◌∷◌, ◌++◌, length, set, Option, None, Some, IsSome, refl, sym, ap, ◌∙◌, arith, cond, inl, inr, length-append}
-use Rattle.std.specs.List.{All, AllPairs, sum_by, count_by}
+use Rattle.std.specs.List.{All, AllPairs, concat, sum_by, count_by}
 use Rattle.std.specs.Option.{is_some}
 use Rattle.std.proofs.lemmas.Bool.Decides.{eqb_tells, leb_tells}
 use Rattle.std.proofs.lemmas.List.{get_or-set_same, get_or-set_other}
@@ -10,56 +10,79 @@ use Rattle.droid_assembly.specs.Pieces.{Piece, bytes_at, LacksIndex, IsDue, held
 use Rattle.droid_assembly.specs.Rings.{ring_items}
 use Rattle.droid_assembly.specs.Fronts.{FrontKnows}
 use Rattle.droid_assembly.specs.State.{State, StandsFor, count_of, width_of, slot}
-use Rattle.droid_assembly.specs.Kept.{bytes_of, weight, pieces_from, IsAlong, IsFree}
+use Rattle.droid_assembly.specs.Kept.{bytes_of, weight, pieces_from, ArePlaced, IsAlong, IsFree}
 use Rattle.droid_assembly.specs.declared.front.Front.{Front}
-use Rattle.droid_assembly.proofs.Indexes.{missing_is, missing_before, bytes_at-push_same, bytes_at-push_other, bytes_at-all, below_count, file_bytes-more, file_bytes-agree}
+use Rattle.droid_assembly.proofs.Indexes.{missing_is, missing_before, bytes_at-push_same, bytes_at-push_other, bytes_at-all, below_count, file_bytes-more, file_bytes-several, file_bytes-agree}
 
 -- a place of two indexes less than 16 apart is that of one of them alone
 pub apart : (k from : ℕ) → k ≢ from → k < from + 16 → from < k + 16 → k % 16 ≢ from % 16
 apart k from other below above = λ e. absurd (omega (arith, other, below, above, e))
 
--- the piece at this index is taken out of its place and shown to the front
-pub along-step : (old new : Front) (waiting : List (Option (List ℕ))) (from : ℕ) (pieces : List Piece) (total count : ℕ) (bytes : List ℕ) → length waiting ≡ 16 → slot waiting from ≡ Some bytes → ((before : List ℕ) → FrontKnows old before → FrontKnows new (before ++ bytes)) → IsAlong old waiting from pieces total count → IsAlong new (set waiting (from % 16) None) (from + 1) pieces total count
-along-step old new waiting from pieces total count bytes places at takes along =
+-- what one piece more joins to
+more_bytes : (waiting : List (Option (List ℕ))) (from : ℕ) (pieces : List Piece) (total count : ℕ) (bytes : List ℕ) → slot waiting from ≡ Some bytes → ArePlaced waiting from pieces total count → file_bytes (from + 1) pieces ≡ file_bytes from pieces ++ bytes
+more_bytes waiting from pieces total count bytes at placed =
+    let here : bytes_at pieces from ≡ Some bytes = sym (placed.waits from (omega arith) (omega arith)) ∙ at in
+    file_bytes-more from pieces ∙ ap (λ place. file_bytes from pieces ++ bytes_of place) here
+
+-- the piece at this index is taken out of its place
+pub placed-step : (waiting : List (Option (List ℕ))) (from : ℕ) (pieces : List Piece) (total count : ℕ) (bytes : List ℕ) → length waiting ≡ 16 → slot waiting from ≡ Some bytes → ArePlaced waiting from pieces total count → ArePlaced (set waiting (from % 16) None) (from + 1) pieces total count
+placed-step waiting from pieces total count bytes places at placed =
     let none : Option (List ℕ) = None in
     let below : from % 16 < length waiting = omega (arith, places) in
-    let here : bytes_at pieces from ≡ Some bytes = sym (along.waits from (omega arith) (omega arith)) ∙ at in
-    let more : file_bytes (from + 1) pieces ≡ file_bytes from pieces ++ bytes =
-    file_bytes-more from pieces ∙ ap (λ place. file_bytes from pieces ++ bytes_of place) here in
+    let here : bytes_at pieces from ≡ Some bytes = sym (placed.waits from (omega arith) (omega arith)) ∙ at in
+    let more = more_bytes waiting from pieces total count bytes at placed in
     let tally : Option (List ℕ) → ℕ = λ place. cond (is_some place) 1 0 in
     record {
       no_gap = λ k low. elim (eqb_tells k from) [
         | inl t ↦ rw (t.1, here) refl
-        | inr t ↦ along.no_gap k (omega (arith, t.1, low))
+        | inr t ↦ placed.no_gap k (omega (arith, t.1, low))
       ];
-      knows = rw more (takes (file_bytes from pieces) along.knows);
       waits = λ k low high. elim (eqb_tells k (from + 16)) [
         | inl t ↦
             let same : k % 16 ≡ from % 16 = omega (arith, t.1) in
-            rw same (get_or-set_same waiting (from % 16) none none below) ∙ sym (along.none_beyond k (omega (arith, t.1)))
+            rw same (get_or-set_same waiting (from % 16) none none below) ∙ sym (placed.none_beyond k (omega (arith, t.1)))
         | inr t ↦
             get_or-set_other waiting (from % 16) (k % 16) none none (apart k from (λ e. absurd (omega (arith, e, low))) (omega (arith, high, t.1)) (omega (arith, low)))
-            ∙ along.waits k (omega (arith, low)) (omega (arith, high, t.1))
+            ∙ placed.waits k (omega (arith, low)) (omega (arith, high, t.1))
       ];
-      none_beyond = λ k far. along.none_beyond k (omega (arith, far));
+      none_beyond = λ k far. placed.none_beyond k (omega (arith, far));
       weighed =
           let one = sum_by-set weight waiting (from % 16) none none below in
           let was = ap weight at in
-          omega (arith, one, was, ap length more, length-append (file_bytes from pieces) bytes, along.weighed);
+          omega (arith, one, was, ap length more, length-append (file_bytes from pieces) bytes, placed.weighed);
       counted =
           let one = sum_by-set tally waiting (from % 16) none none below in
           let was = ap tally at in
-          omega (arith, one, was, along.counted);
+          omega (arith, one, was, placed.counted);
     }
 
--- and handed back after those before it
-pub passed-step : (front : Front) (waiting : List (Option (List ℕ))) (from n index : ℕ) (pieces : List Piece) (total count : ℕ) (bytes : List ℕ) (spent : List (List ℕ)) → from + n ≡ index → slot waiting index ≡ Some bytes → IsAlong front waiting index pieces total count → spent ≡ pieces_from from n pieces → spent ++ bytes ∷ [] ≡ pieces_from from (n + 1) pieces
-passed-step front waiting from n index pieces total count bytes spent next at along so_far =
+-- and shown to the front
+pub along-step : (old new : Front) (waiting : List (Option (List ℕ))) (from : ℕ) (pieces : List Piece) (total count : ℕ) (bytes : List ℕ) → length waiting ≡ 16 → slot waiting from ≡ Some bytes → ((before : List ℕ) → FrontKnows old before → FrontKnows new (before ++ bytes)) → IsAlong old waiting from pieces total count → IsAlong new (set waiting (from % 16) None) (from + 1) pieces total count
+along-step old new waiting from pieces total count bytes places at takes along =
+    let more = more_bytes waiting from pieces total count bytes at along.placed in
+    record {
+      placed = placed-step waiting from pieces total count bytes places at along.placed;
+      knows = rw more (takes (file_bytes from pieces) along.knows);
+    }
+
+-- or taken out after those before it
+pub passed-step : (waiting : List (Option (List ℕ))) (from n index : ℕ) (pieces : List Piece) (total count : ℕ) (bytes : List ℕ) (spent : List (List ℕ)) → from + n ≡ index → slot waiting index ≡ Some bytes → ArePlaced waiting index pieces total count → spent ≡ pieces_from from n pieces → spent ++ bytes ∷ [] ≡ pieces_from from (n + 1) pieces
+passed-step waiting from n index pieces total count bytes spent next at placed so_far =
     let f : ℕ → List ℕ = λ k. bytes_of (bytes_at pieces k) in
-    let here : f index ≡ bytes = ap bytes_of (sym (along.waits index (omega arith) (omega arith)) ∙ at) in
+    let here : f index ≡ bytes = ap bytes_of (sym (placed.waits index (omega arith) (omega arith)) ∙ at) in
     ap (λ xs. xs ++ bytes ∷ []) so_far
     ∙ ap (λ b. pieces_from from n pieces ++ b ∷ []) (sym here)
     ∙ sym (map-range_with_len_more f from n index next)
+
+-- several pieces were taken out of their places, and the front was shown what they join to
+pub along-several : (old new : Front) (waiting emptied : List (Option (List ℕ))) (from n : ℕ) (pieces : List Piece) (total count : ℕ) (several : List (List ℕ)) → ArePlaced emptied (from + n) pieces total count → several ≡ pieces_from from n pieces → ((before : List ℕ) → FrontKnows old before → FrontKnows new (before ++ concat several)) → IsAlong old waiting from pieces total count → IsAlong new emptied (from + n) pieces total count
+along-several old new waiting emptied from n pieces total count several placed passed shows along =
+    let joined : file_bytes (from + n) pieces ≡ file_bytes from pieces ++ concat several =
+    file_bytes-several from n pieces ∙ ap (λ more. file_bytes from pieces ++ concat more) (sym passed) in
+    record {
+      placed = placed;
+      knows = rw joined (shows (file_bytes from pieces) along.knows);
+    }
 
 earlier : (k index : ℕ) → k < index + 1 → k % 16 ≢ index % 16 → k < index
 earlier k index high other = elim (eqb_tells k index) [
@@ -86,9 +109,8 @@ along-begin a front pieces piece total count places free stands knows weighed co
     λ k low. bytes_at-push_other pieces piece k (λ e. absurd (omega (arith, e, low, free.not_passed))) in
     let same = file_bytes-agree a.first_missing (pieces ++ piece ∷ []) pieces agree in
     let tally : Option (List ℕ) → ℕ = λ place. cond (is_some place) 1 0 in
-    record {
+    let placed : ArePlaced (set a.waiting (piece.0 % 16) (Some piece.1)) a.first_missing (pieces ++ piece ∷ []) total count = record {
       no_gap = λ k low. rw (agree k low) (missing_before (count_of a) pieces k (omega (arith, low, stands.least)));
-      knows = rw same knows;
       waits = λ k low high. elim (eqb_tells k piece.0) [
         | inl t ↦ rw t.1 (get_or-set_same a.waiting (piece.0 % 16) (Some piece.1) none below ∙ sym (bytes_at-push_same pieces piece lacks))
         | inr t ↦
@@ -105,7 +127,8 @@ along-begin a front pieces piece total count places free stands knows weighed co
           let one = sum_by-set tally a.waiting (piece.0 % 16) (Some piece.1) none below in
           let was = ap tally free.free in
           omega (arith, one, was, counted);
-    }
+    } in
+    record { placed = placed; knows = rw same knows }
 
 -- the pieces before the missing one are pieces of the file
 pub along-within : (size piece_size from : ℕ) (pieces : List Piece) → All (IsDue size piece_size) pieces → ((k : ℕ) → k < from → IsSome (bytes_at pieces k)) → from ≤ piece_count size piece_size
@@ -125,12 +148,12 @@ along-stands a front pieces total count along width stopped first last hash dige
       are_due = due;
       are_distinct = distinct;
       counted = counted;
-      least = sym (missing_is (count_of a) a.first_missing pieces (along-within a.size a.piece_size a.first_missing pieces due along.no_gap) along.no_gap
-          (λ below. sym (along.waits a.first_missing (omega arith) (omega arith)) ∙ stopped));
+      least = sym (missing_is (count_of a) a.first_missing pieces (along-within a.size a.piece_size a.first_missing pieces due along.placed.no_gap) along.placed.no_gap
+          (λ below. sym (along.placed.waits a.first_missing (omega arith) (omega arith)) ∙ stopped));
       weighed = weighed;
       begun = rw (first, ← width) along.knows.begun;
       ended = rw (last, ← width) along.knows.ended;
       hashed = rw (digest, hash) along.knows.hashed;
-      waits = along.waits;
-      none_beyond = along.none_beyond;
+      waits = along.placed.waits;
+      none_beyond = along.placed.none_beyond;
     }

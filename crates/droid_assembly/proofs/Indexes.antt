@@ -1,18 +1,18 @@
 -- Which pieces a list has, by their indexes.
-use Rattle.std.proofs.Common.{◌≡◌, ◌≢◌, ℕ, zero, suc, ◌+◌, ◌*◌, ◌<◌, ◌≤◌, ◌==◌, Bool, false, List, [], ◌∷◌, ◌++◌, length, min, Option, None, Some, IsSome, IfSome, refl, sym, ap, ◌∙◌, arith, inl, inr, not, zero-add, add-one}
-use Rattle.std.specs.List.{All, AllByRecursion, range_with_len, flat_map}
+use Rattle.std.proofs.Common.{◌≡◌, ◌≢◌, ℕ, zero, suc, ◌+◌, ◌*◌, ◌<◌, ◌≤◌, ◌==◌, Bool, false, List, [], ◌∷◌, ◌++◌, length, min, Option, None, Some, IsSome, IfSome, refl, sym, ap, ◌∙◌, arith, inl, inr, not, zero-add, add-zero, add-one}
+use Rattle.std.specs.List.{All, AllByRecursion, concat, range_with_len, flat_map}
 use Rattle.std.specs.Option.{is_none}
 use Rattle.std.specs.Bool.{if◌then◌else◌}
 use Rattle.std.proofs.lemmas.Bool.Decides.{eqb_tells}
 use Rattle.std.proofs.lemmas.Grind.{div_ceil_times}
-use Rattle.std.proofs.lemmas.List.{append-nil, length-append}
+use Rattle.std.proofs.lemmas.List.{append_assoc, append-nil, length-append}
 use Rattle.std.proofs.lemmas.List.Concat.{flat_map-append}
-use Rattle.std.proofs.lemmas.List.Folds.{flat_map-map}
+use Rattle.std.proofs.lemmas.List.Folds.{concat-append, flat_map-map}
 use Rattle.std.proofs.lemmas.List.Elements.{All-head, All-tail}
 use Rattle.std.proofs.lemmas.List.FromFn.{length-range_with_len, get_or-range_with_len, map-range_with_len_more}
 use Rattle.std.proofs.lemmas.List.Sums.{position_or_len_is, fails_before_first, prefix_len-le-length}
 use Rattle.droid_assembly.specs.Pieces.{Piece, bytes_at, LacksIndex, IsDue, due_length, piece_count, missing, file_bytes}
-use Rattle.droid_assembly.specs.Kept.{bytes_of}
+use Rattle.droid_assembly.specs.Kept.{bytes_of, pieces_from}
 
 -- what a list has of an index that was added last
 pub bytes_at-push_same : (pieces : List Piece) (piece : Piece) → LacksIndex pieces piece.0 → bytes_at (pieces ++ piece ∷ []) piece.0 ≡ Some piece.1
@@ -87,6 +87,24 @@ file_bytes-more n pieces =
     sym (flat_map-map same f (range_with_len 0 (n + 1)))
     ∙ ap (flat_map same) (map-range_with_len_more f 0 n n (zero-add n))
     ∙ rw (flat_map-append, flat_map-map same f (range_with_len 0 n), append-nil) refl
+
+-- the bytes of several pieces more
+pub file_bytes-several : (from n : ℕ) (pieces : List Piece) → file_bytes (from + n) pieces ≡ file_bytes from pieces ++ concat (pieces_from from n pieces)
+file_bytes-several from zero pieces = ap (λ k. file_bytes k pieces) (add-zero from) ∙ sym (append-nil (file_bytes from pieces))
+file_bytes-several from (suc n) pieces =
+    let f : ℕ → List ℕ = λ index. bytes_of (bytes_at pieces index) in
+    let before = file_bytes from pieces in
+    let here = f (from + n) in
+    let last : concat (here ∷ []) ≡ here = append-nil here in
+    let next : from + suc n ≡ from + n + 1 = omega arith in
+    ap (λ k. file_bytes k pieces) next
+    ∙ file_bytes-more (from + n) pieces
+    ∙ ap (λ bytes. bytes ++ here) (file_bytes-several from n pieces)
+    ∙ append_assoc before (concat (pieces_from from n pieces)) here
+    ∙ ap (λ bytes. before ++ (concat (pieces_from from n pieces) ++ bytes)) (sym last)
+    ∙ ap (λ bytes. before ++ bytes) (sym (concat-append (pieces_from from n pieces) (here ∷ [])))
+    ∙ ap (λ more. before ++ concat more) (sym (map-range_with_len_more f from n (from + n) refl))
+    ∙ ap (λ k. before ++ concat (pieces_from from k pieces)) (add-one n)
 
 -- the bytes of two lists that agree so far
 pub file_bytes-agree : (n : ℕ) (one other : List Piece) → ((k : ℕ) → k < n → bytes_at one k ≡ bytes_at other k) → file_bytes n one ≡ file_bytes n other

@@ -5,4 +5,5 @@ pub mod Fresh
 pub mod Indexes
 pub mod SeveralPieces
 pub mod Settling
+pub mod ShowingSeveral
 pub mod Whole

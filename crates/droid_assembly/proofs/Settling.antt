@@ -100,14 +100,14 @@ module _ (a : State) (old new : Front) (waiting : List (Option (List ℕ))) (k :
       let stands = settled-stands pieces went sound.stands in
       record {
         sizes = sound.sizes;
-        within = along-within a.size a.piece_size (a.first_missing + k) (pieces ++ piece ∷ []) stands.are_due along.no_gap;
+        within = along-within a.size a.piece_size (a.first_missing + k) (pieces ++ piece ∷ []) stands.are_due along.placed.no_gap;
         places = went.places;
         front = went.still;
         width = went.width ∙ went.same.width;
         pieces = pieces ++ piece ∷ [];
         stands = stands;
-        weighed = along.weighed;
-        counted = along.counted;
+        weighed = along.placed.weighed;
+        counted = along.placed.counted;
         pending = tt;
         sealed = rw (no_digest a old piece sound went.free) (λ some. absurd (cc));
       }

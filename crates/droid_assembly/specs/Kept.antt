@@ -23,15 +23,19 @@ pub record HasPieces (places : List (Option (List ℕ))) (count : ℕ) : Type 0 
 abbrev pub pieces_from : ℕ → ℕ → List Piece → List (List ℕ)
 pieces_from from count pieces = map (λ index. bytes_of (bytes_at pieces index)) (range_with_len from count)
 
--- the pieces before an index are all there, and the front knows their bytes; those from there on wait
--- in their places, and none lies 16 or more past it. They have so many bytes and are so many.
-pub record IsAlong (front : Front) (waiting : List (Option (List ℕ))) (from : ℕ) (pieces : List Piece) (total count : ℕ) : Type 0 where
+-- the pieces before an index are all there; those from there on wait in their places, and none lies 16
+-- or more past it. They have so many bytes and are so many.
+pub record ArePlaced (waiting : List (Option (List ℕ))) (from : ℕ) (pieces : List Piece) (total count : ℕ) : Type 0 where
   pub no_gap : (index : ℕ) → index < from → IsSome (bytes_at pieces index)
-  pub knows : FrontKnows front (file_bytes from pieces)
   pub waits : (index : ℕ) → from ≤ index → index < from + 16 → slot waiting index ≡ bytes_at pieces index
   pub none_beyond : (index : ℕ) → from + 16 ≤ index → bytes_at pieces index ≡ None
   pub weighed : total ≡ length (file_bytes from pieces) + sum_by weight waiting
   pub counted : count ≡ from + count_by is_some waiting
+
+-- so are they, and the front knows the bytes of those before the index
+pub record IsAlong (front : Front) (waiting : List (Option (List ℕ))) (from : ℕ) (pieces : List Piece) (total count : ℕ) : Type 0 where
+  pub placed : ArePlaced waiting from pieces total count
+  pub knows : FrontKnows front (file_bytes from pieces)
 
 -- the piece may be settled: it is due, near enough, and its place is free
 pub record IsFree (assembly : State) (piece : Piece) : Type 0 where

@@ -4,10 +4,12 @@
 mod assembly;
 mod fault;
 mod front;
+mod joined;
 mod places;
 mod ring;
 mod sealed;
 mod several;
+mod showing;
 mod spent;
 mod windows;
 

@@ -1,14 +1,17 @@
 //! The places of pieces that wait for an earlier one.
 
-ghost use Rattle.std.specs.Prelude.{◌≡◌, ◌<◌, ◌≤◌, ◌+◌, ◌%◌, ◌^◌, [], ℕ, List, length, None, Some, IfOk, IsSome, IsTrue, replicate, slice_set};
+ghost use Rattle.std.specs.Prelude.{◌≡◌, ◌<◌, ◌≤◌, ◌+◌, ◌%◌, ◌-◌, ◌^◌, [], ℕ, List, length, min, None, Some, IfOk, IsSome, IsTrue, replicate, slice_set};
 ghost use Rattle.std.specs.Bool.{OnFalse};
+ghost use Rattle.std.specs.List.{concat};
 ghost use Rattle.droid_assembly.specs.Pieces.{Piece};
 ghost use Rattle.droid_assembly.specs.State.{slot};
 ghost use Rattle.droid_assembly.specs.Fronts.{IsFront};
-ghost use Rattle.droid_assembly.specs.Kept.{IsAlong, pieces_from};
+ghost use Rattle.droid_assembly.specs.Kept.{IsAlong, ArePlaced, pieces_from};
 
 use crate::front::Front;
+use crate::joined::JOINED_LIMIT;
 use crate::several::Several;
+use crate::showing::{show_each, show_joined};
 use crate::spent::Spent;
 use droid_frame::Blob;
 use std::alloc::{AllocError, Global};
@@ -107,15 +110,41 @@ fn pass_several(waiting: &mut [Option<Blob>], front: &mut Front, from: u32, seve
     ensures stopped { slot waiting.new (from + length several.new) ≡ None }
     ensures few { length several.new ≤ 16 }
 {
+    // Each call to the front costs more than a few bytes, so small pieces are joined first.
+    let total = gather(waiting, from, several);
+    if total <= JOINED_LIMIT {
+        show_joined(front, several);
+    } else {
+        show_each(front, several);
+    }
+}
+
+// Takes the pieces that follow one another from this index on out of their places, and tells how many
+// bytes they have, as far as that can be counted.
+#[inline(always)]
+fn gather(waiting: &mut [Option<Blob>], from: u32, several: &mut Several) -> usize
+    requires places { length waiting.old ≡ 16 }
+    requires small { from + 16 < 2 ^ 32 }
+    requires none { several.old ≡ [] }
+    ensures placed { (pieces : List Piece) (total count : ℕ) → ArePlaced waiting.old from pieces total count
+        → ArePlaced waiting.new (from + length several.new) pieces total count }
+    ensures passed { (pieces : List Piece) (total count : ℕ) → ArePlaced waiting.old from pieces total count
+        → several.new ≡ pieces_from from (length several.new) pieces }
+    ensures stopped { slot waiting.new (from + length several.new) ≡ None }
+    ensures few { length several.new ≤ 16 }
+    ensures total { result ≡ min (length (concat several.new)) (2 ^ 64 - 1) }
+{
+    let mut total: usize = 0;
     for index in from..from + AHEAD {
         match take_out(waiting, index) {
             Some(bytes) => {
-                front.take(bytes.as_slice());
+                total = total.saturating_add(bytes.len());
                 several.push(bytes);
             }
-            None => return,
+            None => return total,
         }
     }
+    total
 }
 
 // Whether the piece of this index waits.

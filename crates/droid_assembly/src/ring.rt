@@ -130,9 +130,9 @@ fn append_some(window: &mut Vec<u8>, bytes: &[u8])
     window.extend_from_slice(bytes).unwrap();
 }
 
-// Puts bytes in the place of those from `at` on.
+/// Puts bytes in the place of those from `at` on.
 #[inline(always)]
-fn overwrite(block: &mut [u8], at: usize, bytes: &[u8])
+pub(crate) fn overwrite(block: &mut [u8], at: usize, bytes: &[u8])
     requires { at + length bytes.now ≤ length block.old }
     ensures { block.new ≡ take at block.old ++ bytes.now ++ drop (at + length bytes.now) block.old }
 {

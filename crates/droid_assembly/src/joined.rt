@@ -1,0 +1,56 @@
+//! The bytes of small pieces, joined.
+
+ghost use Rattle.std.specs.Prelude.{◌≡◌, ◌+◌, ◌≤◌, ◌++◌, [], length};
+
+use crate::ring::overwrite;
+use std::marker::Model;
+
+/// How many bytes are joined at most.
+pub(crate) const JOINED_LIMIT: usize = 512;
+
+/// The bytes of small pieces, joined without memory of their own. Contracts see the list of the bytes.
+#[derive(Debug, Drop)]
+pub(crate) struct Joined {
+    bytes: [u8; JOINED_LIMIT],
+    count: usize,
+}
+
+impl Model for Joined {
+    ghost use Rattle.std.specs.Prelude.{List, ℕ, ◌≤◌, take};
+
+    ghost Value = { List ℕ };
+
+    ghost view = { λ joined. take joined.count joined.bytes };
+
+    ghost invariant = { λ joined. joined.count ≤ 512 };
+}
+
+impl Joined {
+    /// No byte yet.
+    #[inline(always)]
+    pub(crate) fn none() -> Joined
+        ensures { result ≡ [] }
+    {
+        Joined {
+            bytes: [0; JOINED_LIMIT],
+            count: 0,
+        }
+    }
+
+    /// Adds the bytes of a piece, for which there is room.
+    #[inline(always)]
+    pub(crate) fn push(&mut self, bytes: &[u8])
+        requires { length self.old + length bytes.now ≤ 512 }
+        ensures { self.new ≡ self.old ++ bytes.now }
+    {
+        overwrite(&mut self.bytes, self.count, bytes);
+        self.count += bytes.len();
+    }
+
+    /// The bytes so far.
+    pub(crate) fn bytes(&self) -> &[u8]
+        ensures { result.now ≡ self.now }
+    {
+        &self.bytes[..self.count]
+    }
+}
