@@ -16,8 +16,6 @@ mod registry;
 #[cfg(test)]
 mod rows;
 #[cfg(test)]
-mod shaky;
-#[cfg(test)]
 mod uris;
 #[cfg(test)]
 mod writers;

@@ -1,13 +1,27 @@
 //! Exports to writers.
 
+ghost use Rattle.std.specs.Prelude.{IfOk};
+ghost use Rattle.droid_export.specs.Text.{HaveMoments};
+
 use crate::nodes::{everything, folder, message};
 use crate::registry::{HEADER, SAMPLE};
-use crate::shaky::{FullWriter, ShakyWriter};
 use droid_export::{ExportFault, export, export_text};
+use droid_frame::Record;
 use droid_pronom::Registry;
 use droid_stream::Unsteady;
-use std::alloc::Global;
+use shaky_streams::{BYTE_BY_BYTE, Manner, STEADY, ShakyWriter, Stop};
+use std::alloc::{AllocError, Global};
 use std::test::Fail;
+
+fn three_nodes(alloc: Global) -> Result<[Record; 3], AllocError>
+    ensures { IfOk result (λ it. HaveMoments it) }
+{
+    Ok([
+        folder(alloc, 1, "in")?,
+        message(alloc, 2, "m.msg", false)?,
+        message(alloc, 3, "a \"b\".msg", false)?,
+    ])
+}
 
 /// Exports three records to the writer.
 fn export_three(
@@ -15,11 +29,7 @@ fn export_three(
     writer: ShakyWriter,
 ) -> Result<(Result<(), ExportFault>, ShakyWriter), Fail> {
     let registry = Registry::parse(alloc, SAMPLE)?;
-    let nodes = [
-        folder(alloc, 1, "in")?,
-        message(alloc, 2, "m.msg", false)?,
-        message(alloc, 3, "a \"b\".msg", false)?,
-    ];
+    let nodes = three_nodes(alloc)?;
     let mut stream = Unsteady::new(writer);
     let answer = export(alloc, &nodes, &registry, &everything(alloc), &mut stream);
     Ok((answer, stream.stream))
@@ -27,21 +37,32 @@ fn export_three(
 
 /// The text of the three records.
 fn text_of_three(alloc: Global) -> Result<Vec<u8>, Fail> {
-    let (answer, writer) = export_three(alloc, ShakyWriter::new(Vec::new(alloc), usize::MAX))?;
+    let (answer, writer) = export_three(alloc, taking_all(alloc, STEADY))?;
     answer?;
     Ok(Vec::from_slice(alloc, writer.taken())?)
+}
+
+/// A writer of this manner that takes all.
+fn taking_all(alloc: Global, manner: Manner) -> ShakyWriter {
+    ShakyWriter::new(Vec::new(alloc), usize::MAX, Stop::Fails, manner)
+}
+
+/// Whether exactly the first so many bytes of the text go to the writer: all of them, or else that is the fault.
+fn gives(alloc: Global, text: &[u8], writer: ShakyWriter, written: usize) -> Result<bool, Fail> {
+    let (answer, writer) = export_three(alloc, writer)?;
+    let wanted = if written < text.len() {
+        Err(ExportFault::Write { written })
+    } else {
+        Ok(())
+    };
+    Ok(answer == wanted && text.get(..written) == Some(writer.taken()))
 }
 
 #[test]
 fn the_text_itself(rt: HostRuntime) -> Result<(), Fail> {
     let alloc = rt.alloc();
     let registry = Registry::parse(alloc, SAMPLE)?;
-    let nodes = [
-        folder(alloc, 1, "in")?,
-        message(alloc, 2, "m.msg", false)?,
-        message(alloc, 3, "a \"b\".msg", false)?,
-    ];
-    let text = export_text(alloc, &nodes, &registry, &everything(alloc))?;
+    let text = export_text(alloc, &three_nodes(alloc)?, &registry, &everything(alloc))?;
     assert_eq!(rt; text_of_three(alloc)?.as_slice(), text.as_slice());
     let mut nothing = Unsteady::new(Vec::new(alloc));
     export(alloc, &[], &registry, &everything(alloc), &mut nothing)?;
@@ -49,42 +70,52 @@ fn the_text_itself(rt: HostRuntime) -> Result<(), Fail> {
     Ok(())
 }
 
+// A writer that fails once, or takes no byte once, and would take the rest then, isn't asked again.
 #[test]
 fn failing_behind_each_byte(rt: HostRuntime) -> Result<(), Fail> {
-    let alloc = rt.alloc();
-    let text = text_of_three(alloc)?;
-    for room in 0..text.len() {
-        let (answer, writer) = export_three(alloc, ShakyWriter::new(Vec::new(alloc), room))?;
-        assert_eq!(rt; answer, Err(ExportFault::Write { written: room }));
-        assert_eq!(rt; Some(writer.taken()), text.as_slice().get(..room));
+    let text = text_of_three(rt.alloc())?;
+    for stop in [Stop::Fails, Stop::Ends] {
+        assert_eq!(rt; wrong_room(rt.alloc(), text.as_slice(), stop)?, None);
     }
     Ok(())
+}
+
+/// For how many bytes a writer has room that takes other bytes or answers otherwise than it should, where one does.
+fn wrong_room(alloc: Global, text: &[u8], stop: Stop) -> Result<Option<usize>, Fail> {
+    for room in 0..text.len() {
+        let writer = ShakyWriter::new(Vec::new(alloc), room, stop, STEADY);
+        if !gives(alloc, text, writer, room)? {
+            return Ok(Some(room));
+        }
+    }
+    Ok(None)
 }
 
 #[test]
 fn a_byte_at_a_time(rt: HostRuntime) -> Result<(), Fail> {
     let alloc = rt.alloc();
-    let mut writer = ShakyWriter::new(Vec::new(alloc), usize::MAX);
-    writer.width = 1;
-    let (answer, writer) = export_three(alloc, writer)?;
-    assert_eq!(rt; answer, Ok(()));
-    assert_eq!(rt; writer.taken(), text_of_three(alloc)?.as_slice());
+    let text = text_of_three(alloc)?;
+    let writer = taking_all(alloc, BYTE_BY_BYTE);
+    assert!(rt; gives(alloc, text.as_slice(), writer, text.len())?);
     Ok(())
+}
+
+/// A writer whose first so many calls are interrupted.
+fn interrupted(alloc: Global, interruptions: u32) -> ShakyWriter {
+    let manner = Manner {
+        interruptions,
+        ..STEADY
+    };
+    taking_all(alloc, manner)
 }
 
 #[test]
 fn interruptions(rt: HostRuntime) -> Result<(), Fail> {
     let alloc = rt.alloc();
-    let mut writer = ShakyWriter::new(Vec::new(alloc), usize::MAX);
-    writer.interruptions = 64;
-    let (answer, writer) = export_three(alloc, writer)?;
-    assert_eq!(rt; answer, Ok(()));
-    assert_eq!(rt; writer.taken(), text_of_three(alloc)?.as_slice());
-    let mut writer = ShakyWriter::new(Vec::new(alloc), usize::MAX);
-    writer.interruptions = 65;
-    let (answer, writer) = export_three(alloc, writer)?;
-    assert_eq!(rt; answer, Err(ExportFault::Write { written: 0 }));
-    assert!(rt; writer.taken().is_empty());
+    let text = text_of_three(alloc)?;
+    let writer = interrupted(alloc, 64);
+    assert!(rt; gives(alloc, text.as_slice(), writer, text.len())?);
+    assert!(rt; gives(alloc, text.as_slice(), interrupted(alloc, 65), 0)?);
     Ok(())
 }
 
@@ -92,9 +123,11 @@ fn interruptions(rt: HostRuntime) -> Result<(), Fail> {
 fn no_byte_is_taken(rt: HostRuntime) -> Result<(), Fail> {
     let alloc = rt.alloc();
     let registry = Registry::parse(alloc, SAMPLE)?;
-    let mut writer = Unsteady::new(FullWriter);
+    let writer = ShakyWriter::new(Vec::new(alloc), 0, Stop::Ends, STEADY);
+    let mut writer = Unsteady::new(writer);
     let answer = export(alloc, &[], &registry, &everything(alloc), &mut writer);
     assert_eq!(rt; answer, Err(ExportFault::Write { written: 0 }));
+    assert!(rt; writer.stream.taken().is_empty());
     Ok(())
 }
 
