@@ -11,13 +11,20 @@ use std::time::Instant;
 /// How many patterns a registry has: as many as it may have signatures.
 const PATTERNS: u32 = 16_384;
 
+/// How many patterns of 4,096 bytes a registry of 16,777,216 bytes has.
+const LONG_PATTERNS: u32 = 4_073;
+
+/// How many alternatives of one byte a pattern of 4,096 bytes has beside a star, a byte, a gap and a byte.
+const ALTERNATIVES: u32 = 1_361;
+
 /// How often each is measured; the shortest time counts.
 const ROUNDS: u32 = 3;
 
 /// How many times the window has the two bytes `ab`.
 const PAIRS: u32 = 32_768;
 
-/// Prints how long a file of `abab..` takes against as many patterns of each kind as there may be, at every offset.
+/// Prints how long a file of `abab..` takes against as many patterns of each kind as there may be, at every offset,
+/// and against patterns of the greatest length.
 pub fn measure<R: Print + Clock + AllocGlobal>(rt: &R) -> Result<(), Error> {
     let window = window(rt.alloc())?;
     let unit = pass(rt, window.as_slice())?;
@@ -51,10 +58,26 @@ pub fn measure<R: Print + Clock + AllocGlobal>(rt: &R) -> Result<(), Error> {
         "(6161|6162|6262)(6161|6162|6262)63",
         &window,
         unit,
+    )?;
+    long(rt, &window, unit)
+}
+
+/// Prints the times against one pattern of 4,096 bytes, and against as many as a registry has room for.
+fn long<R: Print + Clock + AllocGlobal>(rt: &R, window: &Vec<u8>, unit: u128) -> Result<(), Error> {
+    let pattern = longest(rt.alloc())?;
+    let pattern = pattern.as_str();
+    several(rt, "one of 4,096 bytes", pattern, 1, window, unit)?;
+    several(
+        rt,
+        "as many such as a registry has",
+        pattern,
+        LONG_PATTERNS,
+        window,
+        unit,
     )
 }
 
-/// Prints the shortest time of one file, and how many plain passes that is for each pattern.
+/// Prints the times against as many patterns of one kind as there may be signatures.
 fn kind<R: Print + Clock + AllocGlobal>(
     rt: &R,
     what: &str,
@@ -62,8 +85,20 @@ fn kind<R: Print + Clock + AllocGlobal>(
     window: &Vec<u8>,
     unit: u128,
 ) -> Result<(), Error> {
+    several(rt, what, pattern, PATTERNS, window, unit)
+}
+
+/// Prints the shortest time of one file against so many of a pattern, and how many plain passes that is for each.
+fn several<R: Print + Clock + AllocGlobal>(
+    rt: &R,
+    what: &str,
+    pattern: &str,
+    count: u32,
+    window: &Vec<u8>,
+    unit: u128,
+) -> Result<(), Error> {
     let alloc = rt.alloc();
-    let text = registry_text(alloc, pattern)?;
+    let text = registry_text(alloc, pattern, count)?;
     let registry = Registry::parse(alloc, text.as_str().as_bytes()).context("the registry")?;
     let window = &window[..window.len().min(65_536)];
     let mut least = u128::MAX;
@@ -72,7 +107,8 @@ fn kind<R: Print + Clock + AllocGlobal>(
         found(alloc, &registry, window)?;
         least = least.min(start.elapsed(rt)?.as_nanos());
     }
-    let tenths = least / PATTERNS as u128 * 10 / unit.max(1);
+    let each = least / u128::from(count).max(1);
+    let tenths = each.saturating_mul(10) / unit.max(1);
     println!(rt;
         "patterns: {what} in {} microseconds, {}.{} passes each",
         least / 1_000,
@@ -109,15 +145,27 @@ fn pass<R: Print + Clock + AllocGlobal>(rt: &R, window: &[u8]) -> Result<u128, E
     Ok(least)
 }
 
-/// A registry of one format, each of whose signatures has this pattern at every offset.
-fn registry_text(alloc: Global, pattern: &str) -> Result<String, AllocError> {
+/// A registry of one format with so many signatures, each of which has this pattern at every offset.
+fn registry_text(alloc: Global, pattern: &str, count: u32) -> Result<String, AllocError> {
     let mut text = String::new(alloc);
     text.push_str("F,bench/1,Format,1.0,,\n")?;
-    for _ in 0..PATTERNS {
+    for _ in 0..count {
         text.push_str("S,bench/1,BOF,0,65535,")?;
         text.push_str(pattern)?;
         text.push_str("\n")?;
     }
+    Ok(text)
+}
+
+/// A pattern of 4,096 bytes with as many alternatives as it has room for: each byte in turn.
+fn longest(alloc: Global) -> Result<String, AllocError> {
+    let mut text = String::new(alloc);
+    text.push_str("*61(00")?;
+    for number in 1..ALTERNATIVES {
+        let byte = number % 256;
+        text.push_str(format!(in alloc; "|{byte:02X}")?.as_str())?;
+    }
+    text.push_str("){0-999}00")?;
     Ok(text)
 }
 
