@@ -1,23 +1,19 @@
 //! As much as a node and a reply may hold, and as many profiles as a service may have.
 
-use crate::commits::{commit, commit_finish};
-use crate::steps::{Change, FINISHED, MADE, NODE, NOTHING, Place, Step, TAKEN, entry_of};
-use crate::words::numbered_words;
 use droid_frame::Texts;
-use droid_store::{NodeState, ProfileRow, Store, StoreFault};
+use droid_store::{NodeState, ProfileRow, Store};
 use std::alloc::Global;
 use std::process::Abort;
 use std::test::Fail;
+use store_steps::{
+    Change, FINISHED, MADE, NODE, NOTHING, Place, Step, StepFault, TAKEN, commit, commit_finish,
+    entry_of, expect, make_profile, numbered_words,
+};
 
 // A store with the profile 1.
-fn with_profile(rt: &impl Abort, alloc: Global) -> Result<Store, StoreFault> {
+fn with_profile(alloc: Global) -> Result<Store, StepFault> {
     let mut store = Store::in_memory(alloc)?;
-    let change = Change::Profile {
-        profile: 1,
-        scan_limit: 65_536,
-        match_all: false,
-    };
-    commit(rt, alloc, &mut store, &((1, 0, 0, MADE, b""), change))?;
+    make_profile(alloc, &mut store, 0, 1, 65_536, false)?;
     Ok(store)
 }
 
@@ -35,7 +31,7 @@ fn are_numbered(alloc: Global, texts: &Texts, count: usize) -> Result<bool, Fail
 #[test]
 fn many_identifiers(rt: HostRuntime) -> Result<(), Fail> {
     let alloc = rt.alloc();
-    let mut store = with_profile(&rt, alloc)?;
+    let mut store = with_profile(alloc)?;
     let place = Place {
         profile: 1,
         id: 1,
@@ -49,10 +45,10 @@ fn many_identifiers(rt: HostRuntime) -> Result<(), Fail> {
         size: 0,
         piece_size: 1,
     };
-    commit(&rt, alloc, &mut store, &((1, 1, 0, NODE, b""), file))?;
-    let puids = numbered_words(&rt, alloc, 4_096)?;
+    commit(alloc, &mut store, &((1, 1, 0, NODE, b""), file))?;
+    let puids = numbered_words(alloc, 4_096)?;
     let entry = entry_of(alloc, &(1, 2, 0, FINISHED, b""))?;
-    commit_finish(&rt, &mut store, &entry, 1, 1, &NOTHING, &puids)?;
+    commit_finish(&mut store, &entry, 1, 1, &NOTHING, &puids)?;
     let row = store.node(1, 1)?.expect(&rt, "the file is there");
     assert!(rt; row.state == NodeState::Finished);
     assert!(rt; are_numbered(alloc, &row.item.puids, 4_096)?);
@@ -65,15 +61,15 @@ fn many_identifiers(rt: HostRuntime) -> Result<(), Fail> {
 /// Sixteen folders, each in the one before: the last one's path has 4,096 bytes.
 #[test]
 fn long_path(rt: HostRuntime) -> Result<(), Fail> {
-    let mut store = with_profile(&rt, rt.alloc())?;
-    let path = long_path_made(&rt, rt.alloc(), &mut store)?;
+    let mut store = with_profile(rt.alloc())?;
+    let path = long_path_made(rt.alloc(), &mut store)?;
     assert_eq!(rt; path.len(), 4_096);
     path_is_shown(&rt, &mut store, path.as_str())?;
     Ok(())
 }
 
 // Makes the folders, and gives the last one's path.
-fn long_path_made(rt: &impl Abort, alloc: Global, store: &mut Store) -> Result<String, Fail> {
+fn long_path_made(alloc: Global, store: &mut Store) -> Result<String, Fail> {
     let mut name = String::new(alloc);
     for _ in 0..255 {
         name.push('n')?;
@@ -82,20 +78,19 @@ fn long_path_made(rt: &impl Abort, alloc: Global, store: &mut Store) -> Result<S
     for parent in 0..16 {
         path.push('/')?;
         path.push_str(name.as_str())?;
-        make_folder(rt, alloc, store, parent, name.as_str(), path.as_str())?;
+        make_folder(alloc, store, parent, name.as_str(), path.as_str())?;
     }
     Ok(path)
 }
 
 // Makes the next folder, in the one before.
 fn make_folder(
-    rt: &impl Abort,
     alloc: Global,
     store: &mut Store,
     parent: u32,
     name: &str,
     path: &str,
-) -> Result<(), StoreFault> {
+) -> Result<(), StepFault> {
     let id = parent.wrapping_add(1);
     let place = Place {
         profile: 1,
@@ -106,12 +101,12 @@ fn make_folder(
         path,
     };
     let step: Step<'_> = ((1, u64::from(id), 0, NODE, b""), Change::Folder(place));
-    commit(rt, alloc, store, &step)?;
-    assert_eq!(rt; store.child(1, parent, name)?, Some(id));
-    Ok(())
+    commit(alloc, store, &step)?;
+    let child = store.child(1, parent, name)?;
+    expect(child == Some(id), "each folder lies in the one before")
 }
 
-fn path_is_shown(rt: &impl Abort, store: &mut Store, path: &str) -> Result<(), StoreFault> {
+fn path_is_shown(rt: &impl Abort, store: &mut Store, path: &str) -> Result<(), StepFault> {
     let row = store.node(1, 16)?.expect(rt, "the folder is there");
     assert_eq!(rt; row.item.path.as_str(), path);
     let records = store.records(1)?;
@@ -129,7 +124,7 @@ fn long_body(rt: HostRuntime) -> Result<(), Fail> {
     body[0] = 0;
     body[1_048_639] = 1;
     let step: Step<'_> = ((1, 1, 0, TAKEN, &body), Change::Piece);
-    commit(&rt, alloc, &mut store, &step)?;
+    commit(alloc, &mut store, &step)?;
     let found = store.reply_of(1, 1)?.expect(&rt, "the reply is kept");
     assert!(rt; found.body.as_slice() == body.as_slice());
     Ok(())
@@ -152,7 +147,7 @@ fn many_profiles(rt: HostRuntime) -> Result<(), Fail> {
             match_all,
         };
         let step: Step<'_> = ((profile, 1, 0, MADE, b""), change);
-        commit(&rt, alloc, &mut store, &step)?;
+        commit(alloc, &mut store, &step)?;
     }
     for profile in 1..65 {
         let (scan_limit, match_all) = options(profile);

@@ -1,13 +1,14 @@
 //! First and last values of each field come back as they were sent.
 
-use crate::commits::commit;
-use crate::steps::{Change, Found, Kept, MADE, NODE, NOTHING, Place, Step, is_kept};
-use crate::views::Shown;
 use droid_frame::Method;
-use droid_store::{NodeState, ProfileRow, Store, StoreFault};
+use droid_store::{NodeState, ProfileRow, Store};
 use std::alloc::Global;
 use std::process::Abort;
 use std::test::Fail;
+use store_steps::{
+    Change, Found, Kept, NODE, NOTHING, Place, Shown, Step, StepFault, commit, expect, is_kept,
+    look_at_node, make_profile,
+};
 
 const LAST_NUMBER: u64 = 9_223_372_036_854_775_807;
 
@@ -45,31 +46,22 @@ const NO_ENTRIES: [(u32, u64); 9] = [
 #[test]
 fn replies(rt: HostRuntime) -> Result<(), Fail> {
     let mut store = Store::in_memory(rt.alloc())?;
-    keep_each(&rt, rt.alloc(), &mut store, &ENTRIES)?;
+    keep_each(rt.alloc(), &mut store, &ENTRIES)?;
     assert_eq!(rt; store.counts()?.accepted, 14);
     each_is_kept(&rt, &mut store, &ENTRIES)?;
     none_is_kept(&rt, &mut store, &NO_ENTRIES)?;
     Ok(())
 }
 
-fn keep_each(
-    rt: &impl Abort,
-    alloc: Global,
-    store: &mut Store,
-    entries: &[Kept<'_>],
-) -> Result<(), StoreFault> {
+fn keep_each(alloc: Global, store: &mut Store, entries: &[Kept<'_>]) -> Result<(), StepFault> {
     for kept in entries {
         let step: Step<'_> = (*kept, Change::Piece);
-        commit(rt, alloc, store, &step)?;
+        commit(alloc, store, &step)?;
     }
     Ok(())
 }
 
-fn each_is_kept(
-    rt: &impl Abort,
-    store: &mut Store,
-    entries: &[Kept<'_>],
-) -> Result<(), StoreFault> {
+fn each_is_kept(rt: &impl Abort, store: &mut Store, entries: &[Kept<'_>]) -> Result<(), StepFault> {
     for kept in entries {
         let (client, number, ..) = *kept;
         assert!(rt; number <= LAST_NUMBER);
@@ -83,7 +75,7 @@ fn none_is_kept(
     rt: &impl Abort,
     store: &mut Store,
     numbers: &[(u32, u64)],
-) -> Result<(), StoreFault> {
+) -> Result<(), StepFault> {
     for (client, number) in numbers {
         let number = *number;
         assert!(rt; number <= LAST_NUMBER);
@@ -186,43 +178,30 @@ fn made(id: u32, numbers: Numbers) -> Shown<'static> {
     }
 }
 
-fn expect_node(rt: &impl Abort, store: &mut Store, shown: &Shown<'_>) -> Result<(), StoreFault> {
-    let row = store.node(shown.place.profile, shown.place.id)?;
-    assert!(rt; shown.is_shown_by(row.as_ref()), "{row:?}");
-    Ok(())
-}
-
 #[test]
 fn files(rt: HostRuntime) -> Result<(), Fail> {
     let mut store = Store::in_memory(rt.alloc())?;
-    make_profile(&rt, rt.alloc(), &mut store)?;
-    make_each(&rt, rt.alloc(), &mut store, &FILES)?;
-    finish_each(&rt, rt.alloc(), &mut store, &FILES)?;
+    profile_of_last_values(rt.alloc(), &mut store)?;
+    make_each(rt.alloc(), &mut store, &FILES)?;
+    finish_each(rt.alloc(), &mut store, &FILES)?;
     Ok(())
 }
 
-fn make_profile(rt: &impl Abort, alloc: Global, store: &mut Store) -> Result<(), StoreFault> {
-    let profile = Change::Profile {
-        profile: 1,
-        scan_limit: 4_294_967_295,
-        match_all: true,
-    };
-    commit(rt, alloc, store, &((1, 0, 0, MADE, b""), profile))?;
+fn profile_of_last_values(alloc: Global, store: &mut Store) -> Result<(), StepFault> {
+    make_profile(alloc, store, 0, 1, 4_294_967_295, true)?;
     let row = ProfileRow {
         scan_limit: 4_294_967_295,
         match_all: true,
         nodes: 0,
     };
-    assert_eq!(rt; store.profile(1)?, Some(row));
-    Ok(())
+    expect(store.profile(1)? == Some(row), "the profile is shown")
 }
 
 fn make_each(
-    rt: &impl Abort,
     alloc: Global,
     store: &mut Store,
     files: &[(Numbers, Found<'_>)],
-) -> Result<(), StoreFault> {
+) -> Result<(), StepFault> {
     let mut id = 0;
     for (numbers, _) in files {
         id = u32::wrapping_add(id, 1);
@@ -232,23 +211,18 @@ fn make_each(
             size: shown.size,
             piece_size: shown.piece_size,
         };
-        commit(
-            rt,
-            alloc,
-            store,
-            &((1, u64::from(id), 1, NODE, b""), change),
-        )?;
-        expect_node(rt, store, &shown)?;
+        let kept = (1, u64::from(id), 1, NODE, b"".as_slice());
+        commit(alloc, store, &(kept, change))?;
+        look_at_node(store, &shown)?;
     }
     Ok(())
 }
 
 fn finish_each(
-    rt: &impl Abort,
     alloc: Global,
     store: &mut Store,
     files: &[(Numbers, Found<'_>)],
-) -> Result<(), StoreFault> {
+) -> Result<(), StepFault> {
     let mut file = 0;
     for (numbers, found) in files {
         file = u32::wrapping_add(file, 1);
@@ -257,18 +231,14 @@ fn finish_each(
             file,
             found: *found,
         };
-        commit(
-            rt,
-            alloc,
-            store,
-            &((2, u64::from(file), 1, NODE, b""), change),
-        )?;
+        let kept = (2, u64::from(file), 1, NODE, b"".as_slice());
+        commit(alloc, store, &(kept, change))?;
         let shown = Shown {
             state: NodeState::Finished,
             found: *found,
             ..made(file, *numbers)
         };
-        expect_node(rt, store, &shown)?;
+        look_at_node(store, &shown)?;
     }
     Ok(())
 }

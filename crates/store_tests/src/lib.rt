@@ -2,8 +2,6 @@
 #![tactic(auto)]
 
 #[cfg(test)]
-mod commits;
-#[cfg(test)]
 mod faults;
 #[cfg(test)]
 mod large;
@@ -19,9 +17,3 @@ mod names;
 mod profiles;
 #[cfg(test)]
 mod row;
-#[cfg(test)]
-mod steps;
-#[cfg(test)]
-mod views;
-#[cfg(test)]
-mod words;

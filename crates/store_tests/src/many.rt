@@ -1,12 +1,12 @@
 //! Numbers about 100,000, which is as many nodes as a profile of a service may have.
 
-use crate::commits::commit;
-use crate::steps::{ABANDONED, Change, Kept, MADE, NODE, NOTHING, Place, is_kept};
-use crate::views::Shown;
-use droid_store::{Counts, NodeState, ProfileRow, Store, StoreFault};
+use droid_store::{Counts, ProfileRow, Store, StoreFault};
 use std::alloc::Global;
 use std::process::Abort;
 use std::test::Fail;
+use store_steps::{
+    ABANDONED, Change, Kept, NODE, Place, Shown, commit, is_kept, look_at_node, make_profile,
+};
 
 /// The file that is abandoned. Its number isn't used again.
 const ABANDONED_FILE: u32 = 100_000;
@@ -37,10 +37,10 @@ fn name_of(alloc: Global, id: u32) -> Result<String, Fail> {
     Ok(format!(in alloc; "node {id}")?)
 }
 
-fn add_folder(rt: &impl Abort, alloc: Global, store: &mut Store, id: u32) -> Result<(), Fail> {
+fn add_folder(alloc: Global, store: &mut Store, id: u32) -> Result<(), Fail> {
     let name = name_of(alloc, id)?;
     let change = Change::Folder(place(id, name.as_str()));
-    commit(rt, alloc, store, &(kept(id), change))?;
+    commit(alloc, store, &(kept(id), change))?;
     Ok(())
 }
 
@@ -52,13 +52,13 @@ fn abandon_one(rt: &impl Abort, alloc: Global, store: &mut Store) -> Result<(), 
         size: 1,
         piece_size: 1,
     };
-    commit(rt, alloc, store, &(kept(ABANDONED_FILE), file))?;
+    commit(alloc, store, &(kept(ABANDONED_FILE), file))?;
     assert_eq!(rt; store.counts()?.unfinished, 1);
     let abandon = Change::Abandon {
         profile: 1,
         file: ABANDONED_FILE,
     };
-    commit(rt, alloc, store, &((2, 1, 0, ABANDONED, b""), abandon))?;
+    commit(alloc, store, &((2, 1, 0, ABANDONED, b""), abandon))?;
     assert!(rt; store.node(1, ABANDONED_FILE)?.is_none());
     Ok(())
 }
@@ -66,16 +66,8 @@ fn abandon_one(rt: &impl Abort, alloc: Global, store: &mut Store) -> Result<(), 
 // The folder with this number is shown, found by its name, and its reply is kept.
 fn look_at(rt: &impl Abort, alloc: Global, store: &mut Store, id: u32) -> Result<(), Fail> {
     let name = name_of(alloc, id)?;
-    let shown = Shown {
-        place: place(id, name.as_str()),
-        state: NodeState::Folder,
-        size: 0,
-        piece_size: 0,
-        found: NOTHING,
-    };
-    let row = store.node(1, id)?;
-    assert!(rt; shown.is_shown_by(row.as_ref()), "{row:?}");
-    assert_eq!(rt; store.child(1, id / 2, name.as_str())?, Some(id));
+    let shown = Shown::folder(place(id, name.as_str()));
+    assert_eq!(rt; look_at_node(store, &shown), Ok(()), "{id}");
     let entry = store.reply_of(1, u64::from(id))?;
     assert!(rt; is_kept(entry.as_ref(), &kept(id)), "{entry:?}");
     Ok(())
@@ -108,17 +100,12 @@ fn many_nodes(rt: HostRuntime) -> Result<(), Fail> {
 }
 
 fn make_nodes(rt: &impl Abort, alloc: Global, store: &mut Store) -> Result<(), Fail> {
-    let profile = Change::Profile {
-        profile: 1,
-        scan_limit: 1,
-        match_all: false,
-    };
-    commit(rt, alloc, store, &((1, 0, 0, MADE, b""), profile))?;
+    make_profile(alloc, store, 0, 1, 1, false)?;
     for id in 1..ABANDONED_FILE {
-        add_folder(rt, alloc, store, id)?;
+        add_folder(alloc, store, id)?;
     }
     abandon_one(rt, alloc, store)?;
-    add_folder(rt, alloc, store, LAST)
+    add_folder(alloc, store, LAST)
 }
 
 fn look_at_totals(rt: &impl Abort, store: &mut Store) -> Result<(), StoreFault> {

@@ -1,12 +1,12 @@
 //! Names are told apart byte for byte, in each folder of each profile.
 
-use crate::commits::commit;
-use crate::steps::{Change, MADE, NODE, NOTHING, Place, Step};
-use crate::views::Shown;
-use droid_store::{NodeState, Store, StoreFault};
+use droid_store::Store;
 use std::alloc::Global;
 use std::process::Abort;
 use std::test::Fail;
+use store_steps::{
+    Change, NODE, Place, Shown, Step, StepFault, commit, look_at_node, make_profile,
+};
 
 /// Names, each as a text repeated so many times and what follows it.
 type Name<'a> = (&'a str, usize, &'a str);
@@ -89,39 +89,21 @@ fn name_of(alloc: Global, name: &Name<'_>) -> Result<String, Fail> {
     Ok(text)
 }
 
-// Makes the profile under the number of the command.
-fn make_profile(
-    rt: &impl Abort,
-    alloc: Global,
-    store: &mut Store,
-    number: u64,
-    profile: u32,
-) -> Result<(), StoreFault> {
-    let change = Change::Profile {
-        profile,
-        scan_limit: 1,
-        match_all: true,
-    };
-    let step: Step<'_> = ((1, number, 1, MADE, b"made"), change);
-    commit(rt, alloc, store, &step)
-}
-
 // Makes the folder under the number of the command.
 fn make_folder(
-    rt: &impl Abort,
     alloc: Global,
     store: &mut Store,
     number: u64,
     place: Place<'_>,
-) -> Result<(), StoreFault> {
+) -> Result<(), StepFault> {
     let step: Step<'_> = ((1, number, 2, NODE, b"node"), Change::Folder(place));
-    commit(rt, alloc, store, &step)
+    commit(alloc, store, &step)
 }
 
 #[test]
 fn byte_for_byte(rt: HostRuntime) -> Result<(), Fail> {
     let mut store = Store::in_memory(rt.alloc())?;
-    make_profile(&rt, rt.alloc(), &mut store, 0, 1)?;
+    make_profile(rt.alloc(), &mut store, 0, 1, 1, true)?;
     make_each(&rt, rt.alloc(), &mut store, &NAMES)?;
     each_is_found(&rt, rt.alloc(), &mut store, &NAMES)?;
     none_is_found(&rt, rt.alloc(), &mut store, &ABSENT)
@@ -139,13 +121,8 @@ fn make_each(
         id = u32::wrapping_add(id, 1);
         let text = name_of(alloc, name)?;
         none_lies_under(rt, store, text.as_str())?;
-        make_folder(
-            rt,
-            alloc,
-            store,
-            u64::from(id),
-            at_the_top(id, text.as_str()),
-        )?;
+        let place = at_the_top(id, text.as_str());
+        make_folder(alloc, store, u64::from(id), place)?;
     }
     Ok(())
 }
@@ -164,22 +141,12 @@ fn none_is_found(
 }
 
 // Nothing lies at the top of the first profile under this name.
-fn none_lies_under(rt: &impl Abort, store: &mut Store, name: &str) -> Result<(), StoreFault> {
+fn none_lies_under(rt: &impl Abort, store: &mut Store, name: &str) -> Result<(), StepFault> {
     assert_eq!(rt; store.child(1, 0, name)?, None, "{name}");
     Ok(())
 }
 
 // The folder as it is made under this number.
-fn folder(id: u32, name: &str) -> Shown<'_> {
-    Shown {
-        place: at_the_top(id, name),
-        state: NodeState::Folder,
-        size: 0,
-        piece_size: 0,
-        found: NOTHING,
-    }
-}
-
 fn at_the_top(id: u32, name: &str) -> Place<'_> {
     Place {
         profile: 1,
@@ -207,12 +174,11 @@ fn each_is_found(
     Ok(())
 }
 
-fn is_found(rt: &impl Abort, store: &mut Store, id: u32, name: &str) -> Result<(), StoreFault> {
-    assert_eq!(rt; store.child(1, 0, name)?, Some(id), "{name}");
+fn is_found(rt: &impl Abort, store: &mut Store, id: u32, name: &str) -> Result<(), StepFault> {
+    let shown = Shown::folder(at_the_top(id, name));
+    assert_eq!(rt; look_at_node(store, &shown), Ok(()), "{name}");
     assert_eq!(rt; store.child(1, id, name)?, None, "{name}");
     assert_eq!(rt; store.child(2, 0, name)?, None, "{name}");
-    let row = store.node(1, id)?;
-    assert!(rt; folder(id, name).is_shown_by(row.as_ref()), "{row:?}");
     Ok(())
 }
 
@@ -242,19 +208,18 @@ const EMPTY_FOLDERS: [(u32, u32); 7] = [
 fn one_name_in_many_folders(rt: HostRuntime) -> Result<(), Fail> {
     let mut store = Store::in_memory(rt.alloc())?;
     for profile in 1..4 {
-        make_profile(&rt, rt.alloc(), &mut store, u64::from(profile), profile)?;
+        make_profile(rt.alloc(), &mut store, u64::from(profile), profile, 1, true)?;
     }
-    make_same_name(&rt, rt.alloc(), &mut store, &SAME_NAME)?;
+    make_same_name(rt.alloc(), &mut store, &SAME_NAME)?;
     same_name_is_found(&rt, &mut store, &SAME_NAME, &EMPTY_FOLDERS)?;
     Ok(())
 }
 
 fn make_same_name(
-    rt: &impl Abort,
     alloc: Global,
     store: &mut Store,
     places: &[(u32, u32, u32)],
-) -> Result<(), StoreFault> {
+) -> Result<(), StepFault> {
     let mut number = 3;
     for (profile, id, parent) in places {
         number = u64::wrapping_add(number, 1);
@@ -263,7 +228,7 @@ fn make_same_name(
             parent: *parent,
             ..at_the_top(*id, "in")
         };
-        make_folder(rt, alloc, store, number, place)?;
+        make_folder(alloc, store, number, place)?;
     }
     Ok(())
 }
@@ -273,7 +238,7 @@ fn same_name_is_found(
     store: &mut Store,
     places: &[(u32, u32, u32)],
     empty: &[(u32, u32)],
-) -> Result<(), StoreFault> {
+) -> Result<(), StepFault> {
     for (profile, id, parent) in places {
         let found = store.child(*profile, *parent, "in")?;
         assert_eq!(rt; found, Some(*id), "{profile}");

@@ -1,13 +1,14 @@
 //! Several profiles side by side: each has its own nodes, numbers and options.
 
-use crate::commits::commit;
-use crate::steps::{ABANDONED, Change, FINISHED, Found, MADE, NODE, NOTHING, Place, Step, TAKEN};
-use crate::views::{Shown, View, look};
 use droid_frame::Method;
-use droid_store::{Counts, NodeState, ProfileRow, Store, StoreFault};
+use droid_store::{Counts, NodeState, ProfileRow, Store};
 use std::alloc::Global;
 use std::process::Abort;
 use std::test::Fail;
+use store_steps::{
+    ABANDONED, Change, FINISHED, Found, MADE, NODE, NOTHING, Place, Shown, Step, StepFault, TAKEN,
+    View, commit, look,
+};
 
 const A_OF_2: Place<'static> = Place {
     profile: 2,
@@ -273,7 +274,7 @@ const COUNTS: [(u64, u64); 15] = [
 fn side_by_side(rt: HostRuntime) -> Result<(), Fail> {
     let mut store = Store::in_memory(rt.alloc())?;
     each_step(&rt, rt.alloc(), &mut store, &STEPS, &COUNTS)?;
-    look(&rt, &mut store, &LAST_VIEW, &STEPS)?;
+    look(&mut store, &LAST_VIEW, &STEPS)?;
     Ok(())
 }
 
@@ -283,10 +284,10 @@ fn each_step(
     store: &mut Store,
     steps: &[Step<'_>],
     wanted: &[(u64, u64)],
-) -> Result<(), StoreFault> {
+) -> Result<(), StepFault> {
     let mut accepted = 0;
     for (step, (profiles, unfinished)) in steps.iter().zip(wanted) {
-        commit(rt, alloc, store, step)?;
+        commit(alloc, store, step)?;
         accepted = u64::wrapping_add(accepted, 1);
         let counts = Counts {
             profiles: *profiles,

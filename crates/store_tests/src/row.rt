@@ -1,14 +1,14 @@
 //! One profile with a folder, a file that is finished and one that is abandoned: after each command, what
 //! every reading call answers.
 
-use crate::commits::commit;
-use crate::steps::{ABANDONED, Change, FINISHED, Found, MADE, NODE, NOTHING, Place, Step, TAKEN};
-use crate::views::{EMPTY, Shown, View, look};
 use droid_frame::Method;
-use droid_store::{Counts, NodeState, ProfileRow, Store, StoreFault};
+use droid_store::{Counts, NodeState, ProfileRow, Store};
 use std::alloc::Global;
-use std::process::Abort;
 use std::test::Fail;
+use store_steps::{
+    ABANDONED, Change, EMPTY, FINISHED, Found, MADE, NODE, NOTHING, Place, Shown, Step, StepFault,
+    TAKEN, View, commit, expect, look,
+};
 
 const FOLDER: Place<'static> = Place {
     profile: 1,
@@ -223,22 +223,22 @@ pub const VIEWS: [View<'static>; 7] = [
 #[test]
 fn store_alone(rt: HostRuntime) -> Result<(), Fail> {
     let mut store = Store::in_memory(rt.alloc())?;
-    look(&rt, &mut store, &EMPTY, &STEPS)?;
-    each_step(&rt, rt.alloc(), &mut store, &STEPS, &VIEWS)?;
+    look(&mut store, &EMPTY, &STEPS)?;
+    each_step(rt.alloc(), &mut store, &STEPS, &VIEWS)?;
     Ok(())
 }
 
 fn each_step(
-    rt: &impl Abort,
     alloc: Global,
     store: &mut Store,
     steps: &[Step<'_>],
     views: &[View<'_>],
-) -> Result<(), StoreFault> {
+) -> Result<(), StepFault> {
     for (step, view) in steps.iter().zip(views) {
-        commit(rt, alloc, store, step)?;
-        look(rt, store, view, steps)?;
-        assert_eq!(rt; store.child(1, 0, "out")?, None);
+        commit(alloc, store, step)?;
+        look(store, view, steps)?;
+        let other = store.child(1, 0, "out")?;
+        expect(other.is_none(), "nothing lies under another name")?;
     }
     Ok(())
 }

@@ -1,9 +1,9 @@
 //! All that a store shows, and all its reading calls looked at beside it.
 
-use crate::steps::{Found, Place, Step, is_entry};
+use crate::fault::{StepFault, expect};
+use crate::steps::{Found, NOTHING, Place, Step, is_kept};
 use droid_frame::{NodeKind, Record, Texts};
-use droid_store::{Counts, NodeRow, NodeState, ProfileRow, Store, StoreFault};
-use std::process::Abort;
+use droid_store::{Counts, NodeRow, NodeState, ProfileRow, Store};
 
 /// A node as it is shown.
 #[derive(Clone, Copy)]
@@ -15,7 +15,18 @@ pub struct Shown<'a> {
     pub found: Found<'a>,
 }
 
-impl Shown<'_> {
+impl<'a> Shown<'a> {
+    /// The folder at this place.
+    pub fn folder(place: Place<'a>) -> Shown<'a> {
+        Shown {
+            place,
+            state: NodeState::Folder,
+            size: 0,
+            piece_size: 0,
+            found: NOTHING,
+        }
+    }
+
     fn kind(&self) -> NodeKind {
         if self.state == NodeState::Folder {
             NodeKind::Folder
@@ -28,13 +39,13 @@ impl Shown<'_> {
         self.place.profile == profile && self.place.id == id
     }
 
-    /// Whether the row shows this node, field by field.
-    pub fn is_row(&self, row: &NodeRow) -> bool {
+    // Whether the row shows this node, field by field.
+    fn is_row(&self, row: &NodeRow) -> bool {
         row.state == self.state && row.piece_size == self.piece_size && self.is_record(&row.item)
     }
 
-    /// Whether there is a row, and it shows this node.
-    pub fn is_shown_by(&self, row: Option<&NodeRow>) -> bool {
+    // Whether there is a row, and it shows this node.
+    fn is_shown_by(&self, row: Option<&NodeRow>) -> bool {
         match row {
             Some(row) => self.is_row(row),
             None => false,
@@ -48,8 +59,8 @@ impl Shown<'_> {
         }
     }
 
-    /// Whether the record shows this node, field by field.
-    pub fn is_record(&self, record: &Record) -> bool {
+    // Whether the record shows this node, field by field.
+    fn is_record(&self, record: &Record) -> bool {
         let place = (record.id, record.parent, record.modified);
         let bytes = (record.size, record.md5);
         let findings = (record.kind, record.method, record.mismatch);
@@ -91,45 +102,40 @@ pub const EMPTY: View<'static> = View {
 
 /// Looks at the store by every reading call: it shows this view, and the replies of the first so many of
 /// these steps and of no other. A fault is answered at once.
-pub fn look(
-    rt: &impl Abort,
-    store: &mut Store,
-    view: &View<'_>,
-    steps: &[Step<'_>],
-) -> Result<(), StoreFault> {
-    assert_eq!(rt; store.counts()?, view.counts);
-    look_at_replies(rt, store, steps, view.counts.accepted)?;
-    assert_eq!(rt; store.profile(0)?, None);
+pub fn look(store: &mut Store, view: &View<'_>, steps: &[Step<'_>]) -> Result<(), StepFault> {
+    expect(store.counts()? == view.counts, "the counts are the view's")?;
+    look_at_replies(store, steps, view.counts.accepted)?;
+    expect(store.profile(0)?.is_none(), "there is no profile 0")?;
     let mut number: u32 = 0;
     for row in view.profiles {
         number = number.wrapping_add(1);
-        assert_eq!(rt; store.profile(number)?, Some(*row), "profile {number}");
-        look_at_nodes(rt, store, view.nodes, number, row.nodes)?;
-        look_at_records(rt, store, view.nodes, number)?;
+        expect(
+            store.profile(number)? == Some(*row),
+            "each profile is shown",
+        )?;
+        look_at_nodes(store, view.nodes, number, row.nodes)?;
+        look_at_records(store, view.nodes, number)?;
     }
     number = number.wrapping_add(1);
-    assert_eq!(rt; store.profile(number)?, None);
-    look_at_nodes(rt, store, view.nodes, number, 1)?;
-    look_at_records(rt, store, view.nodes, number)
+    expect(
+        store.profile(number)?.is_none(),
+        "no other profile is there",
+    )?;
+    look_at_nodes(store, view.nodes, number, 1)?;
+    look_at_records(store, view.nodes, number)
 }
 
 /// The replies to the first so many steps are kept, each with its entry, and no other's.
-pub fn look_at_replies(
-    rt: &impl Abort,
-    store: &mut Store,
-    steps: &[Step<'_>],
-    accepted: u64,
-) -> Result<(), StoreFault> {
+fn look_at_replies(store: &mut Store, steps: &[Step<'_>], accepted: u64) -> Result<(), StepFault> {
     let mut place: u64 = 0;
     for (kept, _) in steps {
         let (client, number, ..) = *kept;
-        assert!(rt; number < 1 << 63);
-        match store.reply_of(client, number)? {
-            Some(entry) => {
-                assert!(rt; place < accepted, "{entry:?}");
-                assert!(rt; is_entry(&entry, kept), "{entry:?}");
-            }
-            None => assert!(rt; place >= accepted, "number {number} of {client}"),
+        expect(number < 1 << 63, "the number is below 2^63")?;
+        let entry = store.reply_of(client, number)?;
+        if place < accepted {
+            expect(is_kept(entry.as_ref(), kept), "each reply is kept")?;
+        } else {
+            expect(entry.is_none(), "no other reply is kept")?;
         }
         place = place.wrapping_add(1);
     }
@@ -138,17 +144,15 @@ pub fn look_at_replies(
 
 // Every number of this profile up to one more than those accepted.
 fn look_at_nodes(
-    rt: &impl Abort,
     store: &mut Store,
     nodes: &[Shown<'_>],
     profile: u32,
     accepted: u32,
-) -> Result<(), StoreFault> {
+) -> Result<(), StepFault> {
     for id in 0..accepted.saturating_add(2) {
-        let row = store.node(profile, id)?;
         match shown_under(nodes, profile, id) {
-            Some(shown) => look_at_node(rt, store, shown, row)?,
-            None => assert!(rt; row.is_none(), "{row:?}"),
+            Some(shown) => look_at_node(store, shown)?,
+            None => expect(store.node(profile, id)?.is_none(), "no other node is shown")?,
         }
     }
     Ok(())
@@ -164,12 +168,8 @@ fn shown_under<'a, 'b>(nodes: &'b [Shown<'a>], profile: u32, id: u32) -> Option<
     None
 }
 
-fn look_at_node(
-    rt: &impl Abort,
-    store: &mut Store,
-    shown: &Shown<'_>,
-    row: Option<NodeRow>,
-) -> Result<(), StoreFault> {
+/// Looks at the node by its number and by its name.
+pub fn look_at_node(store: &mut Store, shown: &Shown<'_>) -> Result<(), StepFault> {
     let Place {
         profile,
         id,
@@ -177,27 +177,22 @@ fn look_at_node(
         name,
         ..
     } = shown.place;
-    assert!(rt; shown.is_shown_by(row.as_ref()), "{row:?}");
-    assert_eq!(rt; store.child(profile, parent, name)?, Some(id), "{name}");
-    Ok(())
+    let row = store.node(profile, id)?;
+    expect(shown.is_shown_by(row.as_ref()), "each node is shown")?;
+    let child = store.child(profile, parent, name)?;
+    expect(child == Some(id), "each node is found by its name")
 }
 
 // The folders and finished files of this profile, by number.
-fn look_at_records(
-    rt: &impl Abort,
-    store: &mut Store,
-    nodes: &[Shown<'_>],
-    profile: u32,
-) -> Result<(), StoreFault> {
+fn look_at_records(store: &mut Store, nodes: &[Shown<'_>], profile: u32) -> Result<(), StepFault> {
     let records = store.records(profile)?;
     let mut place: usize = 0;
     for shown in nodes {
         if shown.place.profile == profile && shown.state != NodeState::Unfinished {
-            let record = records.get(place);
-            assert!(rt; shown.is_listed_as(record), "{record:?}");
+            let is_listed = shown.is_listed_as(records.get(place));
+            expect(is_listed, "each folder and finished file is listed")?;
             place = place.wrapping_add(1);
         }
     }
-    assert_eq!(rt; records.len(), place);
-    Ok(())
+    expect(records.len() == place, "nothing else is listed")
 }

@@ -4,39 +4,39 @@ ghost use Rattle.std.specs.Prelude.{IfOk};
 ghost use Rattle.std.specs.List.{AllByRecursion};
 ghost use Rattle.droid_store.specs.Changes.{IsWord};
 
+use crate::fault::{StepFault, expect};
 use droid_frame::{Text, Texts};
-use std::alloc::{AllocError, Global};
-use std::process::Abort;
+use std::alloc::Global;
 
 /// The word, where it is one.
-pub fn word(rt: &impl Abort, alloc: Global, text: &str) -> Result<Text, AllocError>
+fn word(alloc: Global, text: &str) -> Result<Text, StepFault>
     ensures { IfOk result IsWord }
 {
-    assert!(rt; !text.is_empty());
+    expect(!text.is_empty(), "a word has a byte")?;
     let has_space = text.as_bytes().contains(&b' ');
-    assert!(rt; !has_space, "{text}");
-    Text::copy_of(alloc, text)
+    expect(!has_space, "a word has no space")?;
+    Ok(Text::copy_of(alloc, text)?)
 }
 
 /// The words as a list.
-pub fn words(rt: &impl Abort, alloc: Global, items: &[&str]) -> Result<Texts, AllocError>
+pub fn words(alloc: Global, items: &[&str]) -> Result<Texts, StepFault>
     ensures { IfOk result (λ words. AllByRecursion IsWord words) }
 {
     let mut words = Texts::new(alloc);
     for item in items {
-        words.push(word(rt, alloc, item)?)?;
+        words.push(word(alloc, item)?)?;
     }
     Ok(words)
 }
 
 /// fmt/1, fmt/2 and so on, so many of them.
-pub fn numbered_words(rt: &impl Abort, alloc: Global, count: u32) -> Result<Texts, AllocError>
+pub fn numbered_words(alloc: Global, count: u32) -> Result<Texts, StepFault>
     ensures { IfOk result (λ words. AllByRecursion IsWord words) }
 {
     let mut words = Texts::new(alloc);
     for place in 0..count {
         let text = format!(in alloc; "fmt/{}", u64::from(place) + 1)?;
-        words.push(word(rt, alloc, text.as_str())?)?;
+        words.push(word(alloc, text.as_str())?)?;
     }
     Ok(words)
 }

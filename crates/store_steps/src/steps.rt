@@ -30,8 +30,8 @@ pub fn entry_of(alloc: Global, kept: &Kept<'_>) -> Result<Entry, AllocError> {
     })
 }
 
-/// Whether this is the entry, field by field.
-pub fn is_entry(entry: &Entry, kept: &Kept<'_>) -> bool {
+// Whether this is the entry, field by field.
+fn is_entry(entry: &Entry, kept: &Kept<'_>) -> bool {
     let (client, number, byte, kind, body) = *kept;
     let numbers = (entry.client, entry.number, entry.kind);
     numbers == (client, number, kind) && entry.mark == [byte; 16] && entry.body.as_slice() == body
