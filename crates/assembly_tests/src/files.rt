@@ -172,6 +172,5 @@ pub fn expect_file(
 {
     assert_eq!(rt; assembly.seal(), Ok(sealed));
     let windows = assembly.windows();
-    assert_eq!(rt; windows.first, first);
-    assert_eq!(rt; windows.last, last);
+    assert!(rt; windows.first == first && windows.last == last);
 }

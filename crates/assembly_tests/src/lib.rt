@@ -13,3 +13,5 @@ mod orders;
 mod pieces;
 #[cfg(test)]
 mod plain;
+#[cfg(test)]
+mod steps;

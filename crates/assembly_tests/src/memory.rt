@@ -32,14 +32,12 @@ fn call_each(
 {
     take(assembly, 1, last)?;
     put(assembly, 0, first)?;
-    assert_eq!(rt; assembly.pending(), Some(0));
+    assert!(rt; assembly.pending() == Some(0));
     take_back(assembly);
     assert!(rt; seal(assembly).is_err());
     put(assembly, 0, again)?;
     let spent = settle(assembly);
-    assert_eq!(rt; spent.len(), 2);
-    assert!(rt; spent.get(0).is_some());
-    assert!(rt; spent.get(2).is_none());
+    assert!(rt; spent.len() == 2 && spent.get(0).is_some() && spent.get(2).is_none());
     let told = Views {
         held: 2,
         missing: 2,
@@ -71,10 +69,8 @@ fn growths_without_calls(rt: HostRuntime) -> Result<(), Fail> {
     let alloc = rt.alloc();
     let assembly = empty_assembly(alloc)?;
     let (first, again, last) = (blob(alloc, b"ab")?, blob(alloc, b"ab")?, blob(alloc, b"c")?);
-    assert_eq!(rt; views_of(&assembly).held, 0);
-    assert_eq!(rt; first.len(), 2);
-    assert_eq!(rt; again.len(), 2);
-    assert_eq!(rt; last.len(), 1);
+    let lengths = (first.len(), again.len(), last.len());
+    assert!(rt; views_of(&assembly).held == 0 && lengths == (2, 2, 1));
     Ok(())
 }
 

@@ -26,8 +26,7 @@ fn told(fault: &PutFault) -> Put {
 // What both answer to calls that change nothing.
 fn same_views(rt: &impl Abort, assembly: &Assembly, plain: &Plain) {
     let told = views_of(assembly);
-    assert_eq!(rt; told.held as usize, plain.held());
-    assert_eq!(rt; told.missing as usize, plain.missing());
+    assert!(rt; told.held as usize == plain.held() && told.missing as usize == plain.missing());
     assert_eq!(rt; told.kept_bytes, plain.kept_bytes() as u64);
 }
 
@@ -114,6 +113,83 @@ fn same_end(
     Ok(())
 }
 
+// Pieces by chance, most of them settled, and now and then the end.
+fn chance_pieces(
+    rt: &impl Abort,
+    alloc: Global,
+    chance: &mut Chance,
+    assembly: &mut Assembly,
+    plain: &mut Plain,
+    count: usize,
+    limit: usize,
+) -> Result<(), Fail>
+    requires { assembly.old.pending ≡ None }
+    ensures { OnOk result (assembly.new.pending ≡ None) }
+{
+    for round in 0..count.saturating_mul(3).saturating_add(4) {
+        let index = chosen(chance, plain, count);
+        let mut len = plain.due(index as usize);
+        if chance.below(12) == 0 {
+            len = chance.below(10);
+        }
+        let bytes = piece_bytes(chance);
+        let bytes = &bytes[..len.min(16)];
+        turn(
+            rt,
+            alloc,
+            assembly,
+            plain,
+            index,
+            bytes,
+            chance.below(8) != 0,
+        )?;
+        if round % 4 == 0 {
+            same_end(rt, alloc, assembly, plain, count, limit)?;
+        }
+    }
+    Ok(())
+}
+
+// Every piece in order, whether it is there or not.
+fn all_pieces(
+    rt: &impl Abort,
+    alloc: Global,
+    chance: &mut Chance,
+    assembly: &mut Assembly,
+    plain: &mut Plain,
+    count: u32,
+) -> Result<(), Fail>
+    requires { assembly.old.pending ≡ None }
+    ensures { OnOk result (assembly.new.pending ≡ None) }
+{
+    for index in 0..count {
+        let len = plain.due(index as usize).min(16);
+        let bytes = piece_bytes(chance);
+        turn(rt, alloc, assembly, plain, index, &bytes[..len], true)?;
+    }
+    Ok(())
+}
+
+// The calls of a file from its beginning until it is whole.
+fn same_calls(
+    rt: &impl Abort,
+    alloc: Global,
+    chance: &mut Chance,
+    assembly: &mut Assembly,
+    plain: &mut Plain,
+    count: u32,
+    limit: usize,
+) -> Result<(), Fail>
+    requires { assembly.old.pending ≡ None }
+{
+    let pieces = count as usize;
+    same_end(rt, alloc, assembly, plain, pieces, limit)?;
+    chance_pieces(rt, alloc, chance, assembly, plain, pieces, limit)?;
+    all_pieces(rt, alloc, chance, assembly, plain, count)?;
+    same_end(rt, alloc, assembly, plain, pieces, limit)?;
+    same_end(rt, alloc, assembly, plain, pieces, limit)
+}
+
 // A file of this size, its pieces by chance until it is whole.
 fn same_file(
     rt: &impl Abort,
@@ -128,42 +204,15 @@ fn same_file(
     assert!(rt; count <= 60);
     let mut assembly = Assembly::new(alloc, size as u64, piece_size as u32, limit as u32)?;
     let mut plain = Plain::new(alloc, size, piece_size, limit, count)?;
-    same_end(rt, alloc, &mut assembly, &plain, count, limit)?;
-    for round in 0..count.saturating_mul(3).saturating_add(4) {
-        let index = chosen(chance, &plain, count);
-        let mut len = plain.due(index as usize);
-        if chance.below(12) == 0 {
-            len = chance.below(10);
-        }
-        let bytes = piece_bytes(chance);
-        turn(
-            rt,
-            alloc,
-            &mut assembly,
-            &mut plain,
-            index,
-            &bytes[..len.min(16)],
-            chance.below(8) != 0,
-        )?;
-        if round % 4 == 0 {
-            same_end(rt, alloc, &mut assembly, &plain, count, limit)?;
-        }
-    }
-    for index in 0..count {
-        let len = plain.due(index).min(16);
-        let bytes = piece_bytes(chance);
-        turn(
-            rt,
-            alloc,
-            &mut assembly,
-            &mut plain,
-            index as u32,
-            &bytes[..len],
-            true,
-        )?;
-    }
-    same_end(rt, alloc, &mut assembly, &plain, count, limit)?;
-    same_end(rt, alloc, &mut assembly, &plain, count, limit)
+    same_calls(
+        rt,
+        alloc,
+        chance,
+        &mut assembly,
+        &mut plain,
+        count as u32,
+        limit,
+    )
 }
 
 // The index of the next piece: mostly near the missing one, sometimes anywhere or past the end.

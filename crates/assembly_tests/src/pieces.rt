@@ -2,42 +2,24 @@
 
 ghost use Rattle.std.specs.Prelude.{◌≡◌, OnOk, None};
 
-use crate::files::{
-    Order, SUITE, assembled, expect_file, put, seal, settle, take, take_back, views_of,
-};
-use droid_assembly::{Assembly, Incomplete, PutFault, Sealed};
+use crate::files::{Order, SUITE, assembled, expect_file, take};
+use crate::steps::{Comes, Step, expect_incomplete, expect_whole};
+use droid_assembly::{Assembly, Sealed};
 use droid_frame::Blob;
-use std::process::Abort;
+use std::alloc::Global;
 use std::test::Fail;
+
+const ALONE: [Step; 3] = [
+    (1, "c", Comes::Settled(1), (1, 0, 1)),
+    (0, "ab", Comes::TakenBack(3), (1, 0, 1)),
+    (0, "ab", Comes::Settled(3), (2, 2, 4)),
+];
 
 #[test]
 fn assembly_alone(rt: HostRuntime) -> Result<(), Fail> {
-    let alloc = rt.alloc();
-    let mut assembly = Assembly::new(alloc, 3, 2, 2)?;
-    take(&mut assembly, 1, Blob::copy_of(alloc, b"c")?)?;
-    assert_eq!(rt; views_of(&assembly).held, 1);
-    assert_eq!(rt; views_of(&assembly).missing, 0);
-    put(&mut assembly, 0, Blob::copy_of(alloc, b"ab")?)?;
-    assert_eq!(rt; assembly.pending(), Some(0));
-    take_back(&mut assembly);
-    assert_eq!(rt; assembly.pending(), None);
-    assert_eq!(rt; views_of(&assembly).held, 1);
-    assert_eq!(rt; seal(&mut assembly), Err(Incomplete { missing: 0 }));
-    take(&mut assembly, 0, Blob::copy_of(alloc, b"ab")?)?;
-    let sealed = Sealed {
-        size: 3,
-        md5: SUITE[2].1,
-    };
-    expect_file(&rt, &mut assembly, sealed, b"ab", b"bc");
-    expect_file(&rt, &mut assembly, sealed, b"ab", b"bc");
-
-    let mut empty = Assembly::new(alloc, 0, 1, 5)?;
-    let sealed = Sealed {
-        size: 0,
-        md5: SUITE[0].1,
-    };
-    expect_file(&rt, &mut empty, sealed, b"", b"");
-    Ok(())
+    let file = ("abc", 2, 2);
+    expect_whole(&rt, rt.alloc(), file, &ALONE, SUITE[2].1, ("ab", "bc"))?;
+    expect_whole(&rt, rt.alloc(), ("", 1, 5), &[], SUITE[0].1, ("", ""))
 }
 
 #[test]
@@ -60,123 +42,107 @@ fn suite_in_any_order(rt: HostRuntime) -> Result<(), Fail> {
     Ok(())
 }
 
+const REFUSED: [Step; 8] = [
+    (0, "mess", Comes::Settled(4), (1, 1, 8)),
+    (0, "mess", Comes::PieceHeld, (1, 1, 8)),
+    (3, "s", Comes::BadPiece, (1, 1, 8)),
+    (3, "stt", Comes::BadPiece, (1, 1, 8)),
+    (3, "stst", Comes::BadPiece, (1, 1, 8)),
+    (4, "s", Comes::BadPiece, (1, 1, 8)),
+    (0, "", Comes::BadPiece, (1, 1, 8)),
+    (3, "st", Comes::Settled(10), (2, 1, 10)),
+];
+
 #[test]
 fn refusals_hand_the_bytes_back(rt: HostRuntime) -> Result<(), Fail> {
-    let alloc = rt.alloc();
-    let mut assembly = Assembly::new(alloc, 14, 4, 9)?;
-    take(&mut assembly, 0, Blob::copy_of(alloc, b"mess")?)?;
-    let held = put(&mut assembly, 0, Blob::copy_of(alloc, b"mess")?);
-    assert!(rt;
-        matches!(&held, Err(PutFault::PieceHeld { bytes }) if bytes.as_slice() == b"mess".as_slice())
-    );
-    for (index, bad) in [(3, "s"), (3, "stt"), (3, "stst"), (4, "s"), (0, "")] {
-        let fault = put(&mut assembly, index, Blob::copy_of(alloc, bad.as_bytes())?);
-        assert!(rt;
-            matches!(&fault, Err(PutFault::BadPiece { bytes }) if bytes.as_slice() == bad.as_bytes())
-        );
-    }
-    take(&mut assembly, 3, Blob::copy_of(alloc, b"st")?)?;
-    assert_eq!(rt; views_of(&assembly).held, 2);
-    assert_eq!(rt; seal(&mut assembly), Err(Incomplete { missing: 1 }));
-    Ok(())
+    expect_incomplete(&rt, rt.alloc(), ("message digest", 4, 9), &REFUSED, 1)
 }
+
+const FAR: [Step; 4] = [
+    (15, "p", Comes::Settled(1), (1, 0, 1)),
+    (16, "q", Comes::TooFarAhead(0), (1, 0, 1)),
+    (0, "a", Comes::Settled(2), (2, 1, 3)),
+    (16, "q", Comes::Settled(4), (3, 1, 4)),
+];
 
 #[test]
 fn sixteen_ahead_is_too_far(rt: HostRuntime) -> Result<(), Fail> {
-    let alloc = rt.alloc();
-    let mut assembly = Assembly::new(alloc, 20, 1, 1)?;
-    take(&mut assembly, 15, Blob::copy_of(alloc, b"p")?)?;
-    let fault = put(&mut assembly, 16, Blob::copy_of(alloc, b"q")?);
-    assert!(rt; matches!(&fault, Err(PutFault::TooFarAhead { missing: 0, .. })));
-    take(&mut assembly, 0, Blob::copy_of(alloc, b"a")?)?;
-    take(&mut assembly, 16, Blob::copy_of(alloc, b"q")?)?;
-    assert_eq!(rt; views_of(&assembly).held, 3);
-    assert_eq!(rt; views_of(&assembly).missing, 1);
-    Ok(())
+    expect_incomplete(&rt, rt.alloc(), ("abcdefghijklmnopqrst", 1, 1), &FAR, 1)
 }
 
-// Puts a piece, tells how many bytes are kept while it is pending and after it was settled, and what
-// was handed back then.
-fn step(
-    rt: &impl Abort,
-    assembly: &mut Assembly,
-    index: u32,
-    bytes: Blob,
-    kept: (u64, u64),
-    handed_back: &[&str],
-) -> Result<(), Fail>
-    requires { assembly.old.pending ≡ None }
-    ensures { OnOk result (assembly.new.pending ≡ None) }
-{
-    put(assembly, index, bytes)?;
-    assert_eq!(rt; views_of(assembly).kept_bytes, kept.0);
-    let spent = settle(assembly);
-    assert_eq!(rt; views_of(assembly).kept_bytes, kept.1);
-    assert_eq!(rt; spent.len(), handed_back.len());
-    assert_eq!(rt; spent.is_empty(), handed_back.is_empty());
-    for (place, text) in handed_back.iter().enumerate() {
-        assert!(rt;
-            spent
-                .get(place)
-                .is_some_and(|bytes| bytes.as_slice() == text.as_bytes())
-        );
-    }
-    assert!(rt; spent.get(handed_back.len()).is_none());
-    Ok(())
-}
+const HANDED_BACK: [Step; 4] = [
+    (3, "st", Comes::Settled(2), (1, 0, 2)),
+    (1, "age ", Comes::Settled(6), (2, 0, 6)),
+    (0, "mess", Comes::Settled(10), (3, 2, 8)),
+    (2, "dige", Comes::Settled(12), (4, 4, 6)),
+];
 
 #[test]
 fn pieces_are_handed_back(rt: HostRuntime) -> Result<(), Fail> {
-    let alloc = rt.alloc();
-    let mut assembly = Assembly::new(alloc, 14, 4, 3)?;
-    let (a, b, c, d) = ("mess", "age ", "dige", "st");
-    let bytes = Blob::copy_of(alloc, d.as_bytes())?;
-    step(&rt, &mut assembly, 3, bytes, (2, 2), &[])?;
-    let bytes = Blob::copy_of(alloc, b.as_bytes())?;
-    step(&rt, &mut assembly, 1, bytes, (6, 6), &[])?;
-    let bytes = Blob::copy_of(alloc, a.as_bytes())?;
-    step(&rt, &mut assembly, 0, bytes, (10, 8), &[a, b])?;
-    let bytes = Blob::copy_of(alloc, c.as_bytes())?;
-    step(&rt, &mut assembly, 2, bytes, (12, 6), &[c, d])?;
-    let sealed = Sealed {
-        size: 14,
-        md5: SUITE[3].1,
-    };
-    expect_file(&rt, &mut assembly, sealed, b"mes", b"est");
-    Ok(())
+    let file = ("message digest", 4, 3);
+    expect_whole(
+        &rt,
+        rt.alloc(),
+        file,
+        &HANDED_BACK,
+        SUITE[3].1,
+        ("mes", "est"),
+    )
 }
+
+// All but piece 14 of the first sixteen, which piece 15 waits for; then that.
+const WAITING: [Step; 16] = [
+    (15, "p", Comes::Settled(1), (1, 0, 1)),
+    (0, "a", Comes::Settled(2), (2, 1, 3)),
+    (1, "b", Comes::Settled(4), (3, 2, 5)),
+    (2, "c", Comes::Settled(6), (4, 3, 7)),
+    (3, "d", Comes::Settled(8), (5, 4, 9)),
+    (4, "e", Comes::Settled(10), (6, 5, 9)),
+    (5, "f", Comes::Settled(10), (7, 6, 9)),
+    (6, "g", Comes::Settled(10), (8, 7, 9)),
+    (7, "h", Comes::Settled(10), (9, 8, 9)),
+    (8, "i", Comes::Settled(10), (10, 9, 9)),
+    (9, "j", Comes::Settled(10), (11, 10, 9)),
+    (10, "k", Comes::Settled(10), (12, 11, 9)),
+    (11, "l", Comes::Settled(10), (13, 12, 9)),
+    (12, "m", Comes::Settled(10), (14, 13, 9)),
+    (13, "n", Comes::Settled(10), (15, 14, 9)),
+    (14, "o", Comes::Settled(10), (16, 16, 8)),
+];
 
 #[test]
 fn fifteen_pieces_wait(rt: HostRuntime) -> Result<(), Fail> {
-    let alloc = rt.alloc();
-    let mut assembly = Assembly::new(alloc, 20, 1, 4)?;
-    take(&mut assembly, 15, Blob::copy_of(alloc, b"p")?)?;
-    take(&mut assembly, 0, Blob::copy_of(alloc, b"a")?)?;
-    assert_eq!(rt; views_of(&assembly).kept_bytes, 3);
-    for index in 1..14 {
-        take(&mut assembly, index, Blob::copy_of(alloc, b"x")?)?;
+    expect_incomplete(
+        &rt,
+        rt.alloc(),
+        ("abcdefghijklmnopqrst", 1, 4),
+        &WAITING,
+        16,
+    )
+}
+
+// The pieces of `message digest` in this order.
+fn take_all(alloc: Global, assembly: &mut Assembly, order: [u32; 4]) -> Result<(), Fail>
+    requires { assembly.old.pending ≡ None }
+    ensures { OnOk result (assembly.new.pending ≡ None) }
+{
+    for index in order {
+        let chunk = b"message digest".chunks(4).nth(index as usize);
+        let bytes = Blob::copy_of(alloc, chunk.unwrap_or(b""))?;
+        take(assembly, index, bytes)?;
     }
-    assert_eq!(rt; views_of(&assembly).kept_bytes, 9);
-    let bytes = Blob::copy_of(alloc, b"o")?;
-    step(&rt, &mut assembly, 14, bytes, (10, 8), &["o", "p"])?;
     Ok(())
 }
 
 #[test]
 fn every_order_of_four_pieces(rt: HostRuntime) -> Result<(), Fail> {
-    let alloc = rt.alloc();
-    let message = SUITE[3].0.as_bytes();
     let sealed = Sealed {
         size: 14,
         md5: SUITE[3].1,
     };
     for order in ORDERS {
-        let mut assembly = Assembly::new(alloc, 14, 4, 5)?;
-        for index in order {
-            let chunk = message.chunks(4).nth(index as usize);
-            let bytes = Blob::copy_of(alloc, chunk.unwrap_or(b""))?;
-            take(&mut assembly, index, bytes)?;
-        }
+        let mut assembly = Assembly::new(rt.alloc(), 14, 4, 5)?;
+        take_all(rt.alloc(), &mut assembly, order)?;
         expect_file(&rt, &mut assembly, sealed, b"messa", b"igest");
     }
     Ok(())
