@@ -9,6 +9,7 @@ use droid_frame::Blob;
 use std::alloc::Global;
 use std::test::Fail;
 
+// The last piece first, and the first taken back once.
 const ALONE: [Step; 3] = [
     (1, "c", Comes::Settled(1), (1, 0, 1)),
     (0, "ab", Comes::TakenBack(3), (1, 0, 1)),
@@ -42,6 +43,7 @@ fn suite_in_any_order(rt: HostRuntime) -> Result<(), Fail> {
     Ok(())
 }
 
+// A piece that is held, and five that the file doesn't have.
 const REFUSED: [Step; 8] = [
     (0, "mess", Comes::Settled(4), (1, 1, 8)),
     (0, "mess", Comes::PieceHeld, (1, 1, 8)),
@@ -58,6 +60,7 @@ fn refusals_hand_the_bytes_back(rt: HostRuntime) -> Result<(), Fail> {
     expect_incomplete(&rt, rt.alloc(), ("message digest", 4, 9), &REFUSED, 1)
 }
 
+// A piece 16 past the first missing one, before and after that one came.
 const FAR: [Step; 4] = [
     (15, "p", Comes::Settled(1), (1, 0, 1)),
     (16, "q", Comes::TooFarAhead(0), (1, 0, 1)),
@@ -70,6 +73,7 @@ fn sixteen_ahead_is_too_far(rt: HostRuntime) -> Result<(), Fail> {
     expect_incomplete(&rt, rt.alloc(), ("abcdefghijklmnopqrst", 1, 1), &FAR, 1)
 }
 
+// Each piece that passes takes the one behind it along.
 const HANDED_BACK: [Step; 4] = [
     (3, "st", Comes::Settled(2), (1, 0, 2)),
     (1, "age ", Comes::Settled(6), (2, 0, 6)),

@@ -192,19 +192,21 @@ fn joined(alloc: Global, found: &Found) -> Result<String, Fail> {
     Ok(text)
 }
 
-/// Whether a file is found as its row says.
-fn is_found(alloc: Global, row: &Row) -> Result<bool, Fail> {
-    let (text, name, bytes, limit, match_all, (method, mismatch, puids)) = row;
-    let registry = Registry::parse(alloc, text.as_bytes())?;
-    let found = found_under(alloc, &registry, name, bytes, *limit, *match_all)?;
-    let joined = joined(alloc, &found)?;
-    Ok(joined.as_str() == *puids && found.method == *method && found.mismatch == *mismatch)
-}
-
 #[test]
 fn files(rt: HostRuntime) -> Result<(), Fail> {
-    for row in &FILES {
-        assert!(rt; is_found(rt.alloc(), row)?, "{} under {}", row.1, row.3);
+    let alloc = rt.alloc();
+    for (text, name, bytes, limit, match_all, (method, mismatch, puids)) in FILES {
+        let registry = Registry::parse(alloc, text.as_bytes())?;
+        let found = found_under(alloc, &registry, name, bytes, limit, match_all)?;
+        assert_eq!(rt;
+            joined(alloc, &found)?.as_str(),
+            puids,
+            "{name} under {limit}"
+        );
+        assert!(rt;
+            found.method == method && found.mismatch == mismatch,
+            "{name} under {limit}"
+        );
     }
     Ok(())
 }

@@ -23,19 +23,6 @@ fn largest(alloc: Global) -> Result<String, AllocError> {
     Ok(text)
 }
 
-/// Whether a file of four bytes is identified by this method, with no format where it is by none.
-fn is_identified(
-    alloc: Global,
-    registry: &Registry,
-    name: &str,
-    bytes: &[u8; 4],
-    match_all: bool,
-    method: Method,
-) -> Result<bool, AllocError> {
-    let found = registry.identify(alloc, name, bytes, bytes, 4, match_all)?;
-    Ok(found.method == method && found.puids.is_empty() != match_all)
-}
-
 // The name has 255 bytes. No format hits, or all do and drop each other: the extension decides, and
 // each format has a signature.
 #[test]
@@ -43,7 +30,8 @@ fn largest_registry(rt: HostRuntime) -> Result<(), Fail> {
     let alloc = rt.alloc();
     let text = largest(alloc)?;
     let registry = Registry::parse(alloc, text.as_str().as_bytes())?;
-    assert!(rt; registry.len() == 4_096 && registry.by_puid("f/4095") == Some(4_095));
+    assert_eq!(rt; registry.len(), 4_096);
+    assert_eq!(rt; registry.by_puid("f/4095"), Some(4_095));
     let mut name = String::new(alloc);
     for _ in 0..249 {
         name.push('n')?;
@@ -56,7 +44,9 @@ fn largest_registry(rt: HostRuntime) -> Result<(), Fail> {
         (b"abyz", true, Method::Extension),
         (b"abyz", false, Method::Unidentified),
     ] {
-        assert!(rt; is_identified(alloc, &registry, name.as_str(), bytes, *match_all, *method)?);
+        let found = registry.identify(alloc, name.as_str(), *bytes, *bytes, 4, *match_all)?;
+        assert_eq!(rt; found.method, *method);
+        assert_eq!(rt; found.puids.is_empty(), !*match_all);
     }
     Ok(())
 }

@@ -105,19 +105,16 @@ fn registry_faults(rt: HostRuntime) -> Result<(), Fail> {
 #[test]
 fn formats_of_the_sample(rt: HostRuntime) -> Result<(), Fail> {
     let registry = Registry::parse(rt.alloc(), SAMPLE.as_bytes())?;
-    assert!(rt; registry.len() == 4 && !registry.is_empty());
-    let last = registry.format(3).ok_or("no fourth format")?;
-    let names = (last.puid.as_str(), last.name.as_str());
-    assert_eq!(rt; names, ("dev/4", "Plain"));
-    assert_eq!(rt;
-        (last.version.as_str(), last.mime.as_str()),
-        ("", "text/plain")
-    );
+    assert_eq!(rt; registry.len(), 4);
+    assert!(rt; !registry.is_empty());
+    let plain = registry.format(3).ok_or("no fourth format")?;
+    assert_eq!(rt; plain.puid.as_str(), "dev/4");
+    assert_eq!(rt; plain.name.as_str(), "Plain");
+    assert_eq!(rt; plain.version.as_str(), "");
+    assert_eq!(rt; plain.mime.as_str(), "text/plain");
     assert!(rt; registry.format(4).is_none());
-    assert_eq!(rt;
-        (registry.by_puid("dev/3"), registry.by_puid("dev/5")),
-        (Some(2), None)
-    );
+    assert_eq!(rt; registry.by_puid("dev/3"), Some(2));
+    assert_eq!(rt; registry.by_puid("dev/5"), None);
     Ok(())
 }
 
