@@ -1,184 +1,161 @@
 #!/usr/bin/env python3
 """What a developer runs before a commit: `make quick`. It is no gate: `make test` is.
 
-Of the crates whose files differ from BASE (the last commit, unless an argument names another), and of those
-that stand on them:
+First the map is held to the crates' files (map.py). Then, of the crates that differ from BASE (the last commit, unless
+an argument names another), and of those that stand on them:
 - each crate that changed is tidied, which lays out its files and proves it, and each that stands on one is proved;
-- each wrong body (must-fail/*.edit) still applies: its old text stands once in its file;
-- the wrong bodies still compile. That is tried in a copy of the tree under out/quick, with as many of a
-  crate's edits at once as do not touch one another. That the prover refuses each is left to the gate.
+- each wrong body still applies: its old texts stand once in their files;
+- the wrong bodies still compile. That is tried in a copy of the crate, with as many of its edits at once as do not
+  touch one another. That the prover refuses each is left to `make wrong`, and of some to the gate.
 """
+import itertools
 import os
-import shutil
 import subprocess
 import sys
 
-TOP = os.path.dirname(os.path.dirname(os.path.abspath(__file__)))
-COPY = os.path.join(TOP, "out", "quick")
-
-
-def crates_below():
-    """The crates of the repository in the order of crates.txt, each with the ones that it names."""
-    below = {}
-    with open(os.path.join(TOP, "crates.txt")) as lines:
-        for line in lines:
-            name, colon, rest = line.split("#")[0].partition(":")
-            if colon:
-                below[name.split()[0]] = rest.split()
-    return {name: [low for low in lows if low in below] for name, lows in below.items()}
-
-
-def in_order(below):
-    """Lowest first."""
-    placed = []
-    while len(placed) < len(below):
-        placed += [name for name in below if name not in placed and all(low in placed for low in below[name])]
-    return placed
-
-
-def changed_crates(base):
-    """The crates with a file that differs from the base, or that git doesn't know yet."""
-    run = lambda *words: subprocess.run(words, cwd=TOP, check=True, capture_output=True, text=True).stdout
-    paths = run("git", "diff", "--name-only", base).split("\n")
-    paths += run("git", "ls-files", "--others", "--exclude-standard").split("\n")
-    return {path.split("/")[1] for path in paths if path.startswith("crates/")}
-
-
-def with_those_above(changed, below, order):
-    touched = []
-    for name in order:
-        if name in changed or any(low in touched for low in below[name]):
-            touched.append(name)
-    return touched
+import crates
+import map as the_map
+from build import RT
+from crates import TOP, edits_of, folder, listed, read, write
 
 
 def rt(crate_folder, *words):
     """Runs rt there; gives whether it succeeded, and what it said."""
-    run = subprocess.run(["rt", *words], cwd=crate_folder, capture_output=True, text=True)
+    run = subprocess.run([RT, *words], cwd=crate_folder, capture_output=True, text=True)
     return run.returncode == 0, run.stdout + run.stderr
 
 
+class Texts(dict):
+    """Texts of a crate's files, by path. What nobody put there is read from the crate's folder."""
+
+    def __init__(self, at, texts=()):
+        super().__init__(texts)
+        self.at = at
+
+    def __missing__(self, file):
+        path = os.path.join(self.at, file)
+        return self.setdefault(file, read(path) if os.path.isfile(path) else "")
+
+
 class Edit:
-    """A wrong body: the file that it changes, and pairs of texts."""
+    """A wrong body: changes, each of a file, a text that stands there, and what takes its place."""
 
-    def __init__(self, crate, file_name):
-        self.name = f"{crate}/{file_name[:-len('.edit')]}"
-        self.pairs = []
-        with open(os.path.join(TOP, "crates", crate, "must-fail", file_name)) as lines:
-            for line in lines:
-                key, _, text = line.rstrip("\n").partition(": ")
-                if key == "file":
-                    self.file = os.path.join("crates", crate, text)
-                elif key == "old":
-                    self.pairs.append([text, None])
-                elif key == "new":
-                    self.pairs[-1][1] = text
+    def __init__(self, path):
+        self.name = os.path.relpath(path, TOP)
+        self.changes = []
+        file = old = ""
+        for line in read(path).split("\n"):
+            key, text = line[:4], line[5:]
+            if line.startswith("file: "):
+                file = line[len("file: ") :].strip()
+            elif key == "old:":
+                old = text
+            elif key == "new:":
+                self.changes.append((file, old, text))
 
-    def applied(self, text):
-        """The text with the edit made, or None where an old text doesn't stand in it exactly once."""
-        for old, new in self.pairs:
-            if text.count(old) != 1:
+    def files(self):
+        return {file for file, _, _ in self.changes}
+
+    def applied(self, texts):
+        """The texts with the edit made, or None where an old text doesn't stand in its file exactly once."""
+        made = Texts(texts.at, texts)
+        for file, old, new in self.changes:
+            if made[file].count(old) != 1:
                 return None
-            text = text.replace(old, new)
-        return text
+            made[file] = made[file].replace(old, new)
+        return made if self.changes else None
 
 
-def edits_of(crate):
-    folder = os.path.join(TOP, "crates", crate, "must-fail")
-    names = sorted(os.listdir(folder)) if os.path.isdir(folder) else []
-    return [Edit(crate, name) for name in names if name.endswith(".edit")]
-
-
-def read(path):
-    with open(path) as file:
-        return file.read()
-
-
-def write(path, text):
-    with open(path, "w") as file:
-        file.write(text)
-
-
-def copy_tree(order):
-    """Brings the copy up to date: sources, and the libraries that were built of them."""
-    os.makedirs(os.path.join(COPY, "crates"), exist_ok=True)
-    for name in ["crates.txt", "HANDLES"]:
-        shutil.copy2(os.path.join(TOP, name), COPY)
-    if not os.path.isdir(os.path.join(COPY, ".git")):
-        subprocess.run(["git", "init", "-q", COPY], check=True)
-    for crate in order:
-        here, there = os.path.join(TOP, "crates", crate), os.path.join(COPY, "crates", crate)
-        for part in ["src", "specs", "proofs", os.path.join("out", "rlib")]:
-            shutil.rmtree(os.path.join(there, part), ignore_errors=True)
-            if os.path.isdir(os.path.join(here, part)):
-                shutil.copytree(os.path.join(here, part), os.path.join(there, part))
-
-
-def compiles(crate, edits):
-    """Whether the crate's copy compiles with these edits made; the copy is as before afterwards."""
-    before = {}
+def all_applied(edits, texts):
     for edit in edits:
-        path = os.path.join(COPY, edit.file)
-        before.setdefault(path, read(path))
-        write(path, edit.applied(read(path)))
-    works, said = rt(os.path.join(COPY, "crates", crate), "check", "--only", "")
-    for path, text in before.items():
-        write(path, text)
+        texts = edit.applied(texts)
+    return texts
+
+
+def compiles(at, edits):
+    """Whether the crate in this folder compiles with these edits made; its files are as before afterwards."""
+    files = set().union(*[edit.files() for edit in edits])
+    before, made = {file: read(os.path.join(at, file)) for file in files}, all_applied(edits, Texts(at))
+    for file in files:
+        write(os.path.join(at, file), made[file])
+    works, said = rt(at, "check", "--only", "")
+    for file in files:
+        write(os.path.join(at, file), before[file])
     return works, said
 
 
-def batches_of(edits):
+def batches_of(at, edits):
     """The edits in batches, in each of which every edit applies on top of the ones before it."""
     batches = []
     for edit in edits:
-        for batch, texts in batches:
-            text = edit.applied(texts.get(edit.file, read(os.path.join(COPY, edit.file))))
-            if text is not None:
-                batch.append(edit)
-                texts[edit.file] = text
+        for batch in batches:
+            texts = edit.applied(batch[1])
+            if texts is not None:
+                batch[0].append(edit)
+                batch[1] = texts
                 break
         else:
-            batches.append(([edit], {edit.file: edit.applied(read(os.path.join(COPY, edit.file)))}))
-    return [batch for batch, _ in batches]
+            batches.append([[edit], edit.applied(Texts(at))])
+    return [edits for edits, _ in batches]
 
 
-def edits_that_do_not_compile(crate, edits):
+def edits_that_do_not_compile(at, edits):
     """Tries a batch at once, and its edits one by one only where the batch doesn't compile."""
-    for batch in batches_of(edits):
-        if compiles(crate, batch)[0]:
+    for batch in batches_of(at, edits):
+        if compiles(at, batch)[0]:
             continue
         for edit in batch:
-            works, said = compiles(crate, [edit])
+            works, said = compiles(at, [edit])
             if not works:
                 yield edit, said
 
 
-def main():
-    base = sys.argv[1] if len(sys.argv) > 1 else "HEAD"
-    below = crates_below()
-    order = in_order(below)
-    changed = changed_crates(base)
-    touched = with_those_above(changed, below, order)
-    problems = []
+def unproved(touched, changed):
+    """Proves the crates that were touched, and tidies those of them that changed."""
     for crate in touched:
         print(f"{crate}: {'tidied and ' if crate in changed else ''}proved ..", flush=True)
-        works, said = rt(os.path.join(TOP, "crates", crate), "tidy" if crate in changed else "check")
+        works, said = rt(folder(crate), "tidy" if crate in changed else "check")
         if not works:
-            problems.append(f"{crate} is not proved:\n{said}")
-    edits = {crate: edits_of(crate) for crate in order}
-    for edit in (edit for crate in order for edit in edits[crate]):
-        if edit.applied(read(os.path.join(TOP, edit.file))) is None:
-            problems.append(f"{edit.name}: an old text doesn't stand exactly once in {edit.file}")
-    if not problems:
-        copy_tree(order)
-        for crate in (crate for crate in touched if edits[crate]):
-            print(f"{crate}: its {len(edits[crate])} wrong bodies compile ..", flush=True)
-            for edit, said in edits_that_do_not_compile(crate, edits[crate]):
-                problems.append(f"{edit.name} does not compile:\n{said}")
-    for problem in problems:
-        print(problem)
-    print(f"{len(touched)} crates looked at, {len(problems)} problems")
-    return 1 if problems else 0
+            yield f"{crate} is not proved:\n{said}"
+
+
+def not_applied(crate, edits):
+    names = [os.path.basename(edit.name) for edit in edits]
+    for edit, name in zip(edits, names):
+        if names.count(name) > 1:
+            yield f"{edit.name}: another wrong body of the crate has its name"
+        if edit.applied(Texts(folder(crate))) is None:
+            yield f"{edit.name}: an old text doesn't stand exactly once in its file"
+
+
+def not_compiled(crate, edits):
+    print(f"{crate}: its {len(edits)} wrong bodies compile ..", flush=True)
+    with crates.room("quick") as tree:
+        crates.lay_out(tree, crate)
+        for edit, said in edits_that_do_not_compile(folder(crate, tree), edits):
+            yield f"{edit.name} does not compile:\n{said}"
+
+
+def problems(touched, changed):
+    """What is found, step by step. Edits are compiled only where all was well before."""
+    edits = {crate: [Edit(path) for path in edits_of(crate)] for crate in listed()}
+    applying = [not_applied(crate, edits[crate]) for crate in edits]
+    is_well = True
+    for problem in itertools.chain(the_map.problems(), unproved(touched, changed), *applying):
+        is_well = False
+        yield problem
+    for crate in [it for it in touched if is_well and edits[it]]:
+        yield from not_compiled(crate, edits[crate])
+
+
+def main():
+    base = sys.argv[1] if len(sys.argv) > 1 else "HEAD"
+    touched, number = crates.touched(base), 0
+    for problem in problems(touched, crates.changed(base)):
+        print(problem, flush=True)
+        number += 1
+    print(f"{len(touched)} crates looked at, {number} problems")
+    return 1 if number else 0
 
 
 if __name__ == "__main__":

@@ -1,6 +1,6 @@
 """Writes the rows of an export once more, with Python's csv and every field between double quotes.
 
-Usage: compare_export.py PROGRAM: the built droid_bench. Prints the milliseconds of both and the ratio.
+Usage: compare_export.py PROGRAM: the built droid_desk_bench. Prints the milliseconds of both and the ratio.
 """
 import csv
 import io

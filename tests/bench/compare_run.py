@@ -1,6 +1,6 @@
 """Sends frames through the built program's `run` from a file to a file, and has a service answer the same frames in memory.
 
-Usage: compare_run.py PROGRAM BENCH: the built droid_desk and droid_bench. Prints, for 100,000 small frames of two
+Usage: compare_run.py PROGRAM BENCH: the built droid_desk and droid_desk_bench. Prints, for 100,000 small frames of two
 kinds and for 256 pieces of 1 MiB, both times, their ratio and what is wanted. The shortest of some rounds counts.
 """
 import os

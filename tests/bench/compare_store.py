@@ -1,6 +1,6 @@
 """Runs the statements of a folder's request through Python's sqlite3 too, at as many nodes as the built program does.
 
-Usage: compare_store.py PROGRAM: the built droid_bench. Prints the microseconds of both and the ratio.
+Usage: compare_store.py PROGRAM: the built droid_desk_bench. Prints the microseconds of both and the ratio.
 """
 import re
 import sqlite3

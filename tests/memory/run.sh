@@ -10,14 +10,14 @@ ${CC:-cc} -shared -fPIC -o "$work/refuse.so" "$top/tests/memory/refuse.c" -ldl |
 
 passed=0
 failed=0
-for test in core_tests:memory::one_after_the_other core_tests:memory::in_one_run \
-    assembly_tests:memory::each_growth_refused pronom_tests:memory::each_growth_of_a_registry \
-    pronom_tests:memory::each_growth_of_a_search frame_tests:memory::each_growth_of_a_request \
-    frame_tests:memory::each_growth_of_a_reply stream_tests:streams::growths_refused \
-    client_tests:memory::wanting_and_again sender_tests:memory::each_growth_of_a_sending \
-    wire_tests:memory::each_growth_of_serving \
-    export_tests:memory::each_growth_of_small_texts export_tests:memory::each_growth_of_an_export \
-    store_tests:memory::each_growth_of_the_store; do
+for test in droid_core_tests:memory::one_after_the_other droid_core_tests:memory::in_one_run \
+    droid_assembly_tests:memory::each_growth_refused droid_pronom_tests:memory::each_growth_of_a_registry \
+    droid_pronom_tests:memory::each_growth_of_a_search droid_frame_tests:memory::each_growth_of_a_request \
+    droid_frame_tests:memory::each_growth_of_a_reply droid_frame_stream_tests:streams::growths_refused \
+    droid_wire_client_tests:memory::wanting_and_again droid_desk_sender_tests:memory::each_growth_of_a_sending \
+    droid_wire_tests:memory::each_growth_of_serving \
+    droid_export_tests:memory::each_growth_of_small_texts droid_export_tests:memory::each_growth_of_an_export \
+    droid_store_tests:memory::each_growth_of_the_store; do
     crate=${test%%:*}
     name=${test#*:}
     tests=$top/crates/$crate/out/${crate}_tests
@@ -47,7 +47,7 @@ done
 # An assembly takes no memory after it was made: the test that makes every call asks for it as often as the one
 # that makes none.
 growths_of() {
-    ALLOCATIONS=$work/count LD_PRELOAD=$work/refuse.so "$top/crates/assembly_tests/out/assembly_tests_tests" "$1" >/dev/null 2>&1
+    ALLOCATIONS=$work/count LD_PRELOAD=$work/refuse.so "$top/crates/droid_assembly_tests/out/droid_assembly_tests_tests" "$1" >/dev/null 2>&1
     cat "$work/count" 2>/dev/null
 }
 with_calls=$(growths_of memory::each_growth_refused)

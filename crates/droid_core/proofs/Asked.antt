@@ -6,8 +6,8 @@ use Rattle.droid_frame.specs.types.request.Request.{Request}
 use Rattle.droid_frame.specs.Bodies.{SpellsRequest}
 use Rattle.droid_frame.specs.Fields.{IsBytes}
 use Rattle.droid_frame.specs.Values.{request_in, request_value}
-use Rattle.droid_body.proofs.RequestLaws.{spelled_is_value, value_is_spelled}
-use Rattle.droid_history.specs.Histories.{command}
+use Rattle.droid_frame.proofs.RequestLaws.{spelled_is_value, value_is_spelled}
+use Rattle.droid_core_spec.specs.Histories.{command}
 
 -- what is spelled under a number below 2^63 is asked
 pub asked : (frame : Frame) (request : Request) → frame.number < 2 ^ 63 → SpellsRequest frame.kind frame.body request → command frame ≡ Some request

@@ -9,19 +9,19 @@ use Rattle.droid_frame.specs.types.reply.Reply.{Reply}
 use Rattle.droid_frame.specs.types.reply.Reply.TheVariants.{Refused}
 use Rattle.droid_frame.specs.types.request.Request.{Request}
 use Rattle.droid_frame.specs.Replies.{HasReplySpelling, SpellsReply}
-use Rattle.droid_history.specs.Histories.{Entry, History, GoesOn, IsNext, command, frame_mark, kept, kept_answer, world_of, world_asked, world_after, answer, answer_to, next, next_new, next_judged, entry_of, verdict_reply, Handles}
-use Rattle.droid_history.specs.Judging.{Verdict, Accepted, Answered, Refuses, judge}
-use Rattle.droid_history.specs.Setting.{Setting}
-use Rattle.droid_history.specs.Wants.{is_want, is_want_of}
-use Rattle.droid_history.specs.World.{World}
-use Rattle.droid_standing.proofs.Replying.{kept_one_more}
+use Rattle.droid_core_spec.specs.Histories.{Entry, History, GoesOn, IsNext, command, frame_mark, kept, kept_answer, world_of, world_asked, world_after, answer, answer_to, next, next_new, next_judged, entry_of, verdict_reply, Handles}
+use Rattle.droid_core_spec.specs.Judging.{Verdict, Accepted, Answered, Refuses, judge}
+use Rattle.droid_core_spec.specs.Setting.{Setting}
+use Rattle.droid_core_spec.specs.Wants.{is_want, is_want_of}
+use Rattle.droid_core_spec.specs.World.{World}
+use Rattle.droid_core_rows.proofs.Replying.{kept_one_more}
 use Rattle.droid_store.specs.declared.rows.Entry as rows
 use Rattle.droid_store.specs.Rows.{Rows, reply_for}
-use Rattle.droid_parts.specs.declared.parts.Parts.{Parts}
-use Rattle.droid_parts.specs.declared.stamps.Stamp.{Stamp}
-use Rattle.droid_parts.specs.Changes.{again, stamp_of, Stays, TakesOne, Leaves, Comes}
+use Rattle.droid_core_state.specs.declared.parts.Parts.{Parts}
+use Rattle.droid_core_state.specs.declared.stamps.Stamp.{Stamp}
+use Rattle.droid_core_state.specs.Changes.{again, stamp_of, Stays, TakesOne, Leaves, Comes}
 use Rattle.droid_core.specs.Standing.{Stand}
-use Rattle.droid_parts.specs.Standing.{IsIn}
+use Rattle.droid_core_state.specs.Standing.{IsIn}
 use Rattle.droid_core.proofs.KeptReplies.{entry_kept, none_kept, reply_spelled}
 
 -- ---- what the answer and the next history are

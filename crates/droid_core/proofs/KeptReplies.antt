@@ -2,9 +2,9 @@
 use Rattle.std.proofs.Common.{◌≡◌, ℕ, Bool, true, false, cond, [], ◌∷◌, find, Option, Some, None, option_map, refl, sym, subst, ◌∙◌}
 use Rattle.std.specs.List.{AllByRecursion}
 use Rattle.droid_frame.specs.Replies.{HasReplySpelling}
-use Rattle.droid_history.specs.Histories.{Entry, History, is_under, kept}
-use Rattle.droid_standing.specs.Replies.{entry_row, KeepsReplies}
-use Rattle.droid_standing.proofs.LookUps.{reply_found}
+use Rattle.droid_core_spec.specs.Histories.{Entry, History, is_under, kept}
+use Rattle.droid_core_rows.specs.Replies.{entry_row, KeepsReplies}
+use Rattle.droid_core_rows.proofs.LookUps.{reply_found}
 use Rattle.droid_store.specs.declared.rows.Entry as rows
 use Rattle.droid_store.specs.Rows.{Rows, reply_for}
 

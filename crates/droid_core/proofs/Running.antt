@@ -7,11 +7,11 @@ use Rattle.droid_frame.specs.types.reply.Reply.{Reply}
 use Rattle.droid_frame.specs.Replies.{HasReplySpelling}
 use Rattle.std.proofs.lemmas.List.{length-append}
 use Rattle.droid_core.specs.declared.service.Service.{Service}
-use Rattle.droid_history.specs.Setting.{Setting}
-use Rattle.droid_history.specs.Histories.{History, command, answer, next, answers, history_from, Handles}
+use Rattle.droid_core_spec.specs.Setting.{Setting}
+use Rattle.droid_core_spec.specs.Histories.{History, command, answer, next, answers, history_from, Handles}
 use Rattle.droid_core.specs.Running.{without_wants, other_replies, NoWantOfMalformed, Runs}
 use Rattle.droid_core.specs.Standing.{StandsFor}
-use Rattle.droid_history.specs.Wants.{is_want}
+use Rattle.droid_core_spec.specs.Wants.{is_want}
 
 -- ---- along a list and one request more
 

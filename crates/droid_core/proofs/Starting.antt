@@ -1,16 +1,16 @@
 -- A service with nothing in it stands for the empty history.
 use Rattle.std.proofs.Common.{◌≡◌, ℕ, zero, suc, [], None, refl, sym, ap, subst}
-use Rattle.droid_history.specs.Histories.{world_of}
-use Rattle.droid_history.specs.Identified.{IsOf}
-use Rattle.droid_history.specs.Setting.{Setting}
-use Rattle.droid_history.specs.World.{Profile, empty_world, numbered}
-use Rattle.droid_standing.specs.Rows.{KeepsWorld}
-use Rattle.droid_standing.proofs.Made.{world_empty}
+use Rattle.droid_core_spec.specs.Histories.{world_of}
+use Rattle.droid_core_state.specs.Identified.{IsOf}
+use Rattle.droid_core_spec.specs.Setting.{Setting}
+use Rattle.droid_core_spec.specs.World.{Profile, empty_world, numbered}
+use Rattle.droid_core_rows.specs.Rows.{KeepsWorld}
+use Rattle.droid_core_rows.proofs.Made.{world_empty}
 use Rattle.droid_store.specs.Rows.{Rows, no_rows}
-use Rattle.droid_unfinished.specs.Files.{OpenFiles, open_at}
-use Rattle.droid_parts.specs.Assemblies.{HasAssemblies, HasItsAssemblyIn}
-use Rattle.droid_parts.specs.declared.parts.Parts.{Parts}
-use Rattle.droid_parts.specs.Standing.{limits_given, AreAllowed}
+use Rattle.droid_core_files.specs.Files.{OpenFiles, open_at}
+use Rattle.droid_core_state.specs.Assemblies.{HasAssemblies, HasItsAssemblyIn}
+use Rattle.droid_core_state.specs.declared.parts.Parts.{Parts}
+use Rattle.droid_core_state.specs.Standing.{limits_given, AreAllowed}
 use Rattle.droid_core.specs.Standing.{Stand}
 
 none_numbered : (number : ℕ) → numbered {A = Profile} [] number ≡ None

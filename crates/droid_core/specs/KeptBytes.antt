@@ -1,8 +1,8 @@
 -- How many bytes of content a service keeps of a file.
 use Rattle.std.specs.Prelude.{ℕ, ◌+◌, ◌-◌, ◌*◌, min, if◌then◌else◌, length, Option, None, Some}
 use Rattle.droid_assembly.specs.Pieces.{bytes_held, file_bytes}
-use Rattle.droid_history.specs.Files.{missing_of}
-use Rattle.droid_history.specs.World.{Content, Node, Folder, File, Abandoned, Profile, World, numbered, node_at}
+use Rattle.droid_core_spec.specs.Files.{missing_of}
+use Rattle.droid_core_spec.specs.World.{Content, Node, Folder, File, Abandoned, Profile, World, numbered, node_at}
 
 -- the bytes before the first missing piece
 abbrev pub bytes_before : Content → ℕ

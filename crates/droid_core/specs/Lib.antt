@@ -1,3 +1,22 @@
+-- The specification of the service.
+pub use Rattle.droid_core_spec.specs.Conditions
+pub use Rattle.droid_core_spec.specs.Exported
+pub use Rattle.droid_core_spec.specs.Files
+pub use Rattle.droid_core_spec.specs.Histories
+pub use Rattle.droid_core_spec.specs.Judging
+pub use Rattle.droid_core_spec.specs.Limits
+pub use Rattle.droid_core_spec.specs.Records
+pub use Rattle.droid_core_spec.specs.Setting
+pub use Rattle.droid_core_spec.specs.Wants
+pub use Rattle.droid_core_spec.specs.Whole
+pub use Rattle.droid_core_spec.specs.World
+-- Which setting a registry makes.
+pub use Rattle.droid_core_state.specs.Identified
+-- What the service stands for, and what a list of requests gives.
 pub mod KeptBytes
+pub mod LookUps
+pub mod NewAssemblies
+pub mod Places
 pub mod Running
 pub mod Standing
+pub mod Taking

@@ -5,10 +5,10 @@ use Rattle.droid_frame.specs.types.frame.Frame.{Frame}
 use Rattle.droid_frame.specs.types.reply.Reply.{Reply}
 use Rattle.droid_frame.specs.Replies.{HasReplySpelling}
 use Rattle.droid_core.specs.declared.service.Service.{Service}
-use Rattle.droid_history.specs.Histories.{History, command, answers, history_from}
+use Rattle.droid_core_spec.specs.Histories.{History, command, answers, history_from}
 use Rattle.droid_core.specs.Standing.{StandsFor}
-use Rattle.droid_history.specs.Setting.{Setting}
-use Rattle.droid_history.specs.Wants.{is_want}
+use Rattle.droid_core_spec.specs.Setting.{Setting}
+use Rattle.droid_core_spec.specs.Wants.{is_want}
 
 -- the requests, without those that were refused for want of memory
 abbrev pub without_wants : List Frame → List Reply → List Frame

@@ -1,12 +1,12 @@
 -- What a service stands for.
-use Rattle.droid_history.specs.Histories.{History, IsLegal, world_of}
-use Rattle.droid_history.specs.Limits.{Limits}
-use Rattle.droid_history.specs.Setting.{Setting}
+use Rattle.droid_core_spec.specs.Histories.{History, IsLegal, world_of}
+use Rattle.droid_core_spec.specs.Limits.{Limits}
+use Rattle.droid_core_spec.specs.Setting.{Setting}
 use Rattle.droid_pronom.specs.Registry.{Contents}
-use Rattle.droid_standing.specs.Replies.{KeepsReplies}
-use Rattle.droid_parts.specs.declared.parts.Parts.{Parts}
-use Rattle.droid_parts.specs.Standing.{IsIn}
-use Rattle.droid_parts.specs.Standing as parts
+use Rattle.droid_core_rows.specs.Replies.{KeepsReplies}
+use Rattle.droid_core_state.specs.declared.parts.Parts.{Parts}
+use Rattle.droid_core_state.specs.Standing.{IsIn}
+use Rattle.droid_core_state.specs.Standing as parts
 use Rattle.droid_core.specs.declared.service.Service.{Service}
 
 -- the limits that the service was made with

@@ -2,7 +2,8 @@
 //! their replies for good.
 #![tactic(auto)]
 
+mod requests;
 mod service;
 
-pub use droid_parts::Limits;
+pub use droid_core_state::Limits;
 pub use service::Service;

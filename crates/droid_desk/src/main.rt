@@ -1,18 +1,8 @@
-//! The desk: a service for DROID profiles, and its program.
+//! The program: a service for DROID profiles, as a script, on standard streams or over connections, and a client.
 #![tactic(auto)]
-
-mod connections;
-mod desk;
-mod ending;
-mod fresh;
-mod port;
-mod program;
-mod sample;
-mod sending;
-mod stream;
 
 use std::process::ExitCode;
 
 fn main(rt: HostRuntime) -> ExitCode {
-    program::run(&rt)
+    droid_desk_commands::run(&rt)
 }

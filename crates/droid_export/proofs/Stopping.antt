@@ -1,10 +1,10 @@
 -- A writer that takes a text, or stops.
 use Rattle.std.proofs.Common.{ℕ, Option, Result, Ok, Err}
 use Rattle.std.specs.Prelude.{OnOk, OnErr}
-use Rattle.droid_stream.specs.declared.seen.Seen.{Seen}
-use Rattle.droid_stream.specs.Seen.{Lasts}
-use Rattle.droid_stream.specs.Writes.{WriterStops, WritesOn}
-use Rattle.droid_stream.proofs.Scopes.{lasts}
+use Rattle.droid_frame.specs.stream_types.seen.Seen.{Seen}
+use Rattle.droid_frame.specs.Seen.{Lasts}
+use Rattle.droid_frame.specs.Writes.{WriterStops, WritesOn}
+use Rattle.droid_frame.proofs.Scopes.{lasts}
 
 pub stops : {T E : Type 0} (start : ℕ) (seen : Seen) (room : Option ℕ) (count : ℕ) (r : Result T E) → WritesOn start seen room count r → OnErr r (WriterStops start seen room)
 stops start seen room count (Ok value) goes = tt

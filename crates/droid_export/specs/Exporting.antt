@@ -1,7 +1,7 @@
 -- What a call that exports to a writer leaves.
 use Rattle.std.specs.Prelude.{◌≡◌, ℕ, List, Option, Result, Ok, Err, length}
 use Rattle.std.specs.Io.KnownBytes.{Appends, Keeps}
-use Rattle.droid_stream.specs.Writes.{StopsWithin, Takes}
+use Rattle.droid_frame.specs.Writes.{StopsWithin, Takes}
 use Rattle.droid_export.specs.declared.fault.ExportFault.{ExportFault}
 use Rattle.droid_export.specs.declared.fault.ExportFault.TheVariants.{Memory, Write}
 

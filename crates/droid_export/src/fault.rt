@@ -2,7 +2,7 @@
 
 ghost use Rattle.std.specs.Prelude.{◌≡◌};
 
-use droid_stream::WriteFault;
+use droid_frame::WriteFault;
 use std::alloc::AllocError;
 use thiserror::Error;
 

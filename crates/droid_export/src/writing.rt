@@ -2,16 +2,15 @@
 
 ghost use Rattle.std.specs.Prelude.{◌≡◌, ◌<◌, ◌^◌, IfErr, OnOk, IsErrOf, OnErr, length};
 ghost use Rattle.std.specs.Io.KnownBytes.{Appends};
-ghost use Rattle.droid_stream.specs.Seen.{IsSound, Lasts};
-ghost use Rattle.droid_stream.specs.Writes.{StopsWithin, Takes, WriterStops};
+ghost use Rattle.droid_frame.specs.Seen.{IsSound, Lasts};
+ghost use Rattle.droid_frame.specs.Writes.{StopsWithin, Takes, WriterStops};
 ghost use Rattle.droid_export.specs.Exporting.{GoesOut, SaysStopped, UsesRoom};
 ghost use Rattle.droid_export.specs.Text.{HaveMoments, text};
 
 use crate::fault::ExportFault;
 use crate::text::export_text;
-use droid_frame::{Filter, Record};
+use droid_frame::{Filter, Progress, Record, SteadyWrite, WriteFault, write_all};
 use droid_pronom::Registry;
-use droid_stream::{Progress, SteadyWrite, WriteFault, write_all};
 use std::alloc::Global;
 
 /// Writes the text of an export, the one that [`export_text`] gives. Want of memory comes before anything is

@@ -1,14 +1,14 @@
 -- A header, and a frame, is told by its spelling, whatever follows it.
 use Rattle.std.proofs.Common.{◌≡◌, ℕ, List, ◌++◌, length, take, drop, Option, Some, refl, sym, ap, ◌∙◌, arith}
 use Rattle.std.proofs.lemmas.List.{take_at, drop_at}
-use Rattle.droid_value.specs.declared.frame.Frame.{Frame}
+use Rattle.droid_frame_values.specs.declared.frame.Frame.{Frame}
 use Rattle.droid_frame.specs.declared.stream.header.Header.{Header}
-use Rattle.droid_value.specs.Fields.{u32_bytes, u64_bytes}
-use Rattle.droid_value.specs.Frames.{frame_bytes}
+use Rattle.droid_frame_values.specs.Fields.{u32_bytes, u64_bytes}
+use Rattle.droid_frame_values.specs.Frames.{frame_bytes}
 use Rattle.droid_frame.specs.Headers.{header_bytes}
 use Rattle.droid_frame.specs.Streams.{IsFrame}
 use Rattle.droid_frame.specs.StreamReads.{IsHeader}
-use Rattle.droid_body.proofs.FieldLaws.{IsField, u32_field, u64_field}
+use Rattle.droid_frame_bodies.proofs.FieldLaws.{IsField, u32_field, u64_field}
 
 some_is : {A : Type 0} (x y : A) → Some x ≡ Some y → x ≡ y
 some_is x y e = cc

@@ -1,3 +1,7 @@
+pub use Rattle.droid_frame_stream.proofs.Lasting
+pub use Rattle.droid_frame_stream.proofs.Scopes
+pub use Rattle.droid_frame_stream.proofs.Stopping
+pub use Rattle.droid_frame_bodies.proofs.RequestLaws
 pub mod Appending
 pub mod ByteLists
 pub mod FrameLaws

@@ -3,20 +3,20 @@ use Rattle.std.proofs.Common.{ℕ, ◌<◌, ◌≤◌, Bool, true, false, List, 
 use Rattle.std.specs.Int.{w16, w32, w64}
 use Rattle.std.specs.List.{AllByRecursion}
 use Rattle.std.proofs.lemmas.List.{length-append}
-use Rattle.droid_value.specs.Limits.{body_limit}
-use Rattle.droid_value.specs.declared.method.Method.{Method}
-use Rattle.droid_value.specs.declared.method.Method.TheVariants.{Unidentified, Signature, Extension}
-use Rattle.droid_value.specs.declared.refusal.Limit.{Limit}
-use Rattle.droid_value.specs.declared.refusal.Limit.TheVariants as limits
-use Rattle.droid_value.specs.declared.refusal.Refusal.{Refusal}
-use Rattle.droid_value.specs.declared.refusal.Refusal.TheVariants.{Malformed, NumberReused, NoSuchProfile, NoSuchNode, NotAFolder, NotAFile, BadName, PathTooLong, NameTaken, BadOption, TooLarge, AlreadyFinished, BadPiece, PieceHeld, TooFarAhead, Incomplete, LimitReached, Memory, Store}
-use Rattle.droid_value.specs.declared.reply.Reply.{Reply}
-use Rattle.droid_value.specs.declared.reply.Reply.TheVariants.{Made, Node, Taken, Finished, Abandoned, Progress, Part, Refused}
-use Rattle.droid_value.specs.Fields.{IsBytes, u16_bytes, u32_bytes, u64_bytes, truth_bytes, method_bytes}
-use Rattle.droid_value.specs.Refusals.{limit_number}
-use Rattle.droid_value.specs.Replies.{HasReplySpelling, IsPuidText, refusal_bytes, reply_bytes, reply_kind}
+use Rattle.droid_frame_values.specs.Limits.{body_limit}
+use Rattle.droid_frame_values.specs.declared.method.Method.{Method}
+use Rattle.droid_frame_values.specs.declared.method.Method.TheVariants.{Unidentified, Signature, Extension}
+use Rattle.droid_frame_values.specs.declared.refusal.Limit.{Limit}
+use Rattle.droid_frame_values.specs.declared.refusal.Limit.TheVariants as limits
+use Rattle.droid_frame_values.specs.declared.refusal.Refusal.{Refusal}
+use Rattle.droid_frame_values.specs.declared.refusal.Refusal.TheVariants.{Malformed, NumberReused, NoSuchProfile, NoSuchNode, NotAFolder, NotAFile, BadName, PathTooLong, NameTaken, BadOption, TooLarge, AlreadyFinished, BadPiece, PieceHeld, TooFarAhead, Incomplete, LimitReached, Memory, Store}
+use Rattle.droid_frame_values.specs.declared.reply.Reply.{Reply}
+use Rattle.droid_frame_values.specs.declared.reply.Reply.TheVariants.{Made, Node, Taken, Finished, Abandoned, Progress, Part, Refused}
+use Rattle.droid_frame_values.specs.Fields.{IsBytes, u16_bytes, u32_bytes, u64_bytes, truth_bytes, method_bytes}
+use Rattle.droid_frame_values.specs.Refusals.{limit_number}
+use Rattle.droid_frame_values.specs.Replies.{HasReplySpelling, IsPuidText, refusal_bytes, reply_bytes, reply_kind}
 use Rattle.droid_frame.specs.ReplyFrames.{ReplyFramesAreReadable}
-use Rattle.droid_value.specs.TextLists.{sized_bytes, texts_bytes}
+use Rattle.droid_frame_values.specs.TextLists.{sized_bytes, texts_bytes}
 use Rattle.droid_frame.proofs.ByteLists.{IsBytes-nil, IsBytes-cons, IsBytes-append, number_bytes, text_bytes}
 use Rattle.droid_frame.proofs.ReplyParts.{puids_are_short}
 

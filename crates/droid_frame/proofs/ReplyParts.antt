@@ -3,13 +3,13 @@ use Rattle.std.proofs.Common.{◌≡◌, ℕ, ◌+◌, ◌*◌, ◌<◌, ◌≤�
 use Rattle.std.specs.List.{AllByRecursion}
 use Rattle.std.proofs.lemmas.List.{append-nil, length-append}
 use Rattle.std.proofs.lemmas.List.Folds.{length-flat_map-take}
-use Rattle.droid_value.specs.Limits.{puids_limit}
-use Rattle.droid_value.specs.declared.reply.Reply.{Reply}
-use Rattle.droid_value.specs.declared.reply.Reply.TheVariants.{Made, Node, Taken, Finished, Abandoned, Progress, Part, Refused}
-use Rattle.droid_value.specs.Fields.{u64_bytes}
-use Rattle.droid_value.specs.Replies.{IsPuidText, reply_bytes}
+use Rattle.droid_frame_values.specs.Limits.{puids_limit}
+use Rattle.droid_frame_values.specs.declared.reply.Reply.{Reply}
+use Rattle.droid_frame_values.specs.declared.reply.Reply.TheVariants.{Made, Node, Taken, Finished, Abandoned, Progress, Part, Refused}
+use Rattle.droid_frame_values.specs.Fields.{u64_bytes}
+use Rattle.droid_frame_values.specs.Replies.{IsPuidText, reply_bytes}
 use Rattle.droid_frame.specs.ReplyParts.{reply_front, reply_rest}
-use Rattle.droid_value.specs.TextLists.{sized_bytes, texts_bytes}
+use Rattle.droid_frame_values.specs.TextLists.{sized_bytes, texts_bytes}
 
 pub front_and_rest : (reply : Reply) → reply_front reply ++ reply_rest reply ≡ reply_bytes reply
 front_and_rest (Made profile) = append-nil _

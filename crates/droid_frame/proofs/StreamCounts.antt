@@ -4,9 +4,9 @@ use Rattle.std.specs.Prelude.{IsErrAnd, IsErrOf}
 use Rattle.droid_frame.specs.declared.stream.arrival.Arrival.{Arrival}
 use Rattle.droid_frame.specs.declared.stream.fault.FrameFault.{FrameFault}
 use Rattle.droid_frame.specs.declared.stream.fault.FrameFault.TheVariants.{Truncated, BadVersion, TooLong, Memory, Read}
-use Rattle.droid_stream.specs.declared.seen.Seen.{Seen}
-use Rattle.droid_stream.specs.Seen.{Counts, TellsFault}
-use Rattle.droid_stream.proofs.Scopes.{told_fault, told_none}
+use Rattle.droid_frame_stream.specs.declared.seen.Seen.{Seen}
+use Rattle.droid_frame_stream.specs.Seen.{Counts, TellsFault}
+use Rattle.droid_frame_stream.proofs.Scopes.{told_fault, told_none}
 use Rattle.droid_frame.specs.StreamReads.{FaultCounts, ReadsOn}
 
 -- what `?` passes on

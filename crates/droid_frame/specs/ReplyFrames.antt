@@ -1,10 +1,10 @@
 -- The frames of replies (this project's own).
 use Rattle.std.specs.Prelude.{ℕ, List}
-use Rattle.droid_value.specs.declared.frame.Frame.{Frame}
-use Rattle.droid_value.specs.declared.reply.Reply.{Reply}
-use Rattle.droid_value.specs.Fields.{IsU32, IsU64}
-use Rattle.droid_value.specs.Frames.{frame_bytes}
-use Rattle.droid_value.specs.Replies.{HasReplySpelling, reply_bytes, reply_kind}
+use Rattle.droid_frame_values.specs.declared.frame.Frame.{Frame}
+use Rattle.droid_frame_values.specs.declared.reply.Reply.{Reply}
+use Rattle.droid_frame_values.specs.Fields.{IsU32, IsU64}
+use Rattle.droid_frame_values.specs.Frames.{frame_bytes}
+use Rattle.droid_frame_values.specs.Replies.{HasReplySpelling, reply_bytes, reply_kind}
 use Rattle.droid_frame.specs.Streams.{IsReadable}
 
 -- the frame of a reply: version 1, the reply's kind, the client and the number of the request

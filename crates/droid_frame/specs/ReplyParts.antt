@@ -1,10 +1,10 @@
 -- For proofs alone: a reply's body in two parts, fields of a few bytes and then a list or bytes of any length.
 use Rattle.std.specs.Prelude.{ℕ, List, [], ◌++◌, length}
-use Rattle.droid_value.specs.declared.reply.Reply.{Reply}
-use Rattle.droid_value.specs.declared.reply.Reply.TheVariants.{Made, Node, Taken, Finished, Abandoned, Progress, Part, Refused}
-use Rattle.droid_value.specs.Fields.{u16_bytes, u32_bytes, u64_bytes, truth_bytes, method_bytes}
-use Rattle.droid_value.specs.Replies.{refusal_bytes}
-use Rattle.droid_value.specs.TextLists.{texts_bytes}
+use Rattle.droid_frame_values.specs.declared.reply.Reply.{Reply}
+use Rattle.droid_frame_values.specs.declared.reply.Reply.TheVariants.{Made, Node, Taken, Finished, Abandoned, Progress, Part, Refused}
+use Rattle.droid_frame_values.specs.Fields.{u16_bytes, u32_bytes, u64_bytes, truth_bytes, method_bytes}
+use Rattle.droid_frame_values.specs.Replies.{refusal_bytes}
+use Rattle.droid_frame_values.specs.TextLists.{texts_bytes}
 
 -- the fields before the list or the bytes
 abbrev pub reply_front : Reply → List ℕ

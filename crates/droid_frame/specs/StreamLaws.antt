@@ -1,8 +1,8 @@
 -- Laws of the frames of a stream.
 use Rattle.std.specs.Prelude.{◌≡◌, ℕ, List, ◌++◌}
-use Rattle.droid_value.specs.declared.frame.Frame.{Frame}
-use Rattle.droid_value.specs.Fields.{IsBytes}
-use Rattle.droid_value.specs.Frames.{frame_bytes}
+use Rattle.droid_frame_values.specs.declared.frame.Frame.{Frame}
+use Rattle.droid_frame_values.specs.Fields.{IsBytes}
+use Rattle.droid_frame_values.specs.Frames.{frame_bytes}
 use Rattle.droid_frame.specs.Streams.{IsFrame, Frames}
 
 -- where the spellings of two frames begin one input, the frames are one, and so is what follows them

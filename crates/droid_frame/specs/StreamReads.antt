@@ -1,18 +1,18 @@
 -- What a reader has left after the reads of one frame, and what then is known of its bytes.
 use Rattle.std.specs.Prelude.{◌≡◌, ℕ, ◌+◌, ◌<◌, ◌≤◌, ◌^◌, ◌==◌, nat_lt, if◌then◌else◌, ◌⊎◌, List, [], Option, Some, None, IfSome, Result, Ok, Err, length}
 use Rattle.std.specs.Io.KnownBytes.{Consumes, IsAtEnd}
-use Rattle.droid_value.specs.Limits.{body_limit}
+use Rattle.droid_frame_values.specs.Limits.{body_limit}
 use Rattle.droid_frame.specs.declared.stream.arrival.Arrival.{Arrival}
 use Rattle.droid_frame.specs.declared.stream.arrival.Arrival.TheVariants as arrivals
 use Rattle.droid_frame.specs.declared.stream.fault.FrameFault.{FrameFault}
 use Rattle.droid_frame.specs.declared.stream.fault.FrameFault.TheVariants.{Truncated, BadVersion, TooLong, Memory, Read}
 use Rattle.droid_frame.specs.declared.stream.header.Header.{Header}
-use Rattle.droid_value.specs.Fields.{IsBytes, IsU32}
-use Rattle.droid_value.specs.Frames.{frame_bytes}
+use Rattle.droid_frame_values.specs.Fields.{IsBytes, IsU32}
+use Rattle.droid_frame_values.specs.Frames.{frame_bytes}
 use Rattle.droid_frame.specs.Headers.{header_bytes}
-use Rattle.droid_stream.specs.declared.seen.Seen.{Seen}
-use Rattle.droid_stream.specs.Reads.{ConsumesFewer}
-use Rattle.droid_stream.specs.Seen.{Counts, GivesUp}
+use Rattle.droid_frame_stream.specs.declared.seen.Seen.{Seen}
+use Rattle.droid_frame_stream.specs.Reads.{ConsumesFewer}
+use Rattle.droid_frame_stream.specs.Seen.{Counts, GivesUp}
 use Rattle.droid_frame.specs.Streams.{IsReadable, BeginsNoFrame, header_size, version_in, length_in, why}
 
 -- known bytes lost all, which are at least so many, and fewer than were wanted

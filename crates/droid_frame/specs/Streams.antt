@@ -2,14 +2,14 @@
 use Rattle.std.specs.Prelude.{◌≡◌, ℕ, ◌<◌, ◌≤◌, ◌^◌, ◌==◌, nat_lt, if◌then◌else◌, List, ◌++◌, length, take, drop, slice_index, Result, Ok, Err}
 use Rattle.std.specs.Int.{w32, from_be_bytes}
 use Rattle.std.specs.List.{AllByRecursion, flat_map}
-use Rattle.droid_value.specs.declared.frame.Frame.{Frame}
-use Rattle.droid_value.specs.Limits.{body_limit}
+use Rattle.droid_frame_values.specs.declared.frame.Frame.{Frame}
+use Rattle.droid_frame_values.specs.Limits.{body_limit}
 use Rattle.droid_frame.specs.declared.stream.arrival.Arrival.{Arrival}
 use Rattle.droid_frame.specs.declared.stream.arrival.Arrival.TheVariants.{End}
 use Rattle.droid_frame.specs.declared.stream.fault.FrameFault.{FrameFault}
 use Rattle.droid_frame.specs.declared.stream.fault.FrameFault.TheVariants.{Truncated, BadVersion, TooLong}
-use Rattle.droid_value.specs.Fields.{IsBytes, IsU32}
-use Rattle.droid_value.specs.Frames.{frame_bytes}
+use Rattle.droid_frame_values.specs.Fields.{IsBytes, IsU32}
+use Rattle.droid_frame_values.specs.Frames.{frame_bytes}
 
 -- each field is in its range, and the body is no longer than a frame's may be
 pub record IsFrame (frame : Frame) : Type 0 where

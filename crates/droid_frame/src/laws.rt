@@ -3,8 +3,8 @@
 ghost use Rattle.droid_frame.specs.ReplyFrames.{ReplyFramesAreReadable};
 ghost use Rattle.droid_frame.specs.StreamLaws.{OneFrameAtTheFront, EachStreamHasFrames, NoStreamHasOthers};
 
-pub use droid_body::laws::{spells_one_reply, spells_one_request};
-pub use droid_value::laws::constants_are_the_limits;
+pub use droid_frame_bodies::laws::{spells_one_reply, spells_one_request};
+pub use droid_frame_values::laws::constants_are_the_limits;
 
 /// No spelling of a frame is a prefix of another frame's: where the spellings of two frames begin one
 /// input, the frames are equal, and so is what follows them. Nothing is said of a body of more than

@@ -11,9 +11,12 @@ mod requests;
 mod stream;
 mod text_lists;
 
-pub use droid_body::{BodyFault, reply_of, request_of};
-pub use droid_stream::{Condition, Seen, SteadyRead, SteadyWrite, Unsteady, WriteFault};
-pub use droid_value::{
+pub use droid_frame_bodies::{BodyFault, reply_of, request_of};
+pub use droid_frame_stream::{
+    Condition, InputFault, Progress, ReadFault, Retries, Seen, SteadyRead, SteadyWrite, Unsteady,
+    WriteFault, read_some, read_to_end, write_all,
+};
+pub use droid_frame_values::{
     BODY_LIMIT, Blob, Criteria, Criterion, Filter, Frame, Limit, Method, NUMBER_LIMIT, NodeKind,
     PART_LIMIT, PUID_LIMIT, PUIDS_LIMIT, Record, Refusal, Reply, Request, Text, Texts, VERSION,
     mark,

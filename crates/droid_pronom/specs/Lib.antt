@@ -1,15 +1,13 @@
 -- The language of patterns, and how they are written.
-pub use Rattle.droid_pattern.specs.Patterns
-pub use Rattle.droid_pattern.specs.PatternText
-pub use Rattle.droid_pattern.specs.LangTest
--- What a stream did, and when it is said to have failed.
-pub use Rattle.droid_stream.specs.Seen
+pub use Rattle.droid_pronom_pattern.specs.Patterns
+pub use Rattle.droid_pronom_pattern.specs.PatternText
+pub use Rattle.droid_pronom_pattern.specs.LangTest
 -- What a registry says, the forms of its fields, what is found in a file, and the types of these.
-pub use Rattle.droid_formats.specs.Found
-pub use Rattle.droid_formats.specs.Finding
-pub use Rattle.droid_formats.specs.Registry
-pub use Rattle.droid_formats.specs.RegistryFields
-pub use Rattle.droid_formats.specs.declared as types
+pub use Rattle.droid_pronom_formats.specs.Found
+pub use Rattle.droid_pronom_formats.specs.Finding
+pub use Rattle.droid_pronom_formats.specs.Registry
+pub use Rattle.droid_pronom_formats.specs.RegistryFields
+pub use Rattle.droid_pronom_formats.specs.declared as types
 -- What a registry file comes to.
 pub mod RegistryFile
 pub mod RegistryGrowth

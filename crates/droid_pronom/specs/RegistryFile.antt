@@ -4,7 +4,7 @@ use Rattle.csv.specs.Machine.{Read, next_record}
 use Rattle.csv.specs.Reading.{default_config, strip_bom}
 use Rattle.csv.specs.declared.parser.State.{State}
 use Rattle.csv.specs.declared.parser.State.TheVariants as st
-use Rattle.droid_formats.specs.Registry.{Contents, nothing}
+use Rattle.droid_pronom_formats.specs.Registry.{Contents, nothing}
 use Rattle.droid_pronom.specs.RegistryRecords as record_fault
 use Rattle.droid_pronom.specs.RegistryRecords.{Draft, RecordFault, Step}
 use Rattle.droid_pronom.specs.declared.registry.fault.RegistryFault.{RegistryFault}

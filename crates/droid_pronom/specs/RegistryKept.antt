@@ -1,7 +1,7 @@
 -- How a registry is kept.
 use Rattle.std.specs.Prelude.{◌≡◌, ℕ, ◌↔◌, List, length, Some, slice_get, true}
 use Rattle.std.specs.BTreeMap.{get_by_text}
-use Rattle.droid_formats.specs.Registry.{Contents, IsRegistry, IsSigned, place_of}
+use Rattle.droid_pronom_formats.specs.Registry.{Contents, IsRegistry, IsSigned, place_of}
 use Rattle.droid_pronom.specs.declared.registry.Registry.TheInside.{Inside}
 
 -- what the fields say

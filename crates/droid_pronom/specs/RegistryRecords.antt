@@ -3,13 +3,13 @@ use Rattle.std.specs.Prelude.{◌≡◌, ◌≢◌, ℕ, ◌+◌, Bool, true, fa
 use Rattle.std.specs.Option.{ok_or}
 use Rattle.std.specs.Str.{bytes_eq, str_to_ascii_lowercase}
 use Rattle.csv.specs.Records.{AllText}
-use Rattle.droid_pattern.specs.Patterns.{Element}
-use Rattle.droid_pattern.specs.PatternText.{Spells}
-use Rattle.droid_formats.specs.RegistryFields.{is_puid, is_name, is_note, is_extension, is_empty, offsets_of, kind_of}
-use Rattle.droid_formats.specs.Registry.{Contents, place_of}
-use Rattle.droid_formats.specs.RegistryFields as kinds
+use Rattle.droid_pronom_pattern.specs.Patterns.{Element}
+use Rattle.droid_pronom_pattern.specs.PatternText.{Spells}
+use Rattle.droid_pronom_formats.specs.RegistryFields.{is_puid, is_name, is_note, is_extension, is_empty, offsets_of, kind_of}
+use Rattle.droid_pronom_formats.specs.Registry.{Contents, place_of}
+use Rattle.droid_pronom_formats.specs.RegistryFields as kinds
 use Rattle.droid_pronom.specs.RegistryGrowth.{with_format, with_extension, with_priority, with_signature, with_sequence}
-use Rattle.droid_formats.specs.declared.rows.Offsets.{Offsets}
+use Rattle.droid_pronom_formats.specs.declared.rows.Offsets.{Offsets}
 
 -- what is wrong with a record
 pub data RecordFault : Type 0 where

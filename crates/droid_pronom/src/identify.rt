@@ -1,15 +1,15 @@
 //! How a file is identified: by signatures, else by the extension of its name.
 
 ghost use Rattle.std.specs.Prelude.{◌≡◌, IfOk, length};
-ghost use Rattle.droid_formats.specs.Found.{IsLeft, IsFoundBy};
-ghost use Rattle.droid_formats.specs.FoundWindows.{HitsWindows, Tell};
+ghost use Rattle.droid_pronom_formats.specs.Found.{IsLeft, IsFoundBy};
+ghost use Rattle.droid_pronom_formats.specs.FoundWindows.{HitsWindows, Tell};
 
 use crate::registry::Registry;
-use droid_formats::{
+use droid_frame::Method;
+use droid_pronom_formats::{
     Found, beaten_formats, extension, hit_formats, is_mismatch, lower_case, named_formats,
     puids_of, unbeaten,
 };
-use droid_frame::Method;
 use std::alloc::{AllocError, Global};
 
 /// Which formats hit and are left by priority.

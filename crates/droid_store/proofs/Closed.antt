@@ -3,7 +3,7 @@ use Rattle.std.proofs.Common.{◌≡◌, sym, subst, ap, ◌∙◌}
 use Rattle.sqlite_trees.specs.declared.memory.MemStore.{MemStore}
 use Rattle.sqlite.specs.Held.{Held, state}
 use Rattle.sqlite.specs.Steps.{over_memory}
-use Rattle.droid_sql.specs.Transactions.{Settled}
+use Rattle.droid_store_sql.specs.Transactions.{Settled}
 use Rattle.droid_store.specs.declared.rows.Counts.{Counts}
 use Rattle.droid_store.specs.Kept.{kept, Holds, AreApart}
 use Rattle.droid_store.specs.Rows.{Rows, counts_of}

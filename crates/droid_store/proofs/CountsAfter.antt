@@ -5,7 +5,7 @@ use Rattle.std.proofs.lemmas.List.Elements.{filter-append}
 use Rattle.std.proofs.lemmas.List.Sums.{length-filter}
 use Rattle.std.specs.List.{count_by}
 use Rattle.droid_frame.specs.types.method.Method.{Method}
-use Rattle.droid_sql.specs.KeyedRows.{changed_where}
+use Rattle.droid_store_sql.specs.KeyedRows.{changed_where}
 use Rattle.droid_store.specs.declared.rows.Counts.{Counts}
 use Rattle.droid_store.specs.declared.rows.Entry.{Entry}
 use Rattle.droid_store.specs.declared.rows.NodeState.{NodeState}

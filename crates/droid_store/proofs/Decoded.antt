@@ -4,7 +4,7 @@ use Rattle.std.specs.List.{AllByRecursion, slice_split}
 use Rattle.std.proofs.lemmas.List.Splits.{slice_split_at, slice_split_none}
 use Rattle.std.proofs.lemmas.Bool.Decides.{nat_tests}
 use Rattle.sqlite.specs.Effect.{Database}
-use Rattle.droid_sql.specs.KeyedRows.{numbered_from}
+use Rattle.droid_store_sql.specs.KeyedRows.{numbered_from}
 use Rattle.droid_frame.specs.types.method.Method.{Method}
 use Rattle.droid_frame.specs.types.method.Method.TheVariants.{Unidentified, Signature, Extension}
 use Rattle.droid_store.specs.declared.rows.Entry.{Entry}

@@ -5,13 +5,13 @@ use Rattle.sqlite.specs.declared.types.Value.TheVariants.{Null, Int, Text, Blob}
 use Rattle.sqlite.specs.Order.{Row}
 use Rattle.sqlite.specs.declared.error.Error.{Error}
 use Rattle.sqlite.specs.State.{State, Executes, ExecutesInside}
-use Rattle.droid_sql.specs.KeyedRows.{numbered_from, next_key}
-use Rattle.droid_sql.specs.Transactions.{Within}
-use Rattle.droid_sql.proofs.Inserts.{inserts}
-use Rattle.droid_sql.proofs.RowEdits.{added, added_next}
-use Rattle.droid_sql.proofs.Rising.{rising_numbered, numbered_append, next_numbered, numbered_below}
-use Rattle.droid_sql.proofs.Transactions.{steps, committed_kept}
-use Rattle.droid_sql.proofs.Values.{cast_null, cast_int}
+use Rattle.droid_store_sql.specs.KeyedRows.{numbered_from, next_key}
+use Rattle.droid_store_sql.specs.Transactions.{Within}
+use Rattle.droid_store_sql.proofs.Inserts.{inserts}
+use Rattle.droid_store_sql.proofs.RowEdits.{added, added_next}
+use Rattle.droid_store_sql.proofs.Rising.{rising_numbered, numbered_append, next_numbered, numbered_below}
+use Rattle.droid_store_sql.proofs.Transactions.{steps, committed_kept}
+use Rattle.droid_store_sql.proofs.Values.{cast_null, cast_int}
 use Rattle.droid_store.specs.declared.rows.Entry.{Entry}
 use Rattle.droid_store.specs.declared.rows.ProfileRow.{ProfileRow}
 use Rattle.droid_store.specs.declared.statements.TheConstants.{ADD_PROFILE, ADD_REPLY}

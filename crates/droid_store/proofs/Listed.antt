@@ -9,8 +9,8 @@ use Rattle.sqlite.specs.declared.error.Error.{Error}
 use Rattle.sqlite.specs.Listing.{understood}
 use Rattle.sqlite.specs.State.{State, Shown, FailsToQuery}
 use Rattle.sqlite.proofs.Callers.{IsPlain}
-use Rattle.droid_sql.specs.Transactions.{Settled}
-use Rattle.droid_sql.proofs.Transactions.{query_failed}
+use Rattle.droid_store_sql.specs.Transactions.{Settled}
+use Rattle.droid_store_sql.proofs.Transactions.{query_failed}
 use Rattle.droid_store.specs.declared.statements.TheConstants.{LIST_RECORDS}
 use Rattle.droid_store.specs.Encoded.{number}
 use Rattle.droid_store.specs.Kept.{Holds, AreApart}

@@ -3,8 +3,8 @@ use Rattle.std.proofs.Common.{◌≡◌, true, sym, subst}
 use Rattle.sqlite_trees.specs.declared.memory.MemStore.{MemStore}
 use Rattle.sqlite.specs.Held.{Held, state}
 use Rattle.sqlite.specs.Steps.{over_memory}
-use Rattle.droid_sql.specs.Transactions.{Settled, Within}
-use Rattle.droid_sql.proofs.Transactions.{begins}
+use Rattle.droid_store_sql.specs.Transactions.{Settled, Within}
+use Rattle.droid_store_sql.proofs.Transactions.{begins}
 use Rattle.droid_store.specs.Kept.{Holds}
 use Rattle.droid_store.specs.Rows.{Rows}
 

@@ -9,8 +9,8 @@ use Rattle.sqlite.specs.State.{State}
 use Rattle.sqlite.specs.Steps.{over_memory}
 use Rattle.sqlite_trees.specs.declared.memory.MemStore.{MemStore}
 use Rattle.droid_store.specs.Changes.{IsWord}
-use Rattle.droid_sql.specs.KeyedRows.{numbered_from, AreRising}
-use Rattle.droid_sql.specs.Transactions.{Within}
+use Rattle.droid_store_sql.specs.KeyedRows.{numbered_from, AreRising}
+use Rattle.droid_store_sql.specs.Transactions.{Within}
 use Rattle.droid_store.specs.Encoded.{profile_row, node_row, reply_row, rows_in}
 use Rattle.droid_store.specs.Rows.{Node, Rows, is_child, is_for, profile_at}
 use Rattle.droid_store.specs.Tables.{store_schema}

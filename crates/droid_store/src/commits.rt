@@ -4,7 +4,7 @@ ghost use Rattle.std.specs.Prelude.{◌≡◌, ◌+◌, ◌<◌, ◌^◌, List, 
 ghost use Rattle.std.specs.List.{AllByRecursion};
 ghost use Rattle.sqlite.specs.Held.{state};
 ghost use Rattle.sqlite.specs.Steps.{over_memory};
-ghost use Rattle.droid_sql.specs.Transactions.{Settled};
+ghost use Rattle.droid_store_sql.specs.Transactions.{Settled};
 ghost use Rattle.droid_store.specs.Changes.{with_node, with_profile, with_reply, with_finished, without_node, IsWord};
 ghost use Rattle.droid_store.specs.Encoded.{joined};
 ghost use Rattle.droid_store.specs.Kept.{kept, Holds, AreApart};

@@ -4,7 +4,7 @@ ghost use Rattle.std.specs.Prelude.{◌≡◌, ◌<◌, ◌^◌, IfOk, MatchOpti
 ghost use Rattle.sqlite.specs.Held.{state};
 ghost use Rattle.sqlite.specs.Steps.{over_memory};
 ghost use Rattle.sqlite.specs.declared.error.Error.TheVariants.{QueryReturnedNoRows};
-ghost use Rattle.droid_sql.specs.Transactions.{Settled};
+ghost use Rattle.droid_store_sql.specs.Transactions.{Settled};
 ghost use Rattle.droid_store.specs.Kept.{kept, Holds, AreApart};
 ghost use Rattle.droid_store.specs.Rows.{profile_at, node_at, child_at, reply_for, is_listed};
 ghost use Rattle.droid_store.specs.Shown.{shown_profile, shown_node, shown_id, shown_reply};

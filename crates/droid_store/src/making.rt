@@ -3,7 +3,7 @@
 ghost use Rattle.std.specs.Prelude.{OnOk, [], ◌∷◌};
 ghost use Rattle.sqlite.specs.Held.{state};
 ghost use Rattle.sqlite.specs.Steps.{over_memory};
-ghost use Rattle.droid_sql.specs.Transactions.{Settled};
+ghost use Rattle.droid_store_sql.specs.Transactions.{Settled};
 ghost use Rattle.droid_store.specs.Kept.{Holds, HasEmpty};
 ghost use Rattle.droid_store.specs.Rows.{no_rows};
 ghost use Rattle.droid_store.specs.Tables.{no_schema, first_schema, second_schema};

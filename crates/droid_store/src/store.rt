@@ -26,7 +26,7 @@ impl Model for Store {
     ghost use Rattle.std.specs.Prelude.{◌≡◌};
     ghost use Rattle.sqlite.specs.Held.{state};
     ghost use Rattle.sqlite.specs.Steps.{over_memory};
-    ghost use Rattle.droid_sql.specs.Transactions.{Settled};
+    ghost use Rattle.droid_store_sql.specs.Transactions.{Settled};
     ghost use Rattle.droid_store.specs.Kept.{kept, Holds, AreApart};
     ghost use Rattle.droid_store.specs.Rows.{Rows, counts_of};
 

@@ -6,8 +6,8 @@ use Rattle.std.proofs.Math.Seq.{take-append-add}
 use Rattle.droid_frame.specs.ReplyFrames.{reply_frame}
 use Rattle.droid_core.specs.Standing.{StandsFor}
 use Rattle.droid_core.specs.declared.service.Service.{Service}
-use Rattle.droid_history.specs.Histories.{History}
-use Rattle.droid_history.specs.Setting.{Setting}
+use Rattle.droid_core.specs.Histories.{History}
+use Rattle.droid_core.specs.Setting.{Setting}
 use Rattle.droid_wire.specs.declared.ended.Ended.TheVariants.{Closed, Turns}
 use Rattle.droid_wire.specs.declared.fault.ServeFault.{ServeFault}
 use Rattle.droid_wire.specs.declared.fault.ServeFault.TheVariants as faults

@@ -5,9 +5,9 @@ use Rattle.droid_frame.specs.types.frame.Frame.{Frame}
 use Rattle.droid_frame.specs.types.reply.Reply.{Reply}
 use Rattle.droid_core.specs.Standing.{StandsFor}
 use Rattle.droid_core.specs.declared.service.Service.{Service}
-use Rattle.droid_history.specs.Histories.{History, Handles, history_from, next}
-use Rattle.droid_history.specs.Setting.{Setting}
-use Rattle.droid_history.specs.Wants.{is_want}
+use Rattle.droid_core.specs.Histories.{History, Handles, history_from, next}
+use Rattle.droid_core.specs.Setting.{Setting}
+use Rattle.droid_core.specs.Wants.{is_want}
 use Rattle.droid_wire.specs.Serving.{GoesOnFrom}
 
 -- it stays where it is

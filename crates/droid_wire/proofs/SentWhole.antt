@@ -3,10 +3,10 @@ use Rattle.std.proofs.Common.{◌≡◌, ℕ, ◌-◌, List, length, take, Optio
 use Rattle.std.specs.Io.KnownBytes.{Appends}
 use Rattle.droid_frame.specs.StreamWrites.{Stops}
 use Rattle.droid_frame.proofs.StreamEnds.{first_room, told_last, within_part}
-use Rattle.droid_stream.specs.declared.fault.WriteFault.{WriteFault}
-use Rattle.droid_stream.specs.declared.seen.Seen.{Seen}
-use Rattle.droid_stream.specs.Writes.{StopsWithin, Takes, TellsWrite, WritesOn}
-use Rattle.droid_stream.proofs.Stopping.{takes_none}
+use Rattle.droid_frame.specs.stream_types.fault.WriteFault.{WriteFault}
+use Rattle.droid_frame.specs.stream_types.seen.Seen.{Seen}
+use Rattle.droid_frame.specs.Writes.{StopsWithin, Takes, TellsWrite, WritesOn}
+use Rattle.droid_frame.proofs.Stopping.{takes_none}
 
 -- these bytes are the frame's, and nothing went out before them
 stopped_at : (old new : Option (List ℕ)) (bytes frame : List ℕ) (none count : ℕ) → bytes ≡ frame → none ≡ 0 → StopsWithin old new bytes none count → Stops old new frame count

@@ -15,8 +15,8 @@ use Rattle.droid_frame.proofs.FrameLaws.{told_frame}
 use Rattle.droid_frame.proofs.StreamFrames.{no_frame_in_short, why_nothing}
 use Rattle.droid_core.specs.Running.{Runs}
 use Rattle.droid_core.specs.declared.service.Service.{Service}
-use Rattle.droid_history.specs.Histories.{History}
-use Rattle.droid_history.specs.Setting.{Setting}
+use Rattle.droid_core.specs.Histories.{History}
+use Rattle.droid_core.specs.Setting.{Setting}
 use Rattle.droid_wire.specs.declared.ended.Ended.{Ended}
 use Rattle.droid_wire.specs.declared.ended.Ended.TheVariants.{Closed, Turns}
 use Rattle.droid_wire.specs.declared.fault.ServeFault.{ServeFault}

@@ -10,8 +10,8 @@ use Rattle.droid_frame.specs.types.frame.Frame.{Frame}
 use Rattle.droid_frame.specs.types.reply.Reply.{Reply}
 use Rattle.droid_core.specs.Standing.{StandsFor}
 use Rattle.droid_core.specs.declared.service.Service.{Service}
-use Rattle.droid_history.specs.Histories.{History, Handles}
-use Rattle.droid_history.specs.Setting.{Setting}
+use Rattle.droid_core.specs.Histories.{History, Handles}
+use Rattle.droid_core.specs.Setting.{Setting}
 use Rattle.droid_wire.specs.declared.fault.ServeFault.{ServeFault}
 use Rattle.droid_wire.specs.declared.fault.ServeFault.TheVariants as faults
 

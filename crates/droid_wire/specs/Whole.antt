@@ -9,8 +9,8 @@ use Rattle.droid_frame.specs.types.frame.Frame.{Frame}
 use Rattle.droid_frame.specs.types.reply.Reply.{Reply}
 use Rattle.droid_core.specs.Running.{Runs}
 use Rattle.droid_core.specs.declared.service.Service.{Service}
-use Rattle.droid_history.specs.Histories.{History}
-use Rattle.droid_history.specs.Setting.{Setting}
+use Rattle.droid_core.specs.Histories.{History}
+use Rattle.droid_core.specs.Setting.{Setting}
 use Rattle.droid_wire.specs.declared.ended.Ended.{Ended}
 use Rattle.droid_wire.specs.declared.ended.Ended.TheVariants.{Closed, Turns}
 use Rattle.droid_wire.specs.declared.fault.ServeFault.{ServeFault}

@@ -8,7 +8,7 @@ pub mod laws;
 mod sending;
 mod serving;
 
-pub use droid_client::{Client, HearFault, Heard, SubmitFault};
+pub use droid_wire_client::{Client, HearFault, Heard, SubmitFault};
 pub use ended::Ended;
 pub use fault::ServeFault;
 pub use serving::serve;

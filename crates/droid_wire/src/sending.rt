@@ -2,14 +2,15 @@
 
 ghost use Rattle.std.specs.Prelude.{◌≡◌, OnOk, IfErr, IfSome, IsErr, length};
 ghost use Rattle.std.specs.Io.KnownBytes.{Appends};
-ghost use Rattle.droid_stream.specs.Seen.{IsSound};
-ghost use Rattle.droid_stream.specs.Writes.{Takes, TellsWrite};
+ghost use Rattle.droid_frame.specs.Seen.{IsSound};
+ghost use Rattle.droid_frame.specs.Writes.{Takes, TellsWrite};
 ghost use Rattle.droid_frame.specs.Replies.{HasReplySpelling};
 ghost use Rattle.droid_frame.specs.ReplyFrames.{reply_frame};
 ghost use Rattle.droid_frame.specs.StreamWrites.{Stops};
 
-use droid_frame::{Reply, SteadyWrite, Unsteady, WriteFault, reply_body_len, write_reply};
-use droid_stream::{Progress, write_all};
+use droid_frame::{
+    Progress, Reply, SteadyWrite, Unsteady, WriteFault, reply_body_len, write_all, write_reply,
+};
 use std::alloc::Global;
 
 /// How many bytes a frame has before its body.

@@ -1,11 +1,11 @@
 //! Answering the frames of a stream.
 
 ghost use Rattle.std.specs.Prelude.{◌≡◌, ◌+◌, ◌*◌, ◌≤◌, ℕ, None, IfSome, IfOk, IsErrOf, IsErrAnd};
-ghost use Rattle.droid_stream.specs.Seen.{IsSound, TellsFault};
+ghost use Rattle.droid_frame.specs.Seen.{IsSound, TellsFault};
 ghost use Rattle.droid_core.specs.Standing.{StandsFor, limits_of, registry_of};
-ghost use Rattle.droid_history.specs.Histories.{History};
-ghost use Rattle.droid_history.specs.Setting.{Setting};
-ghost use Rattle.droid_wire.specs.Over.{TellsFaultOver};
+ghost use Rattle.droid_core.specs.Histories.{History};
+ghost use Rattle.droid_core.specs.Setting.{Setting};
+ghost use Rattle.droid_frame.specs.Over.{TellsFaultOver};
 ghost use Rattle.droid_wire.specs.Serving.{GoesOnFrom, Outcome};
 ghost use Rattle.droid_wire.specs.Steps.{TurnGives};
 

@@ -48,7 +48,11 @@ class Run(unittest.TestCase):
                 self.assertEqual(run(["run"], REQUESTS[:size]), (status, REPLIES[: replied[whole]], said))
 
     def test_what_is_no_frame(self):
+        """With all frames before it answered."""
+        fronts = [(CREATE, MADE), (SHORT_FINISH + CREATE, MALFORMED + MADE)]
         rows = [
+            (CREATE[:17], "Truncated"),
+            (CREATE[:22], "Truncated"),
             (b"\x09" + CREATE[1:], "BadVersion"),
             (b"\x09" + CREATE[1:17], "Truncated"),
             (HEADER.pack(1, 1, 1, 1, 1_048_641), "TooLong"),
@@ -58,7 +62,8 @@ class Run(unittest.TestCase):
         ]
         for rest, name in rows:
             with self.subTest(name=name, rest=rest):
-                self.assertEqual(run(["run"], CREATE + rest), (4, MADE, fault(name)))
+                for front, replies in fronts:
+                    self.assertEqual(run(["run"], front + rest), (4, replies, fault(name)))
                 self.assertEqual(run(["run"], rest + CREATE)[0], 4)
 
     def test_a_frame_that_is_no_request_is_answered_and_the_stream_goes_on(self):

@@ -1,5 +1,6 @@
 """How `send` ends: its faults, in front of a service that is not there, closes, or answers what it should not."""
 
+import struct
 import subprocess
 import threading
 import unittest
@@ -7,7 +8,12 @@ import unittest
 from harness import HEADER, PROGRAM, SECONDS, Serve, frame, free_port, listen, read_frame, run, send
 
 CREATE = b"create 65536 0\n"
-MADE = (129, b"\0\0\0\1")
+FOLDER = b"folder 1 0 0 in\n"
+
+# what client 7 sends for these lines, as kinds, clients, numbers and bodies
+CREATED = (1, 7, 1, b"\0\1\0\0\0")
+CREATED_AGAIN = (1, 7, 2, b"\0\1\0\0\0")
+ADDED = (2, 7, 2, b"\0\0\0\1" + bytes(12) + b"in")
 
 
 class FakeService(threading.Thread):
@@ -36,7 +42,15 @@ class FakeService(threading.Thread):
 
 
 def made(client, number):
-    return frame(MADE[0], client, number, MADE[1])
+    return frame(129, client, number, b"\0\0\0\1")
+
+
+def node(client, number):
+    return frame(130, client, number, b"\0\0\0\1")
+
+
+def part(client, number):
+    return frame(135, client, number, struct.pack(">QQ", 2, 296) + b'"ID"')
 
 
 def refused(client, number):
@@ -58,41 +72,49 @@ class Faults(unittest.TestCase):
     def test_no_listener(self):
         self.assertEqual(send(free_port(), 7, CREATE), (4, b"", "fault: Socket\n"))
 
-    def test_closed_where_a_reply_is_due(self):
-        self.ends(CREATE, [nothing], b"", "Closed", closes=True)
-        self.ends(CREATE + CREATE, [made, nothing], b"made 1\n", "Closed", closes=True)
-
-    def test_cut_within_a_reply(self):
-        for count in (1, HEADER.size - 1, HEADER.size, HEADER.size + 3):
-            with self.subTest(count=count):
-                self.ends(CREATE, [lambda *of: made(*of)[:count]], b"", "Truncated", closes=True)
-
-    def test_for_another_client(self):
-        self.ends(CREATE, [lambda client, number: made(client + 1, number)], b"", "Stranger")
-
-    def test_to_a_number_never_submitted(self):
-        self.ends(CREATE, [lambda client, number: made(client, number + 1)], b"", "Stranger")
-
-    def test_of_another_kind(self):
-        self.ends(CREATE, [lambda client, number: frame(130, client, number, b"\0\0\0\1")], b"", "Stranger")
-
-    def test_answered_twice(self):
-        self.ends(CREATE + CREATE, [made, lambda client, number: made(client, number - 1)], b"made 1\n", "Repeated")
-
-    def test_a_body_outside_the_grammar(self):
-        self.ends(CREATE, [lambda client, number: frame(129, client, number, b"\0\0\1")], b"", "Malformed")
-
-    def test_another_version(self):
-        self.ends(CREATE, [lambda client, number: b"HTTP/1.1 400 Bad Request\r\n\r\n"], b"", "BadVersion")
-
-    def test_a_body_past_the_limit(self):
-        long = HEADER.pack(1, 129, 7, 1, 1_048_641)
-        self.ends(CREATE, [lambda client, number: long], b"", "TooLong")
+    def test_replies(self):
+        """One reply, which is the fault; or the one that is due, and then the fault in the place of the second."""
+        made_first = made(7, 1)
+        rows = [
+            # the connection is closed where a reply is due, or within one
+            ([b""], "Closed"),
+            ([made_first, b""], "Closed"),
+            *(([made_first[:count]], "Truncated") for count in (1, 2, HEADER.size - 1, HEADER.size, HEADER.size + 3)),
+            # for another client, for a number never submitted, and of another kind
+            ([made(8, 1)], "Stranger"),
+            ([made(7, 2)], "Stranger"),
+            ([node(7, 2)], "Stranger"),
+            ([node(7, 1)], "Stranger"),
+            ([made_first, node(7, 1)], "Stranger"),
+            # a number that was answered is answered, or refused, again
+            ([made_first, made_first], "Repeated"),
+            ([made_first, frame(136, 7, 1, b"\x0a")], "Repeated"),
+            # a request, and bodies outside the grammar: too short ones, and a refusal that there isn't
+            ([frame(1, 7, 1, b"\0\1\0\0\0")], "Malformed"),
+            ([frame(129, 7, 1, b"\0\0\1")], "Malformed"),
+            ([frame(136, 7, 1, b"\x14")], "Malformed"),
+            ([made_first, frame(130, 7, 2, b"\0\0\1")], "Malformed"),
+            # no frames
+            ([b"HTTP/1.1 400 Bad Request\r\n\r\n"], "BadVersion"),
+            ([HEADER.pack(2, 129, 7, 1, 4)], "BadVersion"),
+            ([HEADER.pack(1, 129, 7, 1, 1_048_641)], "TooLong"),
+            ([HEADER.pack(1, 129, 7, 1, 0xFF000004)], "TooLong"),
+        ]
+        for replies, fault in rows:
+            for line, second in ((CREATE, CREATED_AGAIN), (FOLDER, ADDED)):
+                with self.subTest(replies=replies, line=line):
+                    answers = [lambda *of, reply=reply: reply for reply in replies]
+                    printed = b"made 1\n" * (len(replies) - 1)
+                    closes = fault in ("Closed", "Truncated")
+                    heard = self.ends(CREATE + line, answers, printed, fault, closes=closes)
+                    self.assertEqual(heard, [CREATED, second][: len(replies)])
 
     def test_numbers_used_up(self):
         last = 2**63 - 1
-        heard = self.ends(CREATE + CREATE, [made], b"made 1\n", "NumbersUsedUp", first=last)
-        self.assertEqual([number for _, _, number, _ in heard], [last])
+        for line in (CREATE, FOLDER):
+            with self.subTest(line=line):
+                heard = self.ends(CREATE + line, [made], b"made 1\n", "NumbersUsedUp", first=last)
+                self.assertEqual([number for _, _, number, _ in heard], [last])
 
     def test_a_writer_without_room(self):
         service = FakeService(made)
@@ -113,9 +135,16 @@ class Lines(unittest.TestCase):
         lines = CREATE + b"hello\n1 2 create 65536 0\n\n" + CREATE
         printed = b"made 1\nbad line\nbad line\nbad line\nmade 1\n"
         self.assertEqual(send(service.port, 7, lines), (5, printed, ""))
-        body = b"\0\1\0\0\0"
         service.join(SECONDS)
-        self.assertEqual(service.heard, [(1, 7, 1, body), (1, 7, 2, body)])
+        self.assertEqual(service.heard, [CREATED, CREATED_AGAIN])
+
+    def test_what_is_sent(self):
+        service = FakeService(made, node, part)
+        printed = b'made 1\nnode 1\npart 2 296 4\n"ID"'
+        self.assertEqual(send(service.port, 7, CREATE + FOLDER + b"export 1 0 1048576"), (0, printed, ""))
+        service.join(SECONDS)
+        shown = (8, 7, 3, b"\0\0\0\1" + bytes(8) + b"\0\x10\0\0" + b"\1\0")
+        self.assertEqual(service.heard, [CREATED, ADDED, shown])
 
     def test_a_fault_comes_before_a_bad_line(self):
         service = FakeService(nothing, closes=True)

@@ -1,22 +1,22 @@
 //! How a request that is spelled is answered: under a kept number again, under a new one by its kind.
 
 ghost use Rattle.std.specs.Prelude.{◌≡◌, ◌<◌, ◌^◌, None, Some};
-ghost use Rattle.droid_parts.specs.Changes.{Comes, answered, stamp_of};
+ghost use Rattle.droid_core_state.specs.Changes.{Comes, answered, stamp_of};
 ghost use Rattle.droid_core.specs.Standing.{Stand};
-ghost use Rattle.droid_parts.specs.Standing.{IsIn};
+ghost use Rattle.droid_core_state.specs.Standing.{IsIn};
 ghost use Rattle.droid_frame.specs.Replies.{HasReplySpelling};
 ghost use Rattle.droid_frame.specs.types.frame.Frame.{Frame};
-ghost use Rattle.droid_history.specs.Histories.{History, Handles, command};
-ghost use Rattle.droid_history.specs.Judging.{judge};
-ghost use Rattle.droid_history.specs.Setting.{Setting};
-ghost use Rattle.droid_history.specs.World.{World};
+ghost use Rattle.droid_core_spec.specs.Histories.{History, Handles, command};
+ghost use Rattle.droid_core_spec.specs.Judging.{judge};
+ghost use Rattle.droid_core_spec.specs.Setting.{Setting};
+ghost use Rattle.droid_core_spec.specs.World.{World};
 ghost use Rattle.droid_store.specs.Rows.{reply_for};
 
-use droid_exporting::export;
-use droid_files::{abandon, finish, status, take_piece};
+use crate::requests::{
+    abandon, add_file, add_folder, create_profile, export, finish, status, take_piece,
+};
+use droid_core_state::{Parts, Stamp, answer_again, reply_from, store_refusal};
 use droid_frame::{Refusal, Reply, Request};
-use droid_nodes::{add_file, add_folder, create_profile};
-use droid_parts::{Parts, Stamp, answer_again, reply_from, store_refusal};
 
 /// Answers the request of a frame: under a kept number again, and under a new one by its verdict.
 pub fn answer(parts: &mut Parts, stamp: Stamp, request: Request) -> Reply

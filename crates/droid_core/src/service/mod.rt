@@ -4,18 +4,18 @@ ghost use Rattle.std.specs.Prelude.{◌≡◌, ◌≤◌, [], IfOk, OnErr, vec_l
 ghost use Rattle.droid_core.specs.KeptBytes.{kept_bytes_of};
 ghost use Rattle.droid_core.specs.Running.{Runs};
 ghost use Rattle.droid_core.specs.Standing.{StandsFor, limits_of, registry_of};
-ghost use Rattle.droid_parts.specs.Standing.{limits_given};
+ghost use Rattle.droid_core_state.specs.Standing.{limits_given};
 ghost use Rattle.droid_frame.specs.Replies.{HasReplySpelling};
-ghost use Rattle.droid_history.specs.Histories.{History, Handles, world_of};
-ghost use Rattle.droid_history.specs.Identified.{IsOf};
-ghost use Rattle.droid_history.specs.Setting.{Setting};
+ghost use Rattle.droid_core_spec.specs.Histories.{History, Handles, world_of};
+ghost use Rattle.droid_core_state.specs.Identified.{IsOf};
+ghost use Rattle.droid_core_spec.specs.Setting.{Setting};
 
 use answering::answer;
+use droid_core_files::UnfinishedFiles;
+use droid_core_state::{Limits, Parts, Stamp};
 use droid_frame::{BodyFault, Frame, Refusal, Reply, mark, request_of};
-use droid_parts::{Limits, Parts, Stamp};
 use droid_pronom::Registry;
 use droid_store::{Store, StoreFault};
-use droid_unfinished::UnfinishedFiles;
 use std::alloc::{AllocError, Global};
 
 mod answering;

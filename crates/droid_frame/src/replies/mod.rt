@@ -5,13 +5,13 @@ mod small_bytes;
 
 ghost use Rattle.std.specs.Prelude.{◌≡◌, ◌≤◌, IfOk, length};
 ghost use Rattle.std.specs.List.{AllByRecursion};
-ghost use Rattle.droid_value.specs.Limits.{body_limit, puids_limit};
-ghost use Rattle.droid_value.specs.Replies.{HasReplySpelling, IsPuidText, SpellsReply, reply_bytes, reply_kind};
-ghost use Rattle.droid_value.specs.TextLists.{texts_bytes};
+ghost use Rattle.droid_frame_values.specs.Limits.{body_limit, puids_limit};
+ghost use Rattle.droid_frame_values.specs.Replies.{HasReplySpelling, IsPuidText, SpellsReply, reply_bytes, reply_kind};
+ghost use Rattle.droid_frame_values.specs.TextLists.{texts_bytes};
 
 use crate::replies::parts::front_of;
 use crate::text_lists::append_texts;
-use droid_value::{Blob, Reply, Texts};
+use droid_frame_values::{Blob, Reply, Texts};
 use std::alloc::{AllocError, Global};
 
 /// The body of a reply's frame: the one spelling that the reply has. Memory is taken once, for all of it,

@@ -1,12 +1,12 @@
 //! The parts of a reply's body that have a few bytes.
 
 ghost use Rattle.std.specs.Prelude.{◌≡◌, []};
-ghost use Rattle.droid_value.specs.Replies.{HasReplySpelling, HasRefusalSpelling, IsPuidText, refusal_bytes};
+ghost use Rattle.droid_frame_values.specs.Replies.{HasReplySpelling, HasRefusalSpelling, IsPuidText, refusal_bytes};
 ghost use Rattle.droid_frame.specs.ReplyParts.{reply_front};
-ghost use Rattle.droid_value.specs.TextLists.{sized_bytes};
+ghost use Rattle.droid_frame_values.specs.TextLists.{sized_bytes};
 
 use super::small_bytes::SmallBytes;
-use droid_value::{Refusal, Reply, Text};
+use droid_frame_values::{Refusal, Reply, Text};
 
 /// The fields of the reply before its list or its bytes.
 pub(crate) fn front_of(reply: &Reply) -> SmallBytes

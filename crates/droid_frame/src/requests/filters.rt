@@ -1,11 +1,11 @@
 //! Filters, added at the end of bytes.
 
 ghost use Rattle.std.specs.Prelude.{◌≡◌, ◌++◌, ◌∷◌, ◌<◌, ◌^◌, OnOk};
-ghost use Rattle.droid_value.specs.Fields.{u64_bytes};
-ghost use Rattle.droid_value.specs.Filters.{IsList, IsCriterion, IsFilter, ListFits, CriterionFits, FilterFits, list_bytes, criterion_bytes, filter_bytes};
+ghost use Rattle.droid_frame_values.specs.Fields.{u64_bytes};
+ghost use Rattle.droid_frame_values.specs.Filters.{IsList, IsCriterion, IsFilter, ListFits, CriterionFits, FilterFits, list_bytes, criterion_bytes, filter_bytes};
 
 use crate::text_lists::append_texts;
-use droid_value::{Criterion, Filter, Texts};
+use droid_frame_values::{Criterion, Filter, Texts};
 use std::alloc::AllocError;
 
 /// Adds the filter at the end.

@@ -4,13 +4,13 @@ mod filters;
 
 ghost use Rattle.std.specs.Prelude.{◌≡◌, ◌++◌, IfOk, OnOk};
 ghost use Rattle.std.specs.Str.{IsUtf8};
-ghost use Rattle.droid_value.specs.Bodies.{Fits, HasSpelling, ListsFit, SpellsRequest, request_kind, request_body};
-ghost use Rattle.droid_value.specs.Fields.{IsBytes, u32_bytes, u64_bytes, i64_bytes, truth_bytes, IsU32, IsU64, IsI64};
-ghost use Rattle.droid_value.specs.Filters.{FilterFits, IsFilter, filter_bytes};
-ghost use Rattle.droid_value.specs.Frames.{frame_bytes, spelling};
+ghost use Rattle.droid_frame_values.specs.Bodies.{Fits, HasSpelling, ListsFit, SpellsRequest, request_kind, request_body};
+ghost use Rattle.droid_frame_values.specs.Fields.{IsBytes, u32_bytes, u64_bytes, i64_bytes, truth_bytes, IsU32, IsU64, IsI64};
+ghost use Rattle.droid_frame_values.specs.Filters.{FilterFits, IsFilter, filter_bytes};
+ghost use Rattle.droid_frame_values.specs.Frames.{frame_bytes, spelling};
 
 use self::filters::append_filter;
-use droid_value::{Blob, Filter, Frame, Request, Text, VERSION};
+use droid_frame_values::{Blob, Filter, Frame, Request, Text, VERSION};
 use std::alloc::{AllocError, Global};
 
 /// The frame of a request: the one spelling that it has. Only want of memory refuses it.

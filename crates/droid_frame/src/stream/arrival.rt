@@ -1,6 +1,6 @@
 //! What comes next on a stream.
 
-use droid_value::Frame;
+use droid_frame_values::Frame;
 
 /// What a stream brought where a frame may begin.
 #[derive(Debug, Drop)]

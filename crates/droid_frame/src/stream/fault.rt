@@ -2,7 +2,7 @@
 
 ghost use Rattle.std.specs.Prelude.{◌≡◌};
 
-use droid_stream::ReadFault;
+use droid_frame_stream::ReadFault;
 use std::alloc::AllocError;
 use thiserror::Error;
 

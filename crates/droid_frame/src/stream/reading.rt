@@ -1,16 +1,16 @@
 //! Reading a frame.
 
 ghost use Rattle.std.specs.Prelude.{◌≡◌, ◌++◌, ℕ, List, Some, Err, IfOk, IfErr, OnErr, IfSome, IsErrOf};
-ghost use Rattle.droid_value.specs.Frames.{frame_bytes};
+ghost use Rattle.droid_frame_values.specs.Frames.{frame_bytes};
 ghost use Rattle.droid_frame.specs.Streams.{IsReadable, BeginsNoFrame, why};
-ghost use Rattle.droid_stream.specs.Seen.{Counts, IsSound, TellsFault};
+ghost use Rattle.droid_frame_stream.specs.Seen.{Counts, IsSound, TellsFault};
 ghost use Rattle.droid_frame.specs.StreamReads.{Arrives, BodyCame, Brings, HeaderCame, ReadsGoodHeader, ReadsNoFrame, ReadsOn, Tells, UnlessRefused, judged};
 
 use super::arrival::Arrival;
 use super::fault::FrameFault;
 use super::header::{HEADER_LENGTH, Header};
-use droid_stream::{Retries, SteadyRead, fill};
-use droid_value::{BODY_LIMIT, Blob, Frame, VERSION};
+use droid_frame_stream::{Retries, SteadyRead, fill};
+use droid_frame_values::{BODY_LIMIT, Blob, Frame, VERSION};
 use std::alloc::Global;
 
 /// Reads the next frame. The header is read whole before any of it is judged, and memory is taken once, for

@@ -3,19 +3,19 @@
 ghost use Rattle.std.specs.Prelude.{◌≡◌, ◌+◌, ◌<◌, ◌≤◌, ◌^◌, ◌-◌, ℕ, IsErr, OnOk, IfErr, length};
 ghost use Rattle.std.specs.Io.KnownBytes.{Appends};
 ghost use Rattle.std.specs.List.{AllByRecursion};
-ghost use Rattle.droid_value.specs.Replies.{HasReplySpelling, IsPuidText};
+ghost use Rattle.droid_frame_values.specs.Replies.{HasReplySpelling, IsPuidText};
 ghost use Rattle.droid_frame.specs.ReplyFrames.{reply_frame};
 ghost use Rattle.droid_frame.specs.ReplyParts.{reply_rest};
 ghost use Rattle.droid_frame.specs.StreamWrites.{Stops};
-ghost use Rattle.droid_stream.specs.Seen.{Counts, IsSound};
-ghost use Rattle.droid_stream.specs.Writes.{StopsWithin, Takes, TellsWrite, WritesOn};
-ghost use Rattle.droid_value.specs.TextLists.{texts_bytes};
+ghost use Rattle.droid_frame_stream.specs.Seen.{Counts, IsSound};
+ghost use Rattle.droid_frame_stream.specs.Writes.{StopsWithin, Takes, TellsWrite, WritesOn};
+ghost use Rattle.droid_frame_values.specs.TextLists.{texts_bytes};
 
 use super::header::Header;
 use crate::replies::parts::{front_of, sized_puid};
 use crate::replies::reply_body_len;
-use droid_stream::{Progress, SteadyWrite, WriteFault, write_all};
-use droid_value::{Reply, Texts, VERSION};
+use droid_frame_stream::{Progress, SteadyWrite, WriteFault, write_all};
+use droid_frame_values::{Reply, Texts, VERSION};
 
 /// Writes a reply's frame, to the client and under the number of the request that it answers. It takes no
 /// memory. An interrupted write is tried again, 64 times over all of the frame.

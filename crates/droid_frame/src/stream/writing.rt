@@ -2,15 +2,15 @@
 
 ghost use Rattle.std.specs.Prelude.{◌≤◌, IsErr, OnOk, IfErr, length};
 ghost use Rattle.std.specs.Io.KnownBytes.{Appends};
-ghost use Rattle.droid_value.specs.Frames.{frame_bytes};
-ghost use Rattle.droid_value.specs.Limits.{body_limit};
-ghost use Rattle.droid_stream.specs.Seen.{IsSound};
-ghost use Rattle.droid_stream.specs.Writes.{Takes, TellsWrite};
+ghost use Rattle.droid_frame_values.specs.Frames.{frame_bytes};
+ghost use Rattle.droid_frame_values.specs.Limits.{body_limit};
+ghost use Rattle.droid_frame_stream.specs.Seen.{IsSound};
+ghost use Rattle.droid_frame_stream.specs.Writes.{Takes, TellsWrite};
 ghost use Rattle.droid_frame.specs.StreamWrites.{Stops};
 
 use super::header::Header;
-use droid_stream::{Progress, SteadyWrite, WriteFault, write_all};
-use droid_value::Frame;
+use droid_frame_stream::{Progress, SteadyWrite, WriteFault, write_all};
+use droid_frame_values::Frame;
 
 /// Writes a frame. It takes no memory. An interrupted write is tried again, 64 times over all of the frame.
 ///

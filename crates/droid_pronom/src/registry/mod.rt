@@ -3,10 +3,10 @@
 ghost use Rattle.std.specs.Prelude.{◌≡◌, ◌≢◌, ℕ, List, ◌+◌, ◌-◌, ◌<◌, ◌≤◌, ◌++◌, ◌∷◌, [], length, take, drop, min, IsTrue, IfSome, option_map, Some, None, Err, IfOk, IsErrOf, OnOk, OnErr, slice_get, true, ◌↔◌};
 ghost use Rattle.std.specs.Option.{option_copied};
 ghost use Rattle.std.specs.List.{AllByRecursion};
-ghost use Rattle.droid_formats.specs.Found.{IsFound};
-ghost use Rattle.droid_formats.specs.RegistryFields.{is_puid};
+ghost use Rattle.droid_pronom_formats.specs.Found.{IsFound};
+ghost use Rattle.droid_pronom_formats.specs.RegistryFields.{is_puid};
 ghost use Rattle.droid_pronom.specs.RegistryFile.{File};
-ghost use Rattle.droid_stream.specs.Seen.{IsSound, TellsFault};
+ghost use Rattle.droid_frame.specs.Seen.{IsSound, TellsFault};
 
 mod draft;
 pub mod fault;
@@ -19,8 +19,8 @@ use crate::registry::draft::Draft;
 use crate::registry::fault::RegistryFault;
 use crate::registry::unread::unread;
 use csv::ReaderBuilder;
-use droid_formats::{ByteSequence, Format, Found, ListedExtension, Priority, Signature};
-use droid_stream::{InputFault, SteadyRead, read_to_end};
+use droid_frame::{InputFault, SteadyRead, read_to_end};
+use droid_pronom_formats::{ByteSequence, Format, Found, ListedExtension, Priority, Signature};
 use std::alloc::{AllocError, Global};
 use std::collections::BTreeMap;
 use std::marker::Model;
@@ -44,7 +44,7 @@ pub struct Registry {
 }
 
 impl Model for Registry {
-    ghost use Rattle.droid_formats.specs.Registry.{Contents};
+    ghost use Rattle.droid_pronom_formats.specs.Registry.{Contents};
 
     ghost Value = { Contents };
 
@@ -56,7 +56,7 @@ impl Model for Registry {
 }
 
 impl Registry {
-    ghost use Rattle.droid_formats.specs.Registry.{nothing, place_of, IsRegistry, IsSigned};
+    ghost use Rattle.droid_pronom_formats.specs.Registry.{nothing, place_of, IsRegistry, IsSigned};
     ghost use Rattle.droid_pronom.specs.RegistryGrowth.{with_format, with_extension, with_priority, with_signature, with_sequence};
 
     /// Reads a registry file. It is CSV as `csv` reads it with its default settings and no header;

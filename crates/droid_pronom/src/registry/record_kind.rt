@@ -1,7 +1,7 @@
 //! What a record is about.
 
 ghost use Rattle.std.specs.Prelude.{◌≡◌, option_map};
-ghost use Rattle.droid_formats.specs.RegistryFields as field;
+ghost use Rattle.droid_pronom_formats.specs.RegistryFields as field;
 ghost use Rattle.droid_pronom.specs.RegistryCalls.{kind_is};
 
 /// What a record is about: its first field is the letter.

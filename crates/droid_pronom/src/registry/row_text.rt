@@ -6,7 +6,7 @@ ghost use Rattle.droid_pronom.specs.RegistryCalls.{TellsPattern};
 
 use crate::registry::fault::{Fault, Refusal};
 use csv::StringRecord;
-use droid_pattern::{Pattern, PatternFault};
+use droid_pronom_pattern::{Pattern, PatternFault};
 use std::alloc::Global;
 
 /// The six texts of a record, in order.

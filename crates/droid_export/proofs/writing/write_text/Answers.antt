@@ -1,6 +1,6 @@
 use Rattle.std.proofs.Common.{ℕ}
-use Rattle.droid_stream.specs.Seen.{Counts}
-use Rattle.droid_stream.proofs.Scopes.{counts_none}
+use Rattle.droid_frame.specs.Seen.{Counts}
+use Rattle.droid_frame.proofs.Scopes.{counts_none}
 use Rattle.droid_export.proofs.Stopping.{stops, goes_on}
 use Rattle.droid_export.proofs.writing.write_text.Goals as goal
 

@@ -1,6 +1,6 @@
 use Rattle.std.proofs.Common.{◌≡◌, ◌∙◌, length, ap, sym}
 use Rattle.std.proofs.lemmas.Result.{IfOk-weaker}
-use Rattle.droid_formats.specs.FoundWindows.{HitsWindows}
+use Rattle.droid_pronom_formats.specs.FoundWindows.{HitsWindows}
 use Rattle.droid_pronom.proofs.FoundSteps.{tell_left, without_length}
 use Rattle.droid_pronom.proofs.identify.left_formats.Goals as goal
 

@@ -3,7 +3,7 @@
 ghost use Rattle.std.specs.Prelude.{◌≡◌, ◌<◌, ◌^◌, length, IfOk};
 ghost use Rattle.csv.specs.Records.{fields_of};
 ghost use Rattle.droid_pronom.specs.RegistryCalls.{draft_of, Gives, Tells};
-ghost use Rattle.droid_formats.specs.RegistryFields as field;
+ghost use Rattle.droid_pronom_formats.specs.RegistryFields as field;
 ghost use Rattle.droid_pronom.specs.RegistryFile.{empty_draft, taken_count};
 ghost use Rattle.droid_pronom.specs.RegistryRecords.{Step, Judged, known};
 

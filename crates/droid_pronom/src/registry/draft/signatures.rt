@@ -1,14 +1,14 @@
 //! What is taken of a record that begins a signature or goes on with one.
 
 ghost use Rattle.std.specs.Prelude.{◌≡◌, ◌<◌, ◌&&◌, nat_lt, Some, length, IfOk};
-ghost use Rattle.droid_formats.specs.Registry.{place_of};
+ghost use Rattle.droid_pronom_formats.specs.Registry.{place_of};
 ghost use Rattle.droid_pronom.specs.RegistryCalls.{draft_of, Gives, Tells};
 ghost use Rattle.droid_pronom.specs.RegistryRecords.{WithPattern, signature_head, signature_added, sequence_head, sequence_added, is_same_place};
 
 use crate::registry::draft::{Draft, ROWS_LIMIT};
 use crate::registry::fault::{Fault, Refusal, check};
 use crate::registry::row_text::pattern_of;
-use droid_formats::{ByteSequence, Offsets, Signature, is_puid, offsets_of};
+use droid_pronom_formats::{ByteSequence, Offsets, Signature, is_puid, offsets_of};
 use std::alloc::Global;
 
 /// How many byte sequences a registry may have.

@@ -6,10 +6,10 @@ ghost use Rattle.droid_pronom.specs.RegistryRecords.{format_taken, extension_tak
 use crate::registry::FORMATS_LIMIT;
 use crate::registry::draft::{Draft, ROWS_LIMIT};
 use crate::registry::fault::{Fault, Refusal, check};
-use droid_formats::{
+use droid_frame::Text;
+use droid_pronom_formats::{
     Format, ListedExtension, Priority, is_format, is_listing, is_priority, lower_case,
 };
-use droid_frame::Text;
 use std::alloc::Global;
 
 impl Draft {

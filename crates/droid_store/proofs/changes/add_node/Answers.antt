@@ -1,6 +1,6 @@
 use Rattle.std.proofs.lemmas.Int.{to_z-of_z}
 use Rattle.std.specs.Int.{w64}
-use Rattle.droid_sql.proofs.Transactions.{on_err}
+use Rattle.droid_store_sql.proofs.Transactions.{on_err}
 use Rattle.droid_store.specs.Nodes.{node_of}
 use Rattle.droid_store.proofs.NodeEffects.{with_last_node}
 use Rattle.droid_store.proofs.changes.add_node.Goals as goal

@@ -2,8 +2,8 @@ use Rattle.std.proofs.Common.{◌≡◌, OnOk, OnErr, refl, subst, rules}
 use Rattle.sqlite.specs.Held.{state}
 use Rattle.sqlite.specs.Steps.{over_memory}
 use Rattle.sqlite.proofs.Callers.{memory_is_clean}
-use Rattle.droid_sql.specs.Transactions.{Settled}
-use Rattle.droid_sql.proofs.Transactions.{on_err, rolled_back, ends_ok, ends_err}
+use Rattle.droid_store_sql.specs.Transactions.{Settled}
+use Rattle.droid_store_sql.proofs.Transactions.{on_err, rolled_back, ends_ok, ends_err}
 use Rattle.droid_store.specs.Changes.{with_reply, with_finished}
 use Rattle.droid_store.specs.Kept.{kept, Holds}
 use Rattle.droid_store.proofs.Started.{started}

@@ -1,7 +1,7 @@
 use Rattle.std.proofs.Common.{◌≡◌, ◌∙◌, List, Bool, ap, sym, string_bytes}
 use Rattle.sqlite.specs.Order.{column}
 use Rattle.droid_frame.specs.types.method.Method.{Method}
-use Rattle.droid_sql.proofs.Values.{same_flag, same_text}
+use Rattle.droid_store_sql.proofs.Values.{same_flag, same_text}
 use Rattle.droid_store.specs.declared.read_rows.Findings.{Findings}
 use Rattle.droid_store.specs.Encoded.{joined, words_of}
 use Rattle.droid_store.proofs.Decoded.{words_again}

@@ -1,8 +1,8 @@
 use Rattle.std.proofs.Common.{◌≡◌, ℕ, List, length, OnOk, ◌∙◌, subst}
 use Rattle.std.specs.Io.KnownBytes.{Appends}
 use Rattle.droid_frame.specs.ReplyFrames.{reply_frame}
-use Rattle.droid_stream.specs.Writes.{Takes}
-use Rattle.droid_stream.proofs.Scopes.{counts_begin}
+use Rattle.droid_frame.specs.Writes.{Takes}
+use Rattle.droid_frame.proofs.Scopes.{counts_begin}
 use Rattle.droid_wire.proofs.SentWhole.{whole_room, whole_stops, whole_told}
 use Rattle.droid_wire.proofs.sending.send_reply.Goals as goal
 

@@ -4,7 +4,7 @@ use Rattle.droid_wire.specs.declared.fault.ServeFault.{ServeFault}
 use Rattle.droid_wire.specs.Serving.{Outcome}
 use Rattle.droid_wire.proofs.Ends.{stopped, stream_closed}
 use Rattle.droid_wire.proofs.GoingOn.{goes_further, goes_nowhere}
-use Rattle.droid_wire.proofs.Lasting.{lasts_none, lasts_once_more}
+use Rattle.droid_frame.proofs.Lasting.{lasts_none, lasts_once_more}
 use Rattle.droid_wire.proofs.Passing.{if_err_same}
 use Rattle.droid_wire.proofs.SoFar.{so_far_more, so_far_none}
 use Rattle.droid_wire.proofs.serving.serve.Goals as goal

@@ -1,10 +1,10 @@
 -- The frames so far were handled, their replies were written, and both streams lasted.
 use Rattle.std.proofs.Common.{◌≡◌, ◌*◌, ◌≤◌, None, IfSome}
-use Rattle.droid_stream.specs.Seen.{IsSound}
+use Rattle.droid_frame.specs.Seen.{IsSound}
 use Rattle.droid_core.specs.Standing.{StandsFor, limits_of, registry_of}
-use Rattle.droid_history.specs.Histories.{History}
-use Rattle.droid_history.specs.Setting.{Setting}
-use Rattle.droid_wire.specs.Over.{LastsOver}
+use Rattle.droid_core.specs.Histories.{History}
+use Rattle.droid_core.specs.Setting.{Setting}
+use Rattle.droid_frame.specs.Over.{LastsOver}
 use Rattle.droid_wire.specs.Serving.{GoesOnFrom}
 use Rattle.droid_wire.proofs.SoFar.{SoFar}
 use Rattle.droid_wire.proofs.serving.serve.Given as goal

@@ -1,6 +1,6 @@
 use Rattle.std.proofs.Common.{ap, sym, ◌∙◌}
-use Rattle.droid_history.specs.Limits.{Limits}
-use Rattle.droid_parts.specs.declared.parts.Parts.{Parts}
+use Rattle.droid_core_spec.specs.Limits.{Limits}
+use Rattle.droid_core_state.specs.declared.parts.Parts.{Parts}
 use Rattle.droid_core.proofs.Starting.{starts}
 use Rattle.droid_core.proofs.service.Service.new.Goals as goal
 

@@ -1,8 +1,8 @@
 -- The replies so far are those of a run over the requests so far, and there is room for the others.
 use Rattle.std.proofs.Common.{◌≡◌, ◌≤◌, length}
 use Rattle.std.specs.Prelude.{vec_len, vec_capacity}
-use Rattle.droid_history.specs.Histories.{History}
-use Rattle.droid_history.specs.Setting.{Setting}
+use Rattle.droid_core_spec.specs.Histories.{History}
+use Rattle.droid_core_spec.specs.Setting.{Setting}
 use Rattle.droid_core.specs.Running.{Runs}
 use Rattle.droid_core.specs.Standing.{StandsFor, limits_of, registry_of}
 use Rattle.droid_core.proofs.service.Service.run.Given as goal

@@ -1,8 +1,8 @@
 use Rattle.std.proofs.Common.{◌≡◌, None, Some, sym, ◌∙◌}
-use Rattle.droid_history.specs.Histories.{world_of}
+use Rattle.droid_core_spec.specs.Histories.{world_of}
 use Rattle.droid_store.specs.Rows.{reply_for}
-use Rattle.droid_parts.specs.Changes.{answered}
-use Rattle.droid_parts.specs.declared.parts.Parts.{Parts}
+use Rattle.droid_core_state.specs.Changes.{answered}
+use Rattle.droid_core_state.specs.declared.parts.Parts.{Parts}
 use Rattle.droid_core.proofs.Handling.{stands_still, answers_again, answers_anew}
 use Rattle.droid_core.proofs.service.answering.answer.Goals as goal
 

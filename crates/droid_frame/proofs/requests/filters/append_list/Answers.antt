@@ -1,4 +1,4 @@
-use Rattle.droid_body.proofs.FilterSteps.{list_spelled}
+use Rattle.droid_frame_bodies.proofs.FilterSteps.{list_spelled}
 use Rattle.droid_frame.proofs.requests.filters.append_list.Goals as goal
 
 pub returns-clause-spelled : goal.returns-clause-spelled

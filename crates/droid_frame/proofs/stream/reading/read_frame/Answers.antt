@@ -1,4 +1,4 @@
-use Rattle.droid_stream.proofs.Scopes.{counts_begin}
+use Rattle.droid_frame_stream.proofs.Scopes.{counts_begin}
 use Rattle.droid_frame.proofs.StreamCounts.{told_read}
 use Rattle.droid_frame.proofs.StreamArrivals.{accepted, ended}
 use Rattle.droid_frame.proofs.stream.reading.read_frame.Goals as goal

@@ -1,9 +1,9 @@
 -- The first identifiers went out, and they are counted.
 use Rattle.std.proofs.Common.{◌≡◌, ◌+◌, ℕ, length, take}
 use Rattle.std.specs.Io.KnownBytes.{Appends}
-use Rattle.droid_stream.specs.Seen.{Counts}
-use Rattle.droid_stream.specs.Writes.{Takes}
-use Rattle.droid_value.specs.TextLists.{texts_bytes}
+use Rattle.droid_frame_stream.specs.Seen.{Counts}
+use Rattle.droid_frame_stream.specs.Writes.{Takes}
+use Rattle.droid_frame_values.specs.TextLists.{texts_bytes}
 use Rattle.droid_frame.proofs.stream.replies.write_puids.Given as goal
 
 abbrev pub invariant-loop-puid : goal.invariant-loop-puid

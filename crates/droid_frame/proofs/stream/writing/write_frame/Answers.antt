@@ -2,11 +2,11 @@ use Rattle.std.proofs.Common.{◌≡◌, ◌+◌, [], ◌++◌, length, ap, refl
 use Rattle.std.proofs.lemmas.List.{append-nil, length-append}
 use Rattle.std.specs.Io.KnownBytes.{Appends}
 use Rattle.std.proofs.KnownBytes.{Appends-trans}
-use Rattle.droid_stream.specs.declared.fault.WriteFault.{WriteFault}
-use Rattle.droid_stream.specs.Writes.{StopsWithin, Takes}
-use Rattle.droid_stream.proofs.Scopes.{counts_begin}
-use Rattle.droid_stream.proofs.Stopping.{told_stop}
-use Rattle.droid_value.specs.Frames.{frame_bytes}
+use Rattle.droid_frame_stream.specs.declared.fault.WriteFault.{WriteFault}
+use Rattle.droid_frame_stream.specs.Writes.{StopsWithin, Takes}
+use Rattle.droid_frame_stream.proofs.Scopes.{counts_begin}
+use Rattle.droid_frame_stream.proofs.Stopping.{told_stop}
+use Rattle.droid_frame_values.specs.Frames.{frame_bytes}
 use Rattle.droid_frame.specs.StreamWrites.{Stops}
 use Rattle.droid_frame.proofs.StreamEnds.{first_room, told_last, within_part}
 use Rattle.droid_frame.proofs.StreamWrites.{Sent, sent_nothing, sent_more, stops_after, passed_on, on_ok, if_err}

@@ -1,5 +1,5 @@
 use Rattle.std.proofs.Common.{◌≡◌, ◌+◌, ◌∙◌, ap, sym, refl, rules}
-use Rattle.droid_sql.proofs.Transactions.{on_err}
+use Rattle.droid_store_sql.proofs.Transactions.{on_err}
 use Rattle.droid_store.specs.declared.rows.Counts.{Counts}
 use Rattle.droid_store.specs.Changes.{with_reply, without_node}
 use Rattle.droid_store.specs.Kept.{kept}

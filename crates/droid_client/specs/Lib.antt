@@ -1,4 +1,0 @@
-pub mod Cores
-pub mod Desks
-pub mod Places
-pub mod Schedules

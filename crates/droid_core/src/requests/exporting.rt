@@ -1,0 +1,127 @@
+//! Parts of a profile's export.
+
+ghost use Rattle.std.specs.Prelude.{◌≡◌, ◌≤◌, IfOk, IfErr, IsTrue, length};
+ghost use Rattle.droid_core_state.specs.Changes.{Comes, answered};
+ghost use Rattle.droid_core_state.specs.Standing.{IsIn};
+ghost use Rattle.droid_core_state.specs.declared.stamps.Stamp.{Stamp};
+ghost use Rattle.droid_export.specs.Text.{HaveMoments, text};
+ghost use Rattle.droid_frame.specs.Replies.{HasReplySpelling};
+ghost use Rattle.droid_frame.specs.types.request.Request.TheVariants.{Export};
+ghost use Rattle.droid_core_spec.specs.Exported.{part};
+ghost use Rattle.droid_core_spec.specs.Judging.{judge};
+ghost use Rattle.droid_core_spec.specs.Setting.{Setting};
+ghost use Rattle.droid_core_spec.specs.Wants.{is_want_of};
+ghost use Rattle.droid_core_spec.specs.World.{World};
+ghost use Rattle.droid_store.specs.Rows.{records_of};
+
+use droid_core_state::{Parts, export_refusal, is_moment, profile_of, store_refusal};
+use droid_export::export_text;
+use droid_frame::{Blob, Filter, Record, Refusal, Reply};
+use droid_pronom::Registry;
+use droid_store::Store;
+use std::alloc::Global;
+
+/// A part of the export of a profile's records that meet the filter.
+pub fn export(
+    parts: &mut Parts,
+    number: u32,
+    from: u64,
+    max: u32,
+    filter: Filter,
+) -> Result<Reply, Refusal>
+    ensures comes { (setting : Setting) (world : World) (stamp : Stamp) → IsIn setting world parts.old
+        → Comes setting world parts.old parts.new stamp (judge setting world (Export number from max filter)) (answered result) }
+    ensures spelled { HasReplySpelling (answered result) }
+    ensures limits { parts.new.limits ≡ parts.old.limits }
+    ensures registry { parts.new.registry ≡ parts.old.registry }
+{
+    profile_of(&mut parts.store, number)?;
+    if let Some(refusal) = export_refusal(max) {
+        return Err(refusal);
+    }
+    let records = records_in(&mut parts.store, number)?;
+    let text = text_of(parts.alloc, records.as_slice(), &parts.registry, &filter)?;
+    let accepted = accepted_by(&mut parts.store)?;
+    let reply = part_of(parts.alloc, accepted, &text, from, max)?;
+    Ok(reply)
+}
+
+/// The records of a profile, of which each has a moment that can be written.
+fn records_in(store: &mut Store, number: u32) -> Result<Vec<Record>, Refusal>
+    ensures same { store.new ≡ store.old }
+    ensures found { IfOk result (λ records. records.items ≡ records_of number store.old) }
+    ensures moments { IfOk result (λ records. HaveMoments records.items) }
+    ensures want { IfErr result (λ refusal. IsTrue (is_want_of refusal)) }
+{
+    match store.records(number) {
+        Err(fault) => Err(store_refusal(fault)),
+        Ok(records) => {
+            if have_moments(records.as_slice()) {
+                Ok(records)
+            } else {
+                Err(Refusal::Store)
+            }
+        }
+    }
+}
+
+/// Whether each record has a moment that can be written.
+fn have_moments(records: &[Record]) -> bool
+    ensures { IsTrue result → HaveMoments records.now }
+{
+    for node in records {
+        if !is_moment(node.modified) {
+            return false;
+        }
+    }
+    true
+}
+
+/// The text of an export.
+fn text_of(
+    alloc: Global,
+    records: &[Record],
+    registry: &Registry,
+    filter: &Filter,
+) -> Result<Blob, Refusal>
+    requires { HaveMoments records.now }
+    ensures text { IfOk result (λ bytes. bytes ≡ text registry.now filter.now records.now) }
+    ensures want { IfErr result (λ refusal. IsTrue (is_want_of refusal)) }
+{
+    match export_text(alloc, records, registry, filter) {
+        Ok(bytes) => Ok(bytes),
+        Err(_) => Err(Refusal::Memory),
+    }
+}
+
+/// How many commands were accepted.
+fn accepted_by(store: &mut Store) -> Result<u64, Refusal>
+    ensures same { store.new ≡ store.old }
+    ensures found { IfOk result (λ accepted. accepted ≡ length store.old.replies) }
+    ensures want { IfErr result (λ refusal. IsTrue (is_want_of refusal)) }
+{
+    match store.counts() {
+        Ok(counts) => Ok(counts.accepted),
+        Err(fault) => Err(store_refusal(fault)),
+    }
+}
+
+/// The part of a text from a place on. The text is dropped, so its bytes are copied once.
+fn part_of(alloc: Global, accepted: u64, text: &Blob, from: u64, max: u32) -> Result<Reply, Refusal>
+    ensures part { IfOk result (λ reply. reply ≡ part accepted text.now from max) }
+    ensures spelled { max ≤ 1048576 → HasReplySpelling (answered result) }
+    ensures want { IfErr result (λ refusal. IsTrue (is_want_of refusal)) }
+{
+    let bytes = text.as_slice();
+    let start = bytes.len().min(from as usize);
+    let rest = &bytes[start..];
+    let end = rest.len().min(max as usize);
+    match Blob::copy_of(alloc, &rest[..end]) {
+        Ok(bytes) => Ok(Reply::Part {
+            as_of: accepted,
+            total: text.len() as u64,
+            bytes,
+        }),
+        Err(_) => Err(Refusal::Memory),
+    }
+}

@@ -1,0 +1,40 @@
+//! Why an unfinished file is not identified.
+
+ghost use Rattle.std.specs.Prelude.{◌≡◌};
+
+use droid_assembly::Incomplete;
+use std::alloc::AllocError;
+use thiserror::Error;
+
+/// Why an unfinished file is not identified. It stays as it was.
+#[derive(Clone, Copy, Debug, PartialEq, Eq, Error)]
+pub enum IdentifyFault {
+    /// A piece is missing: `missing` is the smallest such index.
+    #[error("piece {missing} is missing")]
+    Incomplete { missing: u32 },
+    /// There was no memory for what is found.
+    #[error("out of memory")]
+    Memory,
+}
+
+impl From<Incomplete> for IdentifyFault {
+    ghost use Rattle.droid_core_files.specs.declared.fault.IdentifyFault.{IdentifyFault};
+
+    ghost from_gives = { λ from fault. fault ≡ IdentifyFault.Incomplete from.missing };
+
+    fn from(fault: Incomplete) -> IdentifyFault {
+        IdentifyFault::Incomplete {
+            missing: fault.missing,
+        }
+    }
+}
+
+impl From<AllocError> for IdentifyFault {
+    ghost use Rattle.droid_core_files.specs.declared.fault.IdentifyFault.{IdentifyFault};
+
+    ghost from_gives = { λ _ fault. fault ≡ IdentifyFault.Memory };
+
+    fn from(_error: AllocError) -> IdentifyFault {
+        IdentifyFault::Memory
+    }
+}

@@ -1,0 +1,264 @@
+//! The unfinished files of a service.
+
+ghost use Rattle.std.specs.Prelude.{◌≡◌, ◌≢◌, ◌+◌, ◌-◌, ◌*◌, ◌^◌, ◌<◌, ◌≤◌, ◌↔◌, ◌++◌, ◌∷◌, [], ℕ, List, length, min, Ok, Err, Some, None, IsTrue, IsOk, IfOk, IfSome, OnOk, OnErr, IsErrOf, IsSome, is_some, false};
+ghost use Rattle.std.specs.Bool.{OnFalse};
+ghost use Rattle.std.specs.List.{slice_get, remove, AllByRecursion};
+ghost use Rattle.md5.specs.Md5.{md5};
+ghost use Rattle.droid_assembly.specs.Pieces.{Piece, IsDue, HasIndex, LacksIndex, held as held_of, bytes_held, missing as missing_of, file_bytes};
+ghost use Rattle.droid_assembly.specs.State.{StandsFor, IsComplete, IsOfSameFile, IsUnchanged, count_of, with_pending, pending_bytes};
+ghost use Rattle.droid_frame.specs.Replies.{IsDigest};
+ghost use Rattle.droid_pronom.specs.Found.{IsFound};
+ghost use Rattle.droid_pronom.specs.RegistryFields.{is_puid};
+
+use crate::fault::IdentifyFault;
+use crate::file::UnfinishedFile;
+use crate::finding::Finding;
+use crate::whole::identify_whole;
+use droid_assembly::{Assembly, PutFault};
+use droid_frame::Blob;
+use droid_pronom::Registry;
+use std::alloc::{AllocError, Global};
+use std::marker::Model;
+
+/// The unfinished files of a service, each with the pieces that were taken of it. A file is found by
+/// the number of its profile and its own number there, which no two of them share.
+#[derive(Debug, Drop)]
+pub struct UnfinishedFiles {
+    files: Vec<UnfinishedFile>,
+    limit: u32,
+}
+
+impl Model for UnfinishedFiles {
+    ghost use Rattle.droid_core_files.specs.Files.{OpenFiles};
+
+    ghost Value = { OpenFiles };
+
+    ghost use Rattle.droid_core_files.specs.Kept.{files_of, IsKept};
+
+    ghost view = { files_of };
+
+    ghost invariant = { IsKept };
+}
+
+impl UnfinishedFiles {
+    ghost use Rattle.droid_core_files.specs.Files.{OpenFile, AreDistinct, IsAt, At, Turns, IsAlikeBut, is_of, open_at};
+
+    /// No file, with room for `limit` of them. Only want of memory refuses it, and of the later calls
+    /// only `identify` takes any.
+    pub fn new(alloc: Global, limit: u32) -> Result<UnfinishedFiles, AllocError>
+        requires { limit ≤ 64 }
+        ensures none { IfOk result (λ all. all.files ≡ []) }
+        ensures limit { IfOk result (λ all. all.limit ≡ limit) }
+    {
+        Ok(UnfinishedFiles {
+            files: Vec::with_capacity(alloc, limit as usize)?,
+            limit,
+        })
+    }
+
+    /// How many files there are.
+    pub fn len(&self) -> u32
+        ensures count { result ≡ length self.now.files }
+        ensures within { result ≤ self.now.limit }
+        ensures few { self.now.limit ≤ 64 }
+    {
+        self.files.len() as u32
+    }
+
+    /// How many files there can be.
+    pub fn limit(&self) -> u32
+        ensures limit { result ≡ self.now.limit }
+        ensures few { result ≤ 64 }
+    {
+        self.limit
+    }
+
+    /// Whether there is no file.
+    pub fn is_empty(&self) -> bool
+        ensures { IsTrue result ↔ (self.now.files ≡ []) }
+    {
+        self.files.is_empty()
+    }
+
+    /// Whether there are as many as there can be.
+    pub fn is_full(&self) -> bool
+        ensures full { IsTrue result ↔ (length self.now.files ≡ self.now.limit) }
+        ensures room { OnFalse result (length self.now.files < self.now.limit) }
+    {
+        self.len() == self.limit
+    }
+
+    /// The place of the file of this number in this profile, counted from 0.
+    pub fn place_of(&self, profile: u32, file: u32) -> Option<usize>
+        ensures none { (result ≡ None) ↔ (open_at profile file self.now.files ≡ None) }
+        ensures place { IfSome result (λ place. slice_get self.now.files place ≡ open_at profile file self.now.files) }
+        ensures within { IfSome result (λ place. place < length self.now.files) }
+        ensures distinct { AreDistinct self.now.files }
+    {
+        self.files
+            .iter()
+            .position(|other| other.profile == profile && other.file == file)
+    }
+
+    /// Adds a file, which is not among them, at the end.
+    pub fn add(&mut self, profile: u32, file: u32, assembly: Assembly)
+        requires room { length self.old.files < self.old.limit }
+        requires fresh { open_at profile file self.old.files ≡ None }
+        requires narrow { assembly.limit ≤ 65536 }
+        ensures files { self.new.files ≡ self.old.files ++ record { profile = profile; file = file; assembly = assembly } ∷ [] }
+        ensures limit { self.new.limit ≡ self.old.limit }
+    {
+        self.files
+            .push(UnfinishedFile {
+                profile,
+                file,
+                assembly,
+            })
+            .unwrap();
+    }
+
+    /// Drops the file at this place with all its pieces. Those after it move up by one place.
+    pub fn remove(&mut self, place: usize)
+        requires { place < length self.old.files }
+        ensures files { self.new.files ≡ remove self.old.files place }
+        ensures gone { (file : OpenFile) → IsAt self.old.files place file → open_at file.profile file.file self.new.files ≡ None }
+        ensures others { (file : OpenFile) (profile number : ℕ) → IsAt self.old.files place file → is_of profile number file ≡ false
+            → open_at profile number self.new.files ≡ open_at profile number self.old.files }
+        ensures count { length self.new.files + 1 ≡ length self.old.files }
+        ensures limit { self.new.limit ≡ self.old.limit }
+    {
+        self.files.remove(place);
+    }
+
+    /// Makes this piece the pending one of the file at this place, or hands its bytes back and changes
+    /// nothing. The first condition that holds is answered, as `Assembly::put` says.
+    pub fn put(&mut self, place: usize, index: u32, bytes: Blob) -> Result<(), PutFault>
+        requires within { place < length self.old.files }
+        requires none_pending { At self.old place (λ file. file.pending ≡ None) }
+        ensures bad_piece { At self.old place (λ file. IsErrOf result (PutFault.BadPiece bytes)
+            ↔ (¬ IsDue file.size file.piece_size (index, bytes))) }
+        ensures piece_held { At self.old place (λ file. (pieces : List Piece) → StandsFor file pieces
+            → (IsErrOf result (PutFault.PieceHeld bytes)
+            ↔ (IsDue file.size file.piece_size (index, bytes) × HasIndex pieces index))) }
+        ensures too_far_ahead { At self.old place (λ file. (pieces : List Piece) → StandsFor file pieces
+            → let missing = missing_of (count_of file) pieces in
+            (IsErrOf result (PutFault.TooFarAhead missing bytes)
+            ↔ (IsDue file.size file.piece_size (index, bytes) × LacksIndex pieces index × (missing + 16 ≤ index)))) }
+        ensures ok { At self.old place (λ file. (pieces : List Piece) → StandsFor file pieces
+            → let missing = missing_of (count_of file) pieces in
+            (IsOk result
+            ↔ (IsDue file.size file.piece_size (index, bytes) × LacksIndex pieces index × (index < missing + 16)))) }
+
+        // What stands afterwards.
+        ensures pending { OnOk result (Turns self.old self.new place (λ before after. after ≡ with_pending before (Some (index, bytes)))) }
+        ensures err { OnErr result (self.new ≡ self.old) }
+        ensures stands { Turns self.old self.new place (λ before after. (pieces : List Piece) → StandsFor before pieces → StandsFor after pieces) }
+        ensures others { IsAlikeBut place self.old self.new }
+    {
+        self.files[place].assembly.put(index, bytes)
+    }
+
+    /// Drops the pending piece of the file at this place, so that it is as before its `put`.
+    pub fn take_back(&mut self, place: usize)
+        requires within { place < length self.old.files }
+        requires pending { At self.old place (λ file. IsSome file.pending) }
+        ensures as_before { Turns self.old self.new place (λ before after. after ≡ with_pending before None) }
+        ensures stands { Turns self.old self.new place (λ before after. (pieces : List Piece) → StandsFor before pieces → StandsFor after pieces) }
+        ensures others { IsAlikeBut place self.old self.new }
+    {
+        self.files[place].assembly.take_back();
+    }
+
+    /// Takes the pending piece of the file at this place for good. Pieces that are no longer needed
+    /// then are dropped.
+    pub fn settle(&mut self, place: usize)
+        requires within { place < length self.old.files }
+        requires pending { At self.old place (λ file. IsSome file.pending) }
+        ensures stands { Turns self.old self.new place (λ before after. (pieces : List Piece) (piece : Piece) → StandsFor before pieces
+            → before.pending ≡ Some piece → StandsFor after (pieces ++ piece ∷ [])) }
+        ensures same_file { Turns self.old self.new place IsOfSameFile }
+        ensures none_pending { Turns self.old self.new place (λ before after. after.pending ≡ None) }
+        ensures others { IsAlikeBut place self.old self.new }
+    {
+        self.files[place].assembly.settle();
+    }
+
+    /// How many pieces of the file at this place are settled.
+    pub fn held(&self, place: usize) -> u32
+        requires { place < length self.now.files }
+        ensures count { At self.now place (λ file. (pieces : List Piece) → StandsFor file pieces → result ≡ held_of pieces) }
+
+        // Each of the files stands for some list of pieces.
+        ensures stands { At self.now place (λ file. (pieces : List Piece) × StandsFor file pieces) }
+        ensures few { result ≤ 2 ^ 20 + 16 }
+    {
+        self.files[place].assembly.held()
+    }
+
+    /// The smallest index that is not settled of the file at this place, or the number of its pieces
+    /// where all are.
+    pub fn missing(&self, place: usize) -> u32
+        requires { place < length self.now.files }
+        ensures least { At self.now place (λ file. (pieces : List Piece) → StandsFor file pieces → result ≡ missing_of (count_of file) pieces) }
+        ensures within { At self.now place (λ file. result ≤ count_of file) }
+        ensures complete { At self.now place (λ file. IsComplete file ↔ (result ≡ count_of file)) }
+    {
+        self.files[place].assembly.missing()
+    }
+
+    /// Whether a piece of the file at this place is pending.
+    pub fn has_pending(&self, place: usize) -> bool
+        requires { place < length self.now.files }
+        ensures { At self.now place (λ file. result ≡ is_some file.pending) }
+    {
+        self.files[place].assembly.pending().is_some()
+    }
+
+    /// How many bytes are kept of the file at this place: in its two windows, and of the pieces that
+    /// wait and the pending one.
+    pub fn kept_bytes(&self, place: usize) -> u64
+        requires { place < length self.now.files }
+        ensures kept { At self.now place (λ file. (pieces : List Piece) → StandsFor file pieces
+            → let before = length (file_bytes (missing_of (count_of file) pieces) pieces) in
+            result ≡ 2 * min file.limit before + (bytes_held pieces - before) + pending_bytes file.pending) }
+        ensures bound { At self.now place (λ file. result ≤ 2 * min file.limit file.size + 16 * file.piece_size) }
+    {
+        self.files[place].assembly.kept_bytes()
+    }
+
+    /// Identifies the file at this place by its name and its first and last bytes, where no piece of
+    /// it is missing: its size, its MD5 and what the registry finds. It may be asked for again, and
+    /// changes nothing that another call tells.
+    pub fn identify(
+        &mut self,
+        alloc: Global,
+        place: usize,
+        registry: &Registry,
+        name: &str,
+        match_all: bool,
+    ) -> Result<Finding, IdentifyFault>
+        requires within { place < length self.old.files }
+        requires none_pending { At self.old place (λ file. file.pending ≡ None) }
+        // Exactly where a piece is missing it says which is the first.
+        ensures incomplete { At self.old place (λ file. (pieces : List Piece) (missing : ℕ) → StandsFor file pieces
+            → (IsErrOf result (IdentifyFault.Incomplete missing)
+            ↔ ((missing ≡ missing_of (count_of file) pieces) × (missing < count_of file)))) }
+        ensures complete { OnOk result (At self.old place IsComplete) }
+        ensures size { At self.old place (λ file. (pieces : List Piece) → StandsFor file pieces
+            → IfOk result (λ finding. finding.sealed.size ≡ length (file_bytes (count_of file) pieces))) }
+        ensures digest { At self.old place (λ file. (pieces : List Piece) → StandsFor file pieces
+            → IfOk result (λ finding. finding.sealed.md5 ≡ md5 (file_bytes (count_of file) pieces))) }
+        ensures sixteen { IfOk result (λ finding. IsDigest finding.sealed.md5) }
+        ensures found { At self.old place (λ file. (pieces : List Piece) → StandsFor file pieces
+            → IfOk result (λ finding. IsFound registry.now name.now (file_bytes (count_of file) pieces) file.limit match_all finding.found)) }
+        ensures few { IfOk result (λ finding. length finding.found.puids ≤ 4096) }
+        ensures puids { IfOk result (λ finding. AllByRecursion (λ puid. IsTrue (is_puid puid)) finding.found.puids) }
+
+        // What stands afterwards.
+        ensures unchanged { Turns self.old self.new place IsUnchanged }
+        ensures others { IsAlikeBut place self.old self.new }
+    {
+        let file = &mut self.files[place].assembly;
+        identify_whole(alloc, file, registry, name, match_all)
+    }
+}

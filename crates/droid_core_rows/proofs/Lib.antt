@@ -1,0 +1,16 @@
+pub mod Abandoned
+pub mod Added
+pub mod Apart
+pub mod Finished
+pub mod InPlace
+pub mod Items
+pub mod Lists
+pub mod LookUps
+pub mod Made
+pub mod NodeTests
+pub mod Paths
+pub mod Replying
+pub mod RowsOfNodes
+pub mod Soundness
+pub mod Taken
+pub mod Unfinished

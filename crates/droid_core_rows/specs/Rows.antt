@@ -1,0 +1,72 @@
+-- The rows of profiles and nodes that stand for a world.
+use Rattle.std.specs.Prelude.{◌≡◌, ℕ, ◌+◌, ◌==◌, if◌then◌else◌, List, [], ◌∷◌, ◌++◌, length, map, filter, Option, Some, None}
+use Rattle.md5.specs.Md5.{md5}
+use Rattle.droid_core_spec.specs.Files.{bytes_of, finding_of}
+use Rattle.droid_core_spec.specs.Records.{option_list}
+use Rattle.droid_core_spec.specs.Setting.{Setting}
+use Rattle.droid_core_spec.specs.World.{Content, Node, Folder, File, Abandoned, Profile, World, numbered, path}
+use Rattle.droid_store.specs.Changes as changes
+use Rattle.droid_store.specs.declared.rows.ProfileRow.{ProfileRow}
+use Rattle.droid_store.specs.Rows as rows
+use Rattle.droid_store.specs.Rows.{Rows}
+
+-- the row of a profile; its nodes are counted, also those that were abandoned
+abbrev pub profile_row : Profile → ProfileRow
+profile_row profile = record { scan_limit = profile.scan_limit; match_all = profile.match_all; nodes = length profile.nodes }
+
+-- the row of a file: with what was found in it where it is finished
+abbrev pub file_row : Setting → Profile → List ℕ → Content → rows.Node → rows.Node
+file_row setting profile name content plain =
+    if content.finished
+    then changes.finished (finding_of setting profile name content).method (finding_of setting profile name content).mismatch
+    (md5 (bytes_of content)) (finding_of setting profile name content).puids plain
+    else plain
+
+-- the row of the node with this number in the profile with that number; an abandoned one has none
+abbrev pub node_row : Setting → ℕ → Profile → ℕ → Node → Option rows.Node
+node_row setting number profile id (Folder parent modified name) =
+    Some (changes.new_folder number id parent modified name (path profile.nodes id))
+node_row setting number profile id (File parent modified name content) =
+    Some (file_row setting profile name content
+    (changes.new_file number id parent modified content.size content.piece_size name (path profile.nodes id)))
+node_row setting number profile id Abandoned = None
+
+-- the rows of the nodes from this number on
+abbrev pub node_rows_from : Setting → ℕ → Profile → ℕ → List Node → List rows.Node
+node_rows_from setting number profile id [] = []
+node_rows_from setting number profile id (node ∷ nodes) =
+    option_list (node_row setting number profile id node) ++ node_rows_from setting number profile (id + 1) nodes
+
+-- the rows of all nodes of the profile, by number; where there is no profile there is no row
+abbrev pub node_rows : Setting → ℕ → Option Profile → List rows.Node
+node_rows setting number None = []
+node_rows setting number (Some profile) = node_rows_from setting number profile 1 profile.nodes
+
+-- the rows of this profile's nodes, in order
+abbrev pub rows_in : ℕ → Rows → List rows.Node
+rows_in number rows = filter (λ node. node.profile == number) rows.nodes
+
+-- the profile rows are the world's
+abbrev pub KeepsProfiles : World → Rows → Type 0
+KeepsProfiles world rows = rows.profiles ≡ map profile_row world.profiles
+
+-- the node rows are the world's, profile by profile, with abandoned nodes left out and finished files as found
+abbrev pub KeepsNodes : Setting → World → Rows → Type 0
+KeepsNodes setting world rows = (number : ℕ) → rows_in number rows ≡ node_rows setting number (numbered world.profiles number)
+
+-- the rows stand for the world, of which each accepted command has a reply row
+pub record KeepsWorld (setting : Setting) (world : World) (rows : Rows) : Type 0 where
+  pub profiles : KeepsProfiles world rows
+  pub nodes : KeepsNodes setting world rows
+  pub accepted : length rows.replies ≡ world.accepted
+
+-- ---- what is found of a node
+
+-- the row of the node with this number, where the profile has had one and it was not abandoned
+abbrev pub stored_in : Setting → ℕ → Profile → ℕ → Option Node → Option rows.Node
+stored_in setting number profile id None = None
+stored_in setting number profile id (Some node) = node_row setting number profile id node
+
+abbrev pub stored : Setting → ℕ → ℕ → Option Profile → Option rows.Node
+stored setting number id None = None
+stored setting number id (Some profile) = stored_in setting number profile id (numbered profile.nodes id)

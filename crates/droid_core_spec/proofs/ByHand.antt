@@ -1,0 +1,183 @@
+-- Worked rows, computed in the definitions.
+use Rattle.std.proofs.Common.{◌≡◌, ℕ, List, [], ◌∷◌, refl, true, false}
+use Rattle.std.specs.Prelude.{pos, codes, map}
+use Rattle.std.specs.List.{flat_map}
+use Rattle.md5.specs.Md5.{md5}
+use Rattle.droid_core_spec.specs.Records.{records}
+use Rattle.droid_frame.specs.types.method.Method.TheVariants.{Unidentified}
+use Rattle.droid_frame.specs.types.refusal.Limit.TheVariants as reached
+use Rattle.droid_frame.specs.types.refusal.Refusal.TheVariants as refusals
+use Rattle.droid_frame.specs.types.reply.Reply.TheVariants as replies
+use Rattle.droid_frame.specs.types.request.Request.{Request}
+use Rattle.droid_frame.specs.types.request.Request.TheVariants.{CreateProfile, AddFolder, AddFile, Piece, Finish, Abandon, Status, Export}
+use Rattle.droid_frame.specs.types.reply.Reply.{Reply}
+use Rattle.droid_core_spec.specs.Limits.{Limits}
+use Rattle.droid_core_spec.specs.Conditions.{is_scan_limit, is_piece_size, is_too_large, is_moment, is_bad_name, is_missing, is_file, is_too_deep}
+use Rattle.droid_core_spec.specs.Histories.{verdict_reply, world_after}
+use Rattle.droid_core_spec.specs.Judging.{judge}
+use Rattle.droid_core_spec.specs.Setting.{Setting}
+use Rattle.droid_core_spec.specs.World.{World, empty_world, is_taken}
+use Rattle.droid_assembly.specs.Pieces.{missing, file_bytes}
+
+abbrev plain : Limits → Setting
+plain limits = record {
+  limits = limits;
+  identify = λ name bytes limit all. record { method = Unidentified; mismatch = false; puids = [] };
+  export_text = λ records filter. [];
+}
+
+abbrev usual : Setting
+usual = plain (record { profiles = 64; nodes = 100000; unfinished = 64 })
+
+-- the replies to requests under new numbers, one after the other
+abbrev replies_from : Setting → World → List Request → List Reply
+replies_from setting world [] = []
+replies_from setting world (request ∷ requests) =
+    verdict_reply (judge setting world request) ∷ replies_from setting (world_after world (judge setting world request)) requests
+
+-- too far ahead: w of 20 pieces of one byte
+pub too_far_ahead : replies_from usual empty_world (
+    CreateProfile 65536 false
+    ∷ AddFile 1 0 (pos 0) 20 1 (codes "w")
+    ∷ Piece 1 1 15 (112 ∷ [])
+    ∷ Piece 1 1 16 (113 ∷ [])
+    ∷ Piece 1 1 0 (97 ∷ [])
+    ∷ Piece 1 1 16 (113 ∷ [])
+    ∷ Status 1 1
+    ∷ []
+    ) ≡ replies.Made 1 ∷ replies.Node 1 ∷ replies.Taken 1 ∷ replies.Refused (refusals.TooFarAhead 0) ∷ replies.Taken 2 ∷ replies.Taken 3 ∷ replies.Progress 3 1 ∷ []
+unfolding judge is_scan_limit is_piece_size is_too_large is_moment is_bad_name is_missing is_file is_too_deep is_taken missing file_bytes
+too_far_ahead = refl
+
+-- bad pieces and one that is held: m.msg, 14 bytes in pieces of 4
+pub bad_and_held_pieces : replies_from usual empty_world (
+    CreateProfile 65536 false
+    ∷ AddFile 1 0 (pos 0) 14 4 (codes "m.msg")
+    ∷ Piece 1 1 0 (codes "mess")
+    ∷ Piece 1 1 0 (codes "mess")
+    ∷ Piece 1 1 3 (codes "s")
+    ∷ Piece 1 1 3 (codes "stt")
+    ∷ Piece 1 1 4 (codes "s")
+    ∷ Piece 1 1 3 (codes "st")
+    ∷ Finish 1 1
+    ∷ []
+    ) ≡ replies.Made 1 ∷ replies.Node 1 ∷ replies.Taken 1 ∷ replies.Refused refusals.PieceHeld ∷ replies.Refused refusals.BadPiece ∷ replies.Refused refusals.BadPiece
+    ∷ replies.Refused refusals.BadPiece ∷ replies.Taken 2 ∷ replies.Refused (refusals.Incomplete 1) ∷ []
+unfolding judge is_scan_limit is_piece_size is_too_large is_moment is_bad_name is_missing is_file is_too_deep is_taken missing file_bytes
+bad_and_held_pieces = refl
+
+-- an abandoned file's number isn't given again, and its name is free
+pub abandoned : replies_from usual empty_world (
+    CreateProfile 65536 false
+    ∷ AddFile 1 0 (pos 0) 4 4 (codes "x")
+    ∷ Abandon 1 1
+    ∷ Piece 1 1 0 (codes "aaaa")
+    ∷ AddFile 1 0 (pos 0) 4 4 (codes "x")
+    ∷ Status 1 1
+    ∷ Status 1 2
+    ∷ []
+    ) ≡ replies.Made 1 ∷ replies.Node 1 ∷ replies.Abandoned ∷ replies.Refused refusals.NoSuchNode ∷ replies.Node 2 ∷ replies.Refused refusals.NoSuchNode ∷ replies.Progress 0 0 ∷ []
+unfolding judge is_scan_limit is_piece_size is_too_large is_moment is_bad_name is_missing is_file is_too_deep is_taken missing file_bytes
+abandoned = refl
+
+-- one unfinished file at a time; the limit is judged after the size
+pub limit_of_unfinished : replies_from (plain (record { profiles = 1; nodes = 9; unfinished = 1 })) empty_world (
+    CreateProfile 65536 false
+    ∷ CreateProfile 65536 false
+    ∷ AddFile 1 0 (pos 0) 4 4 (codes "x")
+    ∷ AddFile 1 0 (pos 0) 4 4 (codes "y")
+    ∷ AddFile 1 0 (pos 0) 1099511627777 1048576 (codes "y")
+    ∷ AddFile 1 0 (pos 0) 1048577 1 (codes "y")
+    ∷ AddFile 1 0 (pos 0) 4 0 (codes "y")
+    ∷ AddFile 1 0 (pos 0) 4 1048577 (codes "y")
+    ∷ AddFile 1 0 (pos 0) 4 4 (codes "x")
+    ∷ AddFile 1 1 (pos 0) 4 4 (codes "y")
+    ∷ Abandon 1 1
+    ∷ AddFile 1 0 (pos 0) 4 4 (codes "y")
+    ∷ []
+    ) ≡ replies.Made 1 ∷ replies.Refused (refusals.LimitReached reached.Profiles) ∷ replies.Node 1 ∷ replies.Refused (refusals.LimitReached reached.Unfinished)
+    ∷ replies.Refused refusals.TooLarge ∷ replies.Refused refusals.TooLarge ∷ replies.Refused refusals.BadOption ∷ replies.Refused refusals.BadOption
+    ∷ replies.Refused refusals.NameTaken ∷ replies.Refused refusals.NotAFolder ∷ replies.Abandoned ∷ replies.Node 2 ∷ []
+unfolding judge is_scan_limit is_piece_size is_too_large is_moment is_bad_name is_missing is_file is_too_deep is_taken missing file_bytes
+limit_of_unfinished = refl
+
+-- pieces out of order, and what is asked after the file is finished
+abbrev message_requests : List Request
+message_requests =
+    CreateProfile 65536 false
+    ∷ AddFile 1 0 (pos 0) 14 4 (codes "m.msg")
+    ∷ Piece 1 1 3 (codes "st")
+    ∷ Piece 1 1 1 (codes "age ")
+    ∷ Piece 1 1 0 (codes "mess")
+    ∷ Piece 1 1 2 (codes "dige")
+    ∷ Finish 1 1
+    ∷ Piece 1 1 2 (codes "dige")
+    ∷ Finish 1 1
+    ∷ Abandon 1 1
+    ∷ Status 1 1
+    ∷ []
+
+pub pieces_out_of_order : replies_from usual empty_world message_requests
+    ≡ replies.Made 1 ∷ replies.Node 1 ∷ replies.Taken 1 ∷ replies.Taken 2 ∷ replies.Taken 3 ∷ replies.Taken 4
+    ∷ replies.Finished Unidentified false (md5 (codes "message digest")) [] ∷ replies.Refused refusals.AlreadyFinished ∷ replies.Refused refusals.AlreadyFinished
+    ∷ replies.Refused refusals.AlreadyFinished ∷ replies.Progress 4 4 ∷ []
+unfolding judge is_scan_limit is_piece_size is_too_large is_moment is_bad_name is_missing is_file is_too_deep is_taken missing file_bytes
+pieces_out_of_order = refl
+
+-- an empty file is complete at once; a folder is no file, a file is no folder
+pub empty_file_and_kinds : replies_from usual empty_world (
+    CreateProfile 65536 false
+    ∷ AddFile 1 0 (pos 0) 0 4 (codes "e.txt")
+    ∷ Finish 1 1
+    ∷ AddFolder 1 0 (pos 0) (codes "in")
+    ∷ Finish 1 2
+    ∷ Status 1 2
+    ∷ AddFolder 1 1 (pos 0) (codes "in")
+    ∷ AddFile 1 2 (pos 0) 1 1 (codes "..")
+    ∷ AddFile 1 9 (pos 0) 1 1 (codes "f")
+    ∷ AddFile 2 0 (pos 0) 1 1 (codes "f")
+    ∷ AddFile 1 0 (pos 253402300800) 1 1 (codes "f")
+    ∷ AddFile 1 2 (pos 0) 1 1 (codes "f")
+    ∷ []
+    ) ≡ replies.Made 1 ∷ replies.Node 1 ∷ replies.Finished Unidentified false (md5 []) [] ∷ replies.Node 2 ∷ replies.Refused refusals.NotAFile ∷ replies.Refused refusals.NotAFile
+    ∷ replies.Refused refusals.NotAFolder ∷ replies.Refused refusals.BadName ∷ replies.Refused refusals.NoSuchNode ∷ replies.Refused refusals.NoSuchProfile
+    ∷ replies.Refused refusals.BadOption ∷ replies.Node 3 ∷ []
+unfolding judge is_scan_limit is_piece_size is_too_large is_moment is_bad_name is_missing is_file is_too_deep is_taken missing file_bytes
+empty_file_and_kinds = refl
+
+-- slices of an export, over a text of nine bytes; a query isn't counted as accepted
+pub slices_of_an_export : replies_from (record usual { export_text = λ records filter. codes "ten bytes" }) empty_world (
+    CreateProfile 65536 false
+    ∷ AddFolder 1 0 (pos 0) (codes "in")
+    ∷ Export 1 0 1048576 (record { all = true; criteria = [] })
+    ∷ Export 1 4 3 (record { all = true; criteria = [] })
+    ∷ Export 1 9 9 (record { all = true; criteria = [] })
+    ∷ Export 1 10 9 (record { all = true; criteria = [] })
+    ∷ Export 1 0 0 (record { all = true; criteria = [] })
+    ∷ Export 2 0 0 (record { all = true; criteria = [] })
+    ∷ []
+    ) ≡ replies.Made 1 ∷ replies.Node 1 ∷ replies.Part 2 9 (codes "ten bytes") ∷ replies.Part 2 9 (codes "byt") ∷ replies.Part 2 9 [] ∷ replies.Part 2 9 []
+    ∷ replies.Refused refusals.BadOption ∷ replies.Refused refusals.NoSuchProfile ∷ []
+unfolding judge is_scan_limit is_piece_size is_too_large is_moment is_bad_name is_missing is_file is_too_deep is_taken missing file_bytes
+slices_of_an_export = refl
+
+-- the records of a profile: the folder and the finished file, not the unfinished nor the abandoned one
+abbrev world_from : Setting → World → List Request → World
+world_from setting world [] = world
+world_from setting world (request ∷ requests) = world_from setting (world_after world (judge setting world request)) requests
+
+abbrev records_shown : World → List (ℕ × List ℕ)
+records_shown world = map (λ record_. (record_.id, record_.path)) (flat_map (λ profile. records usual profile) world.profiles)
+
+pub records_of_a_profile : records_shown (world_from usual empty_world (
+    CreateProfile 65536 false
+    ∷ AddFolder 1 0 (pos 0) (codes "in")
+    ∷ AddFile 1 1 (pos 0) 0 4 (codes "e.txt")
+    ∷ AddFile 1 1 (pos 0) 1 4 (codes "u.txt")
+    ∷ AddFile 1 1 (pos 0) 1 4 (codes "x.txt")
+    ∷ Finish 1 2
+    ∷ Abandon 1 4
+    ∷ []
+    )) ≡ (1, codes "/in") ∷ (2, codes "/in/e.txt") ∷ []
+unfolding judge is_scan_limit is_piece_size is_too_large is_moment is_bad_name is_missing is_file is_too_deep is_taken missing file_bytes
+records_of_a_profile = refl

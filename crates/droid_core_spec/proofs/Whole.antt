@@ -1,0 +1,182 @@
+-- Each file of a world has as many pieces as indexes that are there, and a finished one lacks none: each request leaves it so.
+use Rattle.std.proofs.Common.{◌≡◌, inl, inr, ℕ, zero, suc, ℤ, ◌+◌, ◌-◌, ◌<◌, nat_lt, List, [], ◌∷◌, length, fold, true, false, ◌==◌, Option, Some, None, refl, sym, ap, ◌∙◌, arith}
+use Rattle.std.proofs.lemmas.Bool.{cases_Bool, and_parts, not-false, ltb-true, ltb-false}
+use Rattle.std.proofs.lemmas.List.{length-append}
+use Rattle.std.specs.List.{AllByRecursion}
+use Rattle.droid_assembly.specs.Pieces.{due_length}
+use Rattle.droid_assembly.proofs.Indexes.{missing_before}
+use Rattle.droid_frame.specs.types.refusal.Refusal.{Refusal}
+use Rattle.droid_frame.specs.types.request.Request.{Request}
+use Rattle.droid_frame.specs.types.request.Request.TheVariants.{CreateProfile, AddFolder, AddFile, Piece, Finish, Abandon, Status, Export}
+use Rattle.droid_core_spec.specs.Exported.{part_of}
+use Rattle.droid_core_spec.specs.Files.{count_of, missing_of, is_due, with_piece, as_finished, progress_of}
+use Rattle.droid_core_spec.specs.Histories.{History, Entry, world_after, world_asked, world_of, command}
+use Rattle.droid_core_spec.specs.Judging.{Verdict, Answered, Check, refusal_of, unless_refused, in_profile, in_file, create_checks, folder_checks, file_checks, piece_checks, finish_checks, abandon_checks, export_checks, judge, world_set, with_node, node_set}
+use Rattle.droid_core_spec.specs.Setting.{Setting}
+use Rattle.droid_core_spec.specs.Whole.{IsWhole, FinishedAreWhole}
+use Rattle.droid_core_spec.specs.World.{Content, Node, Folder, File, Abandoned, Profile, World, empty_world, numbered, node_at, unless_abandoned}
+use Rattle.droid_core_spec.proofs.Counted.{there_below, none_below, one_more_below, all_below, missing_within, lacks_where_none}
+use Rattle.droid_core_spec.proofs.Each.{each_at, each_with_one_more, each_with_one_set}
+
+-- as many pieces as indexes, and none missing where it is finished
+pub record IsCounted (content : Content) : Type 0 where
+  pub taken : length content.pieces ≡ there_below (count_of content) content.pieces
+  pub complete : content.finished ≡ true → missing_of content ≡ count_of content
+
+abbrev pub IsCountedNode : Node → Type 0
+IsCountedNode (Folder parent modified name) = Unit {0}
+IsCountedNode (File parent modified name content) = IsCounted content
+IsCountedNode Abandoned = Unit {0}
+
+abbrev pub IsCountedProfile : Profile → Type 0
+IsCountedProfile profile = AllByRecursion IsCountedNode profile.nodes
+
+abbrev pub AreCounted : World → Type 0
+AreCounted world = AllByRecursion IsCountedProfile world.profiles
+
+-- ---- a file
+
+counted_new : (size piece_size : ℕ) → IsCounted (record { size = size; piece_size = piece_size; pieces = []; finished = false })
+counted_new size piece_size = record {
+  taken = sym (none_below (count_of (record { size = size; piece_size = piece_size; pieces = []; finished = false })));
+  complete = λ is. absurd cc;
+}
+
+-- where nothing is refused, no condition holds
+none_holds : (checks : List Check) → refusal_of checks ≡ None → AllByRecursion (λ (check : Check). check.0 ≡ false) checks
+none_holds [] none = tt
+none_holds (check ∷ checks) none = elim (cases_Bool check.0) [
+  | inl is ↦ absurd (let it = rw is at none in cc)
+  | inr isnt ↦ (isnt, none_holds checks (rw isnt at none))
+]
+
+counted_taken : (content : Content) (index : ℕ) (bytes : List ℕ) → IsCounted content → refusal_of (piece_checks content index bytes) ≡ None → IsCounted (with_piece content index bytes)
+counted_taken content index bytes counted none =
+    let all = none_holds (piece_checks content index bytes) none in
+    let due = and_parts (nat_lt index (count_of content)) (length bytes == due_length content.size content.piece_size index) (not-false (is_due content index bytes) all.1.0) in
+    let within : index < count_of content = ltb-true index (count_of content) due.0 in
+    let more = one_more_below (count_of content) content.pieces (index, bytes) within (lacks_where_none content.pieces index all.1.1.0) in
+    record {
+      taken = length-append content.pieces ((index, bytes) ∷ []) ∙ (ap (λ n. n + 1) counted.taken ∙ sym more);
+      complete = λ is. absurd (let unfinished = all.0 in cc);
+    }
+
+counted_finished : (content : Content) → IsCounted content → refusal_of (finish_checks content) ≡ None → IsCounted (as_finished content)
+counted_finished content counted none =
+    let all = none_holds (finish_checks content) none in
+    let past = ltb-false (missing_of content) (count_of content) all.1.0 in
+    record {
+      taken = counted.taken;
+      complete = λ is. omega (arith, past, missing_within (count_of content) content.pieces);
+    }
+
+pub whole_where_finished : (content : Content) → IsCounted content → content.finished ≡ true → IsWhole content
+whole_where_finished content counted is =
+    let none_missing = counted.complete is in
+    record {
+      none_missing = none_missing;
+      all_taken = counted.taken ∙ all_below (count_of content) content.pieces (λ k below. missing_before (count_of content) content.pieces k (omega (arith, none_missing, below)));
+    }
+
+-- ---- a profile of a world, and a file of a profile
+
+pub counted_profile : (world : World) (number : ℕ) (profile : Profile) → AreCounted world → numbered world.profiles number ≡ Some profile → IsCountedProfile profile
+counted_profile world zero profile counted is = absurd cc
+counted_profile world (suc place) profile counted is = each_at IsCountedProfile world.profiles place profile counted is
+
+same_content : (found : Option Node) (parent : ℕ) (modified : ℤ) (name : List ℕ) (content : Content) → unless_abandoned found ≡ Some (File parent modified name content)
+    → found ≡ Some (File parent modified name content)
+same_content None parent modified name content is = absurd cc
+same_content (Some (Folder p m n)) parent modified name content is = is
+same_content (Some (File p m n c)) parent modified name content is = is
+same_content (Some Abandoned) parent modified name content is = absurd cc
+
+pub counted_file : (nodes : List Node) (id parent : ℕ) (modified : ℤ) (name : List ℕ) (content : Content) → AllByRecursion IsCountedNode nodes → node_at nodes id ≡ Some (File parent modified name content)
+    → IsCounted content
+counted_file nodes zero parent modified name content counted is = absurd cc
+counted_file nodes (suc place) parent modified name content counted is =
+    each_at IsCountedNode nodes place (File parent modified name content) counted (same_content _ parent modified name content is)
+
+-- ---- a world after a request
+
+module _ (world : World) (counted : AreCounted world) where
+  after_checks : (refused : Option Refusal) (verdict : Verdict) → (refused ≡ None → AreCounted (world_after world verdict)) → AreCounted (world_after world (unless_refused refused verdict))
+  after_checks (Some refusal) verdict accepted = counted
+  after_checks None verdict accepted = accepted refl
+
+  after_profile : (found : Option Profile) (judge_there : Profile → Verdict) → ((profile : Profile) → found ≡ Some profile → AreCounted (world_after world (judge_there profile)))
+      → AreCounted (world_after world (in_profile found judge_there))
+  after_profile None judge_there there = counted
+  after_profile (Some profile) judge_there there = there profile refl
+
+  after_file : (found : Option Node) (judge_there : ℕ → ℤ → List ℕ → Content → Verdict)
+      → ((parent : ℕ) (modified : ℤ) (name : List ℕ) (content : Content) → found ≡ Some (File parent modified name content) → AreCounted (world_after world (judge_there parent modified name content)))
+      → AreCounted (world_after world (in_file found judge_there))
+  after_file None judge_there there = counted
+  after_file (Some (Folder parent modified name)) judge_there there = counted
+  after_file (Some (File parent modified name content)) judge_there there = there parent modified name content refl
+  after_file (Some Abandoned) judge_there there = counted
+
+  node_added : (number : ℕ) (profile : Profile) (node : Node) → numbered world.profiles number ≡ Some profile → IsCountedNode node → AreCounted (world_set world number (with_node profile node))
+  node_added number profile node is it =
+      each_with_one_set IsCountedProfile world.profiles (number - 1) (with_node profile node) counted
+      (each_with_one_more IsCountedNode profile.nodes node (counted_profile world number profile counted is) it)
+
+  node_changed : (number id : ℕ) (profile : Profile) (node : Node) → numbered world.profiles number ≡ Some profile → IsCountedNode node → AreCounted (world_set world number (node_set profile id node))
+  node_changed number id profile node is it =
+      each_with_one_set IsCountedProfile world.profiles (number - 1) (node_set profile id node) counted
+      (each_with_one_set IsCountedNode profile.nodes (id - 1) node (counted_profile world number profile counted is) it)
+
+  file_in : (number id parent : ℕ) (modified : ℤ) (name : List ℕ) (content : Content) (profile : Profile) → numbered world.profiles number ≡ Some profile
+      → node_at profile.nodes id ≡ Some (File parent modified name content) → IsCounted content
+  file_in number id parent modified name content profile is at = counted_file profile.nodes id parent modified name content (counted_profile world number profile counted is) at
+
+  pub counted_after : (setting : Setting) (request : Request) → AreCounted (world_after world (judge setting world request))
+  unfolding judge
+  counted_after setting (CreateProfile scan_limit match_all) =
+      after_checks _ _ (λ (none : refusal_of (create_checks setting.limits world scan_limit) ≡ None).
+      each_with_one_more IsCountedProfile world.profiles (record { scan_limit = scan_limit; match_all = match_all; nodes = [] }) counted tt)
+  counted_after setting (AddFolder number parent modified name) =
+      after_profile _ _ (λ profile is. after_checks _ _ (λ (none : refusal_of (folder_checks setting.limits profile.nodes parent modified name) ≡ None).
+      node_added number profile (Folder parent modified name) is tt))
+  counted_after setting (AddFile number parent modified size piece_size name) =
+      after_profile _ _ (λ profile is. after_checks _ _ (λ (none : refusal_of (file_checks setting.limits world profile.nodes parent modified size piece_size name) ≡ None).
+      node_added number profile (File parent modified name (record { size = size; piece_size = piece_size; pieces = []; finished = false })) is (counted_new size piece_size)))
+  counted_after setting (Piece number id index bytes) =
+      after_profile _ _ (λ profile is. after_file _ _ (λ parent modified name content at. after_checks _ _ (λ none.
+      node_changed number id profile (File parent modified name (with_piece content index bytes)) is
+      (counted_taken content index bytes (file_in number id parent modified name content profile is at) none))))
+  counted_after setting (Finish number id) =
+      after_profile _ _ (λ profile is. after_file _ _ (λ parent modified name content at. after_checks _ _ (λ none.
+      node_changed number id profile (File parent modified name (as_finished content)) is
+      (counted_finished content (file_in number id parent modified name content profile is at) none))))
+  counted_after setting (Abandon number id) =
+      after_profile _ _ (λ profile is. after_file (node_at profile.nodes id) _ (λ parent modified name content at. after_checks _ _ (λ (none : refusal_of (abandon_checks content) ≡ None).
+      node_changed number id profile Abandoned is tt)))
+  counted_after setting (Status number id) =
+      after_profile (numbered world.profiles number) _ (λ profile is. after_file (node_at profile.nodes id) (λ parent modified name content. Answered (progress_of content)) (λ parent modified name content at. counted))
+  counted_after setting (Export number from max filter) =
+      after_profile (numbered world.profiles number) _ (λ profile is.
+      after_checks (refusal_of (export_checks max)) (Answered (part_of setting world.accepted profile from max filter)) (λ none. counted))
+
+counted_asked : (setting : Setting) (world : World) (asked : Option Request) → AreCounted world → AreCounted (world_asked setting world asked)
+counted_asked setting world None counted = counted
+counted_asked setting world (Some request) counted = counted_after world counted setting request
+
+counted_from : (setting : Setting) (world : World) (history : History) → AreCounted world → AreCounted (fold (λ (before : World) (entry : Entry). world_asked setting before (command entry.frame)) world history)
+counted_from setting world [] counted = counted
+counted_from setting world (entry ∷ entries) counted =
+    counted_from setting (world_asked setting world (command entry.frame)) entries (counted_asked setting world (command entry.frame) counted)
+
+-- in each world that a history leads to the files are counted
+pub counted_world : (setting : Setting) (history : History) → AreCounted (world_of setting history)
+unfolding world_of
+counted_world setting history = counted_from setting empty_world history tt
+
+pub finished_are_whole : (world : World) → AreCounted world → FinishedAreWhole world
+finished_are_whole world counted number id parent modified name content profile is at finished =
+    whole_where_finished content (file_in world counted number id parent modified name content profile is at) finished
+
+-- so it is in each world that a history leads to
+pub finished_of_history : (setting : Setting) (history : History) → FinishedAreWhole (world_of setting history)
+finished_of_history setting history = finished_are_whole (world_of setting history) (counted_world setting history)

@@ -1,0 +1,67 @@
+-- The files of a profile: what of them was taken, and what is made of a whole one.
+use Rattle.std.specs.Prelude.{ℕ, ◌+◌, ◌==◌, ◌&&◌, if◌then◌else◌, nat_lt, nat_le, Bool, true, false, not, List, [], ◌∷◌, ◌++◌, length, sum_by, is_some}
+use Rattle.std.specs.List.{count_by}
+use Rattle.md5.specs.Md5.{md5}
+use Rattle.droid_frame.specs.types.reply.Reply.{Reply}
+use Rattle.droid_frame.specs.types.reply.Reply.TheVariants as replies
+use Rattle.droid_assembly.specs.Pieces as pieces
+use Rattle.droid_core_spec.specs.Setting.{Setting, Finding}
+use Rattle.droid_core_spec.specs.World.{Content, Node, Folder, File, Abandoned, Profile, World}
+
+-- how many pieces the file has
+abbrev pub count_of : Content → ℕ
+count_of content = pieces.piece_count content.size content.piece_size
+
+-- the smallest index that wasn't taken, and the number of pieces where all were
+abbrev pub missing_of : Content → ℕ
+missing_of content = pieces.missing (count_of content) content.pieces
+
+-- the bytes of the file, of which no piece is missing
+abbrev pub bytes_of : Content → List ℕ
+bytes_of content = pieces.file_bytes (count_of content) content.pieces
+
+-- the piece of this index was taken
+abbrev pub has_piece : Content → ℕ → Bool
+has_piece content index = is_some (pieces.bytes_at content.pieces index)
+
+-- the file has a piece of this index, and of this length
+abbrev pub is_due : Content → ℕ → List ℕ → Bool
+is_due content index bytes =
+    nat_lt index (count_of content) && (length bytes == pieces.due_length content.size content.piece_size index)
+
+-- a piece may be taken less than 16 places past the first missing one
+abbrev pub is_too_far : Content → ℕ → Bool
+is_too_far content index = nat_le (missing_of content + 16) index
+
+-- one piece more, taken last
+abbrev pub with_piece : Content → ℕ → List ℕ → Content
+with_piece content index bytes = record content { pieces = content.pieces ++ (index, bytes) ∷ [] }
+
+abbrev pub as_finished : Content → Content
+as_finished content = record content { finished = true }
+
+-- what is found in the whole file, by its profile's scan limit and mode
+abbrev pub finding_of : Setting → Profile → List ℕ → Content → Finding
+finding_of setting profile name content = setting.identify name (bytes_of content) profile.scan_limit profile.match_all
+
+-- the reply to who finishes the file
+abbrev pub finished_reply : Finding → List ℕ → Reply
+finished_reply finding bytes = replies.Finished finding.method finding.mismatch (md5 bytes) finding.puids
+
+-- how many pieces were taken, and the first missing one; of a finished file both are the number of its pieces
+abbrev pub progress_of : Content → Reply
+progress_of content =
+    if content.finished
+    then replies.Progress (count_of content) (count_of content)
+    else replies.Progress (length content.pieces) (missing_of content)
+
+-- ---- files over the whole world
+
+abbrev pub is_unfinished : Node → Bool
+is_unfinished (Folder parent modified name) = false
+is_unfinished (File parent modified name content) = not content.finished
+is_unfinished Abandoned = false
+
+-- how many files of all profiles are unfinished
+abbrev pub unfinished_in : World → ℕ
+unfinished_in world = sum_by (λ profile. count_by is_unfinished profile.nodes) world.profiles

@@ -1,0 +1,142 @@
+-- Histories: the accepted requests in order of first acceptance, the world that they make, and what a
+-- request is answered after them (this project's own).
+use Rattle.std.specs.Prelude.{◌≡◌, ℕ, ◌==◌, ◌&&◌, if◌then◌else◌, Bool, List, [], ◌∷◌, ◌++◌, fold, Option, Some, None, IsSome, MatchBool}
+use Rattle.std.specs.List.{find}
+use Rattle.std.specs.Str.{bytes_eq}
+use Rattle.droid_frame.specs.types.frame.Frame.{Frame}
+use Rattle.droid_frame.specs.types.refusal.Refusal.TheVariants.{Malformed, NumberReused}
+use Rattle.droid_frame.specs.types.reply.Reply.{Reply}
+use Rattle.droid_frame.specs.types.reply.Reply.TheVariants.{Refused}
+use Rattle.droid_frame.specs.types.request.Request.{Request}
+use Rattle.droid_frame.specs.Frames.{mark_of}
+use Rattle.droid_frame.specs.Values.{request_in}
+use Rattle.droid_core_spec.specs.Judging.{Verdict, Accepted, Answered, Refuses, judge}
+use Rattle.droid_core_spec.specs.Setting.{Setting}
+use Rattle.droid_core_spec.specs.Wants.{is_want}
+use Rattle.droid_core_spec.specs.World.{World, empty_world}
+
+-- an accepted request whole, with its mark and its reply
+pub record Entry : Type 0 where
+  pub frame : Frame
+  pub mark : List ℕ
+  pub reply : Reply
+
+-- in order of first acceptance
+abbrev pub History : Type 0
+History = List Entry
+
+-- what the request asks, where its kind and body spell it and its number is below 2^63
+unfoldable pub command : Frame → Option Request
+command frame = request_in frame
+
+abbrev pub frame_mark : Frame → List ℕ
+frame_mark frame = mark_of frame.kind frame.body
+
+-- the entry is of this client and this number
+abbrev pub is_under : ℕ → ℕ → Entry → Bool
+is_under client number entry = (entry.frame.client == client) && (entry.frame.number == number)
+
+-- the entry of this client and number, where one is kept
+abbrev pub kept : History → ℕ → ℕ → Option Entry
+kept history client number = find (is_under client number) history
+
+-- ---- the world of a history
+
+-- the world that a verdict leaves
+abbrev pub world_after : World → Verdict → World
+world_after world (Accepted reply after) = after
+world_after world (Answered reply) = world
+world_after world (Refuses refusal) = world
+
+abbrev pub world_asked : Setting → World → Option Request → World
+world_asked setting world None = world
+world_asked setting world (Some request) = world_after world (judge setting world request)
+
+-- the world after the commands of the history, from the empty world
+unfoldable pub world_of : Setting → History → World
+world_of setting history = fold (λ world entry. world_asked setting world (command entry.frame)) empty_world history
+
+-- the entry may come next: its number is new, its mark is its request's, and its command is accepted
+-- there, with its reply
+pub record IsNext (setting : Setting) (history : History) (entry : Entry) : Type 0 where
+  pub is_new : kept history entry.frame.client entry.frame.number ≡ None
+  pub marked : entry.mark ≡ frame_mark entry.frame
+  pub request : Request
+  pub asked : command entry.frame ≡ Some request
+  pub after : World
+  pub accepted : judge setting (world_of setting history) request ≡ Accepted entry.reply after
+
+-- each entry may come after those before it
+abbrev pub GoesOn : Setting → History → History → Type 0
+GoesOn setting before [] = Unit {0}
+GoesOn setting before (entry ∷ entries) = IsNext setting before entry × GoesOn setting (before ++ entry ∷ []) entries
+
+abbrev pub IsLegal : Setting → History → Type 0
+IsLegal setting history = GoesOn setting [] history
+
+-- ---- the answer to a request
+
+abbrev pub verdict_reply : Verdict → Reply
+verdict_reply (Accepted reply after) = reply
+verdict_reply (Answered reply) = reply
+verdict_reply (Refuses refusal) = Refused refusal
+
+-- a kept number: the kept reply where the marks are equal
+abbrev pub kept_answer : Entry → List ℕ → Reply
+kept_answer entry mark = if bytes_eq entry.mark mark then entry.reply else Refused NumberReused
+
+-- a new number is judged
+abbrev pub answer_to : Setting → History → Option Entry → List ℕ → Request → Reply
+answer_to setting history (Some entry) mark request = kept_answer entry mark
+answer_to setting history None mark request = verdict_reply (judge setting (world_of setting history) request)
+
+abbrev pub answer_asked : Setting → History → Frame → Option Request → Reply
+answer_asked setting history frame None = Refused Malformed
+answer_asked setting history frame (Some request) =
+    answer_to setting history (kept history frame.client frame.number) (frame_mark frame) request
+
+-- what the request is answered after the history
+unfoldable pub answer : Setting → History → Frame → Reply
+answer setting history frame = answer_asked setting history frame (command frame)
+
+-- ---- the history after a request
+
+abbrev pub entry_of : Frame → Reply → Entry
+entry_of frame reply = record { frame = frame; mark = frame_mark frame; reply = reply }
+
+abbrev pub next_judged : History → Frame → Verdict → History
+next_judged history frame (Accepted reply after) = history ++ entry_of frame reply ∷ []
+next_judged history frame (Answered reply) = history
+next_judged history frame (Refuses refusal) = history
+
+abbrev pub next_new : Setting → History → Frame → Option Entry → Request → History
+next_new setting history frame (Some entry) request = history
+next_new setting history frame None request = next_judged history frame (judge setting (world_of setting history) request)
+
+abbrev pub next_asked : Setting → History → Frame → Option Request → History
+next_asked setting history frame None = history
+next_asked setting history frame (Some request) = next_new setting history frame (kept history frame.client frame.number) request
+
+-- the history after the request: one entry more where it is a command under a new number that is accepted
+unfoldable pub next : Setting → History → Frame → History
+next setting history frame = next_asked setting history frame (command frame)
+
+-- the history after a list of requests, from this one
+abbrev pub history_from : Setting → History → List Frame → History
+history_from setting history [] = history
+history_from setting history (frame ∷ frames) = history_from setting (next setting history frame) frames
+
+-- what the requests of a list are answered, in order
+abbrev pub answers : Setting → History → List Frame → List Reply
+answers setting history [] = []
+answers setting history (frame ∷ frames) = answer setting history frame ∷ answers setting (next setting history frame) frames
+
+-- ---- what handling a request gives
+
+-- its answer, and what is said of the next history; or want of memory, which is never said of a malformed
+-- request, and the same of this history
+abbrev pub Handles : Setting → History → Frame → Reply → (History → Type 0) → Type 0
+Handles setting history frame reply Stands =
+    MatchBool (is_want reply)
+    (IsSome (command frame) × Stands history)
+    ((reply ≡ answer setting history frame) × Stands (next setting history frame))

@@ -1,0 +1,160 @@
+-- Judging a request in a world: the first refusal whose condition holds, or else the reply, and of a command
+-- the world after it (this project's own).
+use Rattle.std.specs.Prelude.{ℕ, ℤ, ◌+◌, ◌-◌, ◌||◌, nat_lt, nat_le, if◌then◌else◌, Bool, false, not, List, [], ◌∷◌, ◌++◌, length, slice_set, Option, Some, None}
+use Rattle.droid_frame.specs.types.refusal.Limit.TheVariants as reached
+use Rattle.droid_frame.specs.types.refusal.Refusal.{Refusal}
+use Rattle.droid_frame.specs.types.refusal.Refusal.TheVariants.{NoSuchProfile, NoSuchNode, NotAFolder, NotAFile, BadName, PathTooLong, NameTaken, BadOption, TooLarge, AlreadyFinished, BadPiece, PieceHeld, TooFarAhead, Incomplete, LimitReached}
+use Rattle.droid_frame.specs.types.reply.Reply.{Reply}
+use Rattle.droid_frame.specs.types.reply.Reply.TheVariants as replies
+use Rattle.droid_frame.specs.types.request.Request.{Request}
+use Rattle.droid_frame.specs.types.request.Request.TheVariants.{CreateProfile, AddFolder, AddFile, Piece, Finish, Abandon, Status, Export}
+use Rattle.droid_core_spec.specs.Limits.{Limits}
+use Rattle.droid_core_spec.specs.Conditions.{is_scan_limit, is_piece_size, is_too_large, is_moment, is_bad_name, is_missing, is_file, is_too_deep}
+use Rattle.droid_core_spec.specs.Exported.{part_of}
+use Rattle.droid_core_spec.specs.Files.{count_of, missing_of, bytes_of, has_piece, is_due, is_too_far, with_piece, as_finished, finding_of, finished_reply, progress_of, unfinished_in}
+use Rattle.droid_core_spec.specs.Setting.{Setting}
+use Rattle.droid_core_spec.specs.World.{Content, Node, Folder, File, Abandoned, Profile, World, numbered, node_at, is_taken, world_with}
+
+-- a command is accepted, with its reply and the world after it; a query is answered and changes nothing; or
+-- either is refused and changes nothing
+pub data Verdict : Type 0 where
+  Accepted : (reply : Reply) (after : World) → Verdict
+  Answered : (reply : Reply) → Verdict
+  Refuses : (refusal : Refusal) → Verdict
+
+-- a condition, and the refusal where it holds
+abbrev pub Check : Type 0
+Check = Bool × Refusal
+
+-- the first refusal whose condition holds
+abbrev pub refusal_of : List Check → Option Refusal
+refusal_of [] = None
+refusal_of (check ∷ checks) = if check.0 then Some check.1 else refusal_of checks
+
+-- the refusal, or else what comes of the request
+abbrev pub unless_refused : Option Refusal → Verdict → Verdict
+unless_refused (Some refusal) verdict = Refuses refusal
+unless_refused None verdict = verdict
+
+-- ---- what is asked for is looked up first
+
+-- what comes of a request in the profile, where there is one
+abbrev pub in_profile : Option Profile → (Profile → Verdict) → Verdict
+in_profile None judge_there = Refuses NoSuchProfile
+in_profile (Some profile) judge_there = judge_there profile
+
+-- what comes of a request for the file, where the node is one
+abbrev pub in_file : Option Node → (ℕ → ℤ → List ℕ → Content → Verdict) → Verdict
+in_file None judge_there = Refuses NoSuchNode
+in_file (Some Abandoned) judge_there = Refuses NoSuchNode
+in_file (Some (Folder parent modified name)) judge_there = Refuses NotAFile
+in_file (Some (File parent modified name content)) judge_there = judge_there parent modified name content
+
+-- ---- changes
+
+-- the world with this profile in the place of another
+abbrev pub world_set : World → ℕ → Profile → World
+world_set world number profile = world_with world (slice_set world.profiles (number - 1) profile)
+
+-- the profile with one node more
+abbrev pub with_node : Profile → Node → Profile
+with_node profile node = record profile { nodes = profile.nodes ++ node ∷ [] }
+
+-- the profile with this node in the place of another
+abbrev pub node_set : Profile → ℕ → Node → Profile
+node_set profile id node = record profile { nodes = slice_set profile.nodes (id - 1) node }
+
+-- ---- checks, in their order
+
+abbrev pub create_checks : Limits → World → ℕ → List Check
+create_checks limits world scan_limit =
+    (not (is_scan_limit scan_limit), BadOption)
+    ∷ (nat_le limits.profiles (length world.profiles), LimitReached reached.Profiles)
+    ∷ []
+
+-- a new node of this folder
+abbrev pub place_checks : List Node → ℕ → List ℕ → List Check
+place_checks nodes parent name =
+    (is_missing nodes parent, NoSuchNode)
+    ∷ (is_file (node_at nodes parent), NotAFolder)
+    ∷ (is_bad_name name, BadName)
+    ∷ (is_too_deep nodes parent name, PathTooLong)
+    ∷ (is_taken nodes parent name, NameTaken)
+    ∷ []
+
+abbrev pub folder_checks : Limits → List Node → ℕ → ℤ → List ℕ → List Check
+folder_checks limits nodes parent modified name =
+    place_checks nodes parent name
+    ++ (not (is_moment modified), BadOption)
+    ∷ (nat_le limits.nodes (length nodes), LimitReached reached.Nodes)
+    ∷ []
+
+-- the limit of unfinished files is that of the whole service
+abbrev pub file_checks : Limits → World → List Node → ℕ → ℤ → ℕ → ℕ → List ℕ → List Check
+file_checks limits world nodes parent modified size piece_size name =
+    place_checks nodes parent name
+    ++ (not (is_moment modified) || not (is_piece_size piece_size), BadOption)
+    ∷ (is_too_large size piece_size, TooLarge)
+    ∷ (nat_le limits.nodes (length nodes), LimitReached reached.Nodes)
+    ∷ (nat_le limits.unfinished (unfinished_in world), LimitReached reached.Unfinished)
+    ∷ []
+
+abbrev pub piece_checks : Content → ℕ → List ℕ → List Check
+piece_checks content index bytes =
+    (content.finished, AlreadyFinished)
+    ∷ (not (is_due content index bytes), BadPiece)
+    ∷ (has_piece content index, PieceHeld)
+    ∷ (is_too_far content index, TooFarAhead (missing_of content))
+    ∷ []
+
+abbrev pub finish_checks : Content → List Check
+finish_checks content =
+    (content.finished, AlreadyFinished)
+    ∷ (nat_lt (missing_of content) (count_of content), Incomplete (missing_of content))
+    ∷ []
+
+abbrev pub abandon_checks : Content → List Check
+abandon_checks content = (content.finished, AlreadyFinished) ∷ []
+
+abbrev pub export_checks : ℕ → List Check
+export_checks max = (not (is_piece_size max), BadOption) ∷ []
+
+-- ---- requests
+
+-- profiles and nodes are numbered from 1, in order of acceptance
+unfoldable pub judge : Setting → World → Request → Verdict
+judge setting world (CreateProfile scan_limit match_all) =
+    unless_refused (refusal_of (create_checks setting.limits world scan_limit))
+    (Accepted (replies.Made (length world.profiles + 1)) (world_with world (world.profiles ++ record { scan_limit = scan_limit; match_all = match_all; nodes = [] } ∷ [])))
+judge setting world (AddFolder number parent modified name) =
+    in_profile (numbered world.profiles number) (λ profile.
+    unless_refused (refusal_of (folder_checks setting.limits profile.nodes parent modified name))
+    (Accepted (replies.Node (length profile.nodes + 1)) (world_set world number (with_node profile (Folder parent modified name)))))
+judge setting world (AddFile number parent modified size piece_size name) =
+    in_profile (numbered world.profiles number) (λ profile.
+    unless_refused (refusal_of (file_checks setting.limits world profile.nodes parent modified size piece_size name))
+    (Accepted (replies.Node (length profile.nodes + 1)) (world_set world number (with_node profile
+    (File parent modified name (record { size = size; piece_size = piece_size; pieces = []; finished = false }))))))
+judge setting world (Piece number file index bytes) =
+    in_profile (numbered world.profiles number) (λ profile.
+    in_file (node_at profile.nodes file) (λ parent modified name content.
+    unless_refused (refusal_of (piece_checks content index bytes))
+    (Accepted (replies.Taken (length content.pieces + 1)) (world_set world number (node_set profile file (File parent modified name (with_piece content index bytes)))))))
+judge setting world (Finish number file) =
+    in_profile (numbered world.profiles number) (λ profile.
+    in_file (node_at profile.nodes file) (λ parent modified name content.
+    unless_refused (refusal_of (finish_checks content))
+    (Accepted (finished_reply (finding_of setting profile name content) (bytes_of content)) (world_set world number (node_set profile file (File parent modified name (as_finished content)))))))
+judge setting world (Abandon number file) =
+    in_profile (numbered world.profiles number) (λ profile.
+    in_file (node_at profile.nodes file) (λ parent modified name content.
+    unless_refused (refusal_of (abandon_checks content))
+    (Accepted replies.Abandoned (world_set world number (node_set profile file Abandoned)))))
+judge setting world (Status number file) =
+    in_profile (numbered world.profiles number) (λ profile.
+    in_file (node_at profile.nodes file) (λ parent modified name content.
+    Answered (progress_of content)))
+judge setting world (Export number from max filter) =
+    in_profile (numbered world.profiles number) (λ profile.
+    unless_refused (refusal_of (export_checks max))
+    (Answered (part_of setting world.accepted profile from max filter)))

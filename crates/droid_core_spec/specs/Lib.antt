@@ -1,0 +1,11 @@
+pub mod Conditions
+pub mod Exported
+pub mod Files
+pub mod Histories
+pub mod Judging
+pub mod Limits
+pub mod Records
+pub mod Setting
+pub mod Wants
+pub mod Whole
+pub mod World

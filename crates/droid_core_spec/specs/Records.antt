@@ -1,0 +1,42 @@
+-- The records of a profile: its folders and its finished files, as an export shows them.
+use Rattle.std.specs.Prelude.{ℕ, ◌+◌, false, if◌then◌else◌, List, [], ◌∷◌, ◌++◌, Option, Some, None}
+use Rattle.md5.specs.Md5.{md5}
+use Rattle.droid_frame.specs.types.method.Method.TheVariants.{Unidentified}
+use Rattle.droid_frame.specs.types.node_kind.NodeKind.TheVariants as kinds
+use Rattle.droid_frame.specs.types.record.Record.{Record}
+use Rattle.droid_core_spec.specs.Files.{bytes_of, finding_of}
+use Rattle.droid_core_spec.specs.Setting.{Setting, Finding}
+use Rattle.droid_core_spec.specs.World.{Node, Folder, File, Abandoned, Profile, path}
+
+-- 16 zero bytes
+abbrev pub no_digest : List ℕ
+no_digest = 0 ∷ 0 ∷ 0 ∷ 0 ∷ 0 ∷ 0 ∷ 0 ∷ 0 ∷ 0 ∷ 0 ∷ 0 ∷ 0 ∷ 0 ∷ 0 ∷ 0 ∷ 0 ∷ []
+
+-- a file with what was found in it
+abbrev pub found_record : Record → Finding → List ℕ → Record
+found_record plain finding bytes =
+    record plain { kind = kinds.File; method = finding.method; mismatch = finding.mismatch; md5 = md5 bytes; puids = finding.puids }
+
+-- the record of the node with this number; an unfinished or abandoned file has none
+abbrev pub record_of : Setting → Profile → ℕ → Node → Option Record
+record_of setting profile id (Folder parent modified name) =
+    Some (record { id = id; parent = parent; path = path profile.nodes id; name = name; kind = kinds.Folder; size = 0; modified = modified; method = Unidentified; mismatch = false; md5 = no_digest; puids = [] })
+record_of setting profile id (File parent modified name content) =
+    if content.finished then Some (found_record
+    (record { id = id; parent = parent; path = path profile.nodes id; name = name; kind = kinds.File; size = content.size; modified = modified; method = Unidentified; mismatch = false; md5 = no_digest; puids = [] })
+    (finding_of setting profile name content) (bytes_of content))
+    else None
+record_of setting profile id Abandoned = None
+
+abbrev pub option_list : {A : Type 0} → Option A → List A
+option_list None = []
+option_list (Some x) = x ∷ []
+
+-- the records of the nodes from this number on
+abbrev pub records_from : Setting → Profile → ℕ → List Node → List Record
+records_from setting profile id [] = []
+records_from setting profile id (node ∷ nodes) = option_list (record_of setting profile id node) ++ records_from setting profile (id + 1) nodes
+
+-- the folders and finished files of the profile, by number
+abbrev pub records : Setting → Profile → List Record
+records setting profile = records_from setting profile 1 profile.nodes

@@ -1,0 +1,26 @@
+-- What a service is made with: its limits, and what its registry finds.
+use Rattle.std.specs.Prelude.{ℕ, Bool, List}
+use Rattle.droid_frame.specs.types.method.Method.{Method}
+use Rattle.droid_frame.specs.types.filter.Filter.{Filter}
+use Rattle.droid_frame.specs.types.record.Record.{Record}
+use Rattle.droid_core_spec.specs.Limits.{Limits}
+
+-- what a file is identified as: the method, whether its extension is none of its formats', and their PUIDs
+pub record Finding : Type 0 where
+  pub method : Method
+  pub mismatch : Bool
+  pub puids : List (List ℕ)
+
+-- What is found in a file: of its name, its bytes, how many of them are looked at from each end, and whether
+-- a format with signatures may be found by its extension. droid_core_state's Identified.antt says which function this is.
+abbrev pub Identify : Type 0
+Identify = (name bytes : List ℕ) (scan_limit : ℕ) (match_all : Bool) → Finding
+
+-- The text of an export: of records and a filter. droid_core_state's Identified.antt says which function this is.
+abbrev pub ExportText : Type 0
+ExportText = (records : List Record) (filter : Filter) → List ℕ
+
+pub record Setting : Type 0 where
+  pub limits : Limits
+  pub identify : Identify
+  pub export_text : ExportText

@@ -1,0 +1,15 @@
+-- What a finished file has: every piece, each of them taken once.
+use Rattle.std.specs.Prelude.{◌≡◌, ℕ, ℤ, true, List, length, Some}
+use Rattle.droid_core_spec.specs.Files.{count_of, missing_of}
+use Rattle.droid_core_spec.specs.World.{Content, File, Profile, World, numbered, node_at}
+
+-- no piece is missing, and as many were taken as the file has
+pub record IsWhole (content : Content) : Type 0 where
+  pub none_missing : missing_of content ≡ count_of content
+  pub all_taken : length content.pieces ≡ count_of content
+
+-- each finished file of the world is whole
+abbrev pub FinishedAreWhole : World → Type 0
+FinishedAreWhole world =
+    (number id parent : ℕ) (modified : ℤ) (name : List ℕ) (content : Content) (profile : Profile)
+    → numbered world.profiles number ≡ Some profile → node_at profile.nodes id ≡ Some (File parent modified name content) → content.finished ≡ true → IsWhole content

@@ -1,0 +1,4 @@
+pub mod Meanings
+pub mod ProfileRows
+pub mod Sizes
+pub mod Staying

@@ -1,0 +1,62 @@
+-- What one request changes inside the service. No public clause names these: they only serve proofs.
+use Rattle.std.specs.Prelude.{◌≡◌, ℕ, List, ◌∷◌, [], ◌++◌, if◌then◌else◌, MatchBool, Result, Ok, Err}
+use Rattle.std.specs.Str.{bytes_eq}
+use Rattle.droid_frame.specs.Replies.{reply_kind, reply_bytes}
+use Rattle.droid_frame.specs.types.frame.Frame.{Frame}
+use Rattle.droid_frame.specs.types.refusal.Refusal.{Refusal}
+use Rattle.droid_frame.specs.types.refusal.Refusal.TheVariants.{Memory, Store, NumberReused}
+use Rattle.droid_frame.specs.types.reply.Reply.{Reply}
+use Rattle.droid_frame.specs.types.reply.Reply.TheVariants.{Refused}
+use Rattle.droid_core_spec.specs.Histories.{frame_mark, verdict_reply}
+use Rattle.droid_core_spec.specs.Judging.{Verdict, Accepted, Answered, Refuses}
+use Rattle.droid_core_spec.specs.Setting.{Setting}
+use Rattle.droid_core_spec.specs.Wants.{is_want}
+use Rattle.droid_core_spec.specs.World.{World}
+use Rattle.droid_store.specs.declared.fault.StoreFault.{StoreFault}
+use Rattle.droid_store.specs.declared.fault.StoreFault.TheVariants as faults
+use Rattle.droid_store.specs.declared.rows.Entry as rows
+use Rattle.droid_core_state.specs.declared.parts.Parts.{Parts}
+use Rattle.droid_core_state.specs.declared.stamps.Stamp.{Stamp}
+use Rattle.droid_core_state.specs.Standing.{IsIn}
+
+-- the reply that a call's result comes to
+abbrev pub answered : Result Reply Refusal → Reply
+answered (Ok reply) = reply
+answered (Err refusal) = Refused refusal
+
+-- what a client is told where a call of the store gave up
+abbrev pub told_of : StoreFault → Refusal
+told_of faults.Memory = Memory
+told_of faults.Refused = Store
+
+-- the row of a reply to the request with this stamp
+abbrev pub stamped : Stamp → Reply → rows.Entry
+stamped stamp reply = record { client = stamp.client; number = stamp.number; mark = stamp.mark; kind = reply_kind reply; body = reply_bytes reply }
+
+-- whose the request of a frame is, and its mark
+abbrev pub stamp_of : Frame → Stamp
+stamp_of frame = record { client = frame.client; number = frame.number; mark = frame_mark frame }
+
+-- what a request with this mark is answered where the row is kept under its number, and spells this reply
+abbrev pub again : rows.Entry → List ℕ → Reply → Reply
+again entry mark kept = if bytes_eq entry.mark mark then kept else Refused NumberReused
+
+-- the service is in the same world, with the same replies kept
+pub record Stays (setting : Setting) (world : World) (old new : Parts) : Type 0 where
+  pub world_is : IsIn setting world new
+  pub replies : new.store.replies ≡ old.store.replies
+
+-- the service is in this world, and one reply more is kept
+pub record TakesOne (setting : Setting) (after : World) (old new : Parts) (stamp : Stamp) (reply : Reply) : Type 0 where
+  pub world_is : IsIn setting after new
+  pub replies : new.store.replies ≡ old.store.replies ++ stamped stamp reply ∷ []
+
+abbrev pub Leaves : Setting → World → Parts → Parts → Stamp → Verdict → Type 0
+Leaves setting world old new stamp (Accepted reply after) = TakesOne setting after old new stamp reply
+Leaves setting world old new stamp (Answered reply) = Stays setting world old new
+Leaves setting world old new stamp (Refuses refusal) = Stays setting world old new
+
+-- what a request under a new number makes of the service: what its verdict says, or want of memory and no change
+abbrev pub Comes : Setting → World → Parts → Parts → Stamp → Verdict → Reply → Type 0
+Comes setting world old new stamp verdict reply =
+    MatchBool (is_want reply) (Stays setting world old new) ((reply ≡ verdict_reply verdict) × Leaves setting world old new stamp verdict)

@@ -1,0 +1,19 @@
+-- What the look-up of a profile finds of a world. No public clause of the service names it: it only serves proofs.
+use Rattle.std.specs.Prelude.{◌≡◌, ℕ, Some, None, MatchBool, ⊤, Result, Ok, Err}
+use Rattle.droid_frame.specs.types.refusal.Refusal.{Refusal}
+use Rattle.droid_frame.specs.types.refusal.Refusal.TheVariants.{NoSuchProfile}
+use Rattle.droid_core_spec.specs.Wants.{is_want_of}
+use Rattle.droid_core_spec.specs.World.{Profile, World, numbered}
+use Rattle.droid_core_rows.specs.Rows.{profile_row}
+use Rattle.droid_store.specs.declared.rows.ProfileRow.{ProfileRow}
+
+-- the world has the profile, and this is its row
+pub record HasProfile (world : World) (number : ℕ) (row : ProfileRow) : Type 0 where
+  pub profile : Profile
+  pub there : numbered world.profiles number ≡ Some profile
+  pub row_is : row ≡ profile_row profile
+
+-- the profile's row; or it is missing, or memory or the database was wanting
+abbrev pub FindsProfile : World → ℕ → Result ProfileRow Refusal → Type 0
+FindsProfile world number (Ok row) = HasProfile world number row
+FindsProfile world number (Err refusal) = MatchBool (is_want_of refusal) ⊤ ((refusal ≡ NoSuchProfile) × (numbered world.profiles number ≡ None))

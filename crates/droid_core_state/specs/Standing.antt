@@ -1,0 +1,35 @@
+-- Which world the parts of a service are in.
+use Rattle.std.specs.Prelude.{◌≡◌, ◌≤◌}
+use Rattle.droid_core_state.specs.Identified.{IsOf}
+use Rattle.droid_core_spec.specs.Limits.{Limits}
+use Rattle.droid_core_spec.specs.Setting.{Setting}
+use Rattle.droid_core_spec.specs.World.{World}
+use Rattle.droid_core_rows.specs.Rows.{KeepsWorld}
+use Rattle.droid_core_rows.specs.Sound.{IsSound}
+use Rattle.droid_core_state.specs.Assemblies.{HasAssemblies}
+use Rattle.droid_core_state.specs.declared.limits.Limits as given
+use Rattle.droid_core_state.specs.declared.parts.Parts.{Parts}
+
+-- limits as the definitions have them
+abbrev pub limits_given : given.Limits → Limits
+limits_given limits = record { profiles = limits.profiles; nodes = limits.nodes; unfinished = limits.unfinished }
+
+-- no service has larger limits
+pub record AreAllowed (limits : Limits) : Type 0 where
+  pub profiles : limits.profiles ≤ 64
+  pub nodes : limits.nodes ≤ 100000
+  pub unfinished : limits.unfinished ≤ 64
+
+-- the setting has the limits and is of the registry that the parts have
+pub record IsSettingOf (setting : Setting) (parts : Parts) : Type 0 where
+  pub limits : setting.limits ≡ limits_given parts.limits
+  pub allowed : AreAllowed setting.limits
+  pub registry : IsOf parts.registry setting
+
+-- the parts are in this world: their rows and their assemblies are the world's
+pub record IsIn (setting : Setting) (world : World) (parts : Parts) : Type 0 where
+  pub is_setting : IsSettingOf setting parts
+  pub rows : KeepsWorld setting world parts.store
+  pub sound : IsSound world
+  pub files : HasAssemblies world parts.files
+  pub room : parts.files.limit ≡ setting.limits.unfinished

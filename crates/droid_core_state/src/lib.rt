@@ -1,0 +1,28 @@
+//! What the service keeps, and what all its requests have in common: whose a request is, the row of its reply, the
+//! profile that it names, and the conditions under which it is refused.
+#![tactic(auto)]
+
+mod first;
+pub mod laws;
+mod limits;
+mod look_ups;
+mod names;
+mod options;
+mod parts;
+mod paths;
+mod refusals;
+mod replies;
+mod room;
+mod stamps;
+
+pub use first::{create_refusal, export_refusal, file_refusal, folder_refusal};
+pub use limits::Limits;
+pub use look_ups::profile_of;
+pub use names::is_bad_name;
+pub use options::{is_moment, is_piece_size, is_scan_limit, is_too_large};
+pub use parts::Parts;
+pub use paths::{is_too_deep_below, new_path};
+pub use refusals::store_refusal;
+pub use replies::{answer_again, entry_of, reply_from};
+pub use room::Room;
+pub use stamps::Stamp;

@@ -1,0 +1,37 @@
+//! Which numbers a request may have.
+
+ghost use Rattle.std.specs.Prelude.{◌≡◌, IsTrue};
+ghost use Rattle.droid_core_spec.specs.Conditions.{is_scan_limit, is_piece_size, is_too_large, is_moment};
+
+/// Whether a scan limit lies from 1 to 65,536.
+#[tactic(auto, using(crate::proofs::Meanings::scan_limit_is))]
+pub fn is_scan_limit(bytes: u32) -> bool
+    ensures { result ≡ is_scan_limit bytes }
+{
+    1 <= bytes && bytes <= 65_536
+}
+
+/// Whether the size of a piece, or of a part of an export, lies from 1 to 1,048,576.
+#[tactic(auto, using(crate::proofs::Meanings::piece_size_is))]
+pub fn is_piece_size(bytes: u32) -> bool
+    ensures { result ≡ is_piece_size bytes }
+{
+    1 <= bytes && bytes <= 1_048_576
+}
+
+/// Whether a file has more than 2^40 bytes, or more than 1,048,576 pieces.
+#[tactic(auto, using(crate::proofs::Meanings::piece_size_is, crate::proofs::Meanings::too_large_is))]
+pub fn is_too_large(size: u64, piece_size: u32) -> bool
+    requires { IsTrue (is_piece_size piece_size) }
+    ensures { result ≡ is_too_large size piece_size }
+{
+    1_099_511_627_776 < size || 1_048_576 < size.div_ceil(u64::from(piece_size))
+}
+
+/// Whether the moment lies from 0001-01-01T00:00:00 to 9999-12-31T23:59:59.
+#[tactic(auto, using(crate::proofs::Meanings::moment_is))]
+pub fn is_moment(seconds: i64) -> bool
+    ensures { result ≡ is_moment seconds }
+{
+    !(seconds < -62_135_596_800) && !(253_402_300_799 < seconds)
+}

@@ -1,0 +1,70 @@
+//! Kept replies: the row of a new one, and what a kept one answers.
+
+ghost use Rattle.std.specs.Prelude.{◌≡◌, ◌≢◌, false, IfOk, IfErr, MatchBool, ⊤};
+ghost use Rattle.std.specs.Str.{bytes_eq};
+ghost use Rattle.droid_core_state.specs.Changes.{again, answered, stamped};
+ghost use Rattle.droid_frame.specs.Replies.{HasReplySpelling, SpellsReply};
+ghost use Rattle.droid_frame.specs.types.refusal.Refusal.TheVariants as refusals;
+ghost use Rattle.droid_frame.specs.types.reply.Reply.TheVariants.{Refused};
+ghost use Rattle.droid_core_spec.specs.Wants.{is_want};
+
+use crate::stamps::Stamp;
+use droid_frame::{BodyFault, Frame, Refusal, Reply, VERSION, reply_body, reply_of};
+use droid_store::Entry;
+use std::alloc::Global;
+
+/// The row of a reply to the request with this stamp. Only want of memory refuses it.
+pub fn entry_of(alloc: Global, stamp: Stamp, reply: &Reply) -> Result<Entry, Refusal>
+    requires { HasReplySpelling reply.now }
+    ensures row { IfOk result (λ entry. entry ≡ stamped stamp reply.now) }
+    ensures want { IfErr result (λ refusal. refusal ≡ Refusal.Memory) }
+{
+    let Ok(body) = reply_body(alloc, reply) else {
+        return Err(Refusal::Memory);
+    };
+    let mark = stamp.mark;
+    Ok(Entry {
+        client: stamp.client,
+        number: stamp.number,
+        mark,
+        kind: reply.kind(),
+        body,
+    })
+}
+
+/// What a request with this mark is answered where this row is kept under its number: the kept reply
+/// where the marks are equal. Only the list of a `Finished` takes memory.
+pub fn answer_again(alloc: Global, entry: Entry, mark: [u8; 16]) -> Reply
+    ensures kept { (kept : Reply) → SpellsReply entry.kind entry.body kept
+        → MatchBool (is_want result) ⊤ (result ≡ again entry mark kept) }
+    // Another mark is never a want, and neither is any reply but a Finished.
+    ensures reused { bytes_eq entry.mark mark ≡ false → result ≡ Refused refusals.NumberReused }
+    ensures exact { (kept : Reply) → SpellsReply entry.kind entry.body kept → entry.kind ≢ 132 → result ≡ again entry mark kept }
+    ensures spelled { HasReplySpelling result }
+{
+    if entry.mark.as_slice() != mark.as_slice() {
+        return Reply::Refused(Refusal::NumberReused);
+    }
+    let frame = Frame {
+        version: VERSION,
+        kind: entry.kind,
+        client: entry.client,
+        number: entry.number,
+        body: entry.body,
+    };
+    match reply_of(alloc, frame) {
+        Ok(reply) => reply,
+        Err(BodyFault::Memory) => Reply::Refused(Refusal::Memory),
+        Err(BodyFault::Malformed) => Reply::Refused(Refusal::Store),
+    }
+}
+
+/// The reply that a request's outcome comes to.
+pub fn reply_from(outcome: Result<Reply, Refusal>) -> Reply
+    ensures { result ≡ answered outcome }
+{
+    match outcome {
+        Ok(reply) => reply,
+        Err(refusal) => Reply::Refused(refusal),
+    }
+}

@@ -1,0 +1,46 @@
+-- What the command line asks for (this project's own).
+use Rattle.std.specs.Prelude.{◌≡◌, ◌<◌, ◌^◌, ◌⊎◌, ℕ, List, Option, Some, None, codes, option_map}
+use Rattle.std.specs.Str.Parse.{IsNumeral, digits_value, without_leading_plus}
+use Rattle.clap.specs.Words.{Row, Text, first_of, one_of, subcommand_of}
+use Rattle.droid_desk_arguments.specs.Commands.{program}
+use Rattle.droid_desk_arguments.specs.declared.arguments.Asked.{Asked}
+use Rattle.droid_desk_arguments.specs.declared.arguments.Asked.TheVariants.{Script, Run, Serve, Send}
+
+-- the number that a text's digits write; a plus may stand first
+abbrev pub number_of : Text → ℕ
+number_of text = digits_value 10 (without_leading_plus text)
+
+-- the text is a number of so many bits
+abbrev pub IsNumber : ℕ → Text → Type 0
+IsNumber bits text = IsNumeral 10 (without_leading_plus text) × (number_of text < 2 ^ bits)
+
+-- an option's number, or this one where the option has none
+abbrev pub IsNumberOr : ℕ → ℕ → Option Text → ℕ → Type 0
+IsNumberOr bits otherwise None n = n ≡ otherwise
+IsNumberOr bits otherwise (Some text) n = (n ≡ number_of text) ⊎ ((n ≡ otherwise) × (IsNumber bits text → ⊥))
+
+-- what the options of the command with this name ask for
+abbrev pub IsAskedBy : Text → List Row → Asked → Type 0
+IsAskedBy name rows (Script registry) =
+    (name ≡ codes "script") × (option_map (λ path. path.now) registry ≡ first_of (codes "registry") rows)
+IsAskedBy name rows (Run registry) =
+    (name ≡ codes "run") × (option_map (λ path. path.now) registry ≡ first_of (codes "registry") rows)
+IsAskedBy name rows (Serve registry port connections) =
+    (name ≡ codes "serve") × (option_map (λ path. path.now) registry ≡ first_of (codes "registry") rows)
+    × (option_map number_of (one_of (codes "port") rows) ≡ Some port)
+    × IsNumberOr 32 1 (one_of (codes "connections") rows) connections
+IsAskedBy name rows (Send port client first) =
+    (name ≡ codes "send") × (option_map number_of (one_of (codes "port") rows) ≡ Some port)
+    × (option_map number_of (one_of (codes "client") rows) ≡ Some client)
+    × IsNumberOr 64 1 (one_of (codes "first") rows) first
+
+-- a parse came to this command, and its options ask for that
+pub record IsAsked (entered : Option (Text × List Row)) (asked : Asked) : Type 0 where
+  pub name : Text
+  pub rows : List Row
+  pub is_entered : entered ≡ Some (name, rows)
+  pub asks : IsAskedBy name rows asked
+
+-- the words of a command line, the program's own name first, ask for that
+abbrev pub WordsAsk : List Text → Asked → Type 0
+WordsAsk words asked = IsAsked (subcommand_of program words) asked

@@ -1,0 +1,46 @@
+-- What the end of a script says of the program's ending.
+use Rattle.std.proofs.Common.{◌≡◌, ℕ, Bool, true, false, cond, eqb, List, [], Option, Some, None, Result, Ok, Err, OnOk, IfOk, IfErr, IfSome, refl, sym, ◌∙◌, subst, arith}
+use Rattle.std.specs.Prelude.{IsErrOf}
+use Rattle.std.specs.Io.KnownBytes.{Keeps}
+use Rattle.std.proofs.KnownBytes.{Keeps-refl}
+use Rattle.std.proofs.lemmas.Bool.{eqb-true, eqb-false}
+use Rattle.droid_desk_commands.specs.declared.ending.Ending.TheVariants.{Done, BadLine}
+use Rattle.droid_desk_script.specs.declared.fault.ScriptFault.{ScriptFault}
+use Rattle.droid_desk_script.specs.declared.fault.ScriptFault.TheVariants.{TooLong, Read, Memory, Write}
+use Rattle.droid_desk_script.specs.declared.tally.Tally.{Tally}
+use Rattle.droid_core.specs.declared.service.Service.{Service}
+use Rattle.droid_core.specs.Setting.{Setting}
+use Rattle.droid_desk_commands.specs.Endings.{ending_of, EndsAs, PrintsAll}
+use Rattle.droid_desk_lines.specs.Lines.{lines_of}
+use Rattle.droid_desk_script.specs.Scripts.{RunsAll, RunsFront, Counts, IsOfReading, IsOfHandling, IsTooLong}
+
+pub keeps_same : (old new : Option (List ℕ)) → new ≡ old → Keeps old new
+keeps_same old new e = subst (Keeps old) (sym e) (Keeps-refl old)
+
+pub if_err_then : {T E : Type 0} (r : Result T E) (P Q : E → Type 0) → IfErr r P → ((e : E) → P e → Q e) → IfErr r Q
+if_err_then (Ok x) P Q p then = tt
+if_err_then (Err e) P Q p then = then e p
+
+done_or_bad : (b : Bool) (setting : Setting) (tally : Tally) (input : List ℕ) (old new : Option (List ℕ)) → eqb tally.bad 0 ≡ b
+    → PrintsAll setting input old new → Counts tally (lines_of input) → EndsAs setting (cond b Done BadLine) input old new
+done_or_bad true setting tally input old new e prints counts =
+    let none : tally.bad ≡ 0 = eqb-true tally.bad 0 e in
+    (prints, sym counts.bad ∙ none)
+done_or_bad false setting tally input old new e prints counts =
+    let some : tally.bad ≡ 0 → ⊥ = eqb-false tally.bad 0 e in
+    (prints, omega (arith, counts.bad, some))
+
+pub ends : (known : Option (List ℕ)) (r : Result Tally ScriptFault) (setting : Setting) (after : Service) (old new : Option (List ℕ))
+    → OnOk r (IfSome known (λ input. RunsAll setting [] (lines_of input) after old new))
+    → IfOk r (λ tally. IfSome known (λ input. Counts tally (lines_of input)))
+    → IfErr r (λ fault. IsOfHandling fault → IfSome known (λ input. RunsFront setting [] (lines_of input) after old new))
+    → IfErr r (λ fault. IsOfReading fault → Keeps old new)
+    → (IsErrOf r TooLong → IfSome known IsTooLong)
+    → IfSome known (λ input. EndsAs setting (ending_of r) input old new)
+ends None r setting after old new all tally front before too_long = tt
+ends (Some input) (Ok counted) setting after old new all tally front before too_long =
+    done_or_bad (eqb counted.bad 0) setting counted input old new refl (after, all) tally
+ends (Some input) (Err TooLong) setting after old new all tally front before too_long = (before tt, too_long refl)
+ends (Some input) (Err Read) setting after old new all tally front before too_long = before tt
+ends (Some input) (Err Memory) setting after old new all tally front before too_long = (after, front tt)
+ends (Some input) (Err Write) setting after old new all tally front before too_long = (after, front tt)

@@ -1,0 +1,48 @@
+-- What the end of sending says of the program's ending.
+use Rattle.std.proofs.Common.{◌≡◌, ℕ, Bool, true, false, cond, eqb, List, Option, Result, Ok, Err, IfOk, IfErr, refl, ap, arith}
+use Rattle.std.specs.Prelude.{IsErrOf}
+use Rattle.std.proofs.lemmas.Bool.{eqb-true, eqb-false}
+use Rattle.droid_wire.specs.Cores.{Core}
+use Rattle.droid_desk_commands.specs.declared.ending.Ending.{Ending}
+use Rattle.droid_desk_commands.specs.declared.ending.Ending.TheVariants.{Done, BadLine, Send}
+use Rattle.droid_desk_commands.specs.Sends.{SendEndsAs, sending_end_of}
+use Rattle.droid_desk_sender.specs.declared.fault.SendFault.{SendFault}
+use Rattle.droid_desk_sender.specs.declared.tally.Tally.{Tally}
+use Rattle.droid_desk_sender.specs.Along.{TellsFaultAlong}
+use Rattle.droid_frame.specs.Over.{TellsFaultOver}
+use Rattle.droid_desk_sender.specs.Sending.{SendsAll, SendsFront}
+use Rattle.droid_frame.specs.stream_types.seen.Seen.{Seen}
+
+done_or_bad : (b : Bool) (core after : Core) (tally : Tally) (script input left old_frames new_frames old_text new_text : Option (List ℕ)) → eqb tally.bad 0 ≡ b
+    → SendsAll core script input left old_frames new_frames old_text new_text after tally
+    → SendEndsAs core (cond b Done BadLine) script input left old_frames new_frames old_text new_text
+done_or_bad true core after tally script input left old_frames new_frames old_text new_text e all =
+    record { after = after; tally = tally; all = all; bad = eqb-true tally.bad 0 e }
+done_or_bad false core after tally script input left old_frames new_frames old_text new_text e all =
+    let some : tally.bad ≡ 0 → ⊥ = eqb-false tally.bad 0 e in
+    record { after = after; tally = tally; all = all; bad = omega (arith, some) }
+
+pub send_ends : (core after : Core) (r : Result Tally SendFault) (script input left old_frames new_frames old_text new_text : Option (List ℕ))
+    → IfOk r (λ tally. SendsAll core script input left old_frames new_frames old_text new_text after tally)
+    → IfErr r (λ fault. SendsFront fault core script input left old_frames new_frames old_text new_text after)
+    → SendEndsAs core (sending_end_of r) script input left old_frames new_frames old_text new_text
+send_ends core after (Ok tally) script input left old_frames new_frames old_text new_text all front =
+    done_or_bad (eqb tally.bad 0) core after tally script input left old_frames new_frames old_text new_text refl all
+send_ends core after (Err fault) script input left old_frames new_frames old_text new_text all front = record { after = after; front = front }
+
+not_sent : (b : Bool) (fault : SendFault) → cond b Done BadLine ≡ Send fault → ⊥
+not_sent true fault is = absurd cc
+not_sent false fault is = absurd cc
+
+told_over : (start count : ℕ) (seen : Seen) (r : Result Tally SendFault) (fault : SendFault)
+    → TellsFaultOver start count seen (IsErrOf r fault) → TellsFaultOver start count seen (sending_end_of r ≡ Send fault)
+told_over start count seen (Ok tally) fault told = record { fault = λ is. absurd (not_sent (eqb tally.bad 0) fault is); otherwise = λ not. told.otherwise (λ is. absurd cc) }
+told_over start count seen (Err other) fault told = record {
+  fault = λ is. told.fault (let same : other ≡ fault = cc in ap (λ (e : SendFault). Err e) same);
+  otherwise = λ not. told.otherwise (λ is. not (let same : other ≡ fault = cc in ap (λ (e : SendFault). Send e) same));
+}
+
+-- a fault of a stream ends the program as that fault, and no other end does
+pub told_along : (script : Option (List ℕ)) (start : ℕ) (seen : Seen) (r : Result Tally SendFault) (fault : SendFault)
+    → TellsFaultAlong script start seen (IsErrOf r fault) → TellsFaultAlong script start seen (sending_end_of r ≡ Send fault)
+told_along script start seen r fault told = record { count = told.count; within = told.within; told = told_over start told.count seen r fault told.told }

@@ -1,0 +1,92 @@
+//! A script over a fresh service, whose registry is read first.
+
+ghost use Rattle.std.specs.Prelude.{◌≡◌, ◌≢◌, None, Some, length, IfSome};
+ghost use Rattle.droid_frame.specs.Seen.{IsSound, TellsFault};
+ghost use Rattle.droid_core.specs.Setting.{Setting};
+ghost use Rattle.droid_desk_lines.specs.Lines.{lines_of};
+ghost use Rattle.droid_desk_commands.specs.Sample.{sample};
+ghost use Rattle.droid_frame.specs.Over.{TellsFaultOver};
+ghost use Rattle.droid_desk_commands.specs.Endings.{ending_of, EndsAs, EndsOver, IsProgramSetting};
+
+use crate::ending::Ending;
+use crate::sample::sample_registry;
+use droid_core::{Limits, Service};
+use droid_desk_script::{ScriptFault, Tally, script};
+use droid_frame::{SteadyRead, SteadyWrite};
+use droid_pronom::{Registry, RegistryFault};
+use std::alloc::Global;
+
+/// What the program's service takes at the most.
+pub const LIMITS: Limits = Limits {
+    profiles: 64,
+    nodes: 100_000,
+    unfinished: 64,
+};
+
+/// Runs a script over a fresh service, which identifies files by the sample registry.
+pub fn run_sample<R: SteadyRead, W: SteadyWrite>(
+    alloc: Global,
+    reader: &mut R,
+    writer: &mut W,
+) -> Ending
+    ensures ends { EndsOver (Some sample) result (R.remaining reader.old) (W.contents writer.old) (W.contents writer.new) }
+    ensures registry_fault { result ≢ Ending.Registry RegistryFault.Read }
+    ensures read_fault { IsSound (R.seen reader.old) → TellsFault (R.seen reader.old).interruptions (R.seen reader.new) (result ≡ Ending.Script ScriptFault.Read) }
+    ensures write_fault { IsSound (W.seen writer.old) → W.room writer.old ≡ None → IfSome (R.remaining reader.old) (λ input.
+        TellsFaultOver (W.seen writer.old).interruptions (length (lines_of input)) (W.seen writer.new) (result ≡ Ending.Script ScriptFault.Write)) }
+{
+    let mut file = sample_registry();
+    run_desk(alloc, &mut file, reader, writer)
+}
+
+/// Reads a registry file, and runs a script over a fresh service that identifies files by it.
+pub fn run_desk<F: SteadyRead, R: SteadyRead, W: SteadyWrite>(
+    alloc: Global,
+    file: &mut F,
+    reader: &mut R,
+    writer: &mut W,
+) -> Ending
+    ensures ends { EndsOver (F.remaining file.old) result (R.remaining reader.old) (W.contents writer.old) (W.contents writer.new) }
+    // The streams are said to have failed exactly where they did, or were interrupted too often.
+    ensures registry_fault { IsSound (F.seen file.old) → TellsFault (F.seen file.old).interruptions (F.seen file.new) (result ≡ Ending.Registry RegistryFault.Read) }
+    ensures read_fault { IsSound (R.seen reader.old) → TellsFault (R.seen reader.old).interruptions (R.seen reader.new) (result ≡ Ending.Script ScriptFault.Read) }
+    ensures write_fault { IsSound (W.seen writer.old) → W.room writer.old ≡ None → IfSome (R.remaining reader.old) (λ input.
+        TellsFaultOver (W.seen writer.old).interruptions (length (lines_of input)) (W.seen writer.new) (result ≡ Ending.Script ScriptFault.Write)) }
+{
+    match Registry::read(alloc, file) {
+        Ok(registry) => run_script(alloc, registry, reader, writer),
+        Err(fault) => Ending::Registry(fault),
+    }
+}
+
+/// Runs a script over a fresh service with this registry.
+fn run_script<R: SteadyRead, W: SteadyWrite>(
+    alloc: Global,
+    registry: Registry,
+    reader: &mut R,
+    writer: &mut W,
+) -> Ending
+    ensures ends { (setting : Setting) → IsProgramSetting registry setting → IfSome (R.remaining reader.old) (λ input.
+        EndsAs setting result input (W.contents writer.old) (W.contents writer.new)) }
+    ensures registry_read { (fault : _) → result ≢ Ending.Registry fault }
+    ensures read_fault { IsSound (R.seen reader.old) → TellsFault (R.seen reader.old).interruptions (R.seen reader.new) (result ≡ Ending.Script ScriptFault.Read) }
+    ensures write_fault { IsSound (W.seen writer.old) → W.room writer.old ≡ None → IfSome (R.remaining reader.old) (λ input.
+        TellsFaultOver (W.seen writer.old).interruptions (length (lines_of input)) (W.seen writer.new) (result ≡ Ending.Script ScriptFault.Write)) }
+{
+    let mut service = match Service::new(alloc, registry, LIMITS) {
+        Ok(service) => service,
+        Err(fault) => return Ending::NoService(fault),
+    };
+    let outcome = script(alloc, &mut service, reader, writer);
+    end_of(outcome)
+}
+
+fn end_of(outcome: Result<Tally, ScriptFault>) -> Ending
+    ensures { result ≡ ending_of outcome }
+{
+    match outcome {
+        Ok(Tally { bad: 0, .. }) => Ending::Done,
+        Ok(_) => Ending::BadLine,
+        Err(fault) => Ending::Script(fault),
+    }
+}

@@ -1,0 +1,15 @@
+//! What the program's commands do, and how it ends: scripts, frames on standard streams, connections to a port, and
+//! lines that are sent to one.
+#![tactic(auto)]
+
+mod connections;
+mod desk;
+mod ending;
+mod fresh;
+mod port;
+mod program;
+mod sample;
+mod sending;
+mod stream;
+
+pub use program::run;

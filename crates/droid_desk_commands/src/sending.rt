@@ -1,0 +1,51 @@
+//! The requests of lines, sent by a client that is made for them.
+
+ghost use Rattle.std.specs.Prelude.{◌≡◌, ◌<◌, ◌^◌, None};
+ghost use Rattle.droid_frame.specs.Seen.{IsSound};
+ghost use Rattle.droid_wire.specs.Cores.{new_core};
+ghost use Rattle.droid_desk_sender.specs.Along.{TellsFaultAlong};
+ghost use Rattle.droid_desk_commands.specs.Sends.{SendEndsAs, sending_end_of};
+
+use crate::ending::Ending;
+use droid_desk_sender::{SendFault, Tally, send};
+use droid_frame::{FrameFault, SteadyRead, SteadyWrite};
+use droid_wire::Client;
+use std::alloc::Global;
+
+/// Sends the requests of lines under numbers from `first` on, and tells how the program ends by that.
+pub fn send_lines<L: SteadyRead, R: SteadyRead, F: SteadyWrite, T: SteadyWrite>(
+    alloc: Global,
+    client: u32,
+    first: u64,
+    lines: &mut L,
+    replies: &mut R,
+    frames: &mut F,
+    text: &mut T,
+) -> Ending
+    requires { first < 2 ^ 63 }
+    ensures ends { SendEndsAs (new_core client first) result (L.remaining lines.old) (R.remaining replies.old) (R.remaining replies.new)
+        (F.contents frames.old) (F.contents frames.new) (T.contents text.old) (T.contents text.new) }
+    // The streams are said to have failed exactly where they did, or were interrupted too often for one line, frame or text.
+    ensures lines_fault { IsSound (L.seen lines.old) →
+        TellsFaultAlong (L.remaining lines.old) (L.seen lines.old).interruptions (L.seen lines.new) (result ≡ Ending.Send SendFault.Lines) }
+    ensures replies_fault { IsSound (R.seen replies.old) →
+        TellsFaultAlong (L.remaining lines.old) (R.seen replies.old).interruptions (R.seen replies.new) (result ≡ Ending.Send (SendFault.Replies FrameFault.Read)) }
+    ensures frames_fault { IsSound (F.seen frames.old) → F.room frames.old ≡ None →
+        TellsFaultAlong (L.remaining lines.old) (F.seen frames.old).interruptions (F.seen frames.new) (result ≡ Ending.Send SendFault.Frames) }
+    ensures text_fault { IsSound (T.seen text.old) → T.room text.old ≡ None →
+        TellsFaultAlong (L.remaining lines.old) (T.seen text.old).interruptions (T.seen text.new) (result ≡ Ending.Send SendFault.Text) }
+{
+    let mut core = Client::new(alloc, client, first);
+    let outcome = send(alloc, &mut core, lines, replies, frames, text);
+    end_of(outcome)
+}
+
+fn end_of(outcome: Result<Tally, SendFault>) -> Ending
+    ensures { result ≡ sending_end_of outcome }
+{
+    match outcome {
+        Ok(Tally { bad: 0, .. }) => Ending::Done,
+        Ok(_) => Ending::BadLine,
+        Err(fault) => Ending::Send(fault),
+    }
+}

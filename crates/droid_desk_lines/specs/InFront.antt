@@ -1,0 +1,25 @@
+-- Lines of a script with a client and a number in front, and without (this project's own).
+use Rattle.std.specs.Prelude.{◌≡◌, ℕ, ◌^◌, List, ◌∷◌, ◌++◌, Some, is_none}
+use Rattle.std.specs.Option.{option_map}
+use Rattle.droid_frame.specs.types.request.Request.{Request}
+use Rattle.droid_desk_lines.specs.Lines.{line_value, request_value}
+use Rattle.droid_desk_lines.specs.Words.{number_below}
+use Rattle.droid_desk_lines.specs.declared.parse.Line.{Line}
+
+-- the line with two words and a space after each in front
+abbrev pub with_front : List ℕ → List ℕ → List ℕ → List ℕ
+with_front client number line = client ++ (32 ∷ (number ++ (32 ∷ line)))
+
+-- the request, from this client and under this number
+abbrev pub line_of : ℕ → ℕ → Request → Line
+line_of client number request = record { client = client; number = number; request = request }
+
+-- With a client and a number in front, a line asks for the same request; and it is bad exactly where it was.
+pub record SameInFront (client_word number_word line : List ℕ) (client number : ℕ) : Type 0 where
+  pub asks : line_value (with_front client_word number_word line) ≡ option_map (line_of client number) (request_value line)
+  pub bad : is_none (line_value (with_front client_word number_word line)) ≡ is_none (request_value line)
+
+-- the same of every line, every client and every number
+abbrev pub AskTheSame : Type 0
+AskTheSame = (client_word number_word line : List ℕ) (client number : ℕ) → number_below (2 ^ 32) client_word ≡ Some client → number_below (2 ^ 64) number_word ≡ Some number
+    → SameInFront client_word number_word line client number

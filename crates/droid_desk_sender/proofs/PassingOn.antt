@@ -1,0 +1,28 @@
+-- A fault that is passed on.
+use Rattle.std.proofs.Common.{◌≡◌, List, ℕ, Option, Result, Ok, Err, IfErr, IsErrOf, refl, sym, subst}
+use Rattle.std.specs.Prelude.{IsErrAnd}
+use Rattle.droid_wire.specs.Cores.{Core}
+use Rattle.droid_desk_sender.specs.declared.fault.SendFault.{SendFault}
+use Rattle.droid_desk_sender.specs.declared.fault.SendFault.TheVariants.{Lines}
+use Rattle.droid_desk_sender.specs.Stopping.{LineStops}
+
+pub fault_is : {T : Type 0} (r : Result T SendFault) (fault of : SendFault) → IsErrAnd r (λ e. e ≡ fault) → IsErrOf r of → fault ≡ of
+fault_is {T} (Ok x) fault of is that = absurd is
+fault_is {T} (Err e) fault of is that = subst (λ (r : Result T SendFault). IfErr r (λ x. fault ≡ x)) that (sym is)
+
+pub passed_on : {T U : Type 0} (r : Result T SendFault) (fault of : SendFault) → IsErrAnd r (λ e. e ≡ fault) → IsErrOf r of → IsErrOf {T = U} (Err fault) of
+passed_on {T} {U} r fault of is that = rw (fault_is r fault of is that) refl
+
+pub came_from : {T U : Type 0} (r : Result T SendFault) (fault of : SendFault) → IsErrAnd r (λ e. e ≡ fault) → IsErrOf {T = U} (Err fault) of → IsErrOf r of
+came_from {T} {U} (Ok x) fault of is that = absurd is
+came_from {T} {U} (Err e) fault of is that =
+    let same : fault ≡ of = subst (λ (r : Result U SendFault). IfErr r (λ x. fault ≡ x)) that refl in
+    rw (is, same) refl
+
+-- no line ends with the fault that no line could be read
+pub stops_not_reading : {T : Type 0} (r : Result T SendFault) (fault : SendFault) (core : Core) (line : List ℕ) (input left old_frames new_frames old_text new_text : Option (List ℕ)) (after : Core)
+    → IsErrAnd r (λ e. e ≡ fault) → LineStops fault core line input left old_frames new_frames old_text new_text after → IsErrOf r Lines → ⊥
+stops_not_reading {T} r fault core line input left old_frames new_frames old_text new_text after is stops that =
+    let here : LineStops Lines core line input left old_frames new_frames old_text new_text after =
+    subst (λ (f : SendFault). LineStops f core line input left old_frames new_frames old_text new_text after) (fault_is r fault Lines is that) stops in
+    here.stops

@@ -1,0 +1,66 @@
+//! A request's frame is sent, and the frame of its reply read.
+
+ghost use Rattle.std.specs.Prelude.{◌≡◌, ◌≤◌, ◌^◌, None, OnOk, OnErr, IsErr, IsErrOf};
+ghost use Rattle.std.specs.Io.KnownBytes.{Appends};
+ghost use Rattle.droid_frame.specs.Seen.{IsSound, TellsFault};
+ghost use Rattle.droid_frame.specs.Bodies.{Fits};
+ghost use Rattle.droid_frame.specs.Frames.{frame_bytes};
+ghost use Rattle.droid_frame.specs.types.request.Request.{Request};
+ghost use Rattle.droid_wire.specs.Cores.{Core, core_submitting, next_frame, next_number};
+ghost use Rattle.droid_desk_sender.specs.Steps.{ReplyComes, RequestGoes};
+ghost use Rattle.droid_desk_sender.specs.Stopping.{WritesFront};
+
+use crate::fault::SendFault;
+use droid_frame::{
+    Arrival, Frame, FrameFault, Request, SteadyRead, SteadyWrite, WriteFault, read_frame,
+    write_frame,
+};
+use droid_wire::Client;
+use std::alloc::Global;
+
+/// Submits a request, and sends its frame.
+pub(crate) fn send_request<F: SteadyWrite>(
+    client: &mut Client,
+    request: Request,
+    frames: &mut F,
+) -> Result<(), SendFault>
+    requires { Fits request }
+    ensures goes { RequestGoes client.old request (F.contents frames.old) (F.contents frames.new) client.new result }
+    ensures told { IsSound (F.seen frames.old) → F.room frames.old ≡ None →
+        TellsFault (F.seen frames.old).interruptions (F.seen frames.new) (IsErrOf result SendFault.Frames) × (F.room frames.new ≡ None) }
+{
+    client.submit(request)?;
+    match write_newest(client, frames) {
+        Ok(()) => Ok(()),
+        Err(_) => Err(SendFault::Frames),
+    }
+}
+
+/// Writes the frame of the request that was submitted last.
+fn write_newest<F: SteadyWrite>(client: &Client, frames: &mut F) -> Result<(), WriteFault>
+    requires { (core : Core) × (request : Request) × Fits request × (client.now ≡ core_submitting core request) }
+    ensures ok { (core : Core) (request : Request) → client.now ≡ core_submitting core request →
+        OnOk result (Appends (F.contents frames.old) (F.contents frames.new) (frame_bytes (next_frame core request))) }
+    ensures err { (core : Core) (request : Request) → client.now ≡ core_submitting core request →
+        OnErr result (WritesFront (F.contents frames.old) (F.contents frames.new) (frame_bytes (next_frame core request))) }
+    ensures told { IsSound (F.seen frames.old) → F.room frames.old ≡ None →
+        TellsFault (F.seen frames.old).interruptions (F.seen frames.new) (IsErr result) × (F.room frames.new ≡ None) }
+{
+    let newest = client.pending() - 1;
+    let frame = client.pending_at(newest).unwrap();
+    write_frame(frame, frames)?;
+    Ok(())
+}
+
+/// Reads the frame of a reply.
+pub(crate) fn read_reply<R: SteadyRead>(alloc: Global, replies: &mut R) -> Result<Frame, SendFault>
+    ensures comes { ReplyComes (R.remaining replies.old) (R.remaining replies.new) result }
+    ensures failed { IsSound (R.seen replies.old) →
+        TellsFault (R.seen replies.old).interruptions (R.seen replies.new) (IsErrOf result (SendFault.Replies FrameFault.Read)) }
+{
+    match read_frame(alloc, replies) {
+        Ok(Arrival::Frame(frame)) => Ok(frame),
+        Ok(Arrival::End) => Err(SendFault::Closed),
+        Err(fault) => Err(SendFault::Replies(fault)),
+    }
+}

@@ -1,0 +1,118 @@
+//! Sending the requests of lines, one after the other.
+
+ghost use Rattle.std.specs.Prelude.{◌≡◌, None, IfOk, IfErr, IsErrOf};
+ghost use Rattle.droid_frame.specs.Seen.{IsSound, TellsFault};
+ghost use Rattle.droid_frame.specs.Bodies.{Fits};
+ghost use Rattle.droid_desk_sender.specs.Along.{TellsFaultAlong};
+ghost use Rattle.droid_desk_sender.specs.Sending.{SendsAll, SendsFront};
+ghost use Rattle.droid_desk_sender.specs.Steps.{LineDone};
+ghost use Rattle.droid_desk_sender.specs.Stopping.{Exchanged, LineStops, RequestStops};
+
+use crate::exchange::{read_reply, send_request};
+use crate::fault::SendFault;
+use crate::line_reader::LineReader;
+use crate::printing::{hear, print_bad, write_text};
+use crate::tally::Tally;
+use droid_desk_lines::parse_request_line;
+use droid_frame::{FrameFault, Request, SteadyRead, SteadyWrite};
+use droid_wire::Client;
+use std::alloc::Global;
+
+/// Reads lines, submits the request of each, sends its frame, and prints the reply that comes next; a bad line
+/// prints that it is bad, and takes no number. What a line prints is written before the next line is read.
+///
+/// A refusal is printed like an answer, and the next line goes on under the next number.
+pub fn send<L: SteadyRead, R: SteadyRead, F: SteadyWrite, T: SteadyWrite>(
+    alloc: Global,
+    client: &mut Client,
+    lines: &mut L,
+    replies: &mut R,
+    frames: &mut F,
+    text: &mut T,
+) -> Result<Tally, SendFault>
+    // All lines were sent; the tally counts them, and the bad ones.
+    ensures all { IfOk result (λ tally. SendsAll client.old (L.remaining lines.old) (R.remaining replies.old) (R.remaining replies.new)
+        (F.contents frames.old) (F.contents frames.new) (T.contents text.old) (T.contents text.new) client.new tally) }
+    // With a fault, the first lines were sent, and it says what came of the next one.
+    ensures front { IfErr result (λ fault. SendsFront fault client.old (L.remaining lines.old) (R.remaining replies.old) (R.remaining replies.new)
+        (F.contents frames.old) (F.contents frames.new) (T.contents text.old) (T.contents text.new) client.new) }
+    // Each stream is said to have failed exactly where it did, or was interrupted for the 65th time in one line, frame or text.
+    ensures lines_fault { IsSound (L.seen lines.old) →
+        TellsFaultAlong (L.remaining lines.old) (L.seen lines.old).interruptions (L.seen lines.new) (IsErrOf result SendFault.Lines) }
+    ensures replies_fault { IsSound (R.seen replies.old) →
+        TellsFaultAlong (L.remaining lines.old) (R.seen replies.old).interruptions (R.seen replies.new) (IsErrOf result (SendFault.Replies FrameFault.Read)) }
+    // So is a writer with no end of room.
+    ensures frames_fault { IsSound (F.seen frames.old) → F.room frames.old ≡ None →
+        TellsFaultAlong (L.remaining lines.old) (F.seen frames.old).interruptions (F.seen frames.new) (IsErrOf result SendFault.Frames) }
+    ensures text_fault { IsSound (T.seen text.old) → T.room text.old ≡ None →
+        TellsFaultAlong (L.remaining lines.old) (T.seen text.old).interruptions (T.seen text.new) (IsErrOf result SendFault.Text) }
+{
+    let mut reader = LineReader::new();
+    let mut tally = Tally { lines: 0, bad: 0 };
+    for _ in 0..u64::MAX {
+        let Some(line) = reader.next_line(alloc, lines)? else {
+            return Ok(tally);
+        };
+        let is_bad = send_line(alloc, client, line.as_slice(), replies, frames, text)?;
+        tally.lines += 1;
+        if is_bad {
+            tally.bad += 1;
+        }
+    }
+    Err(SendFault::Memory)
+}
+
+/// Sends one line, and prints what comes of it. The answer is whether the line is bad.
+fn send_line<R: SteadyRead, F: SteadyWrite, T: SteadyWrite>(
+    alloc: Global,
+    client: &mut Client,
+    line: &[u8],
+    replies: &mut R,
+    frames: &mut F,
+    text: &mut T,
+) -> Result<bool, SendFault>
+    ensures done { IfOk result (λ bad. LineDone client.old line.now (R.remaining replies.old) (R.remaining replies.new)
+        (F.contents frames.old) (F.contents frames.new) (T.contents text.old) (T.contents text.new) client.new bad) }
+    ensures stops { IfErr result (λ fault. LineStops fault client.old line.now (R.remaining replies.old) (R.remaining replies.new)
+        (F.contents frames.old) (F.contents frames.new) (T.contents text.old) (T.contents text.new) client.new) }
+    ensures replies_fault { IsSound (R.seen replies.old) →
+        TellsFault (R.seen replies.old).interruptions (R.seen replies.new) (IsErrOf result (SendFault.Replies FrameFault.Read)) }
+    ensures frames_fault { IsSound (F.seen frames.old) → F.room frames.old ≡ None →
+        TellsFault (F.seen frames.old).interruptions (F.seen frames.new) (IsErrOf result SendFault.Frames) × (F.room frames.new ≡ None) }
+    ensures text_fault { IsSound (T.seen text.old) → T.room text.old ≡ None →
+        TellsFault (T.seen text.old).interruptions (T.seen text.new) (IsErrOf result SendFault.Text) × (T.room text.new ≡ None) }
+{
+    let Some(request) = parse_request_line(alloc, line)? else {
+        let printed = print_bad(alloc)?;
+        write_text(text, printed.as_slice())?;
+        return Ok(true);
+    };
+    let printed = exchange(alloc, client, request, replies, frames)?;
+    write_text(text, printed.as_slice())?;
+    Ok(false)
+}
+
+/// Submits a request, sends its frame, and lets the client hear the reply that comes next. The answer is what
+/// is printed of it.
+fn exchange<R: SteadyRead, F: SteadyWrite>(
+    alloc: Global,
+    client: &mut Client,
+    request: Request,
+    replies: &mut R,
+    frames: &mut F,
+) -> Result<Vec<u8>, SendFault>
+    requires { Fits request }
+    ensures exchanged { IfOk result (λ printed. Exchanged client.old request (R.remaining replies.old) (R.remaining replies.new)
+        (F.contents frames.old) (F.contents frames.new) client.new printed.items) }
+    ensures stops { IfErr result (λ fault. RequestStops fault client.old request (R.remaining replies.old) (R.remaining replies.new)
+        (F.contents frames.old) (F.contents frames.new) client.new) }
+    ensures replies_fault { IsSound (R.seen replies.old) →
+        TellsFault (R.seen replies.old).interruptions (R.seen replies.new) (IsErrOf result (SendFault.Replies FrameFault.Read)) }
+    ensures frames_fault { IsSound (F.seen frames.old) → F.room frames.old ≡ None →
+        TellsFault (F.seen frames.old).interruptions (F.seen frames.new) (IsErrOf result SendFault.Frames) × (F.room frames.new ≡ None) }
+{
+    send_request(client, request, frames)?;
+    let frame = read_reply(alloc, replies)?;
+    let printed = hear(alloc, client, frame)?;
+    Ok(printed)
+}

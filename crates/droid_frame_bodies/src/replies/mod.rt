@@ -1,0 +1,139 @@
+//! Replies from frames.
+
+mod finished;
+mod refusals;
+
+ghost use Rattle.std.specs.Prelude.{◌≡◌, ◌≢◌, ◌↔◌, IfOk, IsErrOf, ok_or};
+ghost use Rattle.droid_frame_values.specs.Fields.{IsBytes};
+ghost use Rattle.droid_frame_bodies.specs.fields.Reading.{whole};
+ghost use Rattle.droid_frame_values.specs.Replies.{SpellsReply};
+ghost use Rattle.droid_frame_bodies.specs.replies.Results.{IsReadAs};
+ghost use Rattle.droid_frame_bodies.specs.replies.Steps.{Comes};
+ghost use Rattle.droid_frame_bodies.specs.replies.Values.{reply_value, made_value, node_value, taken_value, abandoned_value, progress_value, part_value, refused_value, plain_value};
+
+use self::finished::finished;
+use self::refusals::refusal_at;
+use crate::body_fault::BodyFault;
+use crate::fields::{bytes_after, u32_at, u64_at};
+use droid_frame_values::{Blob, Frame, PART_LIMIT, Reply};
+use std::alloc::Global;
+
+/// The reply of a frame, whose body it uses up: the bytes of a Part are the body's own buffer. Only a
+/// Finished takes memory, for its list of identifiers, once the whole body is known to spell one.
+pub fn reply_of(alloc: Global, frame: Frame) -> Result<Reply, BodyFault>
+    // What is read is spelled so, all of the body.
+    ensures found { IfOk result (SpellsReply frame.kind frame.body) }
+    // What is spelled so is read, unless it is a Finished and memory is refused.
+    ensures accepted { (reply : Reply) → SpellsReply frame.kind frame.body reply → IsReadAs frame.kind reply result }
+    // This comes exactly where no reply is spelled.
+    ensures malformed { IsErrOf result BodyFault.Malformed ↔ ((reply : Reply) → ¬ SpellsReply frame.kind frame.body reply) }
+    // This comes only where a Finished is spelled.
+    ensures memory { IsErrOf result BodyFault.Memory → (frame.kind ≡ 132) × (reply : Reply) × SpellsReply frame.kind frame.body reply }
+    // The same in one equation, but for a Finished.
+    ensures exact { frame.kind ≢ 132 → result ≡ ok_or (reply_value frame.kind frame.body) BodyFault.Malformed }
+{
+    value_of(alloc, frame.kind, frame.body)
+}
+
+#[tactic(auto, unfolding(crate::specs::replies::Values::reply_value))]
+fn value_of(alloc: Global, kind: u8, body: Blob) -> Result<Reply, BodyFault>
+    ensures comes { Comes kind (reply_value kind body) result }
+    ensures bytes { IsBytes body }
+{
+    let bytes = body.as_slice();
+    match kind {
+        132 => finished(alloc, bytes),
+        _ => plain(kind, body).ok_or(BodyFault::Malformed),
+    }
+}
+
+/// A reply without a list. It takes no memory.
+#[tactic(auto, unfolding(crate::specs::replies::Values::plain_value))]
+fn plain(kind: u8, body: Blob) -> Option<Reply>
+    ensures { result ≡ plain_value kind body }
+{
+    let bytes = body.as_slice();
+    match kind {
+        129 => made(bytes),
+        130 => node(bytes),
+        131 => taken(bytes),
+        133 => abandoned(bytes),
+        134 => progress(bytes),
+        135 => part(body),
+        136 => refused(bytes),
+        _ => None,
+    }
+}
+
+#[tactic(auto, unfolding(crate::specs::replies::Values::made_value))]
+fn made(body: &[u8]) -> Option<Reply>
+    ensures { result ≡ made_value body.now }
+{
+    let (profile, rest) = u32_at(body)?;
+    whole(rest, Reply::Made { profile })
+}
+
+#[tactic(auto, unfolding(crate::specs::replies::Values::node_value))]
+fn node(body: &[u8]) -> Option<Reply>
+    ensures { result ≡ node_value body.now }
+{
+    let (id, rest) = u32_at(body)?;
+    whole(rest, Reply::Node { id })
+}
+
+#[tactic(auto, unfolding(crate::specs::replies::Values::taken_value))]
+fn taken(body: &[u8]) -> Option<Reply>
+    ensures { result ≡ taken_value body.now }
+{
+    let (held, rest) = u32_at(body)?;
+    whole(rest, Reply::Taken { held })
+}
+
+#[tactic(auto, unfolding(crate::specs::replies::Values::abandoned_value))]
+fn abandoned(body: &[u8]) -> Option<Reply>
+    ensures { result ≡ abandoned_value body.now }
+{
+    whole(body, Reply::Abandoned)
+}
+
+#[tactic(auto, unfolding(crate::specs::replies::Values::progress_value))]
+fn progress(body: &[u8]) -> Option<Reply>
+    ensures { result ≡ progress_value body.now }
+{
+    let (held, rest) = u32_at(body)?;
+    let (missing, rest) = u32_at(rest)?;
+    whole(rest, Reply::Progress { held, missing })
+}
+
+#[tactic(auto, unfolding(crate::specs::replies::Values::part_value))]
+fn part(body: Blob) -> Option<Reply>
+    ensures { result ≡ part_value body }
+{
+    let (as_of, rest) = u64_at(body.as_slice())?;
+    let (total, rest) = u64_at(rest)?;
+    if rest.len() > PART_LIMIT {
+        return None;
+    }
+    let used = body.len() - rest.len();
+    Some(Reply::Part {
+        as_of,
+        total,
+        bytes: bytes_after(body, used),
+    })
+}
+
+#[tactic(auto, unfolding(crate::specs::replies::Values::refused_value))]
+fn refused(body: &[u8]) -> Option<Reply>
+    ensures { result ≡ refused_value body.now }
+{
+    let (refusal, rest) = refusal_at(body)?;
+    whole(rest, Reply::Refused(refusal))
+}
+
+/// The reply, where no byte is left.
+#[tactic(auto, unfolding(crate::specs::fields::Reading::whole))]
+fn whole(rest: &[u8], reply: Reply) -> Option<Reply>
+    ensures { result ≡ whole rest.now reply }
+{
+    if rest.is_empty() { Some(reply) } else { None }
+}

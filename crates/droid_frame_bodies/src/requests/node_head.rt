@@ -1,0 +1,35 @@
+//! The first fields of the requests that add a node.
+
+ghost use Rattle.std.specs.Prelude.{◌≡◌, IfSome};
+ghost use Rattle.std.specs.Option.{option_map};
+ghost use Rattle.droid_frame_values.specs.Ends.{IsEnd};
+ghost use Rattle.droid_frame_bodies.specs.requests.NodeHeads.{node_head_at};
+
+use crate::fields::{i64_at, u32_at};
+
+/// Which profile and folder the node lies in, and when it was modified.
+#[derive(Clone, Copy)]
+pub(crate) struct NodeHead {
+    /// The number of the profile.
+    pub(crate) profile: u32,
+    /// The number of the folder that the node lies in, or 0 at the top.
+    pub(crate) parent: u32,
+    /// Seconds since 1970-01-01T00:00:00 in UTC, negative before.
+    pub(crate) modified: i64,
+}
+
+#[tactic(auto, unfolding(crate::specs::requests::NodeHeads::node_head_at))]
+pub(crate) fn node_head_at(bytes: &[u8]) -> Option<(NodeHead, &[u8])>
+    ensures value { option_map (λ x. (x.0, x.1.now)) result ≡ node_head_at bytes.now }
+    ensures rest { IfSome result (λ x. IsEnd bytes.now x.1.now) }
+{
+    let (profile, rest) = u32_at(bytes)?;
+    let (parent, rest) = u32_at(rest)?;
+    let (modified, rest) = i64_at(rest)?;
+    let head = NodeHead {
+        profile,
+        parent,
+        modified,
+    };
+    Some((head, rest))
+}

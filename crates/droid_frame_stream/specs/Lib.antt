@@ -1,0 +1,4 @@
+pub mod Over
+pub mod Reads
+pub mod Seen
+pub mod Writes

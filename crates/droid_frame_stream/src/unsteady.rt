@@ -1,0 +1,84 @@
+//! Streams of which nothing is known beforehand.
+
+ghost use Rattle.std.specs.Prelude.{◌≡◌, None};
+ghost use Rattle.droid_frame_stream.specs.Seen.{fresh};
+
+use crate::seen::Seen;
+use crate::steady::{SteadyRead, SteadyWrite};
+use std::io::{self, Read, Write};
+
+/// Any stream of std's, as a file, a socket, a terminal or a vector, with what it did so far.
+#[derive(Drop)]
+pub struct Unsteady<S> {
+    /// The stream itself.
+    pub stream: S,
+    /// What it did since it was taken up; each read and write adds to it.
+    pub seen: Seen,
+}
+
+impl<S> Unsteady<S> {
+    /// Takes up a stream.
+    pub fn new(stream: S) -> Unsteady<S>
+        ensures stream { result.stream ≡ stream }
+        ensures seen { result.seen ≡ fresh }
+    {
+        Unsteady {
+            stream,
+            seen: Seen::fresh(),
+        }
+    }
+}
+
+impl<R: Read> Read for Unsteady<R> {
+    ghost remaining = { λ reader. R.remaining reader.stream };
+
+    fn read(&mut self, buf: &mut [u8]) -> io::Result<usize> {
+        self.read_on(buf)
+    }
+}
+
+impl<R: Read> SteadyRead for Unsteady<R> {
+    ghost seen = { λ reader. reader.seen };
+
+    fn read_on(&mut self, buffer: &mut [u8]) -> io::Result<usize> {
+        match self.stream.read(buffer) {
+            Ok(count) => {
+                self.seen.note_success();
+                Ok(count)
+            }
+            Err(error) => Err(self.seen.note_error(error)),
+        }
+    }
+}
+
+impl<W: Write> Write for Unsteady<W> {
+    ghost contents = { λ writer. W.contents writer.stream };
+
+    fn write(&mut self, buf: &[u8]) -> io::Result<usize> {
+        self.write_on(buf)
+    }
+
+    fn flush(&mut self) -> io::Result<()> {
+        self.stream.flush()
+    }
+}
+
+impl<W: Write> SteadyWrite for Unsteady<W> {
+    ghost seen = { λ writer. writer.seen };
+
+    ghost room = { λ _. None };
+
+    fn write_on(&mut self, bytes: &[u8]) -> io::Result<usize> {
+        match self.stream.write(bytes) {
+            Ok(0) if !bytes.is_empty() => {
+                self.seen.note_failure();
+                Ok(0)
+            }
+            Ok(count) => {
+                self.seen.note_success();
+                Ok(count)
+            }
+            Err(error) => Err(self.seen.note_error(error)),
+        }
+    }
+}

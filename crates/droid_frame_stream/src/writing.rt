@@ -1,0 +1,91 @@
+//! Writing all of some bytes.
+
+ghost use Rattle.std.specs.Prelude.{◌≡◌, ◌+◌, ◌-◌, ◌<◌, ◌≤◌, ◌^◌, ℕ, OnOk, IfErr, IfSome, MatchOption, length, take};
+ghost use Rattle.std.specs.Io.KnownBytes.{Appends, Keeps};
+ghost use Rattle.droid_frame_stream.specs.Seen.{Counts};
+ghost use Rattle.droid_frame_stream.specs.Writes.{StopsWithin, Takes, WriterStops, WritesOn};
+
+use crate::fault::WriteFault;
+use crate::retries::Retries;
+use crate::steady::SteadyWrite;
+
+/// How far a frame or a text has been written, over all of its parts.
+#[derive(Drop)]
+pub struct Progress {
+    /// How many bytes went out.
+    pub written: usize,
+    /// How many interrupted writes were tried again.
+    pub retries: Retries,
+}
+
+impl Progress {
+    /// Nothing so far.
+    pub fn new() -> Progress
+        ensures written { result.written ≡ 0 }
+        ensures retries { result.retries ≡ 0 }
+    {
+        Progress {
+            written: 0,
+            retries: Retries::new(),
+        }
+    }
+
+    /// The fault of a writer that takes no more.
+    fn stopped(&self) -> WriteFault
+        ensures { result.written ≡ self.now.written }
+    {
+        WriteFault {
+            written: self.written,
+        }
+    }
+}
+
+/// Writes some of the bytes, of which there is one at least; an interrupted write is tried again. `None` where
+/// the writer stops.
+fn write_some<W: SteadyWrite>(writer: &mut W, bytes: &[u8], retries: &mut Retries) -> Option<usize>
+    requires { 0 < length bytes.now }
+    ensures bound { IfSome result (λ count. (0 < count) × (count ≤ length bytes.now)) }
+    ensures bytes { MatchOption result (Keeps (W.contents writer.old) (W.contents writer.new)) (λ count. Appends (W.contents writer.old) (W.contents writer.new) (take count bytes.now)) }
+    ensures room { MatchOption result (Takes (W.room writer.old) (W.room writer.new) 0) (λ count. Takes (W.room writer.old) (W.room writer.new) count) }
+    ensures counts { (start : ℕ) → Counts start (W.seen writer.old) retries.old →
+        MatchOption result (WriterStops start (W.seen writer.new) (W.room writer.new)) (λ _. Counts start (W.seen writer.new) retries.new) }
+{
+    loop {
+        match writer.write_on(bytes) {
+            Ok(0) => return None,
+            Ok(count) => return Some(count),
+            Err(error) => {
+                if !retries.allow(&error) {
+                    return None;
+                }
+            }
+        }
+    }
+}
+
+/// Writes all of one part. It takes no memory. After a fault, the first bytes of the part went out, but not
+/// all; the fault counts them after the bytes of the parts before.
+pub fn write_all<W: SteadyWrite>(
+    writer: &mut W,
+    part: &[u8],
+    progress: &mut Progress,
+) -> Result<(), WriteFault>
+    requires { progress.old.written + length part.now < 2 ^ 64 }
+    ensures ok { OnOk result (Appends (W.contents writer.old) (W.contents writer.new) part.now) }
+    ensures counted { OnOk result (progress.new.written ≡ progress.old.written + length part.now) }
+    ensures counted_err { IfErr result (λ fault. progress.new.written ≡ fault.written) }
+    ensures err { IfErr result (λ fault. StopsWithin (W.contents writer.old) (W.contents writer.new) part.now progress.old.written fault.written) }
+    ensures room_ok { OnOk result (Takes (W.room writer.old) (W.room writer.new) (length part.now)) }
+    ensures room_err { IfErr result (λ fault. Takes (W.room writer.old) (W.room writer.new) (fault.written - progress.old.written)) }
+    ensures counts { (start : ℕ) → Counts start (W.seen writer.old) progress.old.retries → WritesOn start (W.seen writer.new) (W.room writer.new) progress.new.retries result }
+{
+    let mut rest = part;
+    while !rest.is_empty() {
+        let Some(count) = write_some(writer, rest, &mut progress.retries) else {
+            return Err(progress.stopped());
+        };
+        progress.written += count;
+        rest = &rest[count..];
+    }
+    Ok(())
+}

@@ -1,0 +1,32 @@
+//! Where streams are interrupted, and what is seen of it.
+
+use droid_frame::{Condition, Seen};
+use droid_frame_shaky::{Manner, Place, STEADY};
+
+/// Interruptions of one frame, and the place of the last.
+pub type Row = ([Place; 3], usize);
+
+/// A manner with these interruptions.
+pub fn with_places(width: usize, places: &[Place; 3]) -> Manner {
+    Manner {
+        width,
+        places: *places,
+        ..STEADY
+    }
+}
+
+/// The places with one interruption more before the last.
+pub fn once_more(places: &[Place; 3], last: usize) -> [Place; 3] {
+    let mut more = *places;
+    for (at, times) in &mut more {
+        if *at == last && *times > 0 {
+            *times = times.saturating_add(1);
+        }
+    }
+    more
+}
+
+/// Whether so many interruptions were seen, and the stream is in this condition.
+pub fn is_seen(seen: &Seen, interruptions: u64, condition: Condition) -> bool {
+    seen.interruptions == interruptions && seen.condition == condition
+}

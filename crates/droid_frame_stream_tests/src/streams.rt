@@ -1,0 +1,175 @@
+//! Frames on streams: whole, in pieces, cut short, and with headers that are refused.
+
+use droid_frame::{Arrival, BODY_LIMIT, FrameFault, WriteFault, read_frame, write_frame};
+use droid_frame_shaky::{BYTE_BY_BYTE, Manner, STEADY};
+use droid_frame_vectors::{VECTORS, Vector, body_of, comes, fault_of, frame, is_end, reader_of};
+use std::alloc::Global;
+use std::process::Abort;
+use std::test::Fail;
+
+/// How long the first front of these bytes is that doesn't end within a frame or isn't read to its end, where one is.
+fn uncut(alloc: Global, bytes: &[u8], manner: Manner) -> Option<usize> {
+    for cut in 1..bytes.len() {
+        let mut reader = reader_of(&bytes[..cut], manner);
+        let fault = fault_of(alloc, &mut reader);
+        if fault != Some(FrameFault::Truncated) || reader.stream.left() > 0 {
+            return Some(cut);
+        }
+    }
+    None
+}
+
+/// Whether the frame comes, and then the end.
+fn comes_alone(alloc: Global, vector: &Vector, manner: Manner) -> bool {
+    let mut reader = reader_of(vector.bytes, manner);
+    comes(alloc, &mut reader, vector) && is_end(alloc, &mut reader)
+}
+
+// Whole, byte by byte, and cut after each byte: what comes depends on the bytes alone.
+#[test]
+fn read_whole_and_cut(rt: HostRuntime) {
+    for manner in [STEADY, BYTE_BY_BYTE] {
+        assert!(rt; is_end(rt.alloc(), &mut reader_of(&[], manner)));
+        each_whole_and_cut(&rt, rt.alloc(), &VECTORS, manner);
+    }
+}
+
+fn each_whole_and_cut(rt: &impl Abort, alloc: Global, vectors: &[Vector], manner: Manner) {
+    for vector in vectors {
+        assert!(rt; comes_alone(alloc, vector, manner), "{}", vector.kind);
+        assert_eq!(rt; uncut(alloc, vector.bytes, manner), None, "{}", vector.kind);
+    }
+}
+
+// One after the other: each read leaves the next.
+#[test]
+fn read_in_turn(rt: HostRuntime) -> Result<(), Fail> {
+    let mut stream = Vec::new(rt.alloc());
+    for vector in &VECTORS {
+        stream.extend_from_slice(vector.bytes)?;
+    }
+    for manner in [STEADY, BYTE_BY_BYTE] {
+        assert!(rt; each_in_turn(rt.alloc(), stream.as_slice(), &VECTORS, manner));
+    }
+    Ok(())
+}
+
+fn each_in_turn(alloc: Global, stream: &[u8], vectors: &[Vector], manner: Manner) -> bool {
+    let mut reader = reader_of(stream, manner);
+    for vector in vectors {
+        if !comes(alloc, &mut reader, vector) {
+            return false;
+        }
+    }
+    is_end(alloc, &mut reader)
+}
+
+/// Versions and lengths of bodies in headers, and what is wrong. The version comes before the length, and the end of
+/// the bytes before both.
+const REFUSED: [(u8, u32, FrameFault); 8] = [
+    (1, 1_048_641, FrameFault::TooLong),
+    (1, 0xffff_ffff, FrameFault::TooLong),
+    (1, 1_048_640, FrameFault::Truncated),
+    (0, 1, FrameFault::BadVersion),
+    (2, 1, FrameFault::BadVersion),
+    (9, 0, FrameFault::BadVersion),
+    (2, 1_048_641, FrameFault::BadVersion),
+    (0, 0xffff_ffff, FrameFault::BadVersion),
+];
+
+/// A header with these fields, of client 1 and number 1.
+fn header(version: u8, length: u32) -> [u8; 18] {
+    let [a, b, c, d] = length.to_be_bytes();
+    [version, 5, 0, 0, 0, 1, 0, 0, 0, 0, 0, 0, 0, 1, a, b, c, d]
+}
+
+#[test]
+fn headers_refused(rt: HostRuntime) {
+    each_refused(&rt, rt.alloc(), &REFUSED, STEADY);
+    each_refused(&rt, rt.alloc(), &REFUSED, BYTE_BY_BYTE);
+}
+
+fn each_refused(rt: &impl Abort, alloc: Global, refused: &[(u8, u32, FrameFault)], manner: Manner) {
+    for (version, length, fault) in refused {
+        let bytes = header(*version, *length);
+        let found = fault_of(alloc, &mut reader_of(&bytes, manner));
+        assert!(rt; found == Some(*fault), "{version} {length}");
+        assert_eq!(rt; uncut(alloc, &bytes, manner), None, "{version} {length}");
+    }
+}
+
+// Only the header is read of a frame whose header is refused.
+#[test]
+fn read_no_further(rt: HostRuntime) -> Result<(), Fail> {
+    for (version, length) in [(2, 4), (1, 1_048_641)] {
+        let mut bytes = Vec::from_slice(rt.alloc(), &header(version, length))?;
+        bytes.extend_from_slice(&[7; 40])?;
+        let mut reader = reader_of(bytes.as_slice(), STEADY);
+        assert!(rt; fault_of(rt.alloc(), &mut reader).is_some());
+        assert!(rt; reader.stream.left() == 40);
+    }
+    Ok(())
+}
+
+// Asks again where memory was refused, so it passes whichever growth is refused. The header alone was read
+// then.
+#[test]
+fn growths_refused(rt: HostRuntime) {
+    each_growth_refused(&rt, rt.alloc(), &VECTORS);
+}
+
+fn each_growth_refused(rt: &impl Abort, alloc: Global, vectors: &[Vector]) {
+    for vector in vectors {
+        assert!(rt; comes_or_wants(alloc, vector), "{}", vector.kind);
+    }
+}
+
+fn comes_or_wants(alloc: Global, vector: &Vector) -> bool {
+    let mut reader = reader_of(vector.bytes, STEADY);
+    match read_frame(alloc, &mut reader) {
+        Err(FrameFault::Memory) => {
+            let left = reader.stream.left();
+            left == body_of(vector.bytes).len()
+                && comes(alloc, &mut reader_of(vector.bytes, STEADY), vector)
+        }
+        Ok(Arrival::Frame(frame)) => frame.kind == vector.kind,
+        _ => false,
+    }
+}
+
+/// How writing the frame of a vector to so much room ends, and whether the room was filled with a front of its bytes.
+fn written(
+    alloc: Global,
+    vector: &Vector,
+    room: usize,
+) -> Result<(Result<(), WriteFault>, bool), Fail> {
+    let frame = frame(alloc, vector.kind, vector.number, body_of(vector.bytes))?;
+    let mut taken = vec![in alloc; 0u8; room]?;
+    if frame.body.len() > BODY_LIMIT {
+        return Err(Fail::from("the body is too long"));
+    }
+    let answer = write_frame(&frame, &mut taken.as_mut_slice());
+    Ok((answer, vector.bytes.get(..room) == Some(taken.as_slice())))
+}
+
+// A slice with room for the frame takes all of it; one that is a byte shorter is filled.
+#[test]
+fn write_to_slices(rt: HostRuntime) -> Result<(), Fail> {
+    each_written(&rt, rt.alloc(), &VECTORS)
+}
+
+fn each_written(rt: &impl Abort, alloc: Global, vectors: &[Vector]) -> Result<(), Fail> {
+    for vector in vectors {
+        let all = vector.bytes.len();
+        let whole = written(alloc, vector, all)?;
+        assert!(rt; whole == (Ok(()), true), "{}", vector.kind);
+        let room = all.saturating_sub(1);
+        let cut = written(alloc, vector, room)?;
+        assert!(rt;
+            cut == (Err(WriteFault { written: room }), true),
+            "{}",
+            vector.kind
+        );
+    }
+    Ok(())
+}

@@ -1,0 +1,86 @@
+// Each test passes too where any one allocation is refused: tests/memory refuses each in turn.
+//! Want of memory: a refused call answers it, and the same call again does its work.
+
+use droid_frame::{BodyFault, Frame, Reply, Request, Texts, reply_of, request_frame, request_of};
+use droid_frame_vectors::frame;
+use std::alloc::{AllocError, Global};
+use std::test::Fail;
+
+// Any record whose extension is `msg` or empty; written out by hand.
+const EXPORT: [u8; 25] = [
+    0, 0, 0, 1, 0, 0, 0, 0, 0, 0, 0, 9, 0, 0, 0, 1, 0, 1, 3, 2, 3, 0x6d, 0x73, 0x67, 0,
+];
+
+// By its extension, no mismatch, the MD5 of nothing, the formats `dev/4` and `a`; written out by hand.
+const FINISHED: [u8; 28] = [
+    2, 0, 0xd4, 0x1d, 0x8c, 0xd9, 0x8f, 0x00, 0xb2, 0x04, 0xe9, 0x80, 0x09, 0x98, 0xec, 0xf8, 0x42,
+    0x7e, 0, 2, 5, 0x64, 0x65, 0x76, 0x2f, 0x34, 1, 0x61,
+];
+
+fn frame_of(alloc: Global, kind: u8, body: &[u8]) -> Result<Frame, AllocError> {
+    match frame(alloc, kind, 9, body) {
+        Ok(made) => Ok(made),
+        Err(_) => frame(alloc, kind, 9, body),
+    }
+}
+
+fn request(alloc: Global) -> Result<Request, Fail> {
+    match request_of(alloc, frame_of(alloc, 8, &EXPORT)?) {
+        Ok(request) => Ok(request),
+        Err(BodyFault::Memory) => Ok(request_of(alloc, frame_of(alloc, 8, &EXPORT)?)?),
+        Err(fault) => Err(Fail::from(fault)),
+    }
+}
+
+// Whether the request is written as these bytes.
+fn is_written(alloc: Global, request: &Request, body: &[u8]) -> Result<bool, AllocError> {
+    if !request.fits() {
+        return Ok(false);
+    }
+    let frame = match request_frame(alloc, 1, 9, request) {
+        Ok(frame) => frame,
+        Err(_) => request_frame(alloc, 1, 9, request)?,
+    };
+    Ok(frame.body.as_slice() == body)
+}
+
+#[test]
+fn each_growth_of_a_request(rt: HostRuntime) -> Result<(), Fail> {
+    let request = request(rt.alloc())?;
+    assert!(rt; is_written(rt.alloc(), &request, &EXPORT)?);
+    Ok(())
+}
+
+fn reply(alloc: Global) -> Result<Reply, Fail> {
+    match reply_of(alloc, frame_of(alloc, 132, &FINISHED)?) {
+        Ok(reply) => Ok(reply),
+        Err(BodyFault::Memory) => Ok(reply_of(alloc, frame_of(alloc, 132, &FINISHED)?)?),
+        Err(fault) => Err(Fail::from(fault)),
+    }
+}
+
+fn copy(alloc: Global, reply: &Reply) -> Result<Reply, AllocError> {
+    match reply.try_clone(alloc) {
+        Ok(copy) => Ok(copy),
+        Err(_) => reply.try_clone(alloc),
+    }
+}
+
+fn are_both(puids: &Texts) -> bool {
+    match (puids.get(0), puids.get(1)) {
+        (Some(first), Some(second)) => {
+            puids.len() == 2 && first.as_str() == "dev/4" && second.as_str() == "a"
+        }
+        _ => false,
+    }
+}
+
+#[test]
+fn each_growth_of_a_reply(rt: HostRuntime) -> Result<(), Fail> {
+    let copy = copy(rt.alloc(), &reply(rt.alloc())?)?;
+    assert!(rt;
+        matches!(&copy, Reply::Finished { puids, .. } if are_both(puids)),
+        "{copy:?}"
+    );
+    Ok(())
+}

@@ -1,0 +1,202 @@
+//! Replies: bytes to values and values to bytes.
+
+ghost use Rattle.droid_frame.specs.Replies.{HasReplySpelling};
+
+use crate::faults::is_shown;
+use droid_frame::{
+    Arrival, Frame, Method, NodeKind, Record, Reply, Text, Texts, read_frame, reply_body, reply_of,
+    write_reply,
+};
+use droid_frame_vectors::{
+    FINISHED, INCOMPLETE, MADE, MALFORMED, NODE, NODES_REACHED, NUMBER_REUSED, body_of,
+};
+use std::alloc::{AllocError, Global};
+use std::process::Abort;
+use std::test::Fail;
+
+/// The MD5 of no bytes (RFC 1321, its test suite).
+pub const MD5_OF_NOTHING: [u8; 16] = [
+    0xd4, 0x1d, 0x8c, 0xd9, 0x8f, 0, 0xb2, 0x04, 0xe9, 0x80, 0x09, 0x98, 0xec, 0xf8, 0x42, 0x7e,
+];
+
+/// Reads the reply of a stream of one frame; its copy, where both are written as these bytes again.
+fn read_and_written(alloc: Global, bytes: &[u8]) -> Result<Option<Reply>, Fail> {
+    let mut input = bytes;
+    match read_frame(alloc, &mut input) {
+        Ok(Arrival::Frame(frame)) => written_again(alloc, frame, bytes),
+        _ => Ok(None),
+    }
+}
+
+fn written_again(alloc: Global, frame: Frame, bytes: &[u8]) -> Result<Option<Reply>, Fail> {
+    let (kind, client, number) = (frame.kind, frame.client, frame.number);
+    let Ok(reply) = reply_of(alloc, frame) else {
+        return Ok(None);
+    };
+    if reply.kind() != kind || !has_frame(alloc, client, number, &reply, bytes)? {
+        return Ok(None);
+    }
+    let copy = reply.try_clone(alloc)?;
+    if !has_body(alloc, &copy, body_of(bytes))? {
+        return Ok(None);
+    }
+    Ok(Some(copy))
+}
+
+/// Whether these bytes are the frame of this client and number.
+fn has_frame(
+    alloc: Global,
+    client: u32,
+    number: u64,
+    reply: &Reply,
+    bytes: &[u8],
+) -> Result<bool, AllocError>
+    requires { HasReplySpelling reply.now }
+{
+    let mut written = vec![in alloc; 0u8; bytes.len()]?;
+    let mut room = written.as_mut_slice();
+    let is_written = write_reply(client, number, reply, &mut room).is_ok() && room.is_empty();
+    Ok(is_written && written.as_slice() == bytes)
+}
+
+fn has_body(alloc: Global, reply: &Reply, body: &[u8]) -> Result<bool, AllocError>
+    requires { HasReplySpelling reply.now }
+{
+    Ok(reply_body(alloc, reply)?.as_slice() == body)
+}
+
+/// The reply of a body of this kind, which is written again.
+pub fn reply_with(alloc: Global, kind: u8, body: &[u8]) -> Result<Option<Reply>, Fail> {
+    let mut bytes = Vec::from_slice(alloc, &[1, kind, 0, 0, 0, 1, 0, 0, 0, 0, 0, 0, 0, 1])?;
+    let length = u32::try_from(body.len()).unwrap_or(0);
+    bytes.extend_from_slice(&length.to_be_bytes())?;
+    bytes.extend_from_slice(body)?;
+    read_and_written(alloc, bytes.as_slice())
+}
+
+fn shows(alloc: Global, reply: Option<Reply>, shown: &str) -> Result<bool, Fail> {
+    match reply {
+        Some(reply) => is_shown(alloc, &reply, shown),
+        None => Ok(false),
+    }
+}
+
+/// Whole frames, and what they are read as.
+const FRAMES: [(&[u8], &str); 7] = [
+    (MADE, "Made { profile: 1 }"),
+    (NODE, "Node { id: 1 }"),
+    (NUMBER_REUSED, "Refused(NumberReused)"),
+    (MALFORMED, "Refused(Malformed)"),
+    (INCOMPLETE, "Refused(Incomplete { missing: 1 })"),
+    (NODES_REACHED, "Refused(LimitReached(Nodes))"),
+    (
+        FINISHED,
+        "Finished { method: Extension, mismatch: false, md5: [212, 29, 140, 217, 143, 0, 178, 4, 233, 128, 9, 152, 236, 248, 66, 126], puids: Texts { items: [Text { text: \"dev/4\" }] } }",
+    ),
+];
+
+#[test]
+fn vectors(rt: HostRuntime) -> Result<(), Fail> {
+    each_frame(&rt, rt.alloc(), &FRAMES)
+}
+
+fn each_frame(rt: &impl Abort, alloc: Global, rows: &[(&[u8], &str)]) -> Result<(), Fail> {
+    for (bytes, shown) in rows {
+        let reply = read_and_written(alloc, bytes)?;
+        assert!(rt; shows(alloc, reply, shown)?, "{shown}");
+    }
+    Ok(())
+}
+
+/// Each kind that no frame above has, each number from 1 to 19 and each limit, as the list of refusals has them.
+const BODIES: [(u8, &[u8], &str); 26] = [
+    (131, &[0xff, 0, 0, 0x10], "Taken { held: 4278190096 }"),
+    (133, &[], "Abandoned"),
+    (
+        134,
+        &[0, 0, 0, 3, 0, 0, 1, 2],
+        "Progress { held: 3, missing: 258 }",
+    ),
+    (
+        135,
+        &[
+            0, 0, 0, 0, 0, 0, 0, 5, 0x80, 0, 0, 0, 0, 0, 0, 1, b'"', b'I', b'D', b'"',
+        ],
+        "Part { as_of: 5, total: 9223372036854775809, bytes: Blob { bytes: [34, 73, 68, 34] } }",
+    ),
+    (
+        135,
+        &[0, 0, 0, 0, 0, 0, 0, 5, 0x80, 0, 0, 0, 0, 0, 0, 1],
+        "Part { as_of: 5, total: 9223372036854775809, bytes: Blob { bytes: [] } }",
+    ),
+    (136, &[1], "Refused(Malformed)"),
+    (136, &[2], "Refused(NumberReused)"),
+    (136, &[3], "Refused(NoSuchProfile)"),
+    (136, &[4], "Refused(NoSuchNode)"),
+    (136, &[5], "Refused(NotAFolder)"),
+    (136, &[6], "Refused(NotAFile)"),
+    (136, &[7], "Refused(BadName)"),
+    (136, &[8], "Refused(PathTooLong)"),
+    (136, &[9], "Refused(NameTaken)"),
+    (136, &[10], "Refused(BadOption)"),
+    (136, &[11], "Refused(TooLarge)"),
+    (136, &[12], "Refused(AlreadyFinished)"),
+    (136, &[13], "Refused(BadPiece)"),
+    (136, &[14], "Refused(PieceHeld)"),
+    (
+        136,
+        &[15, 0, 0, 0, 7],
+        "Refused(TooFarAhead { missing: 7 })",
+    ),
+    (
+        136,
+        &[16, 0, 1, 0, 0],
+        "Refused(Incomplete { missing: 65536 })",
+    ),
+    (136, &[17, 1], "Refused(LimitReached(Profiles))"),
+    (136, &[17, 2], "Refused(LimitReached(Nodes))"),
+    (136, &[17, 3], "Refused(LimitReached(Unfinished))"),
+    (136, &[18], "Refused(Memory)"),
+    (136, &[19], "Refused(Store)"),
+];
+
+#[test]
+fn bodies(rt: HostRuntime) -> Result<(), Fail> {
+    each_body(&rt, rt.alloc(), &BODIES)
+}
+
+fn each_body(rt: &impl Abort, alloc: Global, rows: &[(u8, &[u8], &str)]) -> Result<(), Fail> {
+    for (kind, body, shown) in rows {
+        let reply = reply_with(alloc, *kind, body)?;
+        assert!(rt; shows(alloc, reply, shown)?, "{shown}");
+    }
+    Ok(())
+}
+
+const RECORD: &str =
+    "Record { id: 2, parent: 1, path: Text { text: \"/in/a.txt\" }, name: Text { text: \"a.txt\" }, kind: File, size: 3, modified: -1, method: Extension, mismatch: true, md5: [212, 29, 140, 217, 143, 0, 178, 4, 233, 128, 9, 152, 236, 248, 66, 126], puids: Texts { items: [Text { text: \"dev/4\" }] } }";
+
+fn record(alloc: Global) -> Result<Record, AllocError> {
+    let mut puids = Texts::new(alloc);
+    puids.push(Text::copy_of(alloc, "dev/4")?)?;
+    Ok(Record {
+        id: 2,
+        parent: 1,
+        path: Text::copy_of(alloc, "/in/a.txt")?,
+        name: Text::copy_of(alloc, "a.txt")?,
+        kind: NodeKind::File,
+        size: 3,
+        modified: -1,
+        method: Method::Extension,
+        mismatch: true,
+        md5: MD5_OF_NOTHING,
+        puids,
+    })
+}
+
+#[test]
+fn records(rt: HostRuntime) -> Result<(), Fail> {
+    let copy = record(rt.alloc())?.try_clone(rt.alloc())?;
+    assert!(rt; is_shown(rt.alloc(), &copy, RECORD)?);
+    Ok(())
+}

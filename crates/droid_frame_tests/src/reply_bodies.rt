@@ -1,0 +1,175 @@
+//! Bodies of replies within their bounds and past them, and bodies that are no reply.
+
+use crate::replies::{MD5_OF_NOTHING, reply_with};
+use droid_frame::{BodyFault, PART_LIMIT, Reply, reply_of};
+use droid_frame_vectors::{VECTORS, Vector, body_of, frame};
+use std::alloc::Global;
+use std::process::Abort;
+use std::test::Fail;
+
+/// Whether the body is no reply of this kind.
+fn is_malformed(alloc: Global, kind: u8, body: &[u8]) -> Result<bool, Fail> {
+    let fault = reply_of(alloc, frame(alloc, kind, 1, body)?).err();
+    Ok(fault == Some(BodyFault::Malformed))
+}
+
+/// How long a front of the body is that is a reply but isn't the whole body, where one is.
+fn shorter_reply(alloc: Global, kind: u8, body: &[u8]) -> Result<Option<usize>, Fail> {
+    for less in 0..body.len() {
+        if !is_malformed(alloc, kind, &body[..less])? {
+            return Ok(Some(less));
+        }
+    }
+    Ok(None)
+}
+
+/// Whether the body with a byte more is no reply.
+fn longer_is_malformed(alloc: Global, kind: u8, body: &[u8]) -> Result<bool, Fail> {
+    let mut more = Vec::from_slice(alloc, body)?;
+    more.push(0)?;
+    is_malformed(alloc, kind, more.as_slice())
+}
+
+/// Bodies of the kinds and numbers that no frame of `VECTORS` has.
+const OTHERS: [(u8, &[u8]); 4] = [
+    (131, &[0, 0, 0, 1]),
+    (133, &[]),
+    (134, &[0, 0, 0, 1, 0, 0, 0, 1]),
+    (136, &[15, 0, 0, 0, 1]),
+];
+
+// A byte more and any bytes less than each kind has.
+#[test]
+fn another_length(rt: HostRuntime) -> Result<(), Fail> {
+    each_vector(&rt, rt.alloc(), &VECTORS)?;
+    each_other(&rt, rt.alloc(), &OTHERS)?;
+    assert_eq!(rt; shorter_reply(rt.alloc(), 135, &[0; 16])?, None);
+    Ok(())
+}
+
+fn each_vector(rt: &impl Abort, alloc: Global, vectors: &[Vector]) -> Result<(), Fail> {
+    for vector in vectors {
+        if vector.kind > 128 {
+            one_length(rt, alloc, vector.kind, body_of(vector.bytes))?;
+        }
+    }
+    Ok(())
+}
+
+fn each_other(rt: &impl Abort, alloc: Global, rows: &[(u8, &[u8])]) -> Result<(), Fail> {
+    for (kind, body) in rows {
+        one_length(rt, alloc, *kind, body)?;
+    }
+    Ok(())
+}
+
+fn one_length(rt: &impl Abort, alloc: Global, kind: u8, body: &[u8]) -> Result<(), Fail> {
+    assert_eq!(rt; shorter_reply(alloc, kind, body)?, None, "{kind}");
+    assert!(rt; longer_is_malformed(alloc, kind, body)?, "{kind} and more");
+    Ok(())
+}
+
+/// The kinds of requests, and kinds that are none.
+const NO_KINDS: [u8; 12] = [0, 1, 2, 3, 4, 5, 6, 7, 8, 128, 137, 255];
+
+const ANY_BODIES: [&[u8]; 5] = [&[], &[0, 0, 0, 1], &[0, 1, 0, 0, 0], &[0; 8], &[0; 20]];
+
+/// Numbers that name no refusal and no limit.
+const NO_NUMBERS: [&[u8]; 6] = [&[0], &[20], &[255], &[17, 0], &[17, 4], &[17, 255]];
+
+#[test]
+fn no_reply(rt: HostRuntime) -> Result<(), Fail> {
+    for kind in &NO_KINDS {
+        each_malformed(&rt, rt.alloc(), *kind, &ANY_BODIES)?;
+    }
+    each_malformed(&rt, rt.alloc(), 136, &NO_NUMBERS)
+}
+
+fn each_malformed(rt: &impl Abort, alloc: Global, kind: u8, bodies: &[&[u8]]) -> Result<(), Fail> {
+    for body in bodies {
+        assert!(rt; is_malformed(alloc, kind, body)?, "{kind} {body:?}");
+    }
+    Ok(())
+}
+
+/// A Finished: its first two bytes, how many identifiers it says it has, and those that it has, each so often.
+type Finished<'a> = (u8, u8, u16, &'a [u8], u16);
+
+/// Methods, truth values, counts and lengths within their bounds and past them; whether that is a reply.
+const FINISHED: [(Finished<'static>, bool); 15] = [
+    ((0, 0, 0, &[], 1), true),
+    ((1, 1, 0, &[], 1), true),
+    ((2, 0, 0, &[], 1), true),
+    ((3, 0, 0, &[], 1), false),
+    ((255, 0, 0, &[], 1), false),
+    ((1, 2, 0, &[], 1), false),
+    ((1, 0, 1, &[0], 1), false),
+    ((1, 0, 1, b"\x20aaaaaaaaaaaaaaaaaaaaaaaaaaaaaaaa", 1), true),
+    (
+        (1, 0, 1, b"\x21aaaaaaaaaaaaaaaaaaaaaaaaaaaaaaaaa", 1),
+        false,
+    ),
+    ((1, 0, 1, &[1, 0xff], 1), false),
+    ((1, 0, 2, &[1, b'a', 2, b'b', b'c'], 1), true),
+    ((1, 0, 1, &[1, b'a', 2, b'b', b'c'], 1), false),
+    ((1, 0, 3, &[1, b'a', 2, b'b', b'c'], 1), false),
+    ((1, 0, 4_096, &[1, b'x'], 4_096), true),
+    ((1, 0, 4_097, &[1, b'x'], 4_097), false),
+];
+
+fn body_of_finished(alloc: Global, row: &Finished<'_>) -> Result<Vec<u8>, Fail> {
+    let (method, mismatch, count, puids, times) = *row;
+    let mut body = Vec::from_slice(alloc, &[method, mismatch])?;
+    body.extend_from_slice(&MD5_OF_NOTHING)?;
+    body.extend_from_slice(&count.to_be_bytes())?;
+    for _ in 0..times {
+        body.extend_from_slice(puids)?;
+    }
+    Ok(body)
+}
+
+#[test]
+fn finished_bodies(rt: HostRuntime) -> Result<(), Fail> {
+    each_finished(&rt, rt.alloc(), &FINISHED)
+}
+
+fn each_finished(
+    rt: &impl Abort,
+    alloc: Global,
+    rows: &[(Finished<'_>, bool)],
+) -> Result<(), Fail> {
+    for (row, is_reply) in rows {
+        let body = body_of_finished(alloc, row)?;
+        let holds = if *is_reply {
+            has_puids(alloc, body.as_slice(), row.2)?
+        } else {
+            is_malformed(alloc, 132, body.as_slice())?
+        };
+        assert!(rt; holds, "{row:?}");
+    }
+    Ok(())
+}
+
+fn has_puids(alloc: Global, body: &[u8], count: u16) -> Result<bool, Fail> {
+    match reply_with(alloc, 132, body)? {
+        Some(Reply::Finished { puids, .. }) => Ok(puids.len() == usize::from(count)),
+        _ => Ok(false),
+    }
+}
+
+// The longest part, and one byte more.
+#[test]
+fn parts(rt: HostRuntime) -> Result<(), Fail> {
+    assert!(rt; longest_is_part(rt.alloc())?);
+    let longer = vec![in rt.alloc(); 7u8; 17 + PART_LIMIT]?;
+    assert!(rt; is_malformed(rt.alloc(), 135, longer.as_slice())?);
+    Ok(())
+}
+
+fn longest_is_part(alloc: Global) -> Result<bool, Fail> {
+    let body = vec![in alloc; 7u8; 16 + PART_LIMIT]?;
+    match reply_with(alloc, 135, body.as_slice())? {
+        Some(Reply::Part { bytes, .. }) => Ok(bytes.len() == 1_048_576),
+        _ => Ok(false),
+    }
+}

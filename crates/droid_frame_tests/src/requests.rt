@@ -1,0 +1,202 @@
+//! Requests: bytes to values and values to bytes, and what is no request.
+
+use crate::faults::is_shown;
+use droid_frame::{BodyFault, Frame, NUMBER_LIMIT, mark, request_frame, request_of};
+use droid_frame_vectors::frame;
+use std::alloc::Global;
+use std::process::Abort;
+use std::test::Fail;
+
+// The bodies are written out by hand; the marks are from Python's hashlib.
+const CREATE: [u8; 5] = [0, 1, 0, 0, 0];
+
+const CREATE_MARK: [u8; 16] = [
+    0xd5, 0x65, 0x1c, 0x95, 0xac, 0xc2, 0x81, 0x3e, 0x80, 0xeb, 0xc7, 0xf4, 0x5c, 0x61, 0xa6, 0x10,
+];
+
+const FOLDER: [u8; 18] = [0, 0, 0, 1, 0, 0, 0, 0, 0, 0, 0, 0, 0, 0, 0, 0, 0x69, 0x6e];
+
+const FOLDER_MARK: [u8; 16] = [
+    0x96, 0xed, 0xaa, 0x36, 0xd3, 0x33, 0x0e, 0xdb, 0x9e, 0x58, 0x9b, 0xc7, 0x0d, 0xd7, 0x6d, 0x32,
+];
+
+const FILE: [u8; 33] = [
+    0, 0, 0, 1, 0, 0, 0, 2, 255, 255, 255, 255, 255, 255, 255, 255, 0, 0, 0, 0, 0, 0, 0, 14, 0, 0,
+    0, 4, 0x6d, 0x2e, 0x6d, 0x73, 0x67,
+];
+
+const PIECE: [u8; 14] = [0, 0, 0, 1, 0, 0, 0, 1, 0, 0, 0, 3, 0x73, 0x74];
+
+const OF_FILE: [u8; 8] = [0, 0, 0, 1, 0, 0, 0, 2];
+
+const EXPORT: [u8; 20] = [
+    0, 0, 0, 1, 0, 0, 0, 0, 0, 0, 0, 0, 0, 0x10, 0, 0, 1, 1, 7, 1,
+];
+
+// Any of: method Signature; formats `dev/1` or the empty text; extension `msg`; a mismatch; at least
+// 15 bytes; at most 2^64 - 1 bytes; a file. Written out by hand.
+pub(crate) const EVERY_TAG: [u8; 57] = [
+    0, 0, 0, 1, 0, 0, 0, 0, 0, 0, 0, 9, 0, 0, 0, 1, 0, 7, 1, 1, 2, 2, 5, 0x64, 0x65, 0x76, 0x2f,
+    0x31, 0, 3, 1, 3, 0x6d, 0x73, 0x67, 4, 1, 5, 0, 0, 0, 0, 0, 0, 0, 15, 6, 255, 255, 255, 255,
+    255, 255, 255, 255, 7, 0,
+];
+
+/// Each kind, and each tag of a filter: what the bytes are read as.
+const KINDS: [(u8, &[u8], &str); 9] = [
+    (
+        1,
+        &CREATE,
+        "CreateProfile { scan_limit: 65536, match_all: false }",
+    ),
+    (
+        2,
+        &FOLDER,
+        "AddFolder { profile: 1, parent: 0, modified: 0, name: Text { text: \"in\" } }",
+    ),
+    (
+        3,
+        &FILE,
+        "AddFile { profile: 1, parent: 2, modified: -1, size: 14, piece_size: 4, name: Text { text: \"m.msg\" } }",
+    ),
+    (
+        4,
+        &PIECE,
+        "Piece { profile: 1, file: 1, index: 3, bytes: Blob { bytes: [115, 116] } }",
+    ),
+    (5, &OF_FILE, "Finish { profile: 1, file: 2 }"),
+    (6, &OF_FILE, "Abandon { profile: 1, file: 2 }"),
+    (7, &OF_FILE, "Status { profile: 1, file: 2 }"),
+    (
+        8,
+        &EXPORT,
+        "Export { profile: 1, from: 0, max: 1048576, filter: Filter { all: true, criteria: Criteria { items: [KindIs(Folder)] } } }",
+    ),
+    (
+        8,
+        &EVERY_TAG,
+        "Export { profile: 1, from: 9, max: 1, filter: Filter { all: false, criteria: Criteria { items: [MethodIs(Signature), PuidIn(Texts { items: [Text { text: \"dev/1\" }, Text { text: \"\" }] }), ExtIn(Texts { items: [Text { text: \"msg\" }] }), MismatchIs(true), SizeAtLeast(15), SizeAtMost(18446744073709551615), KindIs(File)] } } }",
+    ),
+];
+
+// The same bytes are written again.
+#[test]
+fn kinds(rt: HostRuntime) -> Result<(), Fail> {
+    each_kind(&rt, rt.alloc(), &KINDS)
+}
+
+fn each_kind(rt: &impl Abort, alloc: Global, rows: &[(u8, &[u8], &str)]) -> Result<(), Fail> {
+    for (kind, body, shown) in rows {
+        assert!(rt; is_read_and_written(alloc, *kind, body, shown)?, "{shown}");
+    }
+    Ok(())
+}
+
+/// Whether the body is read as a request that is shown so, and that is written as this body again.
+fn is_read_and_written(alloc: Global, kind: u8, body: &[u8], shown: &str) -> Result<bool, Fail> {
+    let Ok(request) = request_of(alloc, frame(alloc, kind, 9, body)?) else {
+        return Ok(false);
+    };
+    if !request.fits() {
+        return Ok(false);
+    }
+    let written = request_frame(alloc, 7, 1, &request)?;
+    Ok(is_of_client_7(&written, kind, body) && is_shown(alloc, &request, shown)?)
+}
+
+fn is_of_client_7(frame: &Frame, kind: u8, body: &[u8]) -> bool {
+    (frame.version, frame.kind, frame.client, frame.number) == (1, kind, 7, 1)
+        && frame.body.as_slice() == body
+}
+
+#[test]
+fn marks(rt: HostRuntime) {
+    assert!(rt; mark(1, &CREATE) == CREATE_MARK);
+    assert!(rt; mark(2, &FOLDER) == FOLDER_MARK);
+}
+
+/// Whether the body of this kind is no request under this number.
+pub fn is_malformed(alloc: Global, kind: u8, number: u64, body: &[u8]) -> Result<bool, Fail> {
+    let read = request_of(alloc, frame(alloc, kind, number, body)?);
+    Ok(matches!(read, Err(BodyFault::Malformed)))
+}
+
+/// Each kind, and one byte less than its bodies have at the least.
+const SHORT: [(u8, &[u8], usize); 8] = [
+    (1, &CREATE, 4),
+    (2, &FOLDER, 15),
+    (3, &FILE, 27),
+    (4, &PIECE, 11),
+    (5, &OF_FILE, 7),
+    (6, &OF_FILE, 7),
+    (7, &OF_FILE, 7),
+    (8, &EXPORT, 19),
+];
+
+/// A byte more than kinds have whose bodies don't run to the end; a truth value of 2; a name that isn't UTF-8; kinds of
+/// no request, and of replies; a number of 2^63.
+const MALFORMED: [(u8, u64, &[u8]); 13] = [
+    (1, 1, &[0, 1, 0, 0, 0, 0]),
+    (5, 9, &[0, 0, 0, 1, 0, 0, 0, 2, 0]),
+    (6, 9, &[0, 0, 0, 1, 0, 0, 0, 2, 0]),
+    (7, 9, &[0, 0, 0, 1, 0, 0, 0, 2, 0]),
+    (1, 1, &[0, 1, 0, 0, 2]),
+    (
+        2,
+        1,
+        &[0, 0, 0, 1, 0, 0, 0, 0, 0, 0, 0, 0, 0, 0, 0, 0, 0xff],
+    ),
+    (0, 1, &[]),
+    (9, 1, &OF_FILE),
+    (129, 1, &[0, 0, 0, 1]),
+    (133, 1, &[]),
+    (136, 1, &[2]),
+    (255, 1, &[]),
+    (5, 9_223_372_036_854_775_808, &OF_FILE),
+];
+
+#[test]
+fn malformed(rt: HostRuntime) -> Result<(), Fail> {
+    each_short(&rt, rt.alloc(), &SHORT)?;
+    each_malformed(&rt, rt.alloc(), &MALFORMED)
+}
+
+fn each_short(rt: &impl Abort, alloc: Global, rows: &[(u8, &[u8], usize)]) -> Result<(), Fail> {
+    for (kind, body, count) in rows {
+        let front = &body[..body.len().min(*count)];
+        assert!(rt; is_malformed(alloc, *kind, 1, front)?, "{kind}");
+    }
+    Ok(())
+}
+
+fn each_malformed(rt: &impl Abort, alloc: Global, rows: &[(u8, u64, &[u8])]) -> Result<(), Fail> {
+    for (kind, number, body) in rows {
+        assert!(rt;
+            is_malformed(alloc, *kind, *number, body)?,
+            "{kind} {body:?}"
+        );
+    }
+    Ok(())
+}
+
+/// As few bytes as a kind has: a name and a piece of no bytes are well formed.
+const SHORTEST: [(u8, &[u8], usize); 4] = [
+    (2, &FOLDER, 16),
+    (3, &FILE, 28),
+    (4, &PIECE, 12),
+    (7, &OF_FILE, 8),
+];
+
+// The largest number is well formed too.
+#[test]
+fn well_formed_at_the_ends(rt: HostRuntime) -> Result<(), Fail> {
+    each_shortest(&rt, rt.alloc(), &SHORTEST)
+}
+
+fn each_shortest(rt: &impl Abort, alloc: Global, rows: &[(u8, &[u8], usize)]) -> Result<(), Fail> {
+    for (kind, body, count) in rows {
+        let front = &body[..body.len().min(*count)];
+        let frame = frame(alloc, *kind, NUMBER_LIMIT - 1, front)?;
+        assert!(rt; request_of(alloc, frame).is_ok(), "{kind}");
+    }
+    Ok(())
+}

@@ -1,0 +1,34 @@
+//! How a frame is read, and whether it is the one of a vector.
+
+use crate::vectors::{Vector, body_of};
+use droid_frame::{Arrival, Frame, FrameFault, SteadyRead, Unsteady, read_frame};
+use droid_frame_shaky::{Manner, ShakyReader, Stop};
+use std::alloc::Global;
+
+/// A reader that ends behind the bytes.
+pub fn reader_of(bytes: &[u8], manner: Manner) -> Unsteady<ShakyReader<'_>> {
+    Unsteady::new(ShakyReader::new(bytes, Stop::Ends, manner))
+}
+
+/// The fault of the next frame, or `None` where a frame or the end comes.
+pub fn fault_of<R: SteadyRead>(alloc: Global, reader: &mut R) -> Option<FrameFault> {
+    read_frame(alloc, reader).err()
+}
+
+/// Whether the end comes.
+pub fn is_end<R: SteadyRead>(alloc: Global, reader: &mut R) -> bool {
+    matches!(read_frame(alloc, reader), Ok(Arrival::End))
+}
+
+/// Reads the frame of a vector, and says whether it is that frame.
+pub fn comes<R: SteadyRead>(alloc: Global, reader: &mut R, vector: &Vector) -> bool {
+    match read_frame(alloc, reader) {
+        Ok(Arrival::Frame(frame)) => is_frame(&frame, vector),
+        _ => false,
+    }
+}
+
+fn is_frame(frame: &Frame, vector: &Vector) -> bool {
+    (frame.version, frame.kind, frame.client, frame.number) == (1, vector.kind, 1, vector.number)
+        && frame.body.as_slice() == body_of(vector.bytes)
+}

@@ -1,6 +1,0 @@
-mod AddedFiles
-mod AddedFolders
-mod AddedNodes
-mod FolderRows
-mod MadeProfiles
-mod PlaceChecks

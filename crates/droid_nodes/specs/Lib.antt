@@ -1,2 +1,0 @@
-pub mod NewAssemblies
-pub mod Places

@@ -1,2 +1,0 @@
-pub mod ProfileRows
-pub mod Staying

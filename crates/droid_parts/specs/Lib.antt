@@ -1,4 +1,0 @@
-pub mod Assemblies
-pub mod Changes
-pub mod LookUps
-pub mod Standing

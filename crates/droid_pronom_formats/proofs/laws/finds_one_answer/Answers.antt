@@ -1,0 +1,6 @@
+use Rattle.droid_pronom_formats.specs.Found.{Hits}
+use Rattle.droid_pronom_formats.proofs.FoundOnce.{found_once}
+use Rattle.droid_pronom_formats.proofs.laws.finds_one_answer.Goals as goal
+
+pub returns : goal.returns
+returns c registry name file limit match_all one other a b = found_once (Hits file limit) registry name match_all one other a b

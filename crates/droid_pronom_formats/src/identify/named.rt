@@ -1,0 +1,64 @@
+//! What the extension of a name says.
+
+ghost use Rattle.std.specs.Prelude.{◌≡◌, ◌≢◌, ◌↔◌, ◌⊎◌, ◌<◌, IsTrue, IfOk, true, [], length};
+ghost use Rattle.std.specs.List.{AllByRecursion};
+ghost use Rattle.droid_pronom_formats.specs.Registry.{AnyOf};
+ghost use Rattle.droid_pronom_formats.specs.FoundWindows.{Stands, Tell};
+
+use crate::rows::ListedExtension;
+use std::alloc::{AllocError, Global};
+
+/// Whether each format lists this extension, in lower case, and may be named by it: with
+/// `match_all` each may, without it those that have no signature.
+pub fn named_formats(
+    alloc: Global,
+    extensions: &[ListedExtension],
+    wanted: &str,
+    signed: &[bool],
+    match_all: bool,
+) -> Result<Vec<bool>, AllocError>
+    requires { AllByRecursion (λ row. row.place < length signed.now) extensions.now }
+    ensures len { IfOk result (λ named. length named.items ≡ length signed.now) }
+    ensures each { IfOk result (λ named. Tell named.items (λ k. AnyOf (λ row. (row.place ≡ k) × (wanted.now ≢ []) × (row.extension ≡ wanted.now) × ((match_all ≡ true) ⊎ (Stands signed.now row.place → ⊥))) extensions.now)) }
+{
+    let mut named = vec![in alloc; false; signed.len()]?;
+    for row in extensions {
+        if is_named(row, wanted, signed, match_all) {
+            named[row.place as usize] = true;
+        }
+    }
+    Ok(named)
+}
+
+/// Whether the row lists this extension, which isn't empty, and its format may be named by it.
+fn is_named(row: &ListedExtension, wanted: &str, signed: &[bool], match_all: bool) -> bool
+    requires { row.now.place < length signed.now }
+    ensures { IsTrue result ↔ ((wanted.now ≢ []) × (row.now.extension ≡ wanted.now) × ((match_all ≡ true) ⊎ (Stands signed.now row.now.place → ⊥))) }
+{
+    is_listed(row, wanted) && (match_all || !signed[row.place as usize])
+}
+
+/// Whether the row lists this extension, which isn't empty.
+fn is_listed(row: &ListedExtension, wanted: &str) -> bool
+    ensures { IsTrue result ↔ ((wanted.now ≢ []) × (row.now.extension ≡ wanted.now)) }
+{
+    !wanted.is_empty() && row.extension.as_str() == wanted
+}
+
+/// Whether some format that is left lists an extension and none of them lists this one, which is
+/// in lower case and isn't empty.
+pub fn is_mismatch(left: &[bool], extensions: &[ListedExtension], wanted: &str) -> bool
+    requires { AllByRecursion (λ row. row.place < length left.now) extensions.now }
+    ensures { IsTrue result ↔ ((wanted.now ≢ []) × AnyOf (λ row. Stands left.now row.place) extensions.now × (AnyOf (λ row. Stands left.now row.place × (row.extension ≡ wanted.now)) extensions.now → ⊥)) }
+{
+    let mut lists_one = false;
+    for row in extensions {
+        if left[row.place as usize] {
+            if row.extension.as_str() == wanted {
+                return false;
+            }
+            lists_one = true;
+        }
+    }
+    lists_one && !wanted.is_empty()
+}

@@ -1,0 +1,13 @@
+-- One byte of a class.
+use Rattle.droid_pronom_pattern.specs.declared.class.Class.TheVariants as classes
+use Rattle.droid_pronom_pattern.proofs.HeadLemmas.{class_at}
+use Rattle.droid_pronom_pattern.proofs.cell.Cell.passes.Goals as goal
+
+pub returns-in-Byte : goal.returns-in-Byte
+returns-in-Byte c = rw c.in-Byte.is (class_at (classes.Byte c.in-Byte.wanted) c.args.bytes.now c.args.place c.is_at.result c.is_at.ensures)
+
+pub returns-in-Range : goal.returns-in-Range
+returns-in-Range c = rw c.in-Range.is (class_at (classes.Range c.in-Range.low c.in-Range.high) c.args.bytes.now c.args.place c.is_at-in-Range.result c.is_at-in-Range.ensures)
+
+pub returns-in-Except : goal.returns-in-Except
+returns-in-Except c = rw c.in-Except.is (class_at (classes.Except c.in-Except.barred) c.args.bytes.now c.args.place c.is_at-in-Except.result c.is_at-in-Except.ensures)

@@ -1,0 +1,209 @@
+//! Byte sequences of signatures: their text, and the bytes that they match.
+
+ghost use Rattle.std.specs.Prelude.{◌≡◌, ◌↔◌, ◌≤◌, List, length, IsTrue, IfOk, IfSome, OnErr, IsErrOf};
+ghost use Rattle.droid_pronom_pattern.specs.Patterns.{Element, MatchesFrom, MatchesTo, BeginsWithin, EndsWithin};
+ghost use Rattle.droid_pronom_pattern.specs.PatternText.{Spells};
+ghost use Rattle.droid_pronom_pattern.specs.Classes.{AreOf};
+
+use crate::fault::PatternFault;
+use crate::head::told_at;
+use crate::packed::{Packed, pack};
+use crate::part::any_byte;
+use crate::reading::parts_of;
+use crate::toward::Toward;
+use crate::window::Classes;
+use std::alloc::{AllocError, Global};
+use std::fmt;
+use std::marker::Model;
+
+/// How many bytes the text of a pattern may have: this project's own limit.
+const TEXT_LIMIT: usize = 4096;
+
+/// A byte sequence of a signature, in PRONOM's syntax. Contracts see the list of its elements.
+#[derive(Drop)]
+pub struct Pattern {
+    packed: Packed,
+}
+
+impl Model for Pattern {
+    ghost use Rattle.std.specs.Prelude.{List};
+    ghost use Rattle.droid_pronom_pattern.specs.Patterns.{Element};
+
+    ghost Value = { List Element };
+
+    ghost use Rattle.droid_pronom_pattern.specs.Cells.{elements_of};
+
+    ghost view = { λ pattern. elements_of pattern.packed };
+}
+
+impl fmt::Debug for Pattern {
+    fn fmt<W: fmt::Write>(&self, f: &mut fmt::Formatter<W>) -> fmt::Result {
+        f.debug_struct("Pattern").finish_non_exhaustive()
+    }
+}
+
+impl Pattern {
+    /// Reads the text of a pattern: `61` is that byte, `??` any byte, `{3}`, `{2-5}`, `{2-*}` and
+    /// `*` a gap of so many bytes, `[61:7A]` a byte of a range, `[!61]` any other byte, and
+    /// `(61|6263)` one of several runs of bytes. A text has at most 4,096 bytes, and some element
+    /// is no gap. `BadPattern` says that the text is not of this form.
+    pub fn read(alloc: Global, text: &str) -> Result<Pattern, PatternFault>
+        // What is read is spelled so.
+        ensures spelled { IfOk result (λ pattern. Spells text.now pattern) }
+        // A text spells one pattern at most, and that is read, unless memory runs out.
+        ensures only { (es : List Element) → Spells text.now es → IfOk result (λ pattern. pattern ≡ es) }
+        ensures bad { IsErrOf result PatternFault.BadPattern → (es : List Element) → Spells text.now es → ⊥ }
+    {
+        let text = text.as_bytes();
+        if text.len() > TEXT_LIMIT {
+            return Err(PatternFault::BadPattern);
+        }
+        let parts = parts_of(alloc, text)?;
+        if !any_byte(&parts) {
+            return Err(PatternFault::BadPattern);
+        }
+        let packed = pack(alloc, &parts)?;
+        Ok(Pattern { packed })
+    }
+
+    /// Whether a match begins at this position.
+    pub fn matches_from(&self, alloc: Global, bytes: &[u8], at: usize) -> Result<bool, AllocError>
+        requires { at ≤ length bytes.now }
+        ensures { IfOk result (λ found. IsTrue found ↔ MatchesFrom self.now bytes.now at) }
+    {
+        self.begins_within(alloc, bytes, at, at)
+    }
+
+    /// Whether a match ends before this position.
+    pub fn matches_to(&self, alloc: Global, bytes: &[u8], end: usize) -> Result<bool, AllocError>
+        requires { end ≤ length bytes.now }
+        ensures { IfOk result (λ found. IsTrue found ↔ MatchesTo self.now bytes.now end) }
+    {
+        self.ends_within(alloc, &bytes[..end], 0, 0)
+    }
+
+    /// Whether a match begins at an offset from `low` to `high`.
+    pub fn begins_within(
+        &self,
+        alloc: Global,
+        bytes: &[u8],
+        low: usize,
+        high: usize,
+    ) -> Result<bool, AllocError>
+        ensures { IfOk result (λ found. IsTrue found ↔ BeginsWithin self.now bytes.now low high) }
+    {
+        let mut classes = Classes::new(alloc);
+        self.begins_with(alloc, bytes, low, high, &mut classes)
+    }
+
+    /// The same, with what is kept of these bytes between one pattern and the next.
+    pub fn begins_with(
+        &self,
+        alloc: Global,
+        bytes: &[u8],
+        low: usize,
+        high: usize,
+        classes: &mut Classes,
+    ) -> Result<bool, AllocError>
+        requires { AreOf bytes.now classes.old }
+        ensures classes { AreOf bytes.now classes.new }
+        ensures found { IfOk result (λ found. IsTrue found ↔ BeginsWithin self.now bytes.now low high) }
+    {
+        if low == high {
+            if let Some(found) = self.told_from(bytes, low) {
+                return Ok(found);
+            }
+        }
+        self.begins_in_rows(alloc, bytes, low, high, classes)
+    }
+
+    /// Whether a match begins at this offset, where the bytes there tell it; `None` where rows have to.
+    fn told_from(&self, bytes: &[u8], at: usize) -> Option<bool>
+        ensures { IfSome result (λ found. IsTrue found ↔ BeginsWithin self.now bytes.now at at) }
+    {
+        if bytes.len() < at {
+            return Some(false);
+        }
+        told_at(&self.packed.cells, &self.packed.pool, bytes, at)
+    }
+
+    /// The same as `begins_with`, by rows of places.
+    fn begins_in_rows(
+        &self,
+        alloc: Global,
+        bytes: &[u8],
+        low: usize,
+        high: usize,
+        classes: &mut Classes,
+    ) -> Result<bool, AllocError>
+        requires { AreOf bytes.now classes.old }
+        ensures classes { AreOf bytes.now classes.new }
+        ensures found { IfOk result (λ found. IsTrue found ↔ BeginsWithin self.now bytes.now low high) }
+    {
+        let len = bytes.len();
+        classes.places.set_range(low, high.min(len))?;
+        let pool = self.packed.pool.as_slice();
+        for cell in &self.packed.cells {
+            if classes.places.is_empty() {
+                return Ok(false);
+            }
+            cell.step(
+                pool,
+                &mut classes.toward_end,
+                &mut classes.places,
+                alloc,
+                bytes,
+                Toward::End,
+            )?;
+        }
+        Ok(!classes.places.is_empty())
+    }
+
+    /// Whether a match ends at an offset from `low` to `high` before the end of the bytes.
+    pub fn ends_within(
+        &self,
+        alloc: Global,
+        bytes: &[u8],
+        low: usize,
+        high: usize,
+    ) -> Result<bool, AllocError>
+        ensures { IfOk result (λ found. IsTrue found ↔ EndsWithin self.now bytes.now low high) }
+    {
+        let mut classes = Classes::new(alloc);
+        self.ends_with(alloc, bytes, low, high, &mut classes)
+    }
+
+    /// The same, with what is kept of these bytes between one pattern and the next.
+    pub fn ends_with(
+        &self,
+        alloc: Global,
+        bytes: &[u8],
+        low: usize,
+        high: usize,
+        classes: &mut Classes,
+    ) -> Result<bool, AllocError>
+        requires { AreOf bytes.now classes.old }
+        ensures classes { AreOf bytes.now classes.new }
+        ensures found { IfOk result (λ found. IsTrue found ↔ EndsWithin self.now bytes.now low high) }
+    {
+        let len = bytes.len();
+        classes.places.set_range(low, len.min(high))?;
+        let pool = self.packed.pool.as_slice();
+        let mut rest = self.packed.cells.as_slice();
+        while let [before @ .., cell] = rest {
+            if classes.places.is_empty() {
+                return Ok(false);
+            }
+            cell.step(
+                pool,
+                &mut classes.toward_start,
+                &mut classes.places,
+                alloc,
+                bytes,
+                Toward::Start,
+            )?;
+            rest = before;
+        }
+        Ok(!classes.places.is_empty())
+    }
+}

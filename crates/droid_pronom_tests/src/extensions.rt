@@ -1,0 +1,19 @@
+//! Extensions of names.
+
+use droid_pronom::extension;
+
+#[test]
+fn extensions(rt: HostRuntime) {
+    for (name, want) in &[
+        ("a.txt", "txt"),
+        ("a.tar.gz", "gz"),
+        (".profile", ""),
+        (".a.b", "b"),
+        ("a.", ""),
+        ("a", ""),
+        ("", ""),
+        ("ä.öé", "öé"),
+    ] {
+        assert_eq!(rt; extension(name), *want, "of {name}");
+    }
+}

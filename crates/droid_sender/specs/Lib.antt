@@ -1,8 +1,0 @@
-pub mod Exchanges
-pub mod Faults
-pub mod Numbering
-pub mod Over
-pub mod Reading
-pub mod Sending
-pub mod Steps
-pub mod Stopping

@@ -1,4 +1,0 @@
-pub mod Inputs
-pub mod Parts
-pub mod Scopes
-pub mod Stopping

@@ -1,9 +1,0 @@
-use Rattle.droid_unfinished.specs.Kept.{files_of}
-use Rattle.droid_unfinished.proofs.Places.{of_read}
-use Rattle.droid_unfinished.proofs.files.UnfinishedFiles.kept_bytes.Goals as goal
-
-pub returns-clause-kept : goal.returns-clause-kept
-returns-clause-kept c = rw (← c.self.view_is) (of_read (files_of c.self.inside) c.args.place c.index.result.now c.index.ensures _ c.kept_bytes.ensures.kept)
-
-pub returns-clause-bound : goal.returns-clause-bound
-returns-clause-bound c = rw (← c.self.view_is) (of_read (files_of c.self.inside) c.args.place c.index.result.now c.index.ensures _ c.kept_bytes.ensures.bound)

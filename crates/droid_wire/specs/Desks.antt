@@ -1,0 +1,59 @@
+-- What a service is to a schedule, and what may come of a request there (this project's own).
+use Rattle.std.specs.Prelude.{◌≡◌, ◌≢◌, ℕ, nat_lt, Bool, true, false, List, [], ◌∷◌, ◌++◌, Some, None, is_some}
+use Rattle.droid_frame.specs.types.frame.Frame.{Frame}
+use Rattle.droid_frame.specs.types.refusal.Refusal.{Refusal}
+use Rattle.droid_frame.specs.types.refusal.Refusal.TheVariants.{NumberReused}
+use Rattle.droid_frame.specs.types.reply.Reply.{Reply}
+use Rattle.droid_frame.specs.types.reply.Reply.TheVariants.{Refused}
+use Rattle.droid_core.specs.Setting.{Setting}
+use Rattle.droid_core.specs.Histories.{Entry, History, kept, command, frame_mark, answer, next}
+
+-- the kinds from 1 to 6 are commands; the others are queries, or none
+abbrev pub is_command : Frame → Bool
+is_command frame = nat_lt frame.kind 7
+
+abbrev pub is_refused : Reply → Bool
+is_refused (Refused refusal) = true
+is_refused _ = false
+
+-- a service: which frames spell a request, a request's mark, what it is answered, and the history after it
+pub record Desk : Type 0 where
+  pub is_spelled : Frame → Bool
+  pub mark : Frame → List ℕ
+  pub answer : History → Frame → Reply
+  pub next : History → Frame → History
+
+-- the service of this setting
+abbrev pub desk_of : Setting → Desk
+desk_of setting = record { is_spelled = λ frame. is_some (command frame); mark = frame_mark; answer = answer setting; next = next setting }
+
+abbrev pub entry_at : Desk → Frame → Reply → Entry
+entry_at desk frame reply = record { frame = frame; mark = desk.mark frame; reply = reply }
+
+-- the entry has its request's mark, and a reply that is no refusal
+pub record IsSound (desk : Desk) (entry : Entry) : Type 0 where
+  pub marked : entry.mark ≡ desk.mark entry.frame
+  pub accepted : is_refused entry.reply ≡ false
+
+-- what may come of a request
+pub data Comes (desk : Desk) (history : History) (frame : Frame) : Type 0 where
+  -- it is kept, and is answered again
+  Again : (entry : Entry) → kept history frame.client frame.number ≡ Some entry → desk.answer history frame ≡ entry.reply
+      → desk.next history frame ≡ history → Comes desk history frame
+  -- it is a command under a new number, and is accepted
+  Accepts : kept history frame.client frame.number ≡ None → is_command frame ≡ true → is_refused (desk.answer history frame) ≡ false
+      → desk.next history frame ≡ history ++ entry_at desk frame (desk.answer history frame) ∷ [] → Comes desk history frame
+  -- it is refused, and not for a number used again
+  Refuses : (refusal : Refusal) → refusal ≢ NumberReused → desk.answer history frame ≡ Refused refusal
+      → desk.next history frame ≡ history → Comes desk history frame
+  -- it is a query, and is told
+  Tells : is_command frame ≡ false → is_refused (desk.answer history frame) ≡ false
+      → desk.next history frame ≡ history → Comes desk history frame
+
+-- what is kept under the number of this request is this very request
+abbrev pub IsItsOwn : Desk → History → Frame → Type 0
+IsItsOwn desk history frame = (entry : Entry) → kept history frame.client frame.number ≡ Some entry → IsSound desk entry × (entry.frame ≡ frame)
+
+-- each request whose number is new, or is kept with this very request, comes to one of these
+pub record IsDesk (desk : Desk) : Type 0 where
+  pub comes : (history : History) (frame : Frame) → IsItsOwn desk history frame → Comes desk history frame

@@ -1,0 +1,173 @@
+-- Schedules of deliveries: what may happen between clients' cores and a service (this project's own).
+use Rattle.std.specs.Prelude.{◌≡◌, ◌≢◌, ℕ, ◌^◌, ◌≤◌, nat_lt, if◌then◌else◌, true, false, List, [], ◌∷◌, ◌++◌, map, slice_set, Contains, count_by, Option, Some, None}
+use Rattle.std.specs.List.{slice_get}
+use Rattle.droid_frame.specs.types.frame.Frame.{Frame}
+use Rattle.droid_frame.specs.types.refusal.Refusal.{Refusal}
+use Rattle.droid_frame.specs.types.refusal.Refusal.TheVariants.{NumberReused, Memory, Store}
+use Rattle.droid_frame.specs.types.reply.Reply.{Reply}
+use Rattle.droid_frame.specs.types.reply.Reply.TheVariants.{Refused}
+use Rattle.droid_frame.specs.types.request.Request.{Request}
+use Rattle.droid_wire_client.specs.Cores.{Core, new_core, next_number, next_frame, core_submitting, core_hearing, answer_of}
+use Rattle.droid_core.specs.Histories.{Entry, History, is_under}
+use Rattle.droid_wire.specs.Desks.{Desk, is_command}
+
+-- a reply that was sent, and the client and the number of its request
+pub record Sent : Type 0 where
+  pub client : ℕ
+  pub number : ℕ
+  pub reply : Reply
+
+-- what there is at a moment
+pub record Moment : Type 0 where
+  pub history : History
+  pub cores : List Core
+  -- every frame that was ever submitted, and every reply that was ever sent
+  pub frames : List Frame
+  pub replies : List Sent
+
+-- what the service was wanting, and refused a request for
+pub data Want : Type 0 where
+  OfMemory : Want
+  OfStore : Want
+
+-- what may happen next; a loss is a delivery that never comes
+pub data Event : Type 0 where
+  -- a core submits a request
+  Submits : (core : ℕ) (request : Request) → Event
+  -- a frame that was submitted arrives at the service, which answers it
+  Arrives : (frame : ℕ) → Event
+  -- the same, and the service is wanting
+  Wants : (frame : ℕ) (want : Want) → Event
+  -- a reply that was sent arrives at a core, which hears it
+  Replies : (core : ℕ) (reply : ℕ) → Event
+  -- the same, and the core refuses it for want of memory
+  Drops : (core : ℕ) (reply : ℕ) → Event
+
+-- new cores of these clients, each with its first number, and nothing sent
+abbrev pub start : List (ℕ × ℕ) → Moment
+start clients = record { history = []; cores = map (λ client. new_core client.0 client.1) clients; frames = []; replies = [] }
+
+-- ---- the steps
+
+abbrev pub submitted : Moment → ℕ → Request → Option Core → Moment
+submitted moment which request None = moment
+submitted moment which request (Some core) =
+    if nat_lt (next_number core) (2 ^ 63)
+    then record {
+      history = moment.history;
+      cores = slice_set moment.cores which (core_submitting core request);
+      frames = moment.frames ++ next_frame core request ∷ [];
+      replies = moment.replies;
+    }
+    else moment
+
+abbrev pub reply_to : Frame → Reply → Sent
+reply_to frame reply = record { client = frame.client; number = frame.number; reply = reply }
+
+abbrev pub arrived : Desk → Moment → Option Frame → Moment
+arrived desk moment None = moment
+arrived desk moment (Some frame) =
+    record {
+      history = desk.next moment.history frame;
+      cores = moment.cores;
+      frames = moment.frames;
+      replies = moment.replies ++ reply_to frame (desk.answer moment.history frame) ∷ [];
+    }
+
+abbrev pub refusal_for : Want → Refusal
+refusal_for OfMemory = Memory
+refusal_for OfStore = Store
+
+-- a request that isn't spelled is never answered so
+abbrev pub wanted : Desk → Moment → Want → Option Frame → Moment
+wanted desk moment want None = moment
+wanted desk moment want (Some frame) =
+    if desk.is_spelled frame
+    then record {
+      history = moment.history;
+      cores = moment.cores;
+      frames = moment.frames;
+      replies = moment.replies ++ reply_to frame (Refused (refusal_for want)) ∷ [];
+    }
+    else moment
+
+abbrev pub replied : Moment → ℕ → Option Core → Option Sent → Moment
+replied moment which None sent = moment
+replied moment which (Some core) None = moment
+replied moment which (Some core) (Some sent) =
+    record {
+      history = moment.history;
+      cores = slice_set moment.cores which (core_hearing core sent.client sent.number sent.reply);
+      frames = moment.frames;
+      replies = moment.replies;
+    }
+
+abbrev pub happens : Desk → Moment → Event → Moment
+happens desk moment (Submits core request) = submitted moment core request (slice_get moment.cores core)
+happens desk moment (Arrives frame) = arrived desk moment (slice_get moment.frames frame)
+happens desk moment (Wants frame want) = wanted desk moment want (slice_get moment.frames frame)
+happens desk moment (Replies core reply) = replied moment core (slice_get moment.cores core) (slice_get moment.replies reply)
+happens desk moment (Drops core reply) = moment
+
+-- what a whole schedule leaves
+abbrev pub run : Desk → List Event → Moment → Moment
+run desk [] moment = moment
+run desk (event ∷ events) moment = run desk events (happens desk moment event)
+
+-- ---- what is said of them
+
+-- frames of one client under one number are equal
+abbrev pub AreOnes : List Frame → Type 0
+AreOnes frames = (one other : Frame) → Contains frames one → Contains frames other → one.client ≡ other.client → one.number ≡ other.number → one ≡ other
+
+-- the history has exactly one entry of this request's client and number: this very request, with this reply
+pub record IsOnlyEntry (history : History) (frame : Frame) (reply : Reply) : Type 0 where
+  pub once : count_by (is_under frame.client frame.number) history ≡ 1
+  pub entry : Entry
+  pub is_there : Contains history entry
+  pub is_request : entry.frame ≡ frame
+  pub is_reply : entry.reply ≡ reply
+
+-- at some event this very request arrived, and this is what the service answered
+pub record WasAnswer (desk : Desk) (from : Moment) (events : List Event) (frame : Frame) (reply : Reply) : Type 0 where
+  pub before : List Event
+  pub which : ℕ
+  pub after : List Event
+  pub parts : before ++ Arrives which ∷ after ≡ events
+  pub arriving : slice_get (run desk before from).frames which ≡ Some frame
+  pub is_reply : reply ≡ desk.answer (run desk before from).history frame
+
+-- what a held answer is: the request was submitted; a command's is its one entry's reply, and a query's is
+-- what the service answered it at some event
+pub record IsHeld (desk : Desk) (from : Moment) (events : List Event) (core : Core) (number : ℕ) (reply : Reply) : Type 0 where
+  pub frame : Frame
+  pub submitted : Contains (run desk events from).frames frame
+  pub client_is : frame.client ≡ core.client
+  pub number_is : frame.number ≡ number
+  pub command : is_command frame ≡ true → IsOnlyEntry (run desk events from).history frame reply
+  pub query : is_command frame ≡ false → WasAnswer desk from events frame reply
+
+-- each answer that a core holds
+abbrev pub AreHeld : Desk → Moment → List Event → Type 0
+AreHeld desk from events = (which number : ℕ) (core : Core) (reply : Reply) → slice_get (run desk events from).cores which ≡ Some core
+    → answer_of core number ≡ Some reply → IsHeld desk from events core number reply
+
+-- no submitted request has two entries
+abbrev pub AreOnce : Moment → Type 0
+AreOnce moment = (frame : Frame) → Contains moment.frames frame → count_by (is_under frame.client frame.number) moment.history ≤ 1
+
+-- no reply says that a number was used again
+abbrev pub NoneReused : Moment → Type 0
+NoneReused moment = (sent : Sent) → Contains moment.replies sent → sent.reply ≢ Refused NumberReused
+
+abbrev pub core_answer : Option Core → ℕ → Option Reply
+core_answer None number = None
+core_answer (Some core) number = answer_of core number
+
+-- the answer that this core holds to this number
+abbrev pub answer_at : Moment → ℕ → ℕ → Option Reply
+answer_at moment which number = core_answer (slice_get moment.cores which) number
+
+-- no two cores are of one client
+abbrev pub AreApart : List (ℕ × ℕ) → Type 0
+AreApart clients = (which other : ℕ) (one two : ℕ × ℕ) → slice_get clients which ≡ Some one → slice_get clients other ≡ Some two → one.0 ≡ two.0 → which ≡ other

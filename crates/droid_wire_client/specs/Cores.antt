@@ -1,0 +1,139 @@
+-- A client's core: what it keeps, its two steps, and what it shows (this project's own).
+use Rattle.std.specs.Prelude.{ℕ, ◌+◌, ◌-◌, ◌==◌, ◌||◌, nat_lt, if◌then◌else◌, Bool, true, List, [], ◌∷◌, ◌++◌, length, slice_set, Option, Some, None}
+use Rattle.std.specs.List.{slice_get, filter_map}
+use Rattle.droid_frame.specs.types.frame.Frame.{Frame}
+use Rattle.droid_frame.specs.types.refusal.Refusal.{Refusal}
+use Rattle.droid_frame.specs.types.reply.Reply.{Reply}
+use Rattle.droid_frame.specs.types.reply.Reply.TheVariants.{Made, Node, Taken, Finished, Abandoned, Progress, Part, Refused}
+use Rattle.droid_frame.specs.types.request.Request.{Request}
+use Rattle.droid_frame.specs.Bodies.{request_kind, request_body}
+use Rattle.droid_wire_client.specs.declared.heard.Heard.{Heard}
+use Rattle.droid_wire_client.specs.declared.heard.Heard.TheVariants as heard
+use Rattle.droid_wire_client.specs.declared.slot.Slot.{Slot}
+use Rattle.droid_wire_client.specs.declared.slot.State.{State}
+use Rattle.droid_wire_client.specs.declared.slot.State.TheVariants.{Pending, Answered}
+
+-- a client, and a slot for each request that it submitted: slot k is that of the number first + k
+pub record Core : Type 0 where
+  pub client : ℕ
+  pub first : ℕ
+  pub slots : List Slot
+
+abbrev pub new_core : ℕ → ℕ → Core
+new_core client first = record { client = client; first = first; slots = [] }
+
+-- ---- submitting
+
+abbrev pub next_number : Core → ℕ
+next_number core = core.first + length core.slots
+
+-- the frame of a request: version 1, its kind and its one spelling
+abbrev pub frame_of : ℕ → ℕ → Request → Frame
+frame_of client number request =
+    record { version = 1; kind = request_kind request; client = client; number = number; body = request_body request }
+
+abbrev pub next_frame : Core → Request → Frame
+next_frame core request = frame_of core.client (next_number core) request
+
+abbrev pub new_slot : Frame → Slot
+new_slot frame = record { kind = frame.kind; state = Pending frame; refusal = None }
+
+-- the core after a request was submitted
+abbrev pub core_submitting : Core → Request → Core
+core_submitting core request = record core { slots = core.slots ++ new_slot (next_frame core request) ∷ [] }
+
+-- ---- hearing
+
+-- the kind of request that the reply belongs to; a refusal belongs to each
+abbrev pub belongs : ℕ → Reply → Bool
+belongs kind (Made profile) = kind == 1
+belongs kind (Node id) = (kind == 2) || (kind == 3)
+belongs kind (Taken held) = kind == 4
+belongs kind (Finished method mismatch md5 puids) = kind == 5
+belongs kind Abandoned = kind == 6
+belongs kind (Progress held missing) = kind == 7
+belongs kind (Part as_of total bytes) = kind == 8
+belongs kind (Refused refusal) = true
+
+-- the refusal, where the reply is one
+abbrev pub refusal_in : Reply → Option Refusal
+refusal_in (Refused refusal) = Some refusal
+refusal_in _ = None
+
+-- what a reply to a pending request is heard as
+abbrev pub heard_pending : Reply → Heard
+heard_pending (Refused refusal) = heard.Refused
+heard_pending _ = heard.Answered
+
+abbrev pub heard_in : State → Reply → Heard
+heard_in (Pending frame) reply = heard_pending reply
+heard_in (Answered answer) reply = heard.Repeated
+
+-- what a reply to the request of a slot is heard as
+abbrev pub heard_at : Slot → Reply → Heard
+heard_at slot reply = if belongs slot.kind reply then heard_in slot.state reply else heard.Stranger
+
+abbrev pub heard_by : Option Slot → Reply → Heard
+heard_by None reply = heard.Stranger
+heard_by (Some slot) reply = heard_at slot reply
+
+-- the slot of a number, where it was submitted
+abbrev pub slot_at : Core → ℕ → Option Slot
+slot_at core number = if nat_lt number core.first then None else slice_get core.slots (number - core.first)
+
+-- what a reply to this client's request of this number is heard as
+abbrev pub heard_of : Core → ℕ → ℕ → Reply → Heard
+heard_of core client number reply = if client == core.client then heard_by (slot_at core number) reply else heard.Stranger
+
+-- an answer takes the place of the frame, and a refusal that of an earlier one
+abbrev pub slot_after : Slot → Reply → Heard → Slot
+slot_after slot reply heard.Answered = record slot { state = Answered reply }
+slot_after slot reply heard.Refused = record slot { refusal = refusal_in reply }
+slot_after slot reply heard.Repeated = slot
+slot_after slot reply heard.Stranger = slot
+
+-- the slot after a reply to its request
+abbrev pub slot_hearing : Slot → Reply → Slot
+slot_hearing slot reply = slot_after slot reply (heard_at slot reply)
+
+abbrev pub slots_hearing : Core → ℕ → Reply → Option Slot → List Slot
+slots_hearing core number reply None = core.slots
+slots_hearing core number reply (Some slot) = slice_set core.slots (number - core.first) (slot_hearing slot reply)
+
+-- the core after a reply to this client's request of this number
+abbrev pub core_hearing : Core → ℕ → ℕ → Reply → Core
+core_hearing core client number reply =
+    if client == core.client then record core { slots = slots_hearing core number reply (slot_at core number) } else core
+
+-- ---- what a core shows
+
+abbrev pub answer_in : State → Option Reply
+answer_in (Pending frame) = None
+answer_in (Answered answer) = Some answer
+
+abbrev pub slot_answer : Option Slot → Option Reply
+slot_answer None = None
+slot_answer (Some slot) = answer_in slot.state
+
+-- the answer that is kept to the request of this number
+abbrev pub answer_of : Core → ℕ → Option Reply
+answer_of core number = slot_answer (slot_at core number)
+
+abbrev pub slot_refusal : Option Slot → Option Refusal
+slot_refusal None = None
+slot_refusal (Some slot) = slot.refusal
+
+-- the last refusal that is kept of the request of this number
+abbrev pub refusal_of : Core → ℕ → Option Refusal
+refusal_of core number = slot_refusal (slot_at core number)
+
+abbrev pub pending_in : State → Option Frame
+pending_in (Pending frame) = Some frame
+pending_in (Answered answer) = None
+
+abbrev pub frames_pending : List Slot → List Frame
+frames_pending slots = filter_map (λ slot. pending_in slot.state) slots
+
+-- the frames of the requests that have no answer, in order
+abbrev pub pending_of : Core → List Frame
+pending_of core = frames_pending core.slots

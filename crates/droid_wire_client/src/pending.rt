@@ -1,0 +1,46 @@
+//! The places of the pending requests among all.
+
+ghost use Rattle.std.specs.Prelude.{◌≡◌, List, Some, None, slice_set, vec_len, ◌<◌};
+ghost use Rattle.std.specs.List.{slice_get};
+ghost use Rattle.droid_wire_client.specs.Cores.{heard_at, pending_in, slot_hearing};
+ghost use Rattle.droid_wire_client.specs.declared.slot.Slot.{Slot};
+ghost use Rattle.droid_wire_client.specs.Places.{IsPendingAt, places_from};
+
+use crate::heard::Heard;
+use crate::slot::Slot;
+use droid_frame::Reply;
+use std::collections::VecDeque;
+
+/// Lets the slot at this place take a reply. Where that is its answer, the place is no longer one of a
+/// pending request.
+pub(crate) fn hear_at(
+    slots: &mut Vec<Slot>,
+    pending: &mut VecDeque<usize>,
+    place: usize,
+    reply: Reply,
+) -> Heard
+    requires { place < vec_len slots.old }
+    ensures heard { (slot : Slot) → slice_get slots.old.items place ≡ Some slot → result ≡ heard_at slot reply }
+    ensures after { (slot : Slot) → slice_get slots.old.items place ≡ Some slot
+        → slots.new.items ≡ slice_set slots.old.items place (slot_hearing slot reply) }
+    ensures places { pending.old.items ≡ places_from 0 slots.old.items → pending.new.items ≡ places_from 0 slots.new.items }
+{
+    let heard = slots[place].hear(reply);
+    match heard {
+        Heard::Answered => {
+            settle(pending, place);
+            Heard::Answered
+        }
+        other => other,
+    }
+}
+
+/// Takes the place of a request that is answered now out of the places of the pending ones.
+fn settle(pending: &mut VecDeque<usize>, place: usize)
+    ensures { (slots : List Slot) (slot : Slot) → pending.old.items ≡ places_from 0 slots → IsPendingAt slots place
+        → pending_in slot.state ≡ None → pending.new.items ≡ places_from 0 (slice_set slots place slot) }
+{
+    if let Ok(at) = pending.binary_search(&place) {
+        pending.remove(at);
+    }
+}

@@ -1,0 +1,122 @@
+//! One submitted request.
+
+ghost use Rattle.std.specs.Prelude.{◌≡◌, IfSome, IfNone, None, Some, is_some};
+ghost use Rattle.std.specs.Option.{option_copied};
+ghost use Rattle.droid_wire_client.specs.Cores.{answer_in, belongs, heard_at, new_slot, pending_in, refusal_in, slot_hearing};
+
+use crate::heard::Heard;
+use droid_frame::{Frame, Refusal, Reply};
+
+/// A submitted request: its kind, whether it is answered, and its last refusal.
+#[derive(Debug, Drop)]
+pub(crate) struct Slot {
+    kind: u8,
+    state: State,
+    refusal: Option<Refusal>,
+}
+
+/// Whether a request is answered. Its frame is kept only until then.
+#[derive(Debug, Drop)]
+pub(crate) enum State {
+    /// It isn't, and this is its frame.
+    Pending(Frame),
+    /// It is, by this reply.
+    Answered(Reply),
+}
+
+impl Slot {
+    /// The slot of a request that is submitted now.
+    pub(crate) fn new(frame: Frame) -> Slot
+        ensures { result ≡ new_slot frame }
+    {
+        Slot {
+            kind: frame.kind,
+            state: State::Pending(frame),
+            refusal: None,
+        }
+    }
+
+    /// Takes a reply to this request.
+    pub(crate) fn hear(&mut self, reply: Reply) -> Heard
+        ensures heard { result ≡ heard_at self.old reply }
+        ensures after { self.new ≡ slot_hearing self.old reply }
+    {
+        let heard = self.heard(&reply);
+        match heard {
+            Heard::Answered => self.state = State::Answered(reply),
+            Heard::Refused => self.refusal = refusal_in(&reply),
+            Heard::Repeated => {}
+            Heard::Stranger => {}
+        }
+        heard
+    }
+
+    /// What a reply to this request is heard as.
+    fn heard(&self, reply: &Reply) -> Heard
+        ensures { result ≡ heard_at self.now reply.now }
+    {
+        if !belongs(self.kind, reply) {
+            return Heard::Stranger;
+        }
+        if self.answer().is_some() {
+            return Heard::Repeated;
+        }
+        match reply {
+            Reply::Refused(_) => Heard::Refused,
+            _ => Heard::Answered,
+        }
+    }
+
+    /// The answer, where there is one.
+    pub(crate) fn answer(&self) -> Option<&Reply>
+        ensures { option_copied result ≡ answer_in self.now.state }
+    {
+        match &self.state {
+            State::Pending(_) => None,
+            State::Answered(answer) => Some(answer),
+        }
+    }
+
+    /// The frame, where there is no answer.
+    pub(crate) fn pending(&self) -> Option<&Frame>
+        ensures { option_copied result ≡ pending_in self.now.state }
+    {
+        match &self.state {
+            State::Pending(frame) => Some(frame),
+            State::Answered(_) => None,
+        }
+    }
+
+    /// The last refusal.
+    pub(crate) fn refusal(&self) -> Option<Refusal>
+        ensures { result ≡ self.now.refusal }
+    {
+        self.refusal
+    }
+}
+
+/// Whether the reply belongs to a request of this kind. A refusal belongs to each.
+fn belongs(kind: u8, reply: &Reply) -> bool
+    ensures { result ≡ belongs kind reply.now }
+{
+    match reply {
+        Reply::Made { .. } => kind == 1,
+        Reply::Node { .. } => kind == 2 || kind == 3,
+        Reply::Taken { .. } => kind == 4,
+        Reply::Finished { .. } => kind == 5,
+        Reply::Abandoned => kind == 6,
+        Reply::Progress { .. } => kind == 7,
+        Reply::Part { .. } => kind == 8,
+        Reply::Refused(_) => true,
+    }
+}
+
+/// The refusal, where the reply is one.
+fn refusal_in(reply: &Reply) -> Option<Refusal>
+    ensures { result ≡ refusal_in reply.now }
+{
+    match reply {
+        Reply::Refused(refusal) => Some(*refusal),
+        _ => None,
+    }
+}

@@ -1,0 +1,67 @@
+//! Frames as the format has them, written out by hand, and a service to answer them.
+
+use droid_core::{Limits, Service};
+use droid_pronom::Registry;
+use std::alloc::{AllocError, Global};
+use std::test::Fail;
+
+pub const CREATE: [u8; 23] = [
+    1, 1, 0, 0, 0, 1, 0, 0, 0, 0, 0, 0, 0, 1, 0, 0, 0, 5, 0, 1, 0, 0, 0,
+];
+
+pub const MADE: [u8; 22] = [
+    1, 129, 0, 0, 0, 1, 0, 0, 0, 0, 0, 0, 0, 1, 0, 0, 0, 4, 0, 0, 0, 1,
+];
+
+pub const FOLDER: [u8; 36] = [
+    1, 2, 0, 0, 0, 1, 0, 0, 0, 0, 0, 0, 0, 2, 0, 0, 0, 18, 0, 0, 0, 1, 0, 0, 0, 0, 0, 0, 0, 0, 0,
+    0, 0, 0, 105, 110,
+];
+
+pub const NODE: [u8; 22] = [
+    1, 130, 0, 0, 0, 1, 0, 0, 0, 0, 0, 0, 0, 2, 0, 0, 0, 4, 0, 0, 0, 1,
+];
+
+pub const OTHER_FOLDER: [u8; 37] = [
+    1, 2, 0, 0, 0, 1, 0, 0, 0, 0, 0, 0, 0, 2, 0, 0, 0, 19, 0, 0, 0, 1, 0, 0, 0, 0, 0, 0, 0, 0, 0,
+    0, 0, 0, 111, 117, 116,
+];
+
+pub const NUMBER_REUSED: [u8; 19] = [1, 136, 0, 0, 0, 1, 0, 0, 0, 0, 0, 0, 0, 2, 0, 0, 0, 1, 2];
+
+pub const MALFORMED: [u8; 19] = [1, 136, 0, 0, 0, 1, 0, 0, 0, 0, 0, 0, 0, 9, 0, 0, 0, 1, 1];
+
+/// The parts, one after the other.
+pub fn joined(alloc: Global, parts: &[&[u8]]) -> Result<Vec<u8>, AllocError> {
+    let mut bytes = Vec::new(alloc);
+    for part in parts {
+        bytes.extend_from_slice(part)?;
+    }
+    Ok(bytes)
+}
+
+/// The frame that refuses a request of client 1 by a number without a detail.
+pub fn refused(number: u8, refusal: u8) -> [u8; 19] {
+    let mut frame = MALFORMED;
+    frame[13] = number;
+    frame[18] = refusal;
+    frame
+}
+
+const LIMITS: Limits = Limits {
+    profiles: 64,
+    nodes: 100_000,
+    unfinished: 64,
+};
+
+/// An empty service with no format. What finds no memory is tried once more.
+pub fn service(alloc: Global) -> Result<Service, Fail> {
+    if let Ok(service) = Service::new(alloc, registry(alloc)?, LIMITS) {
+        return Ok(service);
+    }
+    Ok(Service::new(alloc, registry(alloc)?, LIMITS)?)
+}
+
+fn registry(alloc: Global) -> Result<Registry, Fail> {
+    Ok(Registry::parse(alloc, b"").or_else(|_| Registry::parse(alloc, b""))?)
+}

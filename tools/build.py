@@ -1,0 +1,189 @@
+#!/usr/bin/env python3
+"""Proves and builds a program: build.py CRATE. It is then crates/CRATE/out/CRATE.
+
+Libraries are proved side by side, each as soon as those below it stand, and the program last. What stands is known
+by a sum over the sources and the toolchain, so with nothing changed this calls no `rt`. After an interrupt the next
+call goes on where this one was.
+"""
+import fcntl
+import os
+import shutil
+import subprocess
+import sys
+import threading
+import time
+
+import crates
+from crates import TOP, below, folder, named, read
+from standing import RT, Sums, note, stands
+
+# what one crate in work may take of the memory, in bytes: most take a fifth of it
+EACH = 4 << 30
+
+
+def memory():
+    """The bytes that are free now."""
+    for line in read("/proc/meminfo").split("\n"):
+        if line.startswith("MemAvailable:"):
+            return int(line.split()[1]) << 10
+    return EACH
+
+
+def run_in(place, words):
+    """Runs a command; gives its status, what it said, and the seconds of a processor that it used."""
+    with subprocess.Popen(words, cwd=place, stdout=subprocess.PIPE, stderr=subprocess.STDOUT, text=True) as run:
+        said = run.stdout.read()
+        _, status, used = os.wait4(run.pid, 0)
+        run.returncode = os.waitstatus_to_exitcode(status)
+    return run.returncode, said, used.ru_utime + used.ru_stime
+
+
+def tree_of(crate):
+    return os.path.join(TOP, "out", "build", crate)
+
+
+def move_kept(crate, one, other):
+    """Moves what `rt` kept of the crate from one tree to another."""
+    here, there = os.path.join(folder(crate, one), "out"), os.path.join(folder(crate, other), "out")
+    if os.path.isdir(here):
+        shutil.rmtree(there, ignore_errors=True)
+        os.rename(here, there)
+
+
+def bring_back(crate):
+    """Ends the tree of the crate's own. What was proved in it stays, also after an interrupt."""
+    move_kept(crate, tree_of(crate), TOP)
+    shutil.rmtree(tree_of(crate), ignore_errors=True)
+
+
+def prove_library(crate, jobs):
+    """Proves and builds a library in a tree of its own; gives what `run_in` does."""
+    crates.lay_out(tree_of(crate), crate)
+    move_kept(crate, TOP, tree_of(crate))
+    try:
+        return run_in(folder(crate, tree_of(crate)), [RT, "lib", "--jobs", str(jobs)])
+    finally:
+        bring_back(crate)
+
+
+class Build:
+    """Libraries in work, and those that still wait."""
+
+    def __init__(self, libraries, sums, cores):
+        self.sums, self.cores = sums, cores
+        self.all = len(libraries)
+        self.waiting = [it for it in libraries if not stands(it, sums)]
+        self.work = {}
+        self.failed = None
+        self.changed = threading.Condition()
+        self.begun = time.time()
+        self.chains = self.chains_of(libraries)
+
+    def chains_of(self, libraries):
+        """Of each library, how many lines the longest chain of libraries has that begins with it and goes up."""
+        chains = {}
+        for crate in reversed(crates.lowest_first(libraries)):
+            above = [chains[it] for it in chains if crate in named()[it]]
+            chains[crate] = crates.lines(crate) + max(above, default=0)
+        return chains
+
+    def ready(self):
+        """Those whose libraries below stand, the longest chain first."""
+        unbuilt = {*self.waiting, *self.work}
+        found = [it for it in self.waiting if not unbuilt.intersection(below(it))]
+        return sorted(found, key=lambda crate: -self.chains[crate])
+
+    def fits(self):
+        return not self.work or (len(self.work) < self.cores and memory() > EACH)
+
+    def jobs_for(self, crate, ready):
+        """A share of the processors, and two at least for what the longest chain waits for."""
+        share = self.cores // (len(ready) + len(self.work))
+        is_longest = all(self.chains[crate] >= self.chains[it] for it in self.work)
+        return max(1, share, 2 if is_longest and self.cores > 2 else 1)
+
+    def tell(self, what):
+        print(f"  {time.time() - self.begun:4.0f} s: {what}", file=sys.stderr, flush=True)
+
+    def tell_work(self):
+        stand = self.all - len(self.waiting) - len(self.work)
+        self.tell(f"{stand} of {self.all} libraries stand; in work: {', '.join(self.work)}")
+
+    def run(self, crate, jobs):
+        status, said, used = prove_library(crate, jobs)
+        with self.changed:
+            took = time.time() - self.work.pop(crate)
+            self.tell(f"{crate} took {took:.0f} s, and {used:.0f} s of a processor")
+            if status == 0:
+                note(crate, self.sums)
+            else:
+                self.failed = self.failed or (crate, said)
+            self.changed.notify_all()
+
+    def begin(self, crate, ready):
+        jobs = self.jobs_for(crate, ready)
+        self.waiting.remove(crate)
+        self.work[crate] = time.time()
+        threading.Thread(target=self.run, args=(crate, jobs)).start()
+        self.tell_work()
+
+    def all_built(self):
+        """Builds all; gives the first crate that failed with what was said, or None."""
+        with self.changed:
+            while (self.waiting and not self.failed) or self.work:
+                ready = self.ready() if not self.failed and self.fits() else []
+                if ready:
+                    self.begin(ready[0], ready)
+                else:
+                    self.changed.wait(5)
+        return self.failed
+
+
+def alone():
+    """Waits until no other build works in this checkout; what it gives keeps others out until it is closed."""
+    os.makedirs(os.path.join(TOP, "out"), exist_ok=True)
+    lock = open(os.path.join(TOP, "out", "build.lock"), "w")
+    fcntl.flock(lock, fcntl.LOCK_EX)
+    return lock
+
+
+def fail(crate, said):
+    print(f"{crate} is not proved and built:\n{said}", file=sys.stderr)
+    return 1
+
+
+def build_program(program):
+    print(f"  the program {program} ..", file=sys.stderr, flush=True)
+    begun = time.time()
+    status, said, used = run_in(folder(program), [RT, "run", "--", "--help"])
+    print(f"  {program} took {time.time() - begun:.0f} s, and {used:.0f} s of a processor", file=sys.stderr, flush=True)
+    return (program, said) if status else None
+
+
+def build(program, is_program, sums):
+    libraries = below(program) if is_program else [*below(program), program]
+    for crate in libraries:
+        bring_back(crate)
+    if not all(stands(it, sums) for it in libraries):
+        print(f"proving {program} and what it stands on: on a fresh machine half an hour or more, later less", file=sys.stderr)
+    failed = Build(libraries, sums, len(os.sched_getaffinity(0))).all_built()
+    if is_program and not failed:
+        failed = build_program(program)
+    if failed:
+        return fail(*failed)
+    note(program, sums, is_program)
+    return 0
+
+
+def main():
+    program = sys.argv[1]
+    is_program = os.path.isfile(os.path.join(folder(program), "src", "main.rt"))
+    sums = Sums()
+    if stands(program, sums, is_program):
+        return 0
+    with alone():
+        return build(program, is_program, sums)
+
+
+if __name__ == "__main__":
+    sys.exit(main())

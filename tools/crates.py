@@ -1,0 +1,152 @@
+"""What crates.txt says, and copies of the tree in which one crate is worked on beside others.
+
+`rt` keeps every other `rt` out of a crate's folder and of the folders below it. So what works on several crates at
+once gives each a copy of its own, of that crate and those below it. The files of a copy are hard links, but for
+those of the crate itself.
+"""
+import contextlib
+import functools
+import os
+import shutil
+import subprocess
+import sys
+import tempfile
+
+TOP = os.path.dirname(os.path.dirname(os.path.abspath(__file__)))
+SOURCES = ["src", "specs", "proofs"]
+# where wrong bodies stand: those that the gate tries, and the others
+EDITS = ["must-fail", "wrong-bodies"]
+
+
+def listed_in(text):
+    """Each crate with all libraries that its line names, in the order of a text like crates.txt."""
+    found = {}
+    for line in text.split("\n"):
+        name, colon, rest = line.split("#")[0].partition(":")
+        if colon:
+            found[name.split()[0]] = rest.split()
+    return found
+
+
+@functools.lru_cache(None)
+def listed():
+    """The same of crates.txt."""
+    return listed_in(read(os.path.join(TOP, "crates.txt")))
+
+
+@functools.lru_cache(None)
+def named():
+    """Each crate with the ones of the repository that its line names, in the order of crates.txt."""
+    return {name: [low for low in lows if low in listed()] for name, lows in listed().items()}
+
+
+@functools.lru_cache(None)
+def below(crate):
+    """The crates that it stands on, lowest first."""
+    found = []
+    for low in named()[crate]:
+        found += [it for it in [*below(low), low] if it not in found]
+    return found
+
+
+def lowest_first(crates):
+    return sorted(crates, key=lambda crate: (len(below(crate)), crate))
+
+
+@functools.lru_cache(None)
+def paths(crate):
+    """How many paths lead from it down. `rt` sums up the sources of a crate once for each, at every call."""
+    return 1 + sum(paths(low) for low in named()[crate])
+
+
+def folder(crate, tree=TOP):
+    return os.path.join(tree, "crates", crate)
+
+
+def files_of(crate):
+    """Its sources, by path."""
+    found = []
+    for part in SOURCES:
+        for at, _, names in os.walk(os.path.join(folder(crate), part)):
+            found += [os.path.join(at, name) for name in names]
+    return sorted(found)
+
+
+def lines(crate):
+    return sum(read(path).count("\n") for path in files_of(crate))
+
+
+def edits_of(crate, parts=EDITS):
+    """Its wrong bodies, by path."""
+    found = []
+    for part in parts:
+        at = os.path.join(folder(crate), part)
+        names = sorted(os.listdir(at)) if os.path.isdir(at) else []
+        found += [os.path.join(at, name) for name in names if name.endswith(".edit")]
+    return found
+
+
+def git(*words):
+    """What git says at the top. Where it fails, it has said why."""
+    run = subprocess.run(["git", *words], cwd=TOP, stdout=subprocess.PIPE, text=True)
+    return run.stdout if run.returncode == 0 else sys.exit(1)
+
+
+def changed(base, parts=None):
+    """The crates whose line differs from that of a commit, or a file of theirs (in one of these parts, if given), and
+    those with a file that git doesn't know yet."""
+    before = listed_in(git("show", f"{base}:crates.txt"))
+    found = {crate for crate in listed() if listed()[crate] != before.get(crate)}
+    files = git("diff", "--name-only", "--no-renames", "-z", base, "--", "crates")
+    files += git("ls-files", "--others", "--exclude-standard", "-z", "--", "crates")
+    for path in files.split("\0"):
+        words = path.split("/")
+        if len(words) > 2 and words[1] in listed() and (not parts or words[2] in parts):
+            found.add(words[1])
+    return found
+
+
+def touched(base, parts=None):
+    """The crates that changed, and those above one whose sources changed, lowest first."""
+    own, low = changed(base, parts), changed(base, SOURCES)
+    return [crate for crate in lowest_first(listed()) if crate in own or low.intersection(below(crate))]
+
+
+def read(path):
+    with open(path) as file:
+        return file.read()
+
+
+def write(path, text):
+    os.makedirs(os.path.dirname(path), exist_ok=True)
+    with open(path, "w") as file:
+        file.write(text)
+
+
+@contextlib.contextmanager
+def room(name):
+    """A folder below out/ for copies, which goes when it is left. (`rt ci` stops at a crates.txt that stays there.)"""
+    os.makedirs(os.path.join(TOP, "out"), exist_ok=True)
+    at = tempfile.mkdtemp(prefix=f"{name}-", dir=os.path.join(TOP, "out"))
+    try:
+        yield at
+    finally:
+        shutil.rmtree(at, ignore_errors=True)
+
+
+def lay_out(tree, crate, linked=os.link):
+    """Lays out a tree of its own for a crate: its sources, and the sources and libraries of those below it. What
+    `rt` kept of the crate there stays."""
+    lines = read(os.path.join(TOP, "crates.txt")).split("\n")
+    there = [*below(crate), crate]
+    os.makedirs(tree, exist_ok=True)
+    if not os.path.isdir(os.path.join(tree, ".git")):
+        subprocess.run(["git", "init", "-q", tree], check=True)
+    write(os.path.join(tree, "crates.txt"), "\n".join(line for line in lines if line.split(":")[0] in there) + "\n")
+    shutil.copy2(os.path.join(TOP, "HANDLES"), tree)
+    for name in there:
+        for part in SOURCES + [os.path.join("out", "rlib")] * (name != crate):
+            here, copy = os.path.join(folder(name), part), os.path.join(folder(name, tree), part)
+            shutil.rmtree(copy, ignore_errors=True)
+            if os.path.isdir(here):
+                shutil.copytree(here, copy, copy_function=shutil.copy2 if name == crate else linked)

@@ -1,0 +1,112 @@
+#!/usr/bin/env python3
+"""Holds crates.txt, the map, to the crates' own files: map.py. `make quick` begins with it.
+
+- A crate's line names the libraries that its own files name, and no other.
+- Of another family it names the head alone. Tests may also name what tests share, and the libraries of a family whose
+  head is a program.
+- The program stands on few libraries, few paths lead down from it, and the gate tries few wrong bodies.
+"""
+import glob
+import os
+import re
+import shutil
+import sys
+
+import crates
+from crates import below, edits_of, folder, listed, named, paths, read
+
+PROGRAM = "droid_desk"
+FAMILIES = ["droid_frame", "droid_pronom", "droid_assembly", "droid_store", "droid_export", "droid_core", "droid_wire", "droid_desk"]
+# a program that is no part of the family whose first words it has
+ALONE = ["droid_desk_bench"]
+# what tests share
+SHARED = ["droid_frame_shaky", "droid_frame_vectors", "droid_pronom_sample", "droid_store_steps"]
+# the kit's libraries that are named as std or a module of it: only a line tells that one of them is meant
+AS_IN_STD = {"std", "core", "io", "os", "libc", "bytes"}
+# `rt` sums up the sources of a crate once for each path to it, at every call
+MOST_PATHS = 1200
+MOST_LIBRARIES = 24
+# each costs the gate a check of its crate
+MOST_EDITS = 90
+
+
+def libraries():
+    """All that a file can name: the repository's crates, and the kit's libraries, which lie beside the folder of `rt`."""
+    rt = os.path.realpath(shutil.which(os.environ.get("RT", "rt")) or "rt")
+    rlibs = glob.glob(os.path.join(os.path.dirname(os.path.dirname(rt)), "rlibs", "*.rlib"))
+    of_kit = {os.path.basename(it)[: -len(".rlib")] for it in rlibs}
+    return of_kit.union(listed(), *listed().values())
+
+
+def words_of(path):
+    """The first words of the paths in a file, and the modules that it has."""
+    if not path.endswith(".rt"):
+        return re.findall(r"\bRattle\.(\w+)", re.sub(r"--.*", "", read(path))), []
+    text = re.sub(r"//.*", "", read(path))
+    words = re.findall(r"\bRattle\.(\w+)", text) + re.findall(r"(?<![\w:.])(?:::)?(\w+)::", text)
+    return words + re.findall(r"\buse\s+(\w+)\s*(?:;|as\b)", text), re.findall(r"\bmod\s+(\w+)", text)
+
+
+def named_by_files(crate, known):
+    """The libraries that the crate's own files name."""
+    found, modules = set(), {crate}
+    for path in crates.files_of(crate):
+        words, own = words_of(path)
+        found.update(words)
+        modules.update(own)
+    return (found & known) - modules - (AS_IN_STD - {*listed()[crate]})
+
+
+def wrong_line(crate, known):
+    lists, names = {*listed()[crate]}, named_by_files(crate, known)
+    for low in sorted(lists - names):
+        yield f"{crate}: its line lists {low}, which its files don't name"
+    for low in sorted(names - lists):
+        yield f"{crate}: its files name {low}, which its line doesn't list"
+
+
+def family(crate):
+    """The head of its family."""
+    heads = [head for head in ALONE + FAMILIES if f"{crate}_".startswith(f"{head}_")]
+    return heads[0] if heads else None
+
+
+def may_name(crate, low):
+    head = family(low)
+    has_no_surface = head and os.path.isfile(os.path.join(folder(head), "src", "main.rt"))
+    for_tests = crate.endswith("_tests") and (low in SHARED or has_no_surface)
+    return low == head or head == family(crate) or for_tests
+
+
+def wrong_families(crate):
+    if not family(crate):
+        yield f"{crate}: its name begins with no family's"
+    for low in named()[crate]:
+        if not may_name(crate, low):
+            yield f"{crate}: of another family it may name the head {family(low)}, and not {low}"
+
+
+def counts():
+    """What is counted, how much there is of it, and how much there may be."""
+    edits = sum(len(edits_of(crate, ["must-fail"])) for crate in listed())
+    yield f"paths from {PROGRAM} down", paths(PROGRAM), MOST_PATHS
+    yield f"libraries below {PROGRAM}", len(below(PROGRAM)), MOST_LIBRARIES
+    yield "wrong bodies in must-fail/", edits, MOST_EDITS
+
+
+def problems():
+    known = libraries()
+    found = [it for crate in listed() for it in [*wrong_line(crate, known), *wrong_families(crate)]]
+    return found + [f"{number} {what}: at most {most} are wanted" for what, number, most in counts() if number > most]
+
+
+def main():
+    found = problems()
+    for problem in found:
+        print(problem)
+    print("; ".join(f"{number} {what}" for what, number, _ in counts()) + f"; {len(found)} problems")
+    return 1 if found else 0
+
+
+if __name__ == "__main__":
+    sys.exit(main())
