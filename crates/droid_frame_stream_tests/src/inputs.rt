@@ -4,11 +4,12 @@ use crate::interruptions::{is_seen, with_places};
 use crate::writers::ended;
 use droid_frame::{
     Condition, InputFault, Progress, ReadFault, Retries, Seen, SteadyRead, Unsteady, WriteFault,
-    fill, read_some, read_to_end, write_all,
+    read_some, read_to_end, write_all,
 };
 use droid_frame_shaky::{
     BYTE_BY_BYTE, Manner, NOWHERE, Place, STEADY, ShakyReader, ShakyWriter, Stop,
 };
+use droid_frame_stream::fill;
 use droid_frame_vectors::reader_of;
 use std::alloc::{AllocError, Global};
 use std::io::{Write, sink};
