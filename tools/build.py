@@ -8,6 +8,7 @@ call goes on where this one was.
 import fcntl
 import os
 import shutil
+import statistics
 import subprocess
 import sys
 import threading
@@ -17,6 +18,7 @@ import crates
 from crates import TOP, below, folder, named, read
 from standing import RT, Sums, note, stands
 
+SECONDS = os.path.join(TOP, "tools", "seconds.txt")
 # what one crate in work may take of the memory, in bytes: most take a fifth of it
 EACH = 4 << 30
 
@@ -56,14 +58,22 @@ def bring_back(crate):
     shutil.rmtree(tree_of(crate), ignore_errors=True)
 
 
-def prove_library(crate, jobs):
-    """Proves and builds a library in a tree of its own; gives what `run_in` does."""
+def prove_library(crate, jobs, is_urgent):
+    """Proves and builds a library in a tree of its own, before others where it is urgent; gives what `run_in` does."""
     crates.lay_out(tree_of(crate), crate)
     move_kept(crate, TOP, tree_of(crate))
+    words = [RT, "lib", "--jobs", str(jobs)]
     try:
-        return run_in(folder(crate, tree_of(crate)), [RT, "lib", "--jobs", str(jobs)])
+        return run_in(folder(crate, tree_of(crate)), words if is_urgent else ["nice", *words])
     finally:
         bring_back(crate)
+
+
+def seconds_of(libraries):
+    """What each library takes about, of a processor's time."""
+    lines = [line.split() for line in read(SECONDS).split("\n") if line and not line.startswith("#")]
+    known = {name: int(seconds) for name, seconds in lines}
+    return {crate: known.get(crate, statistics.median(known.values())) for crate in libraries}
 
 
 class Build:
@@ -80,11 +90,12 @@ class Build:
         self.chains = self.chains_of(libraries)
 
     def chains_of(self, libraries):
-        """Of each library, how many lines the longest chain of libraries has that begins with it and goes up."""
+        """Of each library, how long the longest chain of libraries takes that begins with it and goes up."""
+        seconds = seconds_of(libraries)
         chains = {}
         for crate in reversed(crates.lowest_first(libraries)):
             above = [chains[it] for it in chains if crate in named()[it]]
-            chains[crate] = crates.lines(crate) + max(above, default=0)
+            chains[crate] = seconds[crate] + max(above, default=0)
         return chains
 
     def ready(self):
@@ -96,11 +107,14 @@ class Build:
     def fits(self):
         return not self.work or (len(self.work) < self.cores and memory() > EACH)
 
+    def is_longest(self, crate):
+        """Whether the longest chain waits for this one, of those in work and itself."""
+        now = time.time()
+        return all(self.chains[crate] >= self.chains[it] - (now - begun) for it, begun in self.work.items())
+
     def jobs_for(self, crate, ready):
-        """A share of the processors, and two at least for what the longest chain waits for."""
-        share = self.cores // (len(ready) + len(self.work))
-        is_longest = all(self.chains[crate] >= self.chains[it] for it in self.work)
-        return max(1, share, 2 if is_longest and self.cores > 2 else 1)
+        """All processors for what the longest chain waits for, and else a share of them."""
+        return self.cores if self.is_longest(crate) else max(1, self.cores // (len(ready) + len(self.work)))
 
     def tell(self, what):
         print(f"  {time.time() - self.begun:4.0f} s: {what}", file=sys.stderr, flush=True)
@@ -109,8 +123,8 @@ class Build:
         stand = self.all - len(self.waiting) - len(self.work)
         self.tell(f"{stand} of {self.all} libraries stand; in work: {', '.join(self.work)}")
 
-    def run(self, crate, jobs):
-        status, said, used = prove_library(crate, jobs)
+    def run(self, crate, jobs, is_urgent):
+        status, said, used = prove_library(crate, jobs, is_urgent)
         with self.changed:
             took = time.time() - self.work.pop(crate)
             self.tell(f"{crate} took {took:.0f} s, and {used:.0f} s of a processor")
@@ -121,10 +135,10 @@ class Build:
             self.changed.notify_all()
 
     def begin(self, crate, ready):
-        jobs = self.jobs_for(crate, ready)
+        how = self.jobs_for(crate, ready), self.is_longest(crate)
         self.waiting.remove(crate)
         self.work[crate] = time.time()
-        threading.Thread(target=self.run, args=(crate, jobs)).start()
+        threading.Thread(target=self.run, args=(crate, *how)).start()
         self.tell_work()
 
     def all_built(self):

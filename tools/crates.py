@@ -72,10 +72,6 @@ def files_of(crate):
     return sorted(found)
 
 
-def lines(crate):
-    return sum(read(path).count("\n") for path in files_of(crate))
-
-
 def edits_of(crate, parts=EDITS):
     """Its wrong bodies, by path."""
     found = []
