@@ -11,7 +11,7 @@ use Rattle.droid_frame.specs.types.reply.Reply.{Reply}
 use Rattle.droid_frame.specs.types.reply.Reply.TheVariants.{Refused}
 use Rattle.droid_frame.specs.types.request.Request.{Request}
 use Rattle.droid_frame.specs.Values.{request_in}
-use Rattle.droid_core_spec.specs.Histories.{Entry, History, IsLegal, command, frame_mark, is_under, kept, world_of, is_same_request, Meeting, Nothing, Repeat, Reuse, New, meeting, verdict_reply, reply_to, answer, entry_of, history_with, next, history_from}
+use Rattle.droid_core_spec.specs.Histories.{Entry, History, IsLegal, HasReply, command, frame_mark, is_under, kept, world_of, is_same_request, Meeting, Nothing, Repeat, Reuse, New, meeting, verdict_reply, reply_to, answer, entry_of, history_with, next, history_from}
 use Rattle.droid_core_spec.specs.Judging.{Verdict, Accepted, Answered, Refuses, judge}
 use Rattle.droid_core_spec.specs.Setting.{Setting}
 use Rattle.droid_core_spec.specs.Verdicts.{is_command, is_refused, is_of_judging, MayCome}
@@ -20,7 +20,7 @@ use Rattle.droid_core_spec.specs.World.{World}
 use Rattle.droid_core_spec.proofs.Asked.{asks_something}
 use Rattle.droid_core_spec.proofs.Judged.{judged, judged_as}
 use Rattle.droid_core_spec.proofs.Legal.{kept_came}
-use Rattle.droid_core_spec.proofs.Meetings.{answer_kept, answer_new, next_new, whatever_meets}
+use Rattle.droid_core_spec.proofs.Meetings.{answer_kept, next_kept, answer_new, next_new, whatever_meets}
 
 -- ---- no want
 
@@ -149,6 +149,10 @@ answer_again setting history frames frame entry legal there kind body =
 
 -- ---- the answer to an accepted command is its answer ever after
 
+-- what the history has of the request is its answer from then on
+pub answer_had : (setting : Setting) (history : History) (frames : List Frame) (frame : Frame) (reply : Reply) → HasReply history frame reply → IsSome (command frame) → answer setting (history_from setting history frames) frame ≡ reply
+answer_had setting history frames frame reply has some = answer_marked setting history frames frame has.entry has.there some has.same ∙ has.its
+
 -- an entry that is added under a new number is kept there
 kept_added : (history : History) (frame : Frame) (reply : Reply) → kept history frame.client frame.number ≡ None → kept (history ++ entry_of frame reply ∷ []) frame.client frame.number ≡ Some (entry_of frame reply)
 kept_added history frame reply is_new =
@@ -157,29 +161,55 @@ kept_added history frame reply is_new =
     ∙ (ap (λ (o : Option Entry). option_or o (find (is_under frame.client frame.number) (its ∷ []))) is_new
     ∙ rw (eq-eqb frame.client frame.client refl, eq-eqb frame.number frame.number refl) refl)
 
-module _ (setting : Setting) (history : History) (frames : List Frame) (frame : Frame) (request : Request) (asked : command frame ≡ Some request) (commands : is_command request ≡ true) where
+-- the same reply by another name
+had_as : (history : History) (frame : Frame) (reply other : Reply) → HasReply history frame reply → reply ≡ other → HasReply history frame other
+had_as history frame reply other has same = subst (HasReply history frame) same has
+
+module _ (setting : Setting) (history : History) (frame : Frame) (request : Request) (asked : command frame ≡ Some request) (commands : is_command request ≡ true) where
   repeated : (entry : Entry) (same : Bool) → kept history frame.client frame.number ≡ Some entry → is_same_request entry.mark (frame_mark frame) ≡ same
-      → is_refused (cond same entry.reply (Refused NumberReused)) ≡ false → answer setting (history_from setting (next setting history frame) frames) frame ≡ cond same entry.reply (Refused NumberReused)
-  repeated entry true there same unrefused =
-      answer_marked setting (next setting history frame) frames frame entry (kept_next setting history frame frame.client frame.number entry there) (some_is_some (command frame) request asked) same
+      → is_refused (cond same entry.reply (Refused NumberReused)) ≡ false → HasReply (next setting history frame) frame (cond same entry.reply (Refused NumberReused))
+  repeated entry true there same unrefused = record { entry = entry; there = kept_next setting history frame frame.client frame.number entry there; same = same; its = refl }
   repeated entry false there same unrefused = absurd cc
 
   judged_first : (verdict : Verdict) → kept history frame.client frame.number ≡ None → MayCome (world_of setting history) request verdict → next setting history frame ≡ history_with history frame (New verdict)
-      → is_refused (verdict_reply verdict) ≡ false → answer setting (history_from setting (next setting history frame) frames) frame ≡ verdict_reply verdict
-  judged_first (Accepted reply after) is_new may goes unrefused =
-      let there : kept (next setting history frame) frame.client frame.number ≡ Some (entry_of frame reply) = ap (λ (longer : History). kept longer frame.client frame.number) goes ∙ kept_added history frame reply is_new in
-      answer_marked setting (next setting history frame) frames frame (entry_of frame reply) there (some_is_some (command frame) request asked) (is_itself (frame_mark frame) (frame_mark frame) refl)
+      → is_refused (verdict_reply verdict) ≡ false → HasReply (next setting history frame) frame (verdict_reply verdict)
+  judged_first (Accepted reply after) is_new may goes unrefused = record {
+    entry = entry_of frame reply;
+    there = ap (λ (longer : History). kept longer frame.client frame.number) goes ∙ kept_added history frame reply is_new;
+    same = is_itself (frame_mark frame) (frame_mark frame) refl;
+    its = refl;
+  }
   judged_first (Answered reply) is_new may goes unrefused = absurd (let query = may.query in cc)
   judged_first (Refuses refusal) is_new may goes unrefused = absurd cc
 
-  by_kept : (o : Option Entry) → kept history frame.client frame.number ≡ o → is_refused (answer setting history frame) ≡ false
-      → answer setting (history_from setting (next setting history frame) frames) frame ≡ answer setting history frame
+  by_kept : (o : Option Entry) → kept history frame.client frame.number ≡ o → is_refused (answer setting history frame) ≡ false → HasReply (next setting history frame) frame (answer setting history frame)
   by_kept (Some entry) there unrefused =
       let is = answer_kept setting history frame request asked entry there in
-      repeated entry (is_same_request entry.mark (frame_mark frame)) there refl (ap is_refused (sym is) ∙ unrefused) ∙ sym is
+      had_as (next setting history frame) frame _ _ (repeated entry (is_same_request entry.mark (frame_mark frame)) there refl (ap is_refused (sym is) ∙ unrefused)) (sym is)
   by_kept None is_new unrefused =
       let is = answer_new setting history frame request asked is_new in
-      judged_first (judge setting (world_of setting history) request) is_new (judged setting (world_of setting history) request) (next_new setting history frame request asked is_new) (ap is_refused (sym is) ∙ unrefused) ∙ sym is
+      had_as (next setting history frame) frame _ _
+      (judged_first (judge setting (world_of setting history) request) is_new (judged setting (world_of setting history) request) (next_new setting history frame request asked is_new) (ap is_refused (sym is) ∙ unrefused)) (sym is)
 
-  pub accepted_for_ever : is_refused (answer setting history frame) ≡ false → answer setting (history_from setting (next setting history frame) frames) frame ≡ answer setting history frame
-  accepted_for_ever unrefused = by_kept (kept history frame.client frame.number) refl unrefused
+  -- a command that isn't refused is kept with its answer
+  pub accepted_is_kept : is_refused (answer setting history frame) ≡ false → HasReply (next setting history frame) frame (answer setting history frame)
+  accepted_is_kept unrefused = by_kept (kept history frame.client frame.number) refl unrefused
+
+  pub accepted_for_ever : (frames : List Frame) → is_refused (answer setting history frame) ≡ false → answer setting (history_from setting (next setting history frame) frames) frame ≡ answer setting history frame
+  accepted_for_ever frames unrefused =
+      answer_had setting (next setting history frame) frames frame (answer setting history frame) (accepted_is_kept unrefused) (some_is_some (command frame) request asked)
+
+-- ---- a query changes nothing
+
+module _ (setting : Setting) (history : History) (frame : Frame) (request : Request) (asked : command frame ≡ Some request) (queries : is_command request ≡ false) where
+  told_only : (verdict : Verdict) → MayCome (world_of setting history) request verdict → history_with history frame (New verdict) ≡ history
+  told_only (Accepted reply after) may = absurd (let commands = may.command in cc)
+  told_only (Answered reply) may = refl
+  told_only (Refuses refusal) may = refl
+
+  asked_kept : (o : Option Entry) → kept history frame.client frame.number ≡ o → next setting history frame ≡ history
+  asked_kept (Some entry) there = next_kept setting history frame request asked entry there
+  asked_kept None is_new = next_new setting history frame request asked is_new ∙ told_only (judge setting (world_of setting history) request) (judged setting (world_of setting history) request)
+
+  pub query_stays : next setting history frame ≡ history
+  query_stays = asked_kept (kept history frame.client frame.number) refl

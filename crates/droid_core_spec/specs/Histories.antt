@@ -1,6 +1,6 @@
 -- Histories: the accepted requests in order of first acceptance, the world that they make, and what a
 -- request is answered after them (this project's own).
-use Rattle.std.specs.Prelude.{◌≡◌, ℕ, ◌^◌, ◌<◌, ◌==◌, ◌&&◌, if◌then◌else◌, Bool, List, [], ◌∷◌, ◌++◌, fold, Option, Some, None, IsSome, MatchBool}
+use Rattle.std.specs.Prelude.{◌≡◌, ℕ, ◌^◌, ◌<◌, ◌==◌, ◌&&◌, if◌then◌else◌, Bool, true, List, [], ◌∷◌, ◌++◌, fold, Option, Some, None, IsSome, MatchBool}
 use Rattle.std.specs.List.{find}
 use Rattle.std.specs.Str.{bytes_eq}
 use Rattle.droid_frame.specs.types.frame.Frame.{Frame}
@@ -147,6 +147,13 @@ history_with history frame (New (Refuses refusal)) = history
 -- the history after the request
 unfoldable pub next : Setting → History → Frame → History
 next setting history frame = history_with history frame (meeting setting history frame)
+
+-- the history has an entry of this request, with this reply
+pub record HasReply (history : History) (frame : Frame) (reply : Reply) : Type 0 where
+  pub entry : Entry
+  pub there : kept history frame.client frame.number ≡ Some entry
+  pub same : is_same_request entry.mark (frame_mark frame) ≡ true
+  pub its : entry.reply ≡ reply
 
 -- the history after a list of requests, from this one
 abbrev pub history_from : Setting → History → List Frame → History

@@ -8,10 +8,11 @@ ghost use Rattle.droid_frame.specs.types.frame.Frame.{Frame};
 ghost use Rattle.droid_frame.specs.types.record.Record.{Record};
 ghost use Rattle.droid_frame.specs.types.refusal.Refusal.{Refusal};
 ghost use Rattle.droid_frame.specs.types.refusal.Refusal.TheVariants.{Malformed, NumberReused};
+ghost use Rattle.droid_frame.specs.types.reply.Reply.{Reply};
 ghost use Rattle.droid_frame.specs.types.reply.Reply.TheVariants.{Part, Refused};
 ghost use Rattle.droid_frame.specs.types.request.Request.{Request};
 ghost use Rattle.droid_frame.specs.types.request.Request.TheVariants.{Export};
-ghost use Rattle.droid_core_spec.specs.Histories.{Entry, History, IsLegal, Asks, AsksNothing, command, frame_mark, kept, world_of, is_same_request, answer, next, history_from};
+ghost use Rattle.droid_core_spec.specs.Histories.{Entry, History, IsLegal, Asks, AsksNothing, HasReply, command, frame_mark, kept, world_of, is_same_request, answer, next, history_from};
 ghost use Rattle.droid_core_spec.specs.Judging.{Answered, judge};
 ghost use Rattle.droid_core_spec.specs.Records.{records, IsRecordIn};
 ghost use Rattle.droid_core_spec.specs.Setting.{Setting};
@@ -44,17 +45,26 @@ pub fn a_refusal_changes_nothing()
     ensures { (setting : Setting) (history : History) (frame : Frame) (refusal : Refusal) → answer setting history frame ≡ Refused refusal → next setting history frame ≡ history }
 {}
 
+/// A query leaves the history as it is.
+pub fn a_query_changes_nothing()
+    ensures { (setting : Setting) (history : History) (frame : Frame) (request : Request) → command frame ≡ Some request → is_command request ≡ false → next setting history frame ≡ history }
+{}
+
 /// The reply under which a command was accepted is its answer for ever, whatever is asked after it.
 pub fn an_accepted_reply_stays()
-    // What a command is answered, unless it is refused, it is answered ever after.
+    // What a command is answered, unless it is refused, the next history has as its reply.
+    ensures kept { (setting : Setting) (history : History) (frame : Frame) (request : Request) → command frame ≡ Some request → is_command request ≡ true
+        → is_refused (answer setting history frame) ≡ false → HasReply (next setting history frame) frame (answer setting history frame) }
+    // A reply that a history has is the answer after it and after every list of requests more.
+    ensures same { (setting : Setting) (history : History) (frame : Frame) (reply : Reply) (frames : List Frame) → HasReply history frame reply → IsSome (command frame)
+        → answer setting (history_from setting history frames) frame ≡ reply }
+    // So what a command is answered, unless it is refused, it is answered ever after.
     ensures accepted { (setting : Setting) (history : History) (frame : Frame) (request : Request) (frames : List Frame) → command frame ≡ Some request → is_command request ≡ true
         → is_refused (answer setting history frame) ≡ false → answer setting (history_from setting (next setting history frame) frames) frame ≡ answer setting history frame }
     // Where a legal history has an entry of this client, number, kind and body, its reply is the answer.
     ensures again { (setting : Setting) (history : History) (frame : Frame) (entry : Entry) (frames : List Frame) → IsLegal setting history → kept history frame.client frame.number ≡ Some entry
         → frame.kind ≡ entry.frame.kind → frame.body ≡ entry.frame.body → answer setting (history_from setting history frames) frame ≡ entry.reply }
-    // In any history the mark tells the kept request from others under its number.
-    ensures same { (setting : Setting) (history : History) (frame : Frame) (entry : Entry) (frames : List Frame) → kept history frame.client frame.number ≡ Some entry → IsSome (command frame)
-        → is_same_request entry.mark (frame_mark frame) ≡ true → answer setting (history_from setting history frames) frame ≡ entry.reply }
+    // Another request under a number that is kept is told so, and one that asks nothing is malformed.
     ensures other { (setting : Setting) (history : History) (frame : Frame) (entry : Entry) (frames : List Frame) → kept history frame.client frame.number ≡ Some entry → IsSome (command frame)
         → is_same_request entry.mark (frame_mark frame) ≡ false → answer setting (history_from setting history frames) frame ≡ Refused NumberReused }
     ensures malformed { (setting : Setting) (history : History) (frame : Frame) → command frame ≡ None → answer setting history frame ≡ Refused Malformed }
