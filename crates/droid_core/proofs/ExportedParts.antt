@@ -9,7 +9,7 @@ use Rattle.droid_frame.specs.types.filter.Filter.{Filter}
 use Rattle.droid_frame.specs.types.refusal.Refusal.{Refusal}
 use Rattle.droid_frame.specs.types.refusal.Refusal.TheVariants.{NoSuchProfile}
 use Rattle.droid_frame.specs.types.request.Request.TheVariants.{Export}
-use Rattle.droid_core_spec.specs.Conditions.{is_moment, is_piece_size}
+use Rattle.droid_core_spec.specs.Conditions.{is_moment, is_part_size}
 use Rattle.droid_core_spec.specs.Exported.{part, part_of}
 use Rattle.droid_core_spec.specs.Judging.{Answered, Refuses, refusal_of, export_checks, judge}
 use Rattle.droid_core_spec.specs.Records.{records}
@@ -61,8 +61,8 @@ module _ (setting : Setting) (world : World) (number from max : ℕ) (filter : F
 
 -- a part that nothing refuses has at most 1,048,576 bytes
 pub part_within : (max : ℕ) → None ≡ refusal_of (export_checks max) → max ≤ 1048576
-unfolding is_piece_size
-part_within max allowed = elim (cases_Bool (is_piece_size max)) [
+unfolding is_part_size
+part_within max allowed = elim (cases_Bool (is_part_size max)) [
   | inl is ↦ leb-true max 1048576 (and_parts (nat_le 1 max) (nat_le max 1048576) is).1
   | inr isnt ↦ absurd (let it = rw isnt at allowed in cc)
 ]

@@ -1,7 +1,6 @@
 -- How a service that stands for a history stands for the next one.
-use Rattle.std.proofs.Common.{◌≡◌, Bool, true, false, [], ◌∷◌, ◌++◌, Option, Some, None, IsTrue, refl, sym, ap, subst, ◌∙◌, append_assoc, append-nil}
+use Rattle.std.proofs.Common.{◌≡◌, Bool, true, false, [], ◌∷◌, ◌++◌, Some, None, IsTrue, refl, sym, ap, subst, ◌∙◌}
 use Rattle.std.specs.Prelude.{MatchBool, IsSome, ⊤}
-use Rattle.std.proofs.lemmas.List.Sums.{fold-append}
 use Rattle.droid_frame.specs.types.frame.Frame.{Frame}
 use Rattle.droid_frame.specs.types.refusal.Refusal.{Refusal}
 use Rattle.droid_frame.specs.types.refusal.Refusal.TheVariants.{Malformed}
@@ -9,11 +8,13 @@ use Rattle.droid_frame.specs.types.reply.Reply.{Reply}
 use Rattle.droid_frame.specs.types.reply.Reply.TheVariants.{Refused}
 use Rattle.droid_frame.specs.types.request.Request.{Request}
 use Rattle.droid_frame.specs.Replies.{HasReplySpelling, SpellsReply}
-use Rattle.droid_core_spec.specs.Histories.{Entry, History, GoesOn, IsNext, command, frame_mark, kept, kept_answer, world_of, world_asked, world_after, answer, answer_to, next, next_new, next_judged, entry_of, verdict_reply, Handles}
+use Rattle.droid_core_spec.specs.Histories.{History, IsNext, New, command, frame_mark, kept, world_of, entry_of, history_with, verdict_reply, Handles}
 use Rattle.droid_core_spec.specs.Judging.{Verdict, Accepted, Answered, Refuses, judge}
 use Rattle.droid_core_spec.specs.Setting.{Setting}
 use Rattle.droid_core_spec.specs.Wants.{is_want, is_want_of}
 use Rattle.droid_core_spec.specs.World.{World}
+use Rattle.droid_core_spec.proofs.Legal.{world_next, GoesOn-push}
+use Rattle.droid_core_spec.proofs.Meetings.{answer_malformed, next_malformed, answer_kept, next_kept, answer_new, next_new}
 use Rattle.droid_core_rows.proofs.Replying.{kept_one_more}
 use Rattle.droid_store.specs.declared.rows.Entry as rows
 use Rattle.droid_store.specs.Rows.{Rows, reply_for}
@@ -23,34 +24,6 @@ use Rattle.droid_core_state.specs.Changes.{again, stamp_of, Stays, TakesOne, Lea
 use Rattle.droid_core.specs.Standing.{Stand}
 use Rattle.droid_core_state.specs.Standing.{IsIn}
 use Rattle.droid_core.proofs.KeptReplies.{entry_kept, none_kept, reply_spelled}
-
--- ---- what the answer and the next history are
-
-answer_malformed : (setting : Setting) (history : History) (frame : Frame) → command frame ≡ None → answer setting history frame ≡ Refused Malformed
-unfolding answer
-answer_malformed setting history frame malformed = rw malformed refl
-
-next_malformed : (setting : Setting) (history : History) (frame : Frame) → command frame ≡ None → next setting history frame ≡ history
-unfolding next
-next_malformed setting history frame malformed = rw malformed refl
-
-answer_asked_for : (setting : Setting) (history : History) (frame : Frame) (request : Request) → command frame ≡ Some request → answer setting history frame ≡ answer_to setting history (kept history frame.client frame.number) (frame_mark frame) request
-unfolding answer
-answer_asked_for setting history frame request asked = rw asked refl
-
-next_asked_for : (setting : Setting) (history : History) (frame : Frame) (request : Request) → command frame ≡ Some request → next setting history frame ≡ next_new setting history frame (kept history frame.client frame.number) request
-unfolding next
-next_asked_for setting history frame request asked = rw asked refl
-
--- the world after one entry more
-world-push : (setting : Setting) (history : History) (entry : Entry) → world_of setting (history ++ entry ∷ []) ≡ world_asked setting (world_of setting history) (command entry.frame)
-unfolding world_of
-world-push setting history entry = fold-append (λ (world : World) entry. world_asked setting world (command entry.frame)) _ history (entry ∷ [])
-
-GoesOn-push : (setting : Setting) (before entries : History) (entry : Entry) → GoesOn setting before entries → IsNext setting (before ++ entries) entry → GoesOn setting before (entries ++ entry ∷ [])
-GoesOn-push setting before [] entry legal may = (let nothing : before ++ [] ≡ before = append-nil before in rw nothing at may, tt)
-GoesOn-push setting before (first ∷ entries) entry legal may =
-    (legal.0, GoesOn-push setting (before ++ first ∷ []) entries entry legal.1 (rw (append_assoc before (first ∷ []) entries) may))
 
 -- ---- what a service stands for after a request
 
@@ -72,16 +45,15 @@ taken_stands : (setting : Setting) (old new : Parts) (history : History) (frame 
 taken_stands setting old new history frame request reply after asked is_new accepted spelled takes stands =
     let entry = entry_of frame reply in
     let may : IsNext setting history entry = record { is_new = is_new; marked = refl; request = request; asked = asked; after = after; accepted = accepted } in
-    let world : world_of setting (history ++ entry ∷ []) ≡ after = world-push setting history entry ∙ (ap (world_asked setting (world_of setting history)) asked ∙ ap (world_after (world_of setting history)) accepted) in
     record {
       legal = GoesOn-push setting [] history entry stands.legal may;
       replies = kept_one_more history entry old.store new.store stands.replies takes.replies spelled;
-      world = subst (λ (there : World). IsIn setting there new) (sym world) takes.world_is;
+      world = subst (λ (there : World). IsIn setting there new) (sym (world_next setting history entry may)) takes.world_is;
     }
 
 leaves_next : (setting : Setting) (old new : Parts) (history : History) (frame : Frame) (request : Request) (verdict : Verdict) → command frame ≡ Some request → kept history frame.client frame.number ≡ None
     → judge setting (world_of setting history) request ≡ verdict → HasReplySpelling (verdict_reply verdict) → Leaves setting (world_of setting history) old new (stamp_of frame) verdict → Stand setting old history
-    → Stand setting new (next_judged history frame verdict)
+    → Stand setting new (history_with history frame (New verdict))
 leaves_next setting old new history frame request (Accepted reply after) asked is_new judged spelled leaves stands = taken_stands setting old new history frame request reply after asked is_new judged spelled leaves stands
 leaves_next setting old new history frame request (Answered reply) asked is_new judged spelled leaves stands = same_stands setting old new history leaves stands
 leaves_next setting old new history frame request (Refuses refusal) asked is_new judged spelled leaves stands = same_stands setting old new history leaves stands
@@ -117,8 +89,8 @@ handles_again setting service history frame request row reply asked found answer
     let there = entry_kept history service.store frame.client frame.number row stands.replies found in
     let spelled = reply_spelled history frame.client frame.number there.0 stands.replies.spelled there.1 in
     let is = answers there.0.reply (subst (λ (r : rows.Entry). SpellsReply r.kind r.body there.0.reply) there.2 (record { kind_is = refl; body_is = refl; has_spelling = spelled })) in
-    let answer_is : answer setting history frame ≡ kept_answer there.0 (frame_mark frame) = answer_asked_for setting history frame request asked ∙ ap (λ (o : Option Entry). answer_to setting history o (frame_mark frame) request) there.1 in
-    let next_is : next setting history frame ≡ history = next_asked_for setting history frame request asked ∙ ap (λ (o : Option Entry). next_new setting history frame o request) there.1 in
+    let answer_is = answer_kept setting history frame request asked there.0 there.1 in
+    let next_is = next_kept setting history frame request asked there.0 there.1 in
     unless_wanting (is_want reply) is (some_is_some frame request asked, stands)
     (λ same. (same ∙ (ap (λ (r : rows.Entry). again r (frame_mark frame) there.0.reply) (sym there.2) ∙ sym answer_is), subst (Stand setting service) (sym next_is) stands))
 
@@ -133,8 +105,8 @@ pub handles_anew : (setting : Setting) (old new : Parts) (history : History) (fr
 handles_anew setting old new history frame request reply asked stands absent spelled comes =
     let is_new = none_kept history old.store frame.client frame.number stands.replies absent in
     let verdict = judge setting (world_of setting history) request in
-    let answer_is : answer setting history frame ≡ verdict_reply verdict = answer_asked_for setting history frame request asked ∙ ap (λ (o : Option Entry). answer_to setting history o (frame_mark frame) request) is_new in
-    let next_is : next setting history frame ≡ next_judged history frame verdict = next_asked_for setting history frame request asked ∙ ap (λ (o : Option Entry). next_new setting history frame o request) is_new in
+    let answer_is = answer_new setting history frame request asked is_new in
+    let next_is = next_new setting history frame request asked is_new in
     by_wanting (is_want reply) comes
     (λ same. (some_is_some frame request asked, same_stands setting old new history same stands))
     (λ is. is ∙ sym answer_is)

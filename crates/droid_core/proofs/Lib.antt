@@ -1,7 +1,9 @@
+-- what the proofs above take of the crates below
+pub use Rattle.droid_core_spec.proofs.Judged
+pub use Rattle.droid_core_spec.proofs.Meetings
 pub mod AddedFiles
 pub mod AddedFolders
 pub mod AddedNodes
-pub mod Asked
 pub mod Assembled
 pub mod ExportedParts
 pub mod FileAbandoned

@@ -1,4 +1,10 @@
+pub mod Asked
 mod ByHand
-pub mod Each
 pub mod Counted
+pub mod Each
+pub mod Judged
+pub mod Legal
+pub mod Meetings
+pub mod Recorded
+pub mod Replied
 pub mod Whole

@@ -1,13 +1,16 @@
--- Each file of a world has as many pieces as indexes that are there, and a finished one lacks none: each request leaves it so.
-use Rattle.std.proofs.Common.{◌≡◌, inl, inr, ℕ, zero, suc, ℤ, ◌+◌, ◌-◌, ◌<◌, nat_lt, List, [], ◌∷◌, length, fold, true, false, ◌==◌, Option, Some, None, refl, sym, ap, ◌∙◌, arith}
-use Rattle.std.proofs.lemmas.Bool.{cases_Bool, and_parts, not-false, ltb-true, ltb-false}
+-- Each file of a world has as many pieces as indexes that are there, each of its due length, and a finished one lacks
+-- none: each request leaves it so.
+use Rattle.std.proofs.Common.{◌≡◌, ◌≤◌, inl, inr, ℕ, zero, suc, ℤ, ◌+◌, ◌-◌, ◌<◌, nat_lt, nat_le, List, [], ◌∷◌, length, fold, true, false, not, ◌==◌, ◌||◌, Option, Some, None, refl, sym, ap, ◌∙◌, arith}
+use Rattle.std.proofs.lemmas.Bool.{cases_Bool, and_parts, or_parts, not-false, ltb-true, ltb-false, leb-true, eqb-true}
 use Rattle.std.proofs.lemmas.List.{length-append}
+use Rattle.std.proofs.lemmas.List.Elements.{All-from_recursion}
 use Rattle.std.specs.List.{AllByRecursion}
-use Rattle.droid_assembly.specs.Pieces.{due_length}
-use Rattle.droid_assembly.proofs.Indexes.{missing_before}
+use Rattle.droid_assembly.specs.Pieces.{due_length, IsDue}
+use Rattle.droid_assembly.proofs.Indexes.{missing_before, length-whole}
 use Rattle.droid_frame.specs.types.refusal.Refusal.{Refusal}
 use Rattle.droid_frame.specs.types.request.Request.{Request}
 use Rattle.droid_frame.specs.types.request.Request.TheVariants.{CreateProfile, AddFolder, AddFile, Piece, Finish, Abandon, Status, Export}
+use Rattle.droid_core_spec.specs.Conditions.{is_moment, is_piece_size}
 use Rattle.droid_core_spec.specs.Exported.{part_of}
 use Rattle.droid_core_spec.specs.Files.{count_of, missing_of, is_due, with_piece, as_finished, progress_of}
 use Rattle.droid_core_spec.specs.Histories.{History, Entry, world_after, world_asked, world_of, command}
@@ -18,10 +21,12 @@ use Rattle.droid_core_spec.specs.World.{Content, Node, Folder, File, Abandoned, 
 use Rattle.droid_core_spec.proofs.Counted.{there_below, none_below, one_more_below, all_below, missing_within, lacks_where_none}
 use Rattle.droid_core_spec.proofs.Each.{each_at, each_with_one_more, each_with_one_set}
 
--- as many pieces as indexes, and none missing where it is finished
+-- as many pieces as indexes, each of its due length, and none missing where it is finished
 pub record IsCounted (content : Content) : Type 0 where
   pub taken : length content.pieces ≡ there_below (count_of content) content.pieces
   pub complete : content.finished ≡ true → missing_of content ≡ count_of content
+  pub positive : 1 ≤ content.piece_size
+  pub due : AllByRecursion (IsDue content.size content.piece_size) content.pieces
 
 abbrev pub IsCountedNode : Node → Type 0
 IsCountedNode (Folder parent modified name) = Unit {0}
@@ -36,10 +41,12 @@ AreCounted world = AllByRecursion IsCountedProfile world.profiles
 
 -- ---- a file
 
-counted_new : (size piece_size : ℕ) → IsCounted (record { size = size; piece_size = piece_size; pieces = []; finished = false })
-counted_new size piece_size = record {
+counted_new : (size piece_size : ℕ) → 1 ≤ piece_size → IsCounted (record { size = size; piece_size = piece_size; pieces = []; finished = false })
+counted_new size piece_size positive = record {
   taken = sym (none_below (count_of (record { size = size; piece_size = piece_size; pieces = []; finished = false })));
   complete = λ is. absurd cc;
+  positive = positive;
+  due = tt;
 }
 
 -- where nothing is refused, no condition holds
@@ -50,6 +57,15 @@ none_holds (check ∷ checks) none = elim (cases_Bool check.0) [
   | inr isnt ↦ (isnt, none_holds checks (rw isnt at none))
 ]
 
+-- a size of pieces that isn't refused is 1 at least
+is_positive : (piece_size : ℕ) → is_piece_size piece_size ≡ true → 1 ≤ piece_size
+unfolding is_piece_size
+is_positive piece_size is = leb-true 1 piece_size (and_parts (nat_le 1 piece_size) (nat_le piece_size 1048576) is).0
+
+positive_where_none : (modified : ℤ) (piece_size : ℕ) → (not (is_moment modified) || not (is_piece_size piece_size)) ≡ false → 1 ≤ piece_size
+positive_where_none modified piece_size none =
+    is_positive piece_size (not-false (is_piece_size piece_size) (or_parts (not (is_moment modified)) (not (is_piece_size piece_size)) none).1)
+
 counted_taken : (content : Content) (index : ℕ) (bytes : List ℕ) → IsCounted content → refusal_of (piece_checks content index bytes) ≡ None → IsCounted (with_piece content index bytes)
 counted_taken content index bytes counted none =
     let all = none_holds (piece_checks content index bytes) none in
@@ -59,6 +75,9 @@ counted_taken content index bytes counted none =
     record {
       taken = length-append content.pieces ((index, bytes) ∷ []) ∙ (ap (λ n. n + 1) counted.taken ∙ sym more);
       complete = λ is. absurd (let unfinished = all.0 in cc);
+      positive = counted.positive;
+      due = each_with_one_more (IsDue content.size content.piece_size) content.pieces (index, bytes) counted.due
+          (within, eqb-true (length bytes) (due_length content.size content.piece_size index) due.1);
     }
 
 counted_finished : (content : Content) → IsCounted content → refusal_of (finish_checks content) ≡ None → IsCounted (as_finished content)
@@ -68,14 +87,19 @@ counted_finished content counted none =
     record {
       taken = counted.taken;
       complete = λ is. omega (arith, past, missing_within (count_of content) content.pieces);
+      positive = counted.positive;
+      due = counted.due;
     }
 
 pub whole_where_finished : (content : Content) → IsCounted content → content.finished ≡ true → IsWhole content
 whole_where_finished content counted is =
     let none_missing = counted.complete is in
+    let there = λ (k : ℕ) (below : k < count_of content). missing_before (count_of content) content.pieces k (omega (arith, none_missing, below)) in
     record {
       none_missing = none_missing;
-      all_taken = counted.taken ∙ all_below (count_of content) content.pieces (λ k below. missing_before (count_of content) content.pieces k (omega (arith, none_missing, below)));
+      all_taken = counted.taken ∙ all_below (count_of content) content.pieces there;
+      size = length-whole content.size content.piece_size content.pieces counted.positive
+          (All-from_recursion (IsDue content.size content.piece_size) content.pieces counted.due) there;
     }
 
 -- ---- a profile of a world, and a file of a profile
@@ -141,7 +165,7 @@ module _ (world : World) (counted : AreCounted world) where
       node_added number profile (Folder parent modified name) is tt))
   counted_after setting (AddFile number parent modified size piece_size name) =
       after_profile _ _ (λ profile is. after_checks _ _ (λ (none : refusal_of (file_checks setting.limits world profile.nodes parent modified size piece_size name) ≡ None).
-      node_added number profile (File parent modified name (record { size = size; piece_size = piece_size; pieces = []; finished = false })) is (counted_new size piece_size)))
+      node_added number profile (File parent modified name (record { size = size; piece_size = piece_size; pieces = []; finished = false })) is (counted_new size piece_size (positive_where_none modified piece_size (none_holds (file_checks setting.limits world profile.nodes parent modified size piece_size name) none).1.1.1.1.1.0))))
   counted_after setting (Piece number id index bytes) =
       after_profile _ _ (λ profile is. after_file _ _ (λ parent modified name content at. after_checks _ _ (λ none.
       node_changed number id profile (File parent modified name (with_piece content index bytes)) is

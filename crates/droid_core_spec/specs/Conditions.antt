@@ -10,9 +10,13 @@ use Rattle.droid_core_spec.specs.World.{Node, Folder, File, Abandoned, node_at, 
 unfoldable pub is_scan_limit : ℕ → Bool
 is_scan_limit n = nat_le 1 n && nat_le n 65536
 
--- the size of a piece, and of a part of an export: from 1 to 1,048,576
+-- the size of a piece: from 1 to 1,048,576
 unfoldable pub is_piece_size : ℕ → Bool
 is_piece_size n = nat_le 1 n && nat_le n 1048576
+
+-- how many bytes a part of an export may have: from 1 to 1,048,576
+unfoldable pub is_part_size : ℕ → Bool
+is_part_size n = nat_le 1 n && nat_le n 1048576
 
 -- over 2^40 bytes, or more than 1,048,576 pieces
 unfoldable pub is_too_large : ℕ → ℕ → Bool

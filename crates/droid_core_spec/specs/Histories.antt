@@ -1,6 +1,6 @@
 -- Histories: the accepted requests in order of first acceptance, the world that they make, and what a
 -- request is answered after them (this project's own).
-use Rattle.std.specs.Prelude.{◌≡◌, ℕ, ◌==◌, ◌&&◌, if◌then◌else◌, Bool, List, [], ◌∷◌, ◌++◌, fold, Option, Some, None, IsSome, MatchBool}
+use Rattle.std.specs.Prelude.{◌≡◌, ℕ, ◌^◌, ◌<◌, ◌==◌, ◌&&◌, if◌then◌else◌, Bool, true, List, [], ◌∷◌, ◌++◌, fold, Option, Some, None, IsSome, MatchBool}
 use Rattle.std.specs.List.{find}
 use Rattle.std.specs.Str.{bytes_eq}
 use Rattle.droid_frame.specs.types.frame.Frame.{Frame}
@@ -8,6 +8,7 @@ use Rattle.droid_frame.specs.types.refusal.Refusal.TheVariants.{Malformed, Numbe
 use Rattle.droid_frame.specs.types.reply.Reply.{Reply}
 use Rattle.droid_frame.specs.types.reply.Reply.TheVariants.{Refused}
 use Rattle.droid_frame.specs.types.request.Request.{Request}
+use Rattle.droid_frame.specs.Bodies.{SpellsRequest}
 use Rattle.droid_frame.specs.Frames.{mark_of}
 use Rattle.droid_frame.specs.Values.{request_in}
 use Rattle.droid_core_spec.specs.Judging.{Verdict, Accepted, Answered, Refuses, judge}
@@ -25,7 +26,17 @@ pub record Entry : Type 0 where
 abbrev pub History : Type 0
 History = List Entry
 
--- what the request asks, where its kind and body spell it and its number is below 2^63
+-- the frame asks the request: its number is below 2^63, and its kind and body spell the request
+pub record Asks (frame : Frame) (request : Request) : Type 0 where
+  pub small : frame.number < 2 ^ 63
+  pub spelled : SpellsRequest frame.kind frame.body request
+
+-- the frame asks no request
+abbrev pub AsksNothing : Frame → Type 0
+AsksNothing frame = (request : Request) → Asks frame request → ⊥
+
+-- the request that the frame asks, as it is found by reading the body: that it is the one of `Asks`, and none
+-- where nothing is asked, is the law `laws::a_frame_asks_what_it_spells`
 unfoldable pub command : Frame → Option Request
 command frame = request_in frame
 
@@ -74,52 +85,75 @@ GoesOn setting before (entry ∷ entries) = IsNext setting before entry × GoesO
 abbrev pub IsLegal : Setting → History → Type 0
 IsLegal setting history = GoesOn setting [] history
 
--- ---- the answer to a request
+-- ---- what a request meets
+
+-- under one client and number a request is the one that was accepted where it has its mark
+abbrev pub is_same_request : List ℕ → List ℕ → Bool
+is_same_request accepted_mark mark = bytes_eq accepted_mark mark
+
+pub data Meeting : Type 0 where
+  -- the frame asks nothing
+  Nothing : Meeting
+  -- it is the request of this entry, sent again
+  Repeat : (entry : Entry) → Meeting
+  -- its number is that of another request
+  Reuse : Meeting
+  -- its number is new, and its verdict is this
+  New : (verdict : Verdict) → Meeting
+
+-- by the entry of its client and number, where one is kept
+abbrev pub meeting_under : Setting → History → Option Entry → List ℕ → Request → Meeting
+meeting_under setting history (Some entry) mark request = if is_same_request entry.mark mark then Repeat entry else Reuse
+meeting_under setting history None mark request = New (judge setting (world_of setting history) request)
+
+abbrev pub meeting_asked : Setting → History → Frame → Option Request → Meeting
+meeting_asked setting history frame None = Nothing
+meeting_asked setting history frame (Some request) =
+    meeting_under setting history (kept history frame.client frame.number) (frame_mark frame) request
+
+-- what the request of the frame meets in the history
+unfoldable pub meeting : Setting → History → Frame → Meeting
+meeting setting history frame = meeting_asked setting history frame (command frame)
+
+-- ---- the answer to a request, and the history after it
 
 abbrev pub verdict_reply : Verdict → Reply
 verdict_reply (Accepted reply after) = reply
 verdict_reply (Answered reply) = reply
 verdict_reply (Refuses refusal) = Refused refusal
 
--- a kept number: the kept reply where the marks are equal
-abbrev pub kept_answer : Entry → List ℕ → Reply
-kept_answer entry mark = if bytes_eq entry.mark mark then entry.reply else Refused NumberReused
-
--- a new number is judged
-abbrev pub answer_to : Setting → History → Option Entry → List ℕ → Request → Reply
-answer_to setting history (Some entry) mark request = kept_answer entry mark
-answer_to setting history None mark request = verdict_reply (judge setting (world_of setting history) request)
-
-abbrev pub answer_asked : Setting → History → Frame → Option Request → Reply
-answer_asked setting history frame None = Refused Malformed
-answer_asked setting history frame (Some request) =
-    answer_to setting history (kept history frame.client frame.number) (frame_mark frame) request
+abbrev pub reply_to : Meeting → Reply
+reply_to Nothing = Refused Malformed
+reply_to (Repeat entry) = entry.reply
+reply_to Reuse = Refused NumberReused
+reply_to (New verdict) = verdict_reply verdict
 
 -- what the request is answered after the history
 unfoldable pub answer : Setting → History → Frame → Reply
-answer setting history frame = answer_asked setting history frame (command frame)
-
--- ---- the history after a request
+answer setting history frame = reply_to (meeting setting history frame)
 
 abbrev pub entry_of : Frame → Reply → Entry
 entry_of frame reply = record { frame = frame; mark = frame_mark frame; reply = reply }
 
-abbrev pub next_judged : History → Frame → Verdict → History
-next_judged history frame (Accepted reply after) = history ++ entry_of frame reply ∷ []
-next_judged history frame (Answered reply) = history
-next_judged history frame (Refuses refusal) = history
+-- the history where the frame met this: one entry more where it is new and a command that is accepted
+abbrev pub history_with : History → Frame → Meeting → History
+history_with history frame Nothing = history
+history_with history frame (Repeat entry) = history
+history_with history frame Reuse = history
+history_with history frame (New (Accepted reply after)) = history ++ entry_of frame reply ∷ []
+history_with history frame (New (Answered reply)) = history
+history_with history frame (New (Refuses refusal)) = history
 
-abbrev pub next_new : Setting → History → Frame → Option Entry → Request → History
-next_new setting history frame (Some entry) request = history
-next_new setting history frame None request = next_judged history frame (judge setting (world_of setting history) request)
-
-abbrev pub next_asked : Setting → History → Frame → Option Request → History
-next_asked setting history frame None = history
-next_asked setting history frame (Some request) = next_new setting history frame (kept history frame.client frame.number) request
-
--- the history after the request: one entry more where it is a command under a new number that is accepted
+-- the history after the request
 unfoldable pub next : Setting → History → Frame → History
-next setting history frame = next_asked setting history frame (command frame)
+next setting history frame = history_with history frame (meeting setting history frame)
+
+-- the history has an entry of this request, with this reply
+pub record HasReply (history : History) (frame : Frame) (reply : Reply) : Type 0 where
+  pub entry : Entry
+  pub there : kept history frame.client frame.number ≡ Some entry
+  pub same : is_same_request entry.mark (frame_mark frame) ≡ true
+  pub its : entry.reply ≡ reply
 
 -- the history after a list of requests, from this one
 abbrev pub history_from : Setting → History → List Frame → History

@@ -1,6 +1,7 @@
 -- Judging a request in a world: the first refusal whose condition holds, or else the reply, and of a command
 -- the world after it (this project's own).
 use Rattle.std.specs.Prelude.{ℕ, ℤ, ◌+◌, ◌-◌, ◌||◌, nat_lt, nat_le, if◌then◌else◌, Bool, false, not, List, [], ◌∷◌, ◌++◌, length, slice_set, Option, Some, None}
+use Rattle.droid_frame.specs.types.filter.Filter.{Filter}
 use Rattle.droid_frame.specs.types.refusal.Limit.TheVariants as reached
 use Rattle.droid_frame.specs.types.refusal.Refusal.{Refusal}
 use Rattle.droid_frame.specs.types.refusal.Refusal.TheVariants.{NoSuchProfile, NoSuchNode, NotAFolder, NotAFile, BadName, PathTooLong, NameTaken, BadOption, TooLarge, AlreadyFinished, BadPiece, PieceHeld, TooFarAhead, Incomplete, LimitReached}
@@ -9,7 +10,7 @@ use Rattle.droid_frame.specs.types.reply.Reply.TheVariants as replies
 use Rattle.droid_frame.specs.types.request.Request.{Request}
 use Rattle.droid_frame.specs.types.request.Request.TheVariants.{CreateProfile, AddFolder, AddFile, Piece, Finish, Abandon, Status, Export}
 use Rattle.droid_core_spec.specs.Limits.{Limits}
-use Rattle.droid_core_spec.specs.Conditions.{is_scan_limit, is_piece_size, is_too_large, is_moment, is_bad_name, is_missing, is_file, is_too_deep}
+use Rattle.droid_core_spec.specs.Conditions.{is_scan_limit, is_piece_size, is_part_size, is_too_large, is_moment, is_bad_name, is_missing, is_file, is_too_deep}
 use Rattle.droid_core_spec.specs.Exported.{part_of}
 use Rattle.droid_core_spec.specs.Files.{count_of, missing_of, bytes_of, has_piece, is_due, is_too_far, with_piece, as_finished, finding_of, finished_reply, progress_of, unfinished_in}
 use Rattle.droid_core_spec.specs.Setting.{Setting}
@@ -117,44 +118,67 @@ abbrev pub abandon_checks : Content → List Check
 abandon_checks content = (content.finished, AlreadyFinished) ∷ []
 
 abbrev pub export_checks : ℕ → List Check
-export_checks max = (not (is_piece_size max), BadOption) ∷ []
+export_checks max = (not (is_part_size max), BadOption) ∷ []
 
--- ---- requests
+-- ---- requests, each by its kind; profiles and nodes are numbered from 1, in order of acceptance
 
--- profiles and nodes are numbered from 1, in order of acceptance
-unfoldable pub judge : Setting → World → Request → Verdict
-judge setting world (CreateProfile scan_limit match_all) =
+abbrev pub judge_create : Setting → World → ℕ → Bool → Verdict
+judge_create setting world scan_limit match_all =
     unless_refused (refusal_of (create_checks setting.limits world scan_limit))
     (Accepted (replies.Made (length world.profiles + 1)) (world_with world (world.profiles ++ record { scan_limit = scan_limit; match_all = match_all; nodes = [] } ∷ [])))
-judge setting world (AddFolder number parent modified name) =
+
+abbrev pub judge_folder : Setting → World → ℕ → ℕ → ℤ → List ℕ → Verdict
+judge_folder setting world number parent modified name =
     in_profile (numbered world.profiles number) (λ profile.
     unless_refused (refusal_of (folder_checks setting.limits profile.nodes parent modified name))
     (Accepted (replies.Node (length profile.nodes + 1)) (world_set world number (with_node profile (Folder parent modified name)))))
-judge setting world (AddFile number parent modified size piece_size name) =
+
+abbrev pub judge_file : Setting → World → ℕ → ℕ → ℤ → ℕ → ℕ → List ℕ → Verdict
+judge_file setting world number parent modified size piece_size name =
     in_profile (numbered world.profiles number) (λ profile.
     unless_refused (refusal_of (file_checks setting.limits world profile.nodes parent modified size piece_size name))
     (Accepted (replies.Node (length profile.nodes + 1)) (world_set world number (with_node profile
     (File parent modified name (record { size = size; piece_size = piece_size; pieces = []; finished = false }))))))
-judge setting world (Piece number file index bytes) =
+
+abbrev pub judge_piece : World → ℕ → ℕ → ℕ → List ℕ → Verdict
+judge_piece world number file index bytes =
     in_profile (numbered world.profiles number) (λ profile.
     in_file (node_at profile.nodes file) (λ parent modified name content.
     unless_refused (refusal_of (piece_checks content index bytes))
     (Accepted (replies.Taken (length content.pieces + 1)) (world_set world number (node_set profile file (File parent modified name (with_piece content index bytes)))))))
-judge setting world (Finish number file) =
+
+abbrev pub judge_finish : Setting → World → ℕ → ℕ → Verdict
+judge_finish setting world number file =
     in_profile (numbered world.profiles number) (λ profile.
     in_file (node_at profile.nodes file) (λ parent modified name content.
     unless_refused (refusal_of (finish_checks content))
     (Accepted (finished_reply (finding_of setting profile name content) (bytes_of content)) (world_set world number (node_set profile file (File parent modified name (as_finished content)))))))
-judge setting world (Abandon number file) =
+
+abbrev pub judge_abandon : World → ℕ → ℕ → Verdict
+judge_abandon world number file =
     in_profile (numbered world.profiles number) (λ profile.
     in_file (node_at profile.nodes file) (λ parent modified name content.
     unless_refused (refusal_of (abandon_checks content))
     (Accepted replies.Abandoned (world_set world number (node_set profile file Abandoned)))))
-judge setting world (Status number file) =
+
+abbrev pub judge_status : World → ℕ → ℕ → Verdict
+judge_status world number file =
     in_profile (numbered world.profiles number) (λ profile.
     in_file (node_at profile.nodes file) (λ parent modified name content.
     Answered (progress_of content)))
-judge setting world (Export number from max filter) =
+
+abbrev pub judge_export : Setting → World → ℕ → ℕ → ℕ → Filter → Verdict
+judge_export setting world number from max filter =
     in_profile (numbered world.profiles number) (λ profile.
     unless_refused (refusal_of (export_checks max))
     (Answered (part_of setting world.accepted profile from max filter)))
+
+unfoldable pub judge : Setting → World → Request → Verdict
+judge setting world (CreateProfile scan_limit match_all) = judge_create setting world scan_limit match_all
+judge setting world (AddFolder number parent modified name) = judge_folder setting world number parent modified name
+judge setting world (AddFile number parent modified size piece_size name) = judge_file setting world number parent modified size piece_size name
+judge setting world (Piece number file index bytes) = judge_piece world number file index bytes
+judge setting world (Finish number file) = judge_finish setting world number file
+judge setting world (Abandon number file) = judge_abandon world number file
+judge setting world (Status number file) = judge_status world number file
+judge setting world (Export number from max filter) = judge_export setting world number from max filter

@@ -6,6 +6,7 @@ pub mod Judging
 pub mod Limits
 pub mod Records
 pub mod Setting
+pub mod Verdicts
 pub mod Wants
 pub mod Whole
 pub mod World

@@ -1,12 +1,12 @@
 -- The records of a profile: its folders and its finished files, as an export shows them.
-use Rattle.std.specs.Prelude.{ℕ, ◌+◌, false, if◌then◌else◌, List, [], ◌∷◌, ◌++◌, Option, Some, None}
+use Rattle.std.specs.Prelude.{◌≡◌, ℕ, ◌+◌, false, if◌then◌else◌, List, [], ◌∷◌, ◌++◌, Option, Some, None}
 use Rattle.md5.specs.Md5.{md5}
 use Rattle.droid_frame.specs.types.method.Method.TheVariants.{Unidentified}
 use Rattle.droid_frame.specs.types.node_kind.NodeKind.TheVariants as kinds
 use Rattle.droid_frame.specs.types.record.Record.{Record}
 use Rattle.droid_core_spec.specs.Files.{bytes_of, finding_of}
 use Rattle.droid_core_spec.specs.Setting.{Setting, Finding}
-use Rattle.droid_core_spec.specs.World.{Node, Folder, File, Abandoned, Profile, path}
+use Rattle.droid_core_spec.specs.World.{Node, Folder, File, Abandoned, Profile, numbered, path}
 
 -- 16 zero bytes
 abbrev pub no_digest : List ℕ
@@ -40,3 +40,10 @@ records_from setting profile id (node ∷ nodes) = option_list (record_of settin
 -- the folders and finished files of the profile, by number
 abbrev pub records : Setting → Profile → List Record
 records setting profile = records_from setting profile 1 profile.nodes
+
+-- the record is that of a node of the profile
+pub record IsRecordIn (setting : Setting) (profile : Profile) (shown : Record) : Type 0 where
+  pub id : ℕ
+  pub node : Node
+  pub there : numbered profile.nodes id ≡ Some node
+  pub its : record_of setting profile id node ≡ Some shown

@@ -1,12 +1,90 @@
-//! A law of histories: it stands on a function that does nothing, and is proved with it.
+//! Laws of histories: each stands on a function that does nothing, and is proved with it.
 
-ghost use Rattle.droid_core_spec.specs.Histories.{History, world_of};
+ghost use Rattle.std.specs.Prelude.{◌≡◌, ◌+◌, ◌↔◌, ℕ, true, false, List, length, None, Some, IsSome};
+ghost use Rattle.std.specs.List.{Contains};
+ghost use Rattle.droid_frame.specs.Fields.{IsBytes};
+ghost use Rattle.droid_frame.specs.types.filter.Filter.{Filter};
+ghost use Rattle.droid_frame.specs.types.frame.Frame.{Frame};
+ghost use Rattle.droid_frame.specs.types.record.Record.{Record};
+ghost use Rattle.droid_frame.specs.types.refusal.Refusal.{Refusal};
+ghost use Rattle.droid_frame.specs.types.refusal.Refusal.TheVariants.{Malformed, NumberReused};
+ghost use Rattle.droid_frame.specs.types.reply.Reply.{Reply};
+ghost use Rattle.droid_frame.specs.types.reply.Reply.TheVariants.{Part, Refused};
+ghost use Rattle.droid_frame.specs.types.request.Request.{Request};
+ghost use Rattle.droid_frame.specs.types.request.Request.TheVariants.{Export};
+ghost use Rattle.droid_core_spec.specs.Histories.{Entry, History, IsLegal, Asks, AsksNothing, HasReply, command, frame_mark, kept, world_of, is_same_request, answer, next, history_from};
+ghost use Rattle.droid_core_spec.specs.Judging.{Answered, judge};
+ghost use Rattle.droid_core_spec.specs.Records.{records, IsRecordIn};
 ghost use Rattle.droid_core_spec.specs.Setting.{Setting};
+ghost use Rattle.droid_core_spec.specs.Verdicts.{is_command, is_refused, MayCome};
+ghost use Rattle.droid_core_spec.specs.Wants.{is_want};
 ghost use Rattle.droid_core_spec.specs.Whole.{FinishedAreWhole};
+ghost use Rattle.droid_core_spec.specs.World.{Profile, World};
+
+/// What a frame asks, for all kinds of request: a request exactly where its number is below 2^63 and its kind
+/// and body spell that request, and nothing exactly where there is no such request.
+pub fn a_frame_asks_what_it_spells()
+    ensures something { (frame : Frame) (request : Request) → IsBytes frame.body → (command frame ≡ Some request) ↔ Asks frame request }
+    ensures nothing { (frame : Frame) → IsBytes frame.body → (command frame ≡ None) ↔ AsksNothing frame }
+{}
+
+/// A command is accepted or refused, and a query is told or refused. What is accepted or told is no refusal, an
+/// accepted command is one more, and judging refuses for no other reason than its own: never as Malformed, for
+/// a number used again, or for want of memory or of the database.
+pub fn judging_goes_by_kind()
+    ensures { (setting : Setting) (world : World) (request : Request) → MayCome world request (judge setting world request) }
+{}
+
+/// After a legal history no answer is want of memory or of the database.
+pub fn answers_are_no_wants()
+    ensures { (setting : Setting) (history : History) (frame : Frame) → IsLegal setting history → is_want (answer setting history frame) ≡ false }
+{}
+
+/// A request that is refused leaves the history as it is.
+pub fn a_refusal_changes_nothing()
+    ensures { (setting : Setting) (history : History) (frame : Frame) (refusal : Refusal) → answer setting history frame ≡ Refused refusal → next setting history frame ≡ history }
+{}
+
+/// A query leaves the history as it is.
+pub fn a_query_changes_nothing()
+    ensures { (setting : Setting) (history : History) (frame : Frame) (request : Request) → command frame ≡ Some request → is_command request ≡ false → next setting history frame ≡ history }
+{}
+
+/// The reply under which a command was accepted is its answer for ever, whatever is asked after it.
+pub fn an_accepted_reply_stays()
+    // What a command is answered, unless it is refused, the next history has as its reply.
+    ensures kept { (setting : Setting) (history : History) (frame : Frame) (request : Request) → command frame ≡ Some request → is_command request ≡ true
+        → is_refused (answer setting history frame) ≡ false → HasReply (next setting history frame) frame (answer setting history frame) }
+    // A reply that a history has is the answer after it and after every list of requests more.
+    ensures same { (setting : Setting) (history : History) (frame : Frame) (reply : Reply) (frames : List Frame) → HasReply history frame reply → IsSome (command frame)
+        → answer setting (history_from setting history frames) frame ≡ reply }
+    // So what a command is answered, unless it is refused, it is answered ever after.
+    ensures accepted { (setting : Setting) (history : History) (frame : Frame) (request : Request) (frames : List Frame) → command frame ≡ Some request → is_command request ≡ true
+        → is_refused (answer setting history frame) ≡ false → answer setting (history_from setting (next setting history frame) frames) frame ≡ answer setting history frame }
+    // Where a legal history has an entry of this client, number, kind and body, its reply is the answer.
+    ensures again { (setting : Setting) (history : History) (frame : Frame) (entry : Entry) (frames : List Frame) → IsLegal setting history → kept history frame.client frame.number ≡ Some entry
+        → frame.kind ≡ entry.frame.kind → frame.body ≡ entry.frame.body → answer setting (history_from setting history frames) frame ≡ entry.reply }
+    // Another request under a number that is kept is told so, and one that asks nothing is malformed.
+    ensures other { (setting : Setting) (history : History) (frame : Frame) (entry : Entry) (frames : List Frame) → kept history frame.client frame.number ≡ Some entry → IsSome (command frame)
+        → is_same_request entry.mark (frame_mark frame) ≡ false → answer setting (history_from setting history frames) frame ≡ Refused NumberReused }
+    ensures malformed { (setting : Setting) (history : History) (frame : Frame) → command frame ≡ None → answer setting history frame ≡ Refused Malformed }
+{}
+
+/// What a part of an export is as of is how many commands were accepted: the length of the history.
+pub fn an_export_is_as_of_the_history()
+    ensures accepted { (setting : Setting) (history : History) → IsLegal setting history → (world_of setting history).accepted ≡ length history }
+    ensures part { (setting : Setting) (history : History) (profile from max as_of total : ℕ) (filter : Filter) (bytes : List ℕ) → IsLegal setting history
+        → judge setting (world_of setting history) (Export profile from max filter) ≡ Answered (Part as_of total bytes) → as_of ≡ length history }
+{}
 
 /// In the world that any history leads to, no piece of a finished file is missing, and as many pieces of it
 /// were taken as it has. So the progress that is told of it, twice the number of its pieces, is true of those
-/// that were taken.
+/// that were taken. The bytes of its pieces are as many as its size says.
 pub fn a_finished_file_is_whole()
     ensures { (setting : Setting) (history : History) → FinishedAreWhole (world_of setting history) }
+{}
+
+/// The records of a profile are those of its nodes: that of each folder and each finished file, and no other.
+pub fn records_are_of_nodes()
+    ensures { (setting : Setting) (profile : Profile) (shown : Record) → Contains (records setting profile) shown ↔ IsRecordIn setting profile shown }
 {}

@@ -1,5 +1,5 @@
 //! Histories: which requests were accepted, the world that they make, and what a request is answered after
-//! them. Definitions, and a law; there is no code here.
+//! them. Definitions, and laws; there is no code here.
 #![tactic(auto)]
 
 pub mod laws;

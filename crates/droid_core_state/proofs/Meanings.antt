@@ -5,7 +5,7 @@ use Rattle.std.specs.Int.Signed.{lt_z}
 use Rattle.std.specs.List.{list_any}
 use Rattle.std.specs.Str.{bytes_eq}
 use Rattle.droid_assembly.specs.Pieces.{piece_count}
-use Rattle.droid_core_spec.specs.Conditions.{is_scan_limit, is_piece_size, is_too_large, is_moment, is_bad_name, is_separator}
+use Rattle.droid_core_spec.specs.Conditions.{is_scan_limit, is_piece_size, is_part_size, is_too_large, is_moment, is_bad_name, is_separator}
 
 pub scan_limit_is : (n : ℕ) → is_scan_limit n ≡ (nat_le 1 n && nat_le n 65536)
 unfolding is_scan_limit
@@ -14,6 +14,10 @@ scan_limit_is n = refl
 pub piece_size_is : (n : ℕ) → is_piece_size n ≡ (nat_le 1 n && nat_le n 1048576)
 unfolding is_piece_size
 piece_size_is n = refl
+
+pub part_size_is : (n : ℕ) → is_part_size n ≡ (nat_le 1 n && nat_le n 1048576)
+unfolding is_part_size
+part_size_is n = refl
 
 pub too_large_is : (size piece_size : ℕ) → is_too_large size piece_size ≡ (nat_lt (2 ^ 40) size || nat_lt 1048576 (piece_count size piece_size))
 unfolding is_too_large

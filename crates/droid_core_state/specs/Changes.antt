@@ -1,13 +1,12 @@
 -- What one request changes inside the service. No public clause names these: they only serve proofs.
 use Rattle.std.specs.Prelude.{◌≡◌, ℕ, List, ◌∷◌, [], ◌++◌, if◌then◌else◌, MatchBool, Result, Ok, Err}
-use Rattle.std.specs.Str.{bytes_eq}
 use Rattle.droid_frame.specs.Replies.{reply_kind, reply_bytes}
 use Rattle.droid_frame.specs.types.frame.Frame.{Frame}
 use Rattle.droid_frame.specs.types.refusal.Refusal.{Refusal}
 use Rattle.droid_frame.specs.types.refusal.Refusal.TheVariants.{Memory, Store, NumberReused}
 use Rattle.droid_frame.specs.types.reply.Reply.{Reply}
 use Rattle.droid_frame.specs.types.reply.Reply.TheVariants.{Refused}
-use Rattle.droid_core_spec.specs.Histories.{frame_mark, verdict_reply}
+use Rattle.droid_core_spec.specs.Histories.{frame_mark, is_same_request, verdict_reply}
 use Rattle.droid_core_spec.specs.Judging.{Verdict, Accepted, Answered, Refuses}
 use Rattle.droid_core_spec.specs.Setting.{Setting}
 use Rattle.droid_core_spec.specs.Wants.{is_want}
@@ -39,7 +38,7 @@ stamp_of frame = record { client = frame.client; number = frame.number; mark = f
 
 -- what a request with this mark is answered where the row is kept under its number, and spells this reply
 abbrev pub again : rows.Entry → List ℕ → Reply → Reply
-again entry mark kept = if bytes_eq entry.mark mark then kept else Refused NumberReused
+again entry mark kept = if is_same_request entry.mark mark then kept else Refused NumberReused
 
 -- the service is in the same world, with the same replies kept
 pub record Stays (setting : Setting) (world : World) (old new : Parts) : Type 0 where

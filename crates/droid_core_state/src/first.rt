@@ -9,7 +9,7 @@ ghost use Rattle.droid_core_spec.specs.Judging.{refusal_of, create_checks, place
 ghost use Rattle.droid_core_spec.specs.Limits.{Limits};
 ghost use Rattle.droid_core_spec.specs.World.{Node, World};
 
-use crate::options::{is_moment, is_piece_size, is_scan_limit, is_too_large};
+use crate::options::{is_moment, is_part_size, is_piece_size, is_scan_limit, is_too_large};
 use crate::room::Room;
 use droid_frame::{Limit, Refusal};
 
@@ -112,7 +112,7 @@ fn size_refusal(
 pub fn export_refusal(max: u32) -> Option<Refusal>
     ensures first { result ≡ refusal_of (export_checks max) }
 {
-    if !is_piece_size(max) {
+    if !is_part_size(max) {
         return Some(Refusal::BadOption);
     }
     None

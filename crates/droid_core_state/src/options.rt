@@ -1,7 +1,7 @@
 //! Which numbers a request may have.
 
 ghost use Rattle.std.specs.Prelude.{◌≡◌, IsTrue};
-ghost use Rattle.droid_core_spec.specs.Conditions.{is_scan_limit, is_piece_size, is_too_large, is_moment};
+ghost use Rattle.droid_core_spec.specs.Conditions.{is_scan_limit, is_piece_size, is_part_size, is_too_large, is_moment};
 
 /// Whether a scan limit lies from 1 to 65,536.
 #[tactic(auto, using(crate::proofs::Meanings::scan_limit_is))]
@@ -11,12 +11,20 @@ pub fn is_scan_limit(bytes: u32) -> bool
     1 <= bytes && bytes <= 65_536
 }
 
-/// Whether the size of a piece, or of a part of an export, lies from 1 to 1,048,576.
+/// Whether the size of a piece lies from 1 to 1,048,576.
 #[tactic(auto, using(crate::proofs::Meanings::piece_size_is))]
 pub fn is_piece_size(bytes: u32) -> bool
     ensures { result ≡ is_piece_size bytes }
 {
     1 <= bytes && bytes <= 1_048_576
+}
+
+/// Whether a part of an export may have so many bytes: from 1 to 1,048,576.
+#[tactic(auto, using(crate::proofs::Meanings::part_size_is))]
+pub fn is_part_size(max: u32) -> bool
+    ensures { result ≡ is_part_size max }
+{
+    1 <= max && max <= 1_048_576
 }
 
 /// Whether a file has more than 2^40 bytes, or more than 1,048,576 pieces.

@@ -1,11 +1,11 @@
 //! Kept replies: the row of a new one, and what a kept one answers.
 
 ghost use Rattle.std.specs.Prelude.{◌≡◌, ◌≢◌, false, IfOk, IfErr, MatchBool, ⊤};
-ghost use Rattle.std.specs.Str.{bytes_eq};
 ghost use Rattle.droid_core_state.specs.Changes.{again, answered, stamped};
 ghost use Rattle.droid_frame.specs.Replies.{HasReplySpelling, SpellsReply};
 ghost use Rattle.droid_frame.specs.types.refusal.Refusal.TheVariants as refusals;
 ghost use Rattle.droid_frame.specs.types.reply.Reply.TheVariants.{Refused};
+ghost use Rattle.droid_core_spec.specs.Histories.{is_same_request};
 ghost use Rattle.droid_core_spec.specs.Wants.{is_want};
 
 use crate::stamps::Stamp;
@@ -38,7 +38,7 @@ pub fn answer_again(alloc: Global, entry: Entry, mark: [u8; 16]) -> Reply
     ensures kept { (kept : Reply) → SpellsReply entry.kind entry.body kept
         → MatchBool (is_want result) ⊤ (result ≡ again entry mark kept) }
     // Another mark is never a want, and neither is any reply but a Finished.
-    ensures reused { bytes_eq entry.mark mark ≡ false → result ≡ Refused refusals.NumberReused }
+    ensures reused { is_same_request entry.mark mark ≡ false → result ≡ Refused refusals.NumberReused }
     ensures exact { (kept : Reply) → SpellsReply entry.kind entry.body kept → entry.kind ≢ 132 → result ≡ again entry mark kept }
     ensures spelled { HasReplySpelling result }
 {

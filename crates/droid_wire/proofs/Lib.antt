@@ -5,7 +5,6 @@ pub mod Ends
 pub mod GoingOn
 pub mod Held
 pub mod Invariant
-pub mod Judged
 pub mod Passing
 pub mod ReadStreams
 pub mod RequestKinds

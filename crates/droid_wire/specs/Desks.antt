@@ -7,14 +7,11 @@ use Rattle.droid_frame.specs.types.reply.Reply.{Reply}
 use Rattle.droid_frame.specs.types.reply.Reply.TheVariants.{Refused}
 use Rattle.droid_core.specs.Setting.{Setting}
 use Rattle.droid_core.specs.Histories.{Entry, History, kept, command, frame_mark, answer, next}
+pub use Rattle.droid_core.specs.Verdicts.{is_refused}
 
 -- the kinds from 1 to 6 are commands; the others are queries, or none
 abbrev pub is_command : Frame → Bool
 is_command frame = nat_lt frame.kind 7
-
-abbrev pub is_refused : Reply → Bool
-is_refused (Refused refusal) = true
-is_refused _ = false
 
 -- a service: which frames spell a request, a request's mark, what it is answered, and the history after it
 pub record Desk : Type 0 where

@@ -1,7 +1,7 @@
 use Rattle.std.proofs.Common.{ℕ, List, refl, ap, ◌∙◌}
 use Rattle.droid_frame.specs.Frames.{mark_of}
 use Rattle.droid_core_state.specs.declared.stamps.Stamp.{Stamp}
-use Rattle.droid_core.proofs.Asked.{asked, is_asked, nothing_asked}
+use Rattle.droid_core_spec.proofs.Asked.{asked, is_asked, nothing_asked}
 use Rattle.droid_core.proofs.Handling.{handles_malformed}
 use Rattle.droid_core.proofs.service.Service.handle.Goals as goal
 

@@ -1,0 +1,15 @@
+//! A law of rows: it stands on a function that does nothing, and is proved with it.
+
+ghost use Rattle.std.specs.Prelude.{◌≡◌, ℕ, Some};
+ghost use Rattle.droid_core_rows.specs.Rows.{KeepsNodes};
+ghost use Rattle.droid_core_spec.specs.Records.{records};
+ghost use Rattle.droid_core_spec.specs.Setting.{Setting};
+ghost use Rattle.droid_core_spec.specs.World.{Profile, World, numbered};
+ghost use Rattle.droid_store.specs.Rows.{Rows, records_of};
+
+/// Where the rows of nodes stand for a world, the records that the store reads from a profile's rows are the
+/// profile's: each folder's row and each finished file's is its record, in their order, and no other row is one.
+pub fn rows_are_the_records()
+    ensures { (setting : Setting) (world : World) (rows : Rows) (number : ℕ) (profile : Profile) → KeepsNodes setting world rows
+        → numbered world.profiles number ≡ Some profile → records_of number rows ≡ records setting profile }
+{}

@@ -1,0 +1,5 @@
+use Rattle.droid_core_spec.proofs.Judged.{judged}
+use Rattle.droid_core_spec.proofs.laws.judging_goes_by_kind.Goals as goal
+
+pub returns : goal.returns
+returns c setting world request = judged setting world request

@@ -1,0 +1,44 @@
+-- What judging may come to: a command is accepted or refused, and a query is told or refused.
+use Rattle.std.specs.Prelude.{◌≡◌, ◌+◌, nat_lt, Bool, true, false}
+use Rattle.droid_frame.specs.Bodies.{request_kind}
+use Rattle.droid_frame.specs.types.refusal.Refusal.{Refusal}
+use Rattle.droid_frame.specs.types.refusal.Refusal.TheVariants.{Malformed, NumberReused, Memory, Store}
+use Rattle.droid_frame.specs.types.reply.Reply.{Reply}
+use Rattle.droid_frame.specs.types.reply.Reply.TheVariants.{Refused}
+use Rattle.droid_frame.specs.types.request.Request.{Request}
+use Rattle.droid_core_spec.specs.Judging.{Verdict, Accepted, Answered, Refuses}
+use Rattle.droid_core_spec.specs.World.{World}
+
+-- the kinds from 1 to 6 are commands; the others are queries
+abbrev pub is_command : Request → Bool
+is_command request = nat_lt (request_kind request) 7
+
+abbrev pub is_refused : Reply → Bool
+is_refused (Refused refusal) = true
+is_refused _ = false
+
+-- a refusal that judging may give: whether a frame asks something, and under which number, is seen before it, and
+-- what memory and the database allow is none of its matters
+abbrev pub is_of_judging : Refusal → Bool
+is_of_judging Malformed = false
+is_of_judging NumberReused = false
+is_of_judging Memory = false
+is_of_judging Store = false
+is_of_judging _ = true
+
+-- what is accepted is a command, its reply is no refusal, and one command more was accepted
+pub record MayBeAccepted (world : World) (request : Request) (reply : Reply) (after : World) : Type 0 where
+  pub command : is_command request ≡ true
+  pub no_refusal : is_refused reply ≡ false
+  pub one_more : after.accepted ≡ world.accepted + 1
+
+-- what is told is asked by a query, and no refusal
+pub record MayBeTold (request : Request) (reply : Reply) : Type 0 where
+  pub query : is_command request ≡ false
+  pub no_refusal : is_refused reply ≡ false
+
+-- the verdict is one that may come of the request in the world
+abbrev pub MayCome : World → Request → Verdict → Type 0
+MayCome world request (Accepted reply after) = MayBeAccepted world request reply after
+MayCome world request (Answered reply) = MayBeTold request reply
+MayCome world request (Refuses refusal) = is_of_judging refusal ≡ true
