@@ -40,7 +40,7 @@ lacks_each (q ∷ pieces) index lacks =
       | inr t ↦ let rest : LacksIndex pieces index = rw t.0 at lacks in (t.1, lacks_each pieces index rest)
     ]
 
-present : (place : Option (List ℕ)) → IsSome place → is_none place ≡ false
+pub present : (place : Option (List ℕ)) → IsSome place → is_none place ≡ false
 present place h = ap not h
 
 -- what is missing first, by the indexes before it and at it

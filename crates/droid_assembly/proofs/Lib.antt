@@ -1,8 +1,10 @@
+pub mod AllParts
 pub mod Along
 pub mod Digests
 pub mod Ends
 pub mod Fresh
 pub mod Indexes
+pub mod Past
 pub mod SeveralPieces
 pub mod Settling
 pub mod ShowingSeveral

@@ -10,7 +10,7 @@ use Rattle.md5.specs.Md5.{Holds}
 use Rattle.droid_assembly.specs.Pieces.{Piece, LacksIndex, IsDue, missing, file_bytes}
 use Rattle.droid_assembly.specs.Rings.{ring_items}
 use Rattle.droid_assembly.specs.Fronts.{IsFront, FrontKnows}
-use Rattle.droid_assembly.specs.State.{State, StandsFor, IsComplete, count_of, width_of, slot}
+use Rattle.droid_assembly.specs.State.{State, Room, StandsFor, IsComplete, count_of, width_of, slot}
 use Rattle.droid_assembly.specs.Kept.{weight, pieces_from, IsAlong, IsFree, IsSound}
 use Rattle.droid_assembly.specs.declared.front.Front.{Front}
 use Rattle.droid_assembly.proofs.Indexes.{lacks_each}
@@ -41,9 +41,9 @@ unsealed a (Some digest) sealed low = let complete : IsComplete a = sealed refl 
 pub no_digest : (a : State) (front : Front) (piece : Piece) → IsSound a front → IsFree a piece → a.digest ≡ None
 no_digest a front piece sound free = unsealed a a.digest sound.sealed (omega (arith, free.is_due.0, free.not_passed))
 
--- an assembly after a piece was settled, with this front, waiting pieces and first missing one
-abbrev pub settled : State → Piece → Front → List (Option (List ℕ)) → ℕ → State
-settled a piece front waiting from = record {
+-- an assembly after a piece was settled, with this front, waiting pieces, first missing one and room
+abbrev pub settled : State → Piece → Front → List (Option (List ℕ)) → ℕ → Room → State
+settled a piece front waiting from reserved = record {
   size = a.size;
   piece_size = a.piece_size;
   limit = a.limit;
@@ -56,6 +56,7 @@ settled a piece front waiting from = record {
   digest = a.digest;
   waiting = waiting;
   pending = None;
+  reserved = reserved;
 }
 
 module _ (a : State) (old new : Front) (waiting : List (Option (List ℕ))) (k : ℕ) (piece : Piece) where
@@ -76,13 +77,13 @@ module _ (a : State) (old new : Front) (waiting : List (Option (List ℕ))) (k :
       (known a old pieces went.same (no_digest a old piece went.sound went.free) stands) weighed counted
 
   -- it stands for the pieces before and this one
-  pub settled-stands : (pieces : List Piece) → Went → StandsFor a pieces → StandsFor (settled a piece new waiting (a.first_missing + k)) (pieces ++ piece ∷ [])
-  settled-stands pieces went stands =
+  pub settled-stands : (reserved : Room) (pieces : List Piece) → Went → StandsFor a pieces → StandsFor (settled a piece new waiting (a.first_missing + k) reserved) (pieces ++ piece ∷ [])
+  settled-stands reserved pieces went stands =
       let total = length (file_bytes a.first_missing pieces) + sum_by weight a.waiting + length piece.1 in
       let count = a.first_missing + count_by is_some a.waiting + 1 in
       let along = went.along (pieces ++ piece ∷ []) total count (begun pieces total count went stands refl refl) in
       let lacks : LacksIndex pieces piece.0 = sym (stands.waits piece.0 went.free.not_passed went.free.near) ∙ went.free.free in
-      along-stands (settled a piece new waiting (a.first_missing + k)) new (pieces ++ piece ∷ []) total count along
+      along-stands (settled a piece new waiting (a.first_missing + k) reserved) new (pieces ++ piece ∷ []) total count along
       (went.width ∙ went.same.width) went.stopped refl refl refl (no_digest a old piece went.sound went.free)
       (All-push (IsDue a.size a.piece_size) pieces piece stands.are_due went.free.is_due)
       (all_pairs_push (λ one other. one.0 ≢ other.0) pieces piece stands.are_distinct (λ i d h. All-from_recursion (λ q. q.0 ≢ piece.0) pieces (lacks_each pieces piece.0 lacks) i d h))
@@ -90,14 +91,14 @@ module _ (a : State) (old new : Front) (waiting : List (Option (List ℕ))) (k :
       (ap (λ n. n + length piece.1) stands.weighed ∙ sym (sum_by_push (λ (q : Piece). length q.1) pieces piece))
 
   -- and its parts belong together again
-  pub settled-sound : Went → IsSound (settled a piece new waiting (a.first_missing + k)) new
-  settled-sound went =
+  pub settled-sound : (reserved : Room) → Went → IsSound (settled a piece new waiting (a.first_missing + k) reserved) new
+  settled-sound reserved went =
       let sound = went.sound in
       let pieces = sound.pieces in
       let total = a.settled_bytes + length piece.1 in
       let count = a.held_count + 1 in
       let along = went.along (pieces ++ piece ∷ []) total count (begun pieces total count went sound.stands (omega (arith, sound.weighed)) (omega (arith, sound.counted))) in
-      let stands = settled-stands pieces went sound.stands in
+      let stands = settled-stands reserved pieces went sound.stands in
       record {
         sizes = sound.sizes;
         within = along-within a.size a.piece_size (a.first_missing + k) (pieces ++ piece ∷ []) stands.are_due along.placed.no_gap;

@@ -1,4 +1,5 @@
 -- What contracts see of the parts of an assembly.
+use Rattle.std.specs.Prelude.{vec_capacity}
 use Rattle.droid_assembly.specs.State.{State}
 use Rattle.droid_assembly.specs.Rings.{ring_items}
 use Rattle.droid_assembly.specs.declared.assembly.Assembly.TheInside.{Inside}
@@ -18,4 +19,9 @@ state_of parts = record {
   digest = parts.digest;
   waiting = parts.waiting.items;
   pending = parts.pending;
+  reserved = record {
+    first = vec_capacity parts.front.first;
+    last = vec_capacity parts.front.last.bytes;
+    waiting = vec_capacity parts.waiting;
+  };
 }

@@ -1,6 +1,6 @@
 -- The pieces of one file: which are there, which is missing, what they join to, and the ends of that.
 -- How a file is cut into pieces is this project's own.
-use Rattle.std.specs.Prelude.{◌≡◌, ℕ, ◌+◌, ◌-◌, ◌*◌, ◌/◌, ◌%◌, ◌^◌, ◌<◌, ◌≤◌, ◌==◌, min, List, [], ◌∷◌, length, take, drop, Option, None, Some, unwrap_or, is_none, IsSome, sum_by, if◌then◌else◌}
+use Rattle.std.specs.Prelude.{◌≡◌, ℕ, ◌+◌, ◌-◌, ◌*◌, ◌/◌, ◌%◌, ◌^◌, ◌<◌, ◌≤◌, ◌==◌, min, List, [], ◌∷◌, length, take, drop, filter, nat_lt, Option, None, Some, unwrap_or, is_none, IsSome, sum_by, if◌then◌else◌}
 use Rattle.std.specs.List.{flat_map, position_or_len, range_with_len}
 
 -- a piece: its index, counted from 0, and its bytes
@@ -57,6 +57,16 @@ missing count pieces = position_or_len (λ index. is_none (bytes_at pieces index
 -- the bytes of the first `count` pieces, joined in order of index
 unfoldable pub file_bytes : ℕ → List Piece → List ℕ
 file_bytes count pieces = flat_map (λ index. unwrap_or (bytes_at pieces index) []) (range_with_len 0 count)
+
+-- the pieces whose index lies past this one
+abbrev pub past : ℕ → List Piece → List Piece
+past index pieces = filter (λ piece. nat_lt index piece.0) pieces
+
+-- how many bytes are kept of these pieces, where `limit` bytes are scanned from each end of a file of `count`:
+-- of those before the first missing one the first and the last bytes, and those past it whole
+abbrev pub kept_bytes : ℕ → ℕ → List Piece → ℕ
+kept_bytes limit count pieces =
+    2 * min limit (length (file_bytes (missing count pieces) pieces)) + bytes_held (past (missing count pieces) pieces)
 
 -- the first bytes of a file, at most `limit` of them
 abbrev pub first_window : ℕ → List ℕ → List ℕ

@@ -4,6 +4,12 @@ use Rattle.md5.specs.Md5.{md5, Holds}
 use Rattle.md5.specs.declared.Md5.{Md5}
 use Rattle.droid_assembly.specs.Pieces.{Piece, piece_count, IsDue, bytes_at, held, bytes_held, missing, file_bytes, first_window, last_window}
 
+-- room for so many bytes in each of two windows, and for so many pieces that wait
+pub record Room : Type 0 where
+  pub first : ℕ
+  pub last : ℕ
+  pub waiting : ℕ
+
 -- an assembly: the sizes that it was made for, and what it keeps
 pub record State : Type 0 where
   pub size : ℕ
@@ -22,6 +28,8 @@ pub record State : Type 0 where
   -- the settled pieces past the first missing one, each at the rest of its index by 16
   pub waiting : List (Option (List ℕ))
   pub pending : Option Piece
+  -- the memory that is reserved for the windows and the waiting pieces, whatever is in it
+  pub reserved : Room
 
 -- how many pieces its file has
 abbrev pub count_of : State → ℕ

@@ -2,7 +2,7 @@
 
 ghost use Rattle.std.specs.Prelude.{◌≡◌, ◌+◌, ◌-◌, ◌*◌, ◌^◌, ◌<◌, ◌≤◌, ◌↔◌, ◌++◌, ◌∷◌, [], ℕ, List, length, min, IsOk, IfOk, IfErr, OnOk, OnErr, IsErrOf, IsTrue, IsSome, None, Some, option_map, MatchBool};
 ghost use Rattle.std.specs.Bool.{OnFalse};
-ghost use Rattle.droid_assembly.specs.Pieces.{Piece, AreSizes, IsDue, HasIndex, LacksIndex, held as held_of, bytes_held, missing as missing_of, file_bytes, first_window, last_window};
+ghost use Rattle.droid_assembly.specs.Pieces.{Piece, AreSizes, IsDue, HasIndex, LacksIndex, held as held_of, missing as missing_of, kept_bytes as kept_of, file_bytes, first_window, last_window};
 ghost use Rattle.droid_assembly.specs.State.{StandsFor, IsComplete, IsOfSameFile, IsUnchanged, IsDigestOf, count_of, with_pending, pending_bytes as pending_len, slot};
 ghost use Rattle.droid_assembly.specs.Kept.{pieces_from};
 ghost use Rattle.droid_frame.specs.Replies.{IsDigest};
@@ -57,7 +57,7 @@ impl Assembly {
 
     /// An assembly of no piece, for a file of `size` bytes in pieces of `piece_size` bytes, of which
     /// `limit` bytes are scanned from each end. What these can be is this project's own. Only want of
-    /// memory refuses it, and no later call takes any.
+    /// memory refuses it, and no later call takes any: two windows are reserved, and sixteen places.
     pub fn new(
         alloc: Global,
         size: u64,
@@ -69,6 +69,8 @@ impl Assembly {
         ensures piece_size { IfOk result (λ assembly. assembly.piece_size ≡ piece_size) }
         ensures limit { IfOk result (λ assembly. assembly.limit ≡ limit) }
         ensures none_pending { IfOk result (λ assembly. assembly.pending ≡ None) }
+        ensures reserved { IfOk result (λ assembly. assembly.reserved
+            ≡ record { first = min size limit; last = min size limit; waiting = 16 }) }
         ensures stands { IfOk result (λ assembly. StandsFor assembly []) }
     {
         let width = size.min(u64::from(limit)) as usize;
@@ -187,8 +189,7 @@ impl Assembly {
     /// How many bytes are kept: in the two windows, and of the pieces that wait and the pending one.
     pub fn kept_bytes(&self) -> u64
         ensures kept { (pieces : List Piece) → StandsFor self.now pieces
-            → let before = length (file_bytes (missing_of (count_of self.now) pieces) pieces) in
-            result ≡ 2 * min self.now.limit before + (bytes_held pieces - before) + pending_len self.now.pending }
+            → result ≡ kept_of self.now.limit (count_of self.now) pieces + pending_len self.now.pending }
         ensures bound { result ≤ 2 * min self.now.limit self.now.size + 16 * self.now.piece_size }
     {
         let passed = self

@@ -1,6 +1,6 @@
 //! What is kept of the bytes before the first missing piece.
 
-ghost use Rattle.std.specs.Prelude.{◌≡◌, ◌++◌, [], ℕ, List, IfOk};
+ghost use Rattle.std.specs.Prelude.{◌≡◌, ◌++◌, [], ℕ, List, IfOk, vec_capacity};
 ghost use Rattle.droid_assembly.specs.Fronts.{IsFront, FrontKnows};
 ghost use Rattle.droid_assembly.specs.Rings.{ring_items};
 ghost use Rattle.md5.specs.Md5.{md5, Holds};
@@ -26,6 +26,8 @@ impl Front {
     pub(crate) fn with_room(alloc: Global, width: usize) -> Result<Front, AllocError>
         ensures sound { IfOk result IsFront }
         ensures width { IfOk result (λ front. front.width ≡ width) }
+        ensures first_reserved { IfOk result (λ front. vec_capacity front.first ≡ width) }
+        ensures last_reserved { IfOk result (λ front. vec_capacity front.last.bytes ≡ width) }
         ensures knows { IfOk result (λ front. FrontKnows front []) }
     {
         Ok(Front {
@@ -66,6 +68,7 @@ impl Front {
         ensures first { self.new.first ≡ self.old.first }
         ensures last { ring_items self.new.last ≡ ring_items self.old.last }
         ensures straight { self.new.last.bytes.items ≡ ring_items self.old.last }
+        ensures capacity { vec_capacity self.new.last.bytes ≡ vec_capacity self.old.last.bytes }
         ensures hash { self.new.hash ≡ self.old.hash }
         ensures width { self.new.width ≡ self.old.width }
     {

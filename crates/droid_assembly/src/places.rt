@@ -1,6 +1,6 @@
 //! The places of pieces that wait for an earlier one.
 
-ghost use Rattle.std.specs.Prelude.{◌≡◌, ◌<◌, ◌≤◌, ◌+◌, ◌%◌, ◌-◌, ◌^◌, [], ℕ, List, length, min, None, Some, IfOk, IsSome, IsTrue, replicate, slice_set};
+ghost use Rattle.std.specs.Prelude.{◌≡◌, ◌<◌, ◌≤◌, ◌+◌, ◌%◌, ◌-◌, ◌^◌, [], ℕ, List, length, min, None, Some, IfOk, IsSome, IsTrue, replicate, slice_set, vec_capacity};
 ghost use Rattle.std.specs.Bool.{OnFalse};
 ghost use Rattle.std.specs.List.{concat};
 ghost use Rattle.droid_assembly.specs.Pieces.{Piece};
@@ -22,11 +22,12 @@ pub(crate) const AHEAD: u32 = 16;
 
 /// The places, none with a piece. Only want of memory refuses them.
 pub(crate) fn empty_places(alloc: Global) -> Result<Vec<Option<Blob>>, AllocError>
-    ensures { IfOk result (λ places. places.items ≡ replicate 16 None) }
+    ensures empty { IfOk result (λ places. places.items ≡ replicate 16 None) }
+    ensures reserved { IfOk result (λ places. vec_capacity places ≡ 16) }
 {
     let mut places = Vec::with_capacity(alloc, AHEAD as usize)?;
     for _ in 0..AHEAD {
-        places.push(None)?;
+        places.push_reserved(None);
     }
     Ok(places)
 }

@@ -20,6 +20,7 @@ impl Ring {
     pub(crate) fn with_room(alloc: Global, width: usize) -> Result<Ring, AllocError>
         ensures sound { IfOk result IsRing }
         ensures width { IfOk result (λ ring. ring.width ≡ width) }
+        ensures reserved { IfOk result (λ ring. vec_capacity ring.bytes ≡ width) }
         ensures empty { IfOk result (λ ring. ring_items ring ≡ []) }
     {
         Ok(Ring {
@@ -63,6 +64,7 @@ impl Ring {
         ensures width { self.new.width ≡ self.old.width }
         ensures items { ring_items self.new ≡ ring_items self.old }
         ensures straight { self.new.bytes.items ≡ ring_items self.old }
+        ensures capacity { vec_capacity self.new.bytes ≡ vec_capacity self.old.bytes }
     {
         self.bytes.as_mut_slice().rotate_left(self.turn);
         self.turn = 0;

@@ -1,27 +1,38 @@
--- How many bytes of content a service keeps of a file.
-use Rattle.std.specs.Prelude.{ℕ, ◌+◌, ◌-◌, ◌*◌, min, if◌then◌else◌, length, Option, None, Some}
-use Rattle.droid_assembly.specs.Pieces.{bytes_held, file_bytes}
-use Rattle.droid_core_spec.specs.Files.{missing_of}
+-- How many bytes of content a service keeps of a file, and how many at most.
+use Rattle.std.specs.Prelude.{ℕ, ◌+◌, ◌*◌, ◌≤◌, ⊤, min, if◌then◌else◌, Option, None, Some}
+use Rattle.droid_assembly.specs.Pieces.{kept_bytes}
+use Rattle.droid_core_spec.specs.Files.{count_of}
 use Rattle.droid_core_spec.specs.World.{Content, Node, Folder, File, Abandoned, Profile, World, numbered, node_at}
 
--- the bytes before the first missing piece
-abbrev pub bytes_before : Content → ℕ
-bytes_before content = length (file_bytes (missing_of content) content.pieces)
-
--- of those the two windows, and the pieces past the first missing one whole
+-- so many are kept of the pieces of an unfinished file
 abbrev pub bytes_kept : Profile → Content → ℕ
-bytes_kept profile content = 2 * min profile.scan_limit (bytes_before content) + (bytes_held content.pieces - bytes_before content)
+bytes_kept profile content = kept_bytes profile.scan_limit (count_of content) content.pieces
 
-abbrev pub node_bytes : Profile → Option Node → Option ℕ
-node_bytes profile None = None
-node_bytes profile (Some (Folder parent modified name)) = None
-node_bytes profile (Some (File parent modified name content)) = if content.finished then None else Some (bytes_kept profile content)
-node_bytes profile (Some Abandoned) = None
+-- and no more than two windows and sixteen pieces, whichever were taken
+abbrev pub most_bytes : Profile → Content → ℕ
+most_bytes profile content = 2 * min profile.scan_limit content.size + 16 * content.piece_size
 
-abbrev pub bytes_in : Option Profile → ℕ → Option ℕ
-bytes_in None id = None
-bytes_in (Some profile) id = node_bytes profile (node_at profile.nodes id)
+-- what is counted of an unfinished file; none of any other node
+abbrev pub of_node : (Profile → Content → ℕ) → Profile → Option Node → Option ℕ
+of_node counted profile None = None
+of_node counted profile (Some (Folder parent modified name)) = None
+of_node counted profile (Some (File parent modified name content)) = if content.finished then None else Some (counted profile content)
+of_node counted profile (Some Abandoned) = None
+
+abbrev pub in_profile : (Profile → Content → ℕ) → Option Profile → ℕ → Option ℕ
+in_profile counted None id = None
+in_profile counted (Some profile) id = of_node counted profile (node_at profile.nodes id)
 
 -- of the file with this number in this profile; none unless it is unfinished
 abbrev pub kept_bytes_of : World → ℕ → ℕ → Option ℕ
-kept_bytes_of world number id = bytes_in (numbered world.profiles number) id
+kept_bytes_of world number id = in_profile bytes_kept (numbered world.profiles number) id
+
+abbrev pub most_bytes_of : World → ℕ → ℕ → Option ℕ
+most_bytes_of world number id = in_profile most_bytes (numbered world.profiles number) id
+
+-- both are there and the first is no larger, or neither is there
+abbrev pub IsAtMost : Option ℕ → Option ℕ → Type 0
+IsAtMost None None = ⊤
+IsAtMost None (Some most) = ⊥
+IsAtMost (Some kept) None = ⊥
+IsAtMost (Some kept) (Some most) = kept ≤ most

@@ -1,10 +1,10 @@
 //! The unfinished files of a service.
 
-ghost use Rattle.std.specs.Prelude.{◌≡◌, ◌≢◌, ◌+◌, ◌-◌, ◌*◌, ◌^◌, ◌<◌, ◌≤◌, ◌↔◌, ◌++◌, ◌∷◌, [], ℕ, List, length, min, Ok, Err, Some, None, IsTrue, IsOk, IfOk, IfSome, OnOk, OnErr, IsErrOf, IsSome, is_some, false};
+ghost use Rattle.std.specs.Prelude.{◌≡◌, ◌≢◌, ◌+◌, ◌*◌, ◌^◌, ◌<◌, ◌≤◌, ◌↔◌, ◌++◌, ◌∷◌, [], ℕ, List, length, min, Ok, Err, Some, None, IsTrue, IsOk, IfOk, IfSome, OnOk, OnErr, IsErrOf, IsSome, is_some, false};
 ghost use Rattle.std.specs.Bool.{OnFalse};
 ghost use Rattle.std.specs.List.{slice_get, remove, AllByRecursion};
 ghost use Rattle.md5.specs.Md5.{md5};
-ghost use Rattle.droid_assembly.specs.Pieces.{Piece, IsDue, HasIndex, LacksIndex, held as held_of, bytes_held, missing as missing_of, file_bytes};
+ghost use Rattle.droid_assembly.specs.Pieces.{Piece, IsDue, HasIndex, LacksIndex, held as held_of, missing as missing_of, kept_bytes as kept_of, file_bytes};
 ghost use Rattle.droid_assembly.specs.State.{StandsFor, IsComplete, IsOfSameFile, IsUnchanged, count_of, with_pending, pending_bytes};
 ghost use Rattle.droid_frame.specs.Replies.{IsDigest};
 ghost use Rattle.droid_pronom.specs.Found.{IsFound};
@@ -219,8 +219,7 @@ impl UnfinishedFiles {
     pub fn kept_bytes(&self, place: usize) -> u64
         requires { place < length self.now.files }
         ensures kept { At self.now place (λ file. (pieces : List Piece) → StandsFor file pieces
-            → let before = length (file_bytes (missing_of (count_of file) pieces) pieces) in
-            result ≡ 2 * min file.limit before + (bytes_held pieces - before) + pending_bytes file.pending) }
+            → result ≡ kept_of file.limit (count_of file) pieces + pending_bytes file.pending) }
         ensures bound { At self.now place (λ file. result ≤ 2 * min file.limit file.size + 16 * file.piece_size) }
     {
         self.files[place].assembly.kept_bytes()

@@ -1,7 +1,7 @@
 //! The service: what it keeps, and how it answers.
 
 ghost use Rattle.std.specs.Prelude.{◌≡◌, ◌≤◌, [], IfOk, OnErr, vec_len};
-ghost use Rattle.droid_core.specs.KeptBytes.{kept_bytes_of};
+ghost use Rattle.droid_core.specs.KeptBytes.{IsAtMost, kept_bytes_of, most_bytes_of};
 ghost use Rattle.droid_core.specs.Running.{Runs};
 ghost use Rattle.droid_core.specs.Standing.{StandsFor, limits_of, registry_of};
 ghost use Rattle.droid_core_state.specs.Standing.{limits_given};
@@ -90,8 +90,10 @@ impl Service {
     /// How many bytes of content are kept of the file with this number in this profile, or `None`
     /// unless it is unfinished.
     pub fn kept_bytes(&self, profile: u32, file: u32) -> Option<u64>
-        ensures { (setting : Setting) (history : History) → StandsFor setting self.now history
+        ensures kept { (setting : Setting) (history : History) → StandsFor setting self.now history
             → result ≡ kept_bytes_of (world_of setting history) profile file }
+        ensures bound { (setting : Setting) (history : History) → StandsFor setting self.now history
+            → IsAtMost result (most_bytes_of (world_of setting history) profile file) }
     {
         let place = self.parts.files.place_of(profile, file)?;
         Some(self.parts.files.kept_bytes(place))

@@ -1,7 +1,8 @@
-use Rattle.std.proofs.Common.{◌≡◌, ◌*◌, ◌∙◌, length, min, arith, ap, sym}
-use Rattle.droid_assembly.specs.Pieces.{file_bytes, missing}
+use Rattle.std.proofs.Common.{◌≡◌, ◌+◌, ◌*◌, ◌∙◌, length, min, arith, ap, sym}
+use Rattle.droid_assembly.specs.Pieces.{bytes_held, file_bytes, missing, past}
 use Rattle.droid_assembly.specs.Parts.{state_of}
 use Rattle.droid_assembly.specs.State.{StandsFor, count_of}
+use Rattle.droid_assembly.proofs.Past.{settled_split}
 use Rattle.droid_assembly.proofs.Whole.{settled_is, waiting_le, pending_le, length-before}
 use Rattle.droid_assembly.proofs.assembly.Assembly.kept_bytes.Goals as goal
 use Rattle.droid_assembly.proofs.assembly.Assembly.kept_bytes.Goals.{After-min-windows, After-pending_bytes}
@@ -47,7 +48,10 @@ returns-clause-kept c pieces stands =
     let pending = rw (← c.self.view_is) at c.pending_bytes.ensures in
     let passed : length (file_bytes (missing (count_of a) pieces) pieces) ≡ min a.size (a.first_missing * a.piece_size) =
     ap (λ n. length (file_bytes n pieces)) (sym before.least) ∙ length-before a parts.front pieces before in
-    rw (← c.self.view_is) (omega (arith, passed, passed_was c, pending, before.weighed, c.min-windows.ensures, c.from-3.ensures))
+    let first = missing (count_of a) pieces in
+    let split : bytes_held pieces ≡ length (file_bytes first pieces) + bytes_held (past first pieces) =
+    settled_split a.size a.piece_size pieces before.are_due before.are_distinct in
+    rw (← c.self.view_is) (omega (arith, passed, passed_was c, pending, before.weighed, split, c.min-windows.ensures, c.from-3.ensures))
 
 pub returns-clause-bound : goal.returns-clause-bound
 returns-clause-bound c =

@@ -57,7 +57,7 @@ pub invariant_of-self : goal.invariant_of-self
 invariant_of-self c =
     let parts = c.self.inside in
     rw (c.take.ensures.after, c.len.ensures, waiting_is c, c.arrive.ensures.counted)
-    (settled-sound (state_of parts) parts.front c.arrive.new.front c.arrive.new.waiting (length c.arrive.result) c.unwrap-index.result (went c))
+    (settled-sound (state_of parts) parts.front c.arrive.new.front c.arrive.new.waiting (length c.arrive.result) c.unwrap-index.result _ (went c))
 
 -- the pending piece is the one that the clauses name
 named : (c : After-self-3-1) (piece : Piece) → c.args.self.now.pending ≡ Some piece → c.unwrap-index.result ≡ piece
@@ -72,7 +72,7 @@ returns-clause-stands c pieces piece stands pending =
     let a = state_of parts in
     let before : StandsFor a pieces = rw c.self.view_is stands in
     rw (c.take.ensures.after, c.len.ensures, waiting_is c, c.arrive.ensures.counted, ← named c piece pending)
-    (settled-stands a parts.front c.arrive.new.front c.arrive.new.waiting (length c.arrive.result) c.unwrap-index.result pieces (went c) before)
+    (settled-stands a parts.front c.arrive.new.front c.arrive.new.waiting (length c.arrive.result) c.unwrap-index.result _ pieces (went c) before)
 
 pub returns-clause-spent : goal.returns-clause-spent
 returns-clause-spent c pieces piece stands pending =
@@ -84,7 +84,7 @@ returns-clause-spent c pieces piece stands pending =
     let total = length (file_bytes a.first_missing pieces) + sum_by weight a.waiting + length last.1 in
     let count = a.first_missing + count_by is_some a.waiting + 1 in
     let along = begun a parts.front c.arrive.new.front c.arrive.new.waiting (length c.arrive.result) last pieces total count (went c) before refl refl in
-    let then = settled-stands a parts.front c.arrive.new.front c.arrive.new.waiting (length c.arrive.result) last pieces (went c) before in
+    let then = settled-stands a parts.front c.arrive.new.front c.arrive.new.waiting (length c.arrive.result) last a.reserved pieces (went c) before in
     let passed : c.arrive.result ≡ pieces_from a.first_missing (length c.arrive.result) after =
     c.arrive.ensures.passed after total count (rw c.deref_mut.ensures.value along) in
     rw (← c.self.view_is, ← named c piece pending)

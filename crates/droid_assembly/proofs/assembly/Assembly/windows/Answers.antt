@@ -14,7 +14,7 @@ returns c =
       (
         refl,
         (λ _. tt),
-        rw (← c.self.view_is, c.straighten.ensures.first, c.straighten.ensures.last, c.straighten.ensures.hash) (record {
+        rw (← c.self.view_is, c.straighten.ensures.first, c.straighten.ensures.last, c.straighten.ensures.hash, c.straighten.ensures.capacity) (record {
           same_file = record { size = refl; piece_size = refl; limit = refl };
           missing = refl;
           pending = refl;
