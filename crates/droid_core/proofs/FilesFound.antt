@@ -1,7 +1,8 @@
 -- What the look-up of a file finds in rows that stand for a world.
 use Rattle.std.proofs.Common.{◌≡◌, inl, inr, ℕ, List, Option, Some, None, option_map, refl, sym, ap, ◌∙◌}
 use Rattle.std.proofs.lemmas.Bool.{cases_Bool}
-use Rattle.std.specs.Prelude.{ℤ, MatchBool, ⊤, Err}
+use Rattle.std.proofs.lemmas.Result.{IfOk-at_ok}
+use Rattle.std.specs.Prelude.{ℤ, MatchBool, ⊤, Result, Ok, Err, IfOk}
 use Rattle.droid_frame.specs.types.refusal.Refusal.{Refusal}
 use Rattle.droid_frame.specs.types.refusal.Refusal.TheVariants.{NoSuchNode, NotAFile}
 use Rattle.droid_core_spec.specs.Judging.{Verdict, Refuses, in_file}
@@ -11,6 +12,7 @@ use Rattle.droid_core_spec.specs.World.{Content, Node, File, Abandoned, Profile,
 use Rattle.droid_core_spec.specs.World as nodes
 use Rattle.droid_core_rows.specs.Rows.{KeepsWorld, file_row, profile_row, stored, stored_in}
 use Rattle.droid_core_rows.proofs.LookUps.{node_found}
+use Rattle.droid_store.specs.declared.fault.StoreFault.{StoreFault}
 use Rattle.droid_store.specs.declared.rows.NodeRow.{NodeRow}
 use Rattle.droid_store.specs.Changes.{new_file}
 use Rattle.droid_store.specs.declared.rows.NodeState.TheVariants.{Folder, Unfinished}
@@ -28,6 +30,22 @@ nowhere_found world number id refusal found = if_refused (is_want_of refusal) (�
 
 some_same : {X : Type 0} {x y : X} → Some x ≡ Some y → x ≡ y
 some_same is = cc
+
+-- ---- what the store answered
+
+of_no_row : (node : Option rows.Node) → None ≡ option_map row_of node → node ≡ None
+of_no_row None is = refl
+of_no_row (Some node) is = absurd cc
+
+module _ (number id : ℕ) (store : Rows) where
+  pub no_node_there : (found : Result (Option NodeRow) StoreFault) (refusal : Refusal) → IfOk found (λ row. row ≡ option_map row_of (node_at number id store))
+      → MatchBool (is_want_of refusal) ⊤ ((refusal ≡ NoSuchNode) × (found ≡ Ok None)) → MatchBool (is_want_of refusal) ⊤ ((refusal ≡ NoSuchNode) × (node_at number id store ≡ None))
+  no_node_there found refusal answered none = if_refused (is_want_of refusal)
+      (λ (it : (refusal ≡ NoSuchNode) × (found ≡ Ok None)). (it.0, of_no_row (node_at number id store) (IfOk-at_ok (λ (row : Option NodeRow). row ≡ option_map row_of (node_at number id store)) it.1 answered))) none
+
+  pub node_there : (found : Result (Option NodeRow) StoreFault) (row : NodeRow) → IfOk found (λ row. row ≡ option_map row_of (node_at number id store)) → found ≡ Ok (Some row)
+      → option_map row_of (node_at number id store) ≡ Some row
+  node_there found row answered is = sym (IfOk-at_ok (λ (row : Option NodeRow). row ≡ option_map row_of (node_at number id store)) is answered)
 
 module _ (setting : Setting) (number : ℕ) (profile : Profile) (id : ℕ) where
   no_row : (node : Option Node) (judge_there : ℕ → ℤ → List ℕ → Content → Verdict) → stored_in setting number profile id node ≡ None → in_file (unless_abandoned node) judge_there ≡ Refuses NoSuchNode

@@ -1,9 +1,10 @@
 -- What a request for a new profile comes to.
 use Rattle.std.proofs.Common.{◌≡◌, inl, inr, ℕ, zero, suc, ◌+◌, ◌<◌, ◌==◌, List, [], ◌∷◌, ◌++◌, length, Bool, true, false, Option, Some, None, refl, sym, ap, ◌∙◌, arith, length-append}
-use Rattle.std.specs.Prelude.{nat_lt}
+use Rattle.std.specs.Prelude.{nat_lt, Result, Err}
 use Rattle.std.proofs.lemmas.List.{length-map}
 use Rattle.std.proofs.lemmas.Bool.{cases_Bool, ltb-true, ltb-false, eqb-true, eqb-false}
 use Rattle.droid_frame.specs.types.refusal.Refusal.{Refusal}
+use Rattle.droid_frame.specs.types.reply.Reply.{Reply}
 use Rattle.droid_frame.specs.types.reply.Reply.TheVariants as replies
 use Rattle.droid_frame.specs.types.request.Request.TheVariants.{CreateProfile}
 use Rattle.droid_core_spec.specs.Judging.{refusal_of, create_checks, judge, Accepted, Refuses}
@@ -70,6 +71,24 @@ create_accepted : (setting : Setting) (world : World) (scan_limit : ℕ) (match_
     → judge setting world (CreateProfile scan_limit match_all) ≡ Accepted (replies.Made (length world.profiles + 1)) (with_fresh world scan_limit match_all)
 unfolding judge
 create_accepted setting world scan_limit match_all is = rw is refl
+
+refusal_same : {refusal other : Refusal} → Refuses refusal ≡ Refuses other → refusal ≡ other
+refusal_same is = cc
+
+abbrev refuses : Refusal → Result Reply Refusal
+refuses refusal = Err refusal
+
+-- a request has one refusal
+pub refused_alone : (setting : Setting) (world : World) (scan_limit : ℕ) (match_all : Bool) (refusal other : Refusal) → refusal_of (create_checks setting.limits world scan_limit) ≡ Some refusal
+    → judge setting world (CreateProfile scan_limit match_all) ≡ Refuses other → refuses refusal ≡ refuses other
+refused_alone setting world scan_limit match_all refusal other is judged = ap refuses (refusal_same (sym (create_refused setting world scan_limit match_all refusal is) ∙ judged))
+
+-- where nothing refuses it, it has none
+pub never_refused : (setting : Setting) (world : World) (scan_limit : ℕ) (match_all : Bool) (refusal : Refusal) → refusal_of (create_checks setting.limits world scan_limit) ≡ None
+    → judge setting world (CreateProfile scan_limit match_all) ≡ Refuses refusal → ⊥
+never_refused setting world scan_limit match_all refusal is judged =
+    let both = sym (create_accepted setting world scan_limit match_all is) ∙ judged in
+    cc
 
 -- the world has as many profiles as there are rows
 pub profile_count : (setting : Setting) (world : World) (rows : Rows) → KeepsWorld setting world rows → length rows.profiles ≡ length world.profiles

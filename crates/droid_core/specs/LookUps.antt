@@ -1,13 +1,23 @@
 -- What the look-up of a file finds of a world. No public clause of the service names these: they only serve proofs.
-use Rattle.std.specs.Prelude.{◌≡◌, ℕ, ℤ, if◌then◌else◌, List, Some, MatchBool, ⊤, Result, Ok, Err}
+use Rattle.std.specs.Prelude.{◌≡◌, ℕ, ℤ, if◌then◌else◌, List, Option, None, Some, MatchBool, ⊤, Result, Ok, Err}
 use Rattle.droid_frame.specs.types.refusal.Refusal.{Refusal}
+use Rattle.droid_frame.specs.types.refusal.Refusal.TheVariants.{NoSuchNode}
 use Rattle.droid_core_spec.specs.Judging.{Verdict, Refuses, in_profile, in_file}
 use Rattle.droid_core_spec.specs.Wants.{is_want_of}
 use Rattle.droid_core_spec.specs.World.{Content, File, Profile, World, numbered, node_at}
 use Rattle.droid_core_rows.specs.Rows.{profile_row}
+use Rattle.droid_store.specs.declared.fault.StoreFault.{StoreFault}
+use Rattle.droid_store.specs.declared.rows.NodeRow.{NodeRow}
 use Rattle.droid_store.specs.declared.rows.NodeState.{NodeState}
 use Rattle.droid_store.specs.declared.rows.NodeState.TheVariants.{Unfinished, Finished}
+use Rattle.droid_core_state.specs.Changes.{told_of}
 use Rattle.droid_core.specs.declared.requests.file_rows.FileRow.{FileRow}
+
+-- by what the store answered: the node's row, or that there is no such node, or what its fault is told as
+abbrev pub node_in : Result (Option NodeRow) StoreFault → Result NodeRow Refusal
+node_in (Ok (Some row)) = Ok row
+node_in (Ok None) = Err NoSuchNode
+node_in (Err fault) = Err (told_of fault)
 
 abbrev pub state_of : Content → NodeState
 state_of content = if content.finished then Finished else Unfinished

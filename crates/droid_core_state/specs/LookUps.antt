@@ -1,11 +1,19 @@
--- What the look-up of a profile finds of a world. No public clause of the service names it: it only serves proofs.
-use Rattle.std.specs.Prelude.{◌≡◌, ℕ, Some, None, MatchBool, ⊤, Result, Ok, Err}
+-- What the look-up of a profile comes to, and what it finds of a world.
+use Rattle.std.specs.Prelude.{◌≡◌, ℕ, Option, Some, None, MatchBool, ⊤, Result, Ok, Err}
 use Rattle.droid_frame.specs.types.refusal.Refusal.{Refusal}
 use Rattle.droid_frame.specs.types.refusal.Refusal.TheVariants.{NoSuchProfile}
 use Rattle.droid_core_spec.specs.Wants.{is_want_of}
 use Rattle.droid_core_spec.specs.World.{Profile, World, numbered}
 use Rattle.droid_core_rows.specs.Rows.{profile_row}
+use Rattle.droid_store.specs.declared.fault.StoreFault.{StoreFault}
 use Rattle.droid_store.specs.declared.rows.ProfileRow.{ProfileRow}
+use Rattle.droid_core_state.specs.Changes.{told_of}
+
+-- by what the store answered: the row, or that there is no such profile, or what its fault is told as
+abbrev pub profile_in : Result (Option ProfileRow) StoreFault → Result ProfileRow Refusal
+profile_in (Ok (Some row)) = Ok row
+profile_in (Ok None) = Err NoSuchProfile
+profile_in (Err fault) = Err (told_of fault)
 
 -- the world has the profile, and this is its row
 pub record HasProfile (world : World) (number : ℕ) (row : ProfileRow) : Type 0 where

@@ -35,13 +35,13 @@ pub fn export(
     ensures limits { parts.new.limits ≡ parts.old.limits }
     ensures registry { parts.new.registry ≡ parts.old.registry }
 {
-    profile_of(&mut parts.store, number)?;
+    profile_of(parts.store.profile(number))?;
     if let Some(refusal) = export_refusal(max) {
         return Err(refusal);
     }
     let records = records_in(&mut parts.store, number)?;
     let text = text_of(parts.alloc, records.as_slice(), &parts.registry, &filter)?;
-    let accepted = accepted_by(&mut parts.store)?;
+    let accepted = accepted_by(&mut parts.store);
     let reply = part_of(parts.alloc, accepted, &text, from, max)?;
     Ok(reply)
 }
@@ -86,7 +86,7 @@ fn text_of(
 ) -> Result<Blob, Refusal>
     requires { HaveMoments records.now }
     ensures text { IfOk result (λ bytes. bytes ≡ text registry.now filter.now records.now) }
-    ensures want { IfErr result (λ refusal. IsTrue (is_want_of refusal)) }
+    ensures want { IfErr result (λ refusal. refusal ≡ Refusal.Memory) }
 {
     match export_text(alloc, records, registry, filter) {
         Ok(bytes) => Ok(bytes),
@@ -94,23 +94,20 @@ fn text_of(
     }
 }
 
-/// How many commands were accepted.
-fn accepted_by(store: &mut Store) -> Result<u64, Refusal>
+/// How many commands were accepted. The store always tells it.
+fn accepted_by(store: &mut Store) -> u64
     ensures same { store.new ≡ store.old }
-    ensures found { IfOk result (λ accepted. accepted ≡ length store.old.replies) }
-    ensures want { IfErr result (λ refusal. IsTrue (is_want_of refusal)) }
+    ensures found { result ≡ length store.old.replies }
 {
-    match store.counts() {
-        Ok(counts) => Ok(counts.accepted),
-        Err(fault) => Err(store_refusal(fault)),
-    }
+    let counts = store.counts().unwrap();
+    counts.accepted
 }
 
 /// The part of a text from a place on. The text is dropped, so its bytes are copied once.
 fn part_of(alloc: Global, accepted: u64, text: &Blob, from: u64, max: u32) -> Result<Reply, Refusal>
     ensures part { IfOk result (λ reply. reply ≡ part accepted text.now from max) }
     ensures spelled { max ≤ 1048576 → HasReplySpelling (answered result) }
-    ensures want { IfErr result (λ refusal. IsTrue (is_want_of refusal)) }
+    ensures want { IfErr result (λ refusal. refusal ≡ Refusal.Memory) }
 {
     let bytes = text.as_slice();
     let start = bytes.len().min(from as usize);

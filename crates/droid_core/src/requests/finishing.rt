@@ -7,6 +7,7 @@ ghost use Rattle.droid_assembly.specs.State.{IsUnchanged};
 ghost use Rattle.droid_core_state.specs.Assemblies.{IsAssemblyOf};
 ghost use Rattle.droid_core_state.specs.Changes.{Comes, answered, stamped};
 ghost use Rattle.droid_core_state.specs.Standing.{IsIn};
+ghost use Rattle.droid_core.specs.Causes.{says_store};
 ghost use Rattle.droid_frame.specs.Replies.{HasReplySpelling, IsDigest};
 ghost use Rattle.droid_frame.specs.types.reply.Reply.TheVariants as replies;
 ghost use Rattle.droid_frame.specs.types.request.Request.TheVariants.{Finish};
@@ -21,7 +22,7 @@ ghost use Rattle.droid_store.specs.Changes.{IsOpen, with_finished, with_reply};
 ghost use Rattle.droid_store.specs.Rows.{reply_for};
 ghost use Rattle.droid_core_files.specs.Files.{OpenFile, IsAt, At, Turns, IsAlikeBut, is_of, open_at};
 
-use crate::requests::file_rows::{FileRow, file_of, place_of_file};
+use crate::requests::file_rows::{FileRow, file_of, none_is_pending, place_of_file};
 use droid_assembly::Sealed;
 use droid_core_files::{Finding, IdentifyFault, UnfinishedFiles};
 use droid_core_state::{Parts, Stamp, entry_of, store_refusal};
@@ -60,18 +61,6 @@ pub fn finish(parts: &mut Parts, stamp: Stamp, number: u32, file: u32) -> Result
     Ok(reply)
 }
 
-/// No piece of the file at this place is pending between two requests.
-fn none_is_pending(files: &UnfinishedFiles, place: usize) -> Result<(), Refusal>
-    requires { place < length files.now.files }
-    ensures none_pending { OnOk result (At files.now place (λ file. file.pending ≡ None)) }
-    ensures want { IfErr result (λ refusal. refusal ≡ Refusal.Store) }
-{
-    if files.has_pending(place) {
-        return Err(Refusal::Store);
-    }
-    Ok(())
-}
-
 /// Identifies the file at this place, of which no piece is pending, by its name and its profile's mode.
 fn identify_file(
     alloc: Global,
@@ -95,6 +84,7 @@ fn identify_file(
     ensures puids { IfOk result (λ finding. AllByRecursion (λ puid. IsTrue (is_puid puid)) finding.found.puids) }
     ensures unchanged { Turns files.old files.new place IsUnchanged }
     ensures others { IsAlikeBut place files.old files.new }
+    ensures memory { IfErr result (λ refusal. says_store refusal ≡ false) }
     ensures spelled { IfErr result (λ refusal. HasReplySpelling (replies.Refused refusal)) }
 {
     let name = row.node.item.name.as_str();

@@ -1,6 +1,6 @@
 //! New files, whose pieces are still to come.
 
-ghost use Rattle.std.specs.Prelude.{◌≡◌, ◌<◌, ◌^◌, ℕ, None, IfOk, IfErr, OnOk, IsTrue, length};
+ghost use Rattle.std.specs.Prelude.{◌≡◌, ◌<◌, ◌^◌, ℕ, None, IfOk, IfErr, OnOk, IsOk, IsTrue, length};
 ghost use Rattle.droid_assembly.specs.Pieces.{AreSizes};
 ghost use Rattle.droid_core_state.specs.Changes.{Comes, answered};
 ghost use Rattle.droid_core.specs.NewAssemblies.{IsNew};
@@ -43,7 +43,7 @@ pub fn add_file(
     ensures limits { parts.new.limits ≡ parts.old.limits }
     ensures registry { parts.new.registry ≡ parts.old.registry }
 {
-    let row = profile_of(&mut parts.store, number)?;
+    let row = profile_of(parts.store.profile(number))?;
     let path = place_of(parts.alloc, &mut parts.store, number, parent, name.as_str())?;
     let nodes = node_room(parts, row);
     let unfinished = unfinished_room(parts);
@@ -86,11 +86,12 @@ fn unfinished_room(parts: &Parts) -> Room
 }
 
 /// The assembly of a new file, of sizes that are in range. Only want of memory refuses it, or a scan
-/// limit out of range, which no profile has.
+/// limit out of range, which no profile has: that is answered as if the database had refused.
 fn new_assembly(alloc: Global, size: u64, piece_size: u32, limit: u32) -> Result<Assembly, Refusal>
     requires sizes { (any : ℕ) → IsTrue (is_scan_limit any) → AreSizes size piece_size any }
     ensures new { IfOk result (λ assembly. IsNew assembly size piece_size limit) }
     ensures small { OnOk result (size < 2 ^ 63) }
+    ensures memory { IsTrue (is_scan_limit limit) → IfErr result (λ refusal. refusal ≡ Refusal.Memory) }
     ensures want { IfErr result (λ refusal. IsTrue (is_want_of refusal)) }
 {
     if !is_scan_limit(limit) {
@@ -107,7 +108,8 @@ fn new_assembly(alloc: Global, size: u64, piece_size: u32, limit: u32) -> Result
 fn has_room(files: &UnfinishedFiles, number: u32, file: u32) -> Result<(), Refusal>
     ensures room { OnOk result (length files.now.files < files.now.limit) }
     ensures fresh { OnOk result (open_at number file files.now.files ≡ None) }
-    ensures want { IfErr result (λ refusal. IsTrue (is_want_of refusal)) }
+    ensures fits { length files.now.files < files.now.limit → open_at number file files.now.files ≡ None → IsOk result }
+    ensures want { IfErr result (λ refusal. refusal ≡ Refusal.Store) }
 {
     if files.is_full() {
         return Err(Refusal::Store);

@@ -31,7 +31,7 @@ pub fn add_folder(
     ensures limits { parts.new.limits ≡ parts.old.limits }
     ensures registry { parts.new.registry ≡ parts.old.registry }
 {
-    let row = profile_of(&mut parts.store, number)?;
+    let row = profile_of(parts.store.profile(number))?;
     let path = place_of(parts.alloc, &mut parts.store, number, parent, name.as_str())?;
     let nodes = node_room(parts, row);
     if let Some(refusal) = folder_refusal(modified, nodes) {

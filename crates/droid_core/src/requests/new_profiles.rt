@@ -1,13 +1,13 @@
 //! New profiles.
 
-ghost use Rattle.std.specs.Prelude.{◌≡◌, ◌<◌, ◌^◌, None, IfOk, IfErr, IsTrue, length};
+ghost use Rattle.std.specs.Prelude.{◌≡◌, ◌<◌, ◌^◌, Err, None, length};
 ghost use Rattle.droid_core_state.specs.Changes.{Comes, answered};
 ghost use Rattle.droid_core_state.specs.Standing.{IsIn};
 ghost use Rattle.droid_frame.specs.Replies.{HasReplySpelling};
+ghost use Rattle.droid_frame.specs.types.refusal.Refusal.{Refusal as RefusalValue};
 ghost use Rattle.droid_frame.specs.types.request.Request.TheVariants.{CreateProfile};
-ghost use Rattle.droid_core_spec.specs.Judging.{judge};
+ghost use Rattle.droid_core_spec.specs.Judging.{judge, Refuses};
 ghost use Rattle.droid_core_spec.specs.Setting.{Setting};
-ghost use Rattle.droid_core_spec.specs.Wants.{is_want_of};
 ghost use Rattle.droid_core_spec.specs.World.{World};
 ghost use Rattle.droid_store.specs.Rows.{reply_for};
 
@@ -25,11 +25,14 @@ pub fn create_profile(
     requires small { stamp.number < 2 ^ 63 }
     ensures comes { (setting : Setting) (world : World) → IsIn setting world parts.old
         → Comes setting world parts.old parts.new stamp (judge setting world (CreateProfile scan_limit match_all)) (answered result) }
+    // What is refused is refused with no want of memory: no call before it takes any.
+    ensures refused { (setting : Setting) (world : World) (refusal : RefusalValue) → IsIn setting world parts.old
+        → judge setting world (CreateProfile scan_limit match_all) ≡ Refuses refusal → result ≡ Err refusal }
     ensures spelled { HasReplySpelling (answered result) }
     ensures limits { parts.new.limits ≡ parts.old.limits }
     ensures registry { parts.new.registry ≡ parts.old.registry }
 {
-    let profiles = profile_room(parts)?;
+    let profiles = profile_room(parts);
     if let Some(refusal) = create_refusal(scan_limit, profiles) {
         return Err(refusal);
     }
@@ -45,21 +48,18 @@ pub fn create_profile(
     }
 }
 
-/// How many profiles there are, and how many there may be.
-fn profile_room(parts: &mut Parts) -> Result<Room, Refusal>
-    ensures count { IfOk result (λ room. room.count ≡ length parts.old.store.profiles) }
-    ensures limit { IfOk result (λ room. room.limit ≡ parts.old.limits.profiles) }
-    ensures want { IfErr result (λ refusal. IsTrue (is_want_of refusal)) }
+/// How many profiles there are, and how many there may be. The store always tells it.
+fn profile_room(parts: &mut Parts) -> Room
+    ensures count { result.count ≡ length parts.old.store.profiles }
+    ensures limit { result.limit ≡ parts.old.limits.profiles }
     ensures store { parts.new.store ≡ parts.old.store }
     ensures files { parts.new.files ≡ parts.old.files }
     ensures limits { parts.new.limits ≡ parts.old.limits }
     ensures registry { parts.new.registry ≡ parts.old.registry }
 {
-    match parts.store.counts() {
-        Ok(counts) => Ok(Room {
-            count: counts.profiles,
-            limit: parts.limits.profiles,
-        }),
-        Err(fault) => Err(store_refusal(fault)),
+    let counts = parts.store.counts().unwrap();
+    Room {
+        count: counts.profiles,
+        limit: parts.limits.profiles,
     }
 }

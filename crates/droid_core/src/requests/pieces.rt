@@ -18,7 +18,7 @@ ghost use Rattle.droid_store.specs.Changes.{with_reply};
 ghost use Rattle.droid_store.specs.Rows.{reply_for};
 ghost use Rattle.droid_core_files.specs.Files.{At, Turns, IsAlikeBut};
 
-use crate::requests::file_rows::{file_of, place_of_file};
+use crate::requests::file_rows::{file_of, none_is_pending, place_of_file};
 use droid_assembly::PutFault;
 use droid_core_files::UnfinishedFiles;
 use droid_core_state::{Parts, Stamp, entry_of, store_refusal};
@@ -61,11 +61,10 @@ fn held_with_one_more(files: &UnfinishedFiles, place: usize) -> Result<u32, Refu
     requires { place < length files.now.files }
     ensures held { IfOk result (λ held. At files.now place (λ file. (pieces : List Piece) → StandsFor file pieces → held ≡ length pieces + 1)) }
     ensures none_pending { OnOk result (At files.now place (λ file. file.pending ≡ None)) }
+    ensures pending { OnErr result (At files.now place (λ file. IsSome file.pending)) }
     ensures want { IfErr result (λ refusal. refusal ≡ Refusal.Store) }
 {
-    if files.has_pending(place) {
-        return Err(Refusal::Store);
-    }
+    none_is_pending(files, place)?;
     Ok(files.held(place) + 1)
 }
 

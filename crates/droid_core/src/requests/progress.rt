@@ -1,6 +1,6 @@
 //! How far a file is.
 
-ghost use Rattle.std.specs.Prelude.{◌≡◌, ◌<◌, ℕ, ℤ, List, false, Some, IfOk, IfErr};
+ghost use Rattle.std.specs.Prelude.{◌≡◌, ◌<◌, ◌^◌, ℕ, ℤ, List, false, Some, None, IsOk, IfOk, IfErr, OnErr};
 ghost use Rattle.droid_assembly.specs.Pieces.{piece_count};
 ghost use Rattle.droid_core_state.specs.Assemblies.{HasAssemblies};
 ghost use Rattle.droid_core_state.specs.Changes.{Comes, answered};
@@ -13,6 +13,7 @@ ghost use Rattle.droid_core_spec.specs.Judging.{judge};
 ghost use Rattle.droid_core_spec.specs.Setting.{Setting};
 ghost use Rattle.droid_core_spec.specs.World.{Content, File, Profile, World, numbered, node_at as node_there};
 ghost use Rattle.droid_store.specs.Rows.{is_unfinished};
+ghost use Rattle.droid_core_files.specs.Files.{open_at};
 
 use crate::requests::file_rows::{file_of, place_of_file};
 use droid_core_files::UnfinishedFiles;
@@ -44,6 +45,7 @@ fn progress_of(files: &UnfinishedFiles, number: u32, file: u32) -> Result<Reply,
         → numbered world.profiles number ≡ Some profile → node_there profile.nodes file ≡ Some (File parent modified name content) → content.finished ≡ false
         → reply ≡ progress_of content) }
     ensures spelled { HasReplySpelling (answered result) }
+    ensures none { OnErr result (open_at number file files.now.files ≡ None) }
     ensures want { IfErr result (λ refusal. refusal ≡ Refusal.Store) }
 {
     let place = place_of_file(files, number, file)?;
@@ -57,11 +59,15 @@ fn progress_of(files: &UnfinishedFiles, number: u32, file: u32) -> Result<Reply,
 /// pieces or more: a row that says so answers that the database was wanting.
 fn count_of(size: u64, piece_size: u32) -> Result<u32, Refusal>
     ensures count { IfOk result (λ count. count ≡ piece_count size piece_size) }
+    ensures fits { 0 < piece_size → piece_count size piece_size < 2 ^ 32 → IsOk result }
     ensures want { IfErr result (λ refusal. refusal ≡ Refusal.Store) }
 {
     if piece_size == 0 {
         return Err(Refusal::Store);
     }
     let count = size.div_ceil(u64::from(piece_size));
-    u32::try_from(count).ok().ok_or(Refusal::Store)
+    if u64::from(u32::MAX) < count {
+        return Err(Refusal::Store);
+    }
+    Ok(count as u32)
 }

@@ -3,9 +3,9 @@ use Rattle.droid_core_state.proofs.ProfileRows.{profile_there, profile_missing}
 use Rattle.droid_core_state.proofs.look_ups.profile_of.Goals as goal
 
 pub returns-in-Ok-Some-clause-found : goal.returns-in-Ok-Some-clause-found
-returns-in-Ok-Some-clause-found c = λ setting world keeps.
-    profile_there setting world c.args.store.now c.args.number keeps c.in-Ok-Some.row (sym c.in-Ok-Some.field-0-is ∙ c.in-Ok-Some.ensures.found)
+returns-in-Ok-Some-clause-found c = λ setting world number rows keeps is.
+    profile_there setting world rows number keeps c.in-Ok-Some.row (sym (rw c.in-Ok-Some.is at c.in-Ok-Some.field-0-is) ∙ (rw c.in-Ok-Some.is at is))
 
 pub returns-in-Ok-None-clause-found : goal.returns-in-Ok-None-clause-found
-returns-in-Ok-None-clause-found c = λ setting world keeps.
-    (refl, profile_missing setting world c.args.store.now c.args.number keeps (sym c.in-Ok-None.field-0-is ∙ c.in-Ok-None.ensures.found))
+returns-in-Ok-None-clause-found c = λ setting world number rows keeps is.
+    (refl, profile_missing setting world rows number keeps (sym (rw c.in-Ok-None.is at c.in-Ok-None.field-0-is) ∙ (rw c.in-Ok-None.is at is)))

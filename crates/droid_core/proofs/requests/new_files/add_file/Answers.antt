@@ -10,27 +10,27 @@ use Rattle.droid_core.proofs.requests.new_files.add_file.Goals as goal
 
 pub returns-in_err-row-clause-comes : goal.returns-in_err-row-clause-comes
 returns-in_err-row-clause-comes c = λ setting world is.
-    let verdict = file_nowhere setting world c.args.number c.args.parent c.args.modified c.args.size c.args.piece_size c.args.name _ (c.in_err-row.ensures.found setting world is.rows) in
+    let verdict = file_nowhere setting world c.args.number c.args.parent c.args.modified c.args.size c.args.piece_size c.args.name _ (c.in_err-row.ensures.found setting world c.args.number c.args.parts.now.store is.rows c.profile.ensures.found) in
     let failed = err_from_is_err_and c.from_residual.result c.from_residual.ensures.1 in
-    rw (failed.1, failed.2) (comes_refused setting world _ _ c.args.stamp _ _ verdict (stays setting world _ _ refl refl c.profile_of.ensures.same refl is))
+    rw (failed.1, failed.2) (comes_refused setting world _ _ c.args.stamp _ _ verdict (stays setting world _ _ refl refl c.profile.ensures.same refl is))
 
 pub returns-in_err-path-clause-comes : goal.returns-in_err-path-clause-comes
 returns-in_err-path-clause-comes c = λ setting world is.
-    let store = c.place_of.ensures.same ∙ c.profile_of.ensures.same in
-    let has = c.in_ok-row.ensures.found setting world is.rows in
-    let finds = c.in_err-path.ensures.found setting world has.profile (rw c.profile_of.ensures.same is.rows) is.sound has.there in
+    let store = c.place_of.ensures.same ∙ c.profile.ensures.same in
+    let has = c.in_ok-row.ensures.found setting world c.args.number c.args.parts.now.store is.rows c.profile.ensures.found in
+    let finds = c.in_err-path.ensures.found setting world has.profile (rw c.profile.ensures.same is.rows) is.sound has.there in
     let verdict = file_misplaced setting world c.args.number c.args.parent c.args.modified c.args.size c.args.piece_size c.args.name has.profile has.there _ (rw c.as_str.ensures.value at finds) in
     let failed = err_from_is_err_and c.from_residual-in_err-path.result c.from_residual-in_err-path.ensures.1 in
     rw (failed.1, failed.2) (comes_refused setting world _ _ c.args.stamp _ _ verdict (stays setting world _ _ refl refl store refl is))
 
 pub returns-in-Some-clause-comes : goal.returns-in-Some-clause-comes
 returns-in-Some-clause-comes c = λ setting world is.
-    let store = c.place_of.ensures.same ∙ c.profile_of.ensures.same in
-    let has = c.in_ok-row.ensures.found setting world is.rows in
+    let store = c.place_of.ensures.same ∙ c.profile.ensures.same in
+    let has = c.in_ok-row.ensures.found setting world c.args.number c.args.parts.now.store is.rows c.profile.ensures.found in
     let limit = c.node_room-nodes.ensures.limit ∙ sym (ap (λ (limits : Limits). limits.nodes) is.is_setting.limits) in
     let count = c.node_room-nodes.ensures.count ∙ ap (λ (row : ProfileRow). row.nodes) has.row_is in
     let most = c.unfinished_room-unfinished.ensures.limit ∙ sym (ap (λ (limits : Limits). limits.unfinished) is.is_setting.limits) in
-    let finds = c.in_ok-path.ensures.found setting world has.profile (rw c.profile_of.ensures.same is.rows) is.sound has.there in
+    let finds = c.in_ok-path.ensures.found setting world has.profile (rw c.profile.ensures.same is.rows) is.sound has.there in
     let place = rw c.as_str.ensures.value at finds.0 in
     let refused = sym (c.in-Some.ensures.first setting.limits world has.profile.nodes c.args.parent c.args.name limit count most (c.unfinished_room-unfinished.ensures.count ∙ is.files.count) place) in
     let verdict = file_refused setting world c.args.number c.args.parent c.args.modified c.args.size c.args.piece_size c.args.name has.profile has.there c.in-Some.refusal (rw (to_z-of_z w64 c.args.modified c.ranges.modified) at refused) in
@@ -38,12 +38,12 @@ returns-in-Some-clause-comes c = λ setting world is.
 
 pub returns-in-Ok-clause-comes : goal.returns-in-Ok-clause-comes
 returns-in-Ok-clause-comes c = λ setting world is.
-    let store = c.place_of.ensures.same ∙ c.profile_of.ensures.same in
-    let has = c.in_ok-row.ensures.found setting world is.rows in
+    let store = c.place_of.ensures.same ∙ c.profile.ensures.same in
+    let has = c.in_ok-row.ensures.found setting world c.args.number c.args.parts.now.store is.rows c.profile.ensures.found in
     let limit = c.node_room-nodes.ensures.limit ∙ sym (ap (λ (limits : Limits). limits.nodes) is.is_setting.limits) in
     let counted = ap (λ (row : ProfileRow). row.nodes) has.row_is in
     let most = c.unfinished_room-unfinished.ensures.limit ∙ sym (ap (λ (limits : Limits). limits.unfinished) is.is_setting.limits) in
-    let finds = c.in_ok-path.ensures.found setting world has.profile (rw c.profile_of.ensures.same is.rows) is.sound has.there in
+    let finds = c.in_ok-path.ensures.found setting world has.profile (rw c.profile.ensures.same is.rows) is.sound has.there in
     let place = rw c.as_str.ensures.value at finds.0 in
     let way = rw c.as_str.ensures.value at finds.1 in
     let allowed = sym (c.in_default.ensures.first setting.limits world has.profile.nodes c.args.parent c.args.name limit (c.node_room-nodes.ensures.count ∙ counted) most (c.unfinished_room-unfinished.ensures.count ∙ is.files.count) place) in
