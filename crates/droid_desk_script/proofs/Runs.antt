@@ -18,7 +18,7 @@ use Rattle.droid_core.specs.Histories.{History, command, answer, next, Handles}
 use Rattle.droid_desk_lines.specs.Lines.{lines_of}
 use Rattle.droid_desk_lines.specs.Lines.{line_value}
 use Rattle.droid_desk_lines.specs.Printed.{answer_line}
-use Rattle.droid_desk_script.specs.Scripts.{frame_of, ScriptRun, script_text, LineAnswered, WritesFront, RunsAll, RunsFront, is_bad, Counts, StandsForSome}
+use Rattle.droid_desk_script.specs.Scripts.{frame_of, ScriptRun, script_text, LineAnswered, WritesFront, RunsAll, RunsFront, is_bad, Counts, GoesOnFrom}
 use Rattle.droid_core.specs.Standing.{StandsFor, limits_of, registry_of}
 use Rattle.droid_core.specs.Wants.{is_want}
 
@@ -252,7 +252,27 @@ frame_is line frame bytes spells sender =
 
 -- ---- after the script
 
-pub kept_up : {T E : Type 0} (r : Result T E) (setting : Setting) (history : History) (lines : List (List ℕ)) (service : Service) (old new : Option (List ℕ))
-    → OnOk r (RunsAll setting history lines service old new) → OnErr r (RunsFront setting history lines service old new) → StandsForSome setting service
-kept_up (Ok x) setting history lines service old new all front = (all.after, all.stands)
-kept_up (Err e) setting history lines service old new all front = (front.after, front.stands)
+-- all lines are a front of them
+runs_all : (setting : Setting) (history : History) (lines : List (List ℕ)) (service : Service) (old new : Option (List ℕ)) → RunsAll setting history lines service old new → RunsFront setting history lines service old new
+runs_all setting history lines service old new all = record {
+  front = lines;
+  rest = [];
+  cut = sym (append-nil lines);
+  replies = all.replies;
+  after = all.after;
+  run = all.run;
+  stands = all.stands;
+  written = script_text all.replies;
+  unwritten = [];
+  text = sym (append-nil (script_text all.replies));
+  writes = all.writes;
+}
+
+pub goes_on : {T E : Type 0} (r : Result T E) (setting : Setting) (history : History) (lines : List (List ℕ)) (service : Service) (old new : Option (List ℕ))
+    → OnOk r (RunsAll setting history lines service old new) → OnErr r (RunsFront setting history lines service old new) → GoesOnFrom setting history service old new
+goes_on (Ok x) setting history lines service old new all front = record { lines = lines; ran = runs_all setting history lines service old new all }
+goes_on (Err e) setting history lines service old new all front = record { lines = lines; ran = front }
+
+-- before any line
+pub goes_nowhere : (setting : Setting) (history : History) (service : Service) (bytes : Option (List ℕ)) → StandsFor setting service history → GoesOnFrom setting history service bytes bytes
+goes_nowhere setting history service bytes stands = record { lines = []; ran = runs_nothing setting history [] service bytes stands }

@@ -84,9 +84,15 @@ pub record RunsFront (setting : Setting) (history : History) (lines : List (List
   pub text : script_text replies ≡ written ++ unwritten
   pub writes : Appends old new written
 
--- the service stands for some history
-abbrev pub StandsForSome : Setting → Service → Type 0
-StandsForSome setting service = (history : History) × StandsFor setting service history
+-- some lines ran, one after the other, and the first bytes of what they print were written: what is known of a script that
+-- isn't known
+pub record GoesOnFrom (setting : Setting) (history : History) (service : Service) (old new : Option (List ℕ)) : Type 0 where
+  pub lines : List (List ℕ)
+  pub ran : RunsFront setting history lines service old new
+
+-- what a line prints was written
+abbrev pub WritesAnswer : {S : Type 0} → (S → Option (List ℕ)) → Option Reply → S → S → Type 0
+WritesAnswer contents answer old new = Appends (contents old) (contents new) (answer_line answer)
 
 -- longer than 67,108,864 bytes
 abbrev pub IsTooLong : List ℕ → Type 0

@@ -1,13 +1,13 @@
 //! Scripts: requests as lines of text, and their replies as lines of text.
 #![tactic(auto)]
 
-ghost use Rattle.std.specs.Prelude.{◌≡◌, ◌≢◌, length, IfOk, IfSome, IfErr, OnOk, IsErrOf, IsErrAnd};
+ghost use Rattle.std.specs.Prelude.{◌≡◌, ◌≢◌, None, length, IfOk, IfSome, IfErr, OnOk, IsErrOf, IsErrAnd};
 ghost use Rattle.droid_frame.specs.Seen.{IsSound, TellsFault};
 ghost use Rattle.droid_core.specs.Histories.{History};
 ghost use Rattle.droid_core.specs.Setting.{Setting};
 ghost use Rattle.droid_desk_lines.specs.Lines.{lines_of};
-ghost use Rattle.droid_desk_script.specs.Scripts.{RunsAll, RunsFront, Counts, IsOfHandling, IsOfReading, IsTooLong, StandsForSome};
-ghost use Rattle.droid_frame.specs.Over.{TellsFaultOver};
+ghost use Rattle.droid_desk_script.specs.Scripts.{RunsAll, RunsFront, Counts, GoesOnFrom, IsOfHandling, IsOfReading, IsTooLong, WritesAnswer};
+ghost use Rattle.droid_wire.specs.InTurn.{AtMost, TellsFaultInTurn};
 ghost use Rattle.droid_core.specs.Standing.{StandsFor, limits_of, registry_of};
 
 mod fault;
@@ -48,11 +48,13 @@ pub fn script<R: SteadyRead, W: SteadyWrite>(
         IsErrAnd result (λ fault. (fault ≢ ScriptFault.Write) × (service.new ≡ service.old) × (writer.new ≡ writer.old))) }
     // The reader is said to have failed exactly where it did, or was interrupted for the 65th time.
     ensures read_fault { IsSound (R.seen reader.old) → TellsFault (R.seen reader.old).interruptions (R.seen reader.new) (IsErrOf result ScriptFault.Read) }
-    // So is a writer with no end of room, of which 64 interruptions are tried again for each reply.
-    ensures write_fault { IsSound (W.seen writer.old) → W.room writer.old ≡ None → IfSome (R.remaining reader.old) (λ input.
-        TellsFaultOver (W.seen writer.old).interruptions (length (lines_of input)) (W.seen writer.new) (IsErrOf result ScriptFault.Write)) }
-    // Whatever comes, the service stands for some history.
-    ensures stands { (setting : Setting) → StandsForSome setting service.old → StandsForSome setting service.new }
+    // So is a writer with no end of room, line after line, where it was interrupted for the 65th time since what that
+    // line prints began.
+    ensures write_fault { IsSound (W.seen writer.old) → W.room writer.old ≡ None →
+        TellsFaultInTurn W.seen (WritesAnswer W.contents) (AtMost (R.remaining reader.old) (λ input. length (lines_of input))) writer.old writer.new (IsErrOf result ScriptFault.Write) }
+    // Whatever comes, also of an input that isn't known, the service goes on from its history by some lines.
+    ensures goes_on { (setting : Setting) (history : History) → StandsFor setting service.old history →
+        GoesOnFrom setting history service.new (W.contents writer.old) (W.contents writer.new) }
     ensures limits { limits_of service.new ≡ limits_of service.old }
     ensures registry { registry_of service.new ≡ registry_of service.old }
 {

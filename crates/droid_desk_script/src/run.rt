@@ -1,12 +1,13 @@
 //! The lines of a script, one after the other.
 
-ghost use Rattle.std.specs.Prelude.{◌≡◌, ◌∷◌, [], IfOk, IfErr, IsErrOf, OnOk, OnErr, is_none, length};
+ghost use Rattle.std.specs.Prelude.{◌≡◌, ◌≤◌, ◌∷◌, [], None, Option, IfOk, IfErr, IsErrOf, OnOk, OnErr, is_none, length};
 ghost use Rattle.droid_frame.specs.Seen.{IsSound, TellsFault};
 ghost use Rattle.droid_core.specs.Histories.{History};
 ghost use Rattle.droid_core.specs.Setting.{Setting};
 ghost use Rattle.droid_desk_lines.specs.Lines.{lines_of, line_value};
-ghost use Rattle.droid_desk_script.specs.Scripts.{RunsAll, RunsFront, LineAnswered, Counts, IsOfHandling, is_bad};
-ghost use Rattle.droid_frame.specs.Over.{TellsFaultOver};
+ghost use Rattle.droid_desk_script.specs.Scripts.{RunsAll, RunsFront, LineAnswered, Counts, IsOfHandling, WritesAnswer, is_bad};
+ghost use Rattle.droid_frame.specs.types.reply.Reply.{Reply};
+ghost use Rattle.droid_wire.specs.InTurn.{TellsFaultInTurn};
 ghost use Rattle.droid_core.specs.Standing.{StandsFor, limits_of, registry_of};
 
 use crate::fault::ScriptFault;
@@ -31,7 +32,7 @@ pub fn run_lines<W: SteadyWrite>(
     ensures limits { limits_of service.new ≡ limits_of service.old }
     ensures registry { registry_of service.new ≡ registry_of service.old }
     ensures told { IsSound (W.seen writer.old) → W.room writer.old ≡ None →
-        TellsFaultOver (W.seen writer.old).interruptions (length (lines_of input.now)) (W.seen writer.new) (IsErrOf result ScriptFault.Write) }
+        TellsFaultInTurn W.seen (WritesAnswer W.contents) (λ count. count ≤ length (lines_of input.now)) writer.old writer.new (IsErrOf result ScriptFault.Write) }
     ensures handling { IfErr result IsOfHandling }
 {
     let mut tally = Tally { lines: 0, bad: 0 };
@@ -63,6 +64,7 @@ fn run_line<W: SteadyWrite>(
     ensures registry { registry_of service.new ≡ registry_of service.old }
     ensures told { IsSound (W.seen writer.old) → W.room writer.old ≡ None →
         TellsFault (W.seen writer.old).interruptions (W.seen writer.new) (IsErrOf result ScriptFault.Write) × (W.room writer.new ≡ None) }
+    ensures wrote { OnOk result ((answer : Option Reply) × WritesAnswer W.contents answer writer.old writer.new) }
     ensures handling { IfErr result IsOfHandling }
 {
     let answer = handle_line(alloc, service, line)?;

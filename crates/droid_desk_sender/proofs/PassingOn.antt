@@ -1,7 +1,12 @@
 -- A fault that is passed on.
 use Rattle.std.proofs.Common.{◌≡◌, List, ℕ, Option, Result, Ok, Err, IfErr, IsErrOf, refl, sym, subst}
 use Rattle.std.specs.Prelude.{IsErrAnd}
+use Rattle.droid_frame.specs.Seen.{Counts, GivesUp, TellsFault}
+use Rattle.droid_frame.specs.stream_types.seen.Seen.{Seen}
+use Rattle.droid_frame.proofs.Scopes.{lasts}
 use Rattle.droid_wire.specs.Cores.{Core}
+use Rattle.droid_desk_sender.specs.Reading.{CountsUnless}
+use Rattle.droid_desk_sender.specs.Sending.{IsOfReading}
 use Rattle.droid_desk_sender.specs.declared.fault.SendFault.{SendFault}
 use Rattle.droid_desk_sender.specs.declared.fault.SendFault.TheVariants.{Lines}
 use Rattle.droid_desk_sender.specs.Stopping.{LineStops}
@@ -26,3 +31,22 @@ stops_not_reading {T} r fault core line input left old_frames new_frames old_tex
     let here : LineStops Lines core line input left old_frames new_frames old_text new_text after =
     subst (λ (f : SendFault). LineStops f core line input left old_frames new_frames old_text new_text after) (fault_is r fault Lines is that) stops in
     here.stops
+
+-- a fault of another stream is not of reading lines
+pub of_reading : {T : Type 0} (r : Result T SendFault) (fault of : SendFault) → IsErrAnd r (λ e. e ≡ fault) → IsOfReading fault → IsErrOf r of → IsOfReading of
+of_reading {T} r fault of is reading that = subst IsOfReading (fault_is r fault of is that) reading
+
+-- ---- the count over all lines
+
+pub unless_not : (start : ℕ) (seen : Seen) (count : ℕ) (P : Type 0) → (P → ⊥) → Counts start seen count → CountsUnless start seen count P
+unless_not start seen count P not counts = record { fault = λ p. absurd (not p); otherwise = λ _. counts }
+
+pub unless_given_up : (start : ℕ) (seen : Seen) (count : ℕ) (P : Type 0) → P → GivesUp start seen → CountsUnless start seen count P
+unless_given_up start seen count P is up = record { fault = λ _. up; otherwise = λ not. absurd (not is) }
+
+-- the count ends with this answer
+pub told_unless : (start : ℕ) (seen : Seen) (count : ℕ) (P Q : Type 0) → CountsUnless start seen count Q → (P → Q) → (Q → P) → TellsFault start seen P
+told_unless start seen count P Q unless to from = record {
+  fault = λ p. unless.fault (to p);
+  otherwise = λ not. lasts start seen count (unless.otherwise (λ q. not (from q)));
+}

@@ -7,6 +7,7 @@ use Rattle.std.proofs.KnownBytes.{Appends-nil, Appends-trans, Consumes-nil, Cons
 use Rattle.std.proofs.lemmas.Grind.{flat_map-append}
 use Rattle.std.proofs.lemmas.List.Sums.{sum_by-append}
 use Rattle.droid_wire.specs.Cores.{Core}
+use Rattle.droid_wire.specs.InTurn.{AtMost}
 use Rattle.droid_desk_lines.specs.Lines.{lines_of}
 use Rattle.droid_desk_sender.specs.declared.fault.SendFault.{SendFault}
 use Rattle.droid_desk_sender.specs.declared.tally.Tally.{Tally}
@@ -155,11 +156,20 @@ stopped fault core middle after script rest more input left now old_frames frame
     }
 
 -- there are at least as many lines as were sent
-pub along : (core after : Core) (script rest input left old_frames frames old_text text : Option (List ℕ)) (tally : Tally) (count : ℕ)
-    → SoFar core script rest input left old_frames frames old_text text after tally → count ≤ tally.lines + 1 → IfSome script (λ known. count ≤ length (lines_of known) + 1)
-along core after None rest input left old_frames frames old_text text tally count so_far within = tt
-along core after (Some known) rest input left old_frames frames old_text text tally count so_far within =
-    omega (arith, within, so_far.counts.lines_are, ap (λ (ls : List (List ℕ)). length ls) so_far.are.2, length-append so_far.lines (lines_of so_far.are.0))
+pub lines_within : (core after : Core) (script rest input left old_frames frames old_text text : Option (List ℕ)) (tally : Tally)
+    → SoFar core script rest input left old_frames frames old_text text after tally → AtMost script (λ known. length (lines_of known)) tally.lines
+lines_within core after None rest input left old_frames frames old_text text tally so_far = tt
+lines_within core after (Some known) rest input left old_frames frames old_text text tally so_far =
+    omega (arith, so_far.counts.lines_are, ap (λ (ls : List (List ℕ)). length ls) so_far.are.2, length-append so_far.lines (lines_of so_far.are.0))
+
+-- and one more, where one was found
+pub line_found : (core after : Core) (script rest more input left old_frames frames old_text text : Option (List ℕ)) (line : List ℕ) (tally : Tally)
+    → SoFar core script rest input left old_frames frames old_text text after tally → IfSome rest (λ unread. GivesLine unread more (Some line))
+    → AtMost script (λ known. length (lines_of known)) (tally.lines + 1)
+line_found core after None rest more input left old_frames frames old_text text line tally so_far gives = tt
+line_found core after (Some known) rest more input left old_frames frames old_text text line tally so_far gives =
+    let others = others_here (Some known) rest more so_far.lines line so_far.are gives in
+    omega (arith, so_far.counts.lines_are, ap (λ (ls : List (List ℕ)). length ls) others.1, length-append so_far.lines (line ∷ others.0))
 
 -- ---- what a turn of the loop gives
 

@@ -1,11 +1,16 @@
--- Streams over the lines of a script, in each of which 64 interruptions are tried again.
-use Rattle.std.specs.Prelude.{ℕ, ◌+◌, ◌≤◌, List, length, Option, IfSome}
-use Rattle.droid_frame.specs.stream_types.seen.Seen.{Seen}
-use Rattle.droid_frame.specs.Over.{TellsFaultOver}
-use Rattle.droid_desk_lines.specs.Lines.{lines_of}
+-- What each line of a script does to the streams (this project's own).
+use Rattle.std.specs.Prelude.{ℕ, List, Option}
+use Rattle.std.specs.Io.KnownBytes.{Appends, Consumes}
+use Rattle.droid_desk_sender.specs.Exchanges.{Exchange, came_bytes, printed, sent_bytes}
 
--- a fault of the stream comes exactly where it is given up over at most one for each line of a script, and one for its end, where the script is known
-pub record TellsFaultAlong (script : Option (List ℕ)) (start : ℕ) (seen : Seen) (is_fault : Type 0) : Type 0 where
-  pub count : ℕ
-  pub within : IfSome script (λ known. count ≤ length (lines_of known) + 1)
-  pub told : TellsFaultOver start count seen is_fault
+-- the frame of its reply was read, unless the line is bad
+abbrev pub ReadsReply : {S : Type 0} → (S → Option (List ℕ)) → Option Exchange → S → S → Type 0
+ReadsReply remaining exchange old new = Consumes (remaining old) (remaining new) (came_bytes exchange)
+
+-- its request's frame was written, unless the line is bad
+abbrev pub WritesRequest : {S : Type 0} → (S → Option (List ℕ)) → Option Exchange → S → S → Type 0
+WritesRequest contents exchange old new = Appends (contents old) (contents new) (sent_bytes exchange)
+
+-- what it prints was written
+abbrev pub WritesPrinted : {S : Type 0} → (S → Option (List ℕ)) → Option Exchange → S → S → Type 0
+WritesPrinted contents exchange old new = Appends (contents old) (contents new) (printed exchange)

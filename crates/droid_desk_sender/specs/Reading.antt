@@ -1,6 +1,8 @@
 -- What a reader of lines gives of a script, one line at a time (this project's own).
 use Rattle.std.specs.Prelude.{◌≡◌, ℕ, Bool, true, false, List, [], ◌∷◌, ◌++◌, Option, Some, None}
 use Rattle.std.specs.List.{AllByRecursion}
+use Rattle.droid_frame.specs.Seen.{Counts, GivesUp}
+use Rattle.droid_frame.specs.stream_types.seen.Seen.{Seen}
 use Rattle.droid_desk_lines.specs.Lines.{is_line_feed, lines_of}
 
 -- the next line of what was left of a script came, and this is left then; or no line was left
@@ -12,6 +14,11 @@ GivesLine script left (Some line) = (rest : List ℕ) × (left ≡ Some rest) ×
 abbrev pub where_some : List ℕ → Option (List ℕ)
 where_some [] = None
 where_some (byte ∷ bytes) = Some (byte ∷ bytes)
+
+-- a fault of the reader comes exactly where it is given up; with any other answer the count of its interruptions goes on
+pub record CountsUnless (start : ℕ) (seen : Seen) (count : ℕ) (is_fault : Type 0) : Type 0 where
+  pub fault : is_fault → GivesUp start seen
+  pub otherwise : (is_fault → ⊥) → Counts start seen count
 
 -- ---- for proofs: the parts of a line
 

@@ -4,9 +4,9 @@ ghost use Rattle.std.specs.Prelude.{◌≡◌, ◌<◌, ◌≤◌, ◌-◌, ℕ,
 ghost use Rattle.std.specs.Io.KnownBytes.{Consumes, IsAtEnd, Keeps, prepend_known};
 ghost use Rattle.std.specs.List.{position_from};
 ghost use Rattle.std.specs.Option.{option_map};
-ghost use Rattle.droid_frame.specs.Seen.{Counts, CountsOn, IsSound, TellsFault};
+ghost use Rattle.droid_frame.specs.Seen.{Counts, CountsOn};
 ghost use Rattle.droid_desk_lines.specs.Lines.{is_line_feed};
-ghost use Rattle.droid_desk_sender.specs.Reading.{GivesLine, Moves, where_some};
+ghost use Rattle.droid_desk_sender.specs.Reading.{CountsUnless, GivesLine, Moves, where_some};
 ghost use Rattle.droid_desk_sender.specs.Sending.{IsOfReading};
 
 use crate::fault::SendFault;
@@ -48,23 +48,23 @@ impl LineReader {
     }
 
     /// The next line, without its line feed, or `None` where no line is left. The last line may have no line
-    /// feed. An interrupted read is tried again, 64 times over the whole line.
+    /// feed. An interrupted read is tried again, 64 times over all lines that are read with this count.
     pub(crate) fn next_line<L: SteadyRead>(
         &mut self,
         alloc: Global,
         reader: &mut L,
+        retries: &mut Retries,
     ) -> Result<Option<Vec<u8>>, SendFault>
         ensures line { IfOk result (λ line. IfSome (prepend_known self.old (L.remaining reader.old)) (λ script.
             GivesLine script (prepend_known self.new (L.remaining reader.new)) (option_map (λ line. line.items) line))) }
         ensures faults { IfErr result IsOfReading }
-        // `Lines` comes exactly where the reader failed or was interrupted for the 65th time in this call.
-        ensures failed { IsSound (L.seen reader.old) →
-            TellsFault (L.seen reader.old).interruptions (L.seen reader.new) (IsErrOf result SendFault.Lines) }
+        // `Lines` comes exactly where the reader failed or was interrupted for the 65th time since the count began.
+        ensures counts { (start : ℕ) → Counts start (L.seen reader.old) retries.old →
+            CountsUnless start (L.seen reader.new) retries.new (IsErrOf result SendFault.Lines) }
     {
         let mut line = Vec::new(alloc);
-        let mut retries = Retries::new();
         while !self.move_line(&mut line)? {
-            if !self.refill(reader, &mut retries)? {
+            if !self.refill(reader, retries)? {
                 return Ok(last_line(line));
             }
         }

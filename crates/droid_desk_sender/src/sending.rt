@@ -1,9 +1,11 @@
 //! Sending the requests of lines, one after the other.
 
-ghost use Rattle.std.specs.Prelude.{◌≡◌, None, IfOk, IfErr, IsErrOf};
+ghost use Rattle.std.specs.Prelude.{◌≡◌, None, IfOk, IfErr, IsErrOf, length};
 ghost use Rattle.droid_frame.specs.Seen.{IsSound, TellsFault};
 ghost use Rattle.droid_frame.specs.Bodies.{Fits};
-ghost use Rattle.droid_desk_sender.specs.Along.{TellsFaultAlong};
+ghost use Rattle.droid_wire.specs.InTurn.{AtMost, TellsFaultInTurn};
+ghost use Rattle.droid_desk_lines.specs.Lines.{lines_of};
+ghost use Rattle.droid_desk_sender.specs.Along.{ReadsReply, WritesPrinted, WritesRequest};
 ghost use Rattle.droid_desk_sender.specs.Sending.{SendsAll, SendsFront};
 ghost use Rattle.droid_desk_sender.specs.Steps.{LineDone};
 ghost use Rattle.droid_desk_sender.specs.Stopping.{Exchanged, LineStops, RequestStops};
@@ -14,7 +16,7 @@ use crate::line_reader::LineReader;
 use crate::printing::{hear, print_bad, write_text};
 use crate::tally::Tally;
 use droid_desk_lines::parse_request_line;
-use droid_frame::{FrameFault, Request, SteadyRead, SteadyWrite};
+use droid_frame::{FrameFault, Request, Retries, SteadyRead, SteadyWrite};
 use droid_wire::Client;
 use std::alloc::Global;
 
@@ -36,21 +38,22 @@ pub fn send<L: SteadyRead, R: SteadyRead, F: SteadyWrite, T: SteadyWrite>(
     // With a fault, the first lines were sent, and it says what came of the next one.
     ensures front { IfErr result (λ fault. SendsFront fault client.old (L.remaining lines.old) (R.remaining replies.old) (R.remaining replies.new)
         (F.contents frames.old) (F.contents frames.new) (T.contents text.old) (T.contents text.new) client.new) }
-    // Each stream is said to have failed exactly where it did, or was interrupted for the 65th time in one line, frame or text.
-    ensures lines_fault { IsSound (L.seen lines.old) →
-        TellsFaultAlong (L.remaining lines.old) (L.seen lines.old).interruptions (L.seen lines.new) (IsErrOf result SendFault.Lines) }
-    ensures replies_fault { IsSound (R.seen replies.old) →
-        TellsFaultAlong (L.remaining lines.old) (R.seen replies.old).interruptions (R.seen replies.new) (IsErrOf result (SendFault.Replies FrameFault.Read)) }
+    // The lines are said to have failed exactly where they did, or were interrupted for the 65th time in all.
+    ensures lines_fault { IsSound (L.seen lines.old) → TellsFault (L.seen lines.old).interruptions (L.seen lines.new) (IsErrOf result SendFault.Lines) }
+    // So are the replies, line after line, where they were interrupted for the 65th time since that line's began.
+    ensures replies_fault { IsSound (R.seen replies.old) → TellsFaultInTurn R.seen (ReadsReply R.remaining) (AtMost (L.remaining lines.old) (λ script. length (lines_of script)))
+        replies.old replies.new (IsErrOf result (SendFault.Replies FrameFault.Read)) }
     // So is a writer with no end of room.
     ensures frames_fault { IsSound (F.seen frames.old) → F.room frames.old ≡ None →
-        TellsFaultAlong (L.remaining lines.old) (F.seen frames.old).interruptions (F.seen frames.new) (IsErrOf result SendFault.Frames) }
+        TellsFaultInTurn F.seen (WritesRequest F.contents) (AtMost (L.remaining lines.old) (λ script. length (lines_of script))) frames.old frames.new (IsErrOf result SendFault.Frames) }
     ensures text_fault { IsSound (T.seen text.old) → T.room text.old ≡ None →
-        TellsFaultAlong (L.remaining lines.old) (T.seen text.old).interruptions (T.seen text.new) (IsErrOf result SendFault.Text) }
+        TellsFaultInTurn T.seen (WritesPrinted T.contents) (AtMost (L.remaining lines.old) (λ script. length (lines_of script))) text.old text.new (IsErrOf result SendFault.Text) }
 {
     let mut reader = LineReader::new();
+    let mut retries = Retries::new();
     let mut tally = Tally { lines: 0, bad: 0 };
     for _ in 0..u64::MAX {
-        let Some(line) = reader.next_line(alloc, lines)? else {
+        let Some(line) = reader.next_line(alloc, lines, &mut retries)? else {
             return Ok(tally);
         };
         let is_bad = send_line(alloc, client, line.as_slice(), replies, frames, text)?;

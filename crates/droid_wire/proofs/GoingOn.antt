@@ -1,39 +1,103 @@
 -- A service goes on from a history, by one request or by what two calls have made.
-use Rattle.std.proofs.Common.{◌≡◌, Bool, true, false, List, [], ◌∷◌, ◌++◌, refl, sym, subst}
-use Rattle.std.specs.Prelude.{MatchBool}
+use Rattle.std.proofs.Common.{◌≡◌, ℕ, ◌+◌, ◌≤◌, Bool, true, false, cond, not, List, [], ◌∷◌, ◌++◌, length, refl, sym, ap, subst, ◌∙◌, arith, length-append}
+use Rattle.std.specs.List.{AllByRecursion}
 use Rattle.droid_frame.specs.types.frame.Frame.{Frame}
 use Rattle.droid_frame.specs.types.reply.Reply.{Reply}
+use Rattle.droid_frame.specs.Replies.{HasReplySpelling}
+use Rattle.droid_core.specs.Running.{NoWantOfMalformed, Runs, other_replies, without_wants}
 use Rattle.droid_core.specs.Standing.{StandsFor}
 use Rattle.droid_core.specs.declared.service.Service.{Service}
-use Rattle.droid_core.specs.Histories.{History, Handles, history_from, next}
+use Rattle.droid_core.specs.Histories.{History, Handles, answer, answers, history_from, next}
 use Rattle.droid_core.specs.Setting.{Setting}
 use Rattle.droid_core.specs.Wants.{is_want}
+use Rattle.droid_core.proofs.Running.{Runs-none, Runs-push}
 use Rattle.droid_wire.specs.Serving.{GoesOnFrom}
 
--- it stays where it is
-pub goes_nowhere : (setting : Setting) (history : History) (service : Service) → StandsFor setting service history → GoesOnFrom setting history service
-goes_nowhere setting history service stands = record { requests = []; stands = stands }
+-- ---- a run after a run
 
-by_wanting : (want : Bool) (setting : Setting) (history : History) (frame : Frame) (after : Service) (P Q : Type 0)
-    → MatchBool want (P × StandsFor setting after history) (Q × StandsFor setting after (next setting history frame)) → GoesOnFrom setting history after
-by_wanting true setting history frame after P Q handles = record { requests = []; stands = handles.1 }
-by_wanting false setting history frame after P Q handles = record { requests = frame ∷ []; stands = handles.1 }
+frames_either : (b : Bool) (frame : Frame) (left right more : List Frame) → left ≡ right ++ more → cond b left (frame ∷ left) ≡ cond b right (frame ∷ right) ++ more
+frames_either true frame left right more e = e
+frames_either false frame left right more e = ap (λ (rest : List Frame). frame ∷ rest) e
 
--- a request was handled
-pub goes_on : (setting : Setting) (history : History) (frame : Frame) (reply : Reply) (after : Service) → Handles setting history frame reply (StandsFor setting after) → GoesOnFrom setting history after
-goes_on setting history frame reply after handles = by_wanting (is_want reply) setting history frame after _ _ handles
+without_wants-append : (xs ys : List Frame) (first second : List Reply) → length first ≡ length xs → without_wants (xs ++ ys) (first ++ second) ≡ without_wants xs first ++ without_wants ys second
+without_wants-append [] ys [] second e = refl
+without_wants-append [] ys (r ∷ first) second e = absurd (omega arith)
+without_wants-append (x ∷ xs) ys [] second e = absurd (omega arith)
+without_wants-append (x ∷ xs) ys (r ∷ first) second e =
+    frames_either (is_want r) x (without_wants (xs ++ ys) (first ++ second)) (without_wants xs first) (without_wants ys second) (without_wants-append xs ys first second (omega arith))
+
+replies_either : (b : Bool) (reply : Reply) (left right more : List Reply) → left ≡ right ++ more → cond b (reply ∷ left) left ≡ cond b (reply ∷ right) right ++ more
+replies_either true reply left right more e = ap (λ (rest : List Reply). reply ∷ rest) e
+replies_either false reply left right more e = e
+
+other_replies-append : (first second : List Reply) → other_replies (first ++ second) ≡ other_replies first ++ other_replies second
+other_replies-append [] second = refl
+other_replies-append (r ∷ first) second = replies_either (not (is_want r)) r (other_replies (first ++ second)) (other_replies first) (other_replies second) (other_replies-append first second)
+
+wants-append : (xs ys : List Frame) (first second : List Reply) → length first ≡ length xs → NoWantOfMalformed xs first → NoWantOfMalformed ys second → NoWantOfMalformed (xs ++ ys) (first ++ second)
+wants-append [] ys [] second e p q = q
+wants-append [] ys (r ∷ first) second e p q = absurd (omega arith)
+wants-append (x ∷ xs) ys [] second e p q = absurd (omega arith)
+wants-append (x ∷ xs) ys (r ∷ first) second e p q = (p.0, wants-append xs ys first second (omega arith) p.1 q)
+
+spelled-append : (first second : List Reply) → AllByRecursion HasReplySpelling first → AllByRecursion HasReplySpelling second → AllByRecursion HasReplySpelling (first ++ second)
+spelled-append [] second p q = q
+spelled-append (r ∷ first) second p q = (p.0, spelled-append first second p.1 q)
 
 history_from-append : (setting : Setting) (history : History) (xs ys : List Frame) → history_from setting history (xs ++ ys) ≡ history_from setting (history_from setting history xs) ys
 history_from-append setting history [] ys = refl
 history_from-append setting history (x ∷ xs) ys = history_from-append setting (next setting history x) xs ys
 
--- and then further
-pub goes_further : (setting : Setting) (history : History) (mid after : Service) → GoesOnFrom setting history mid
-    → ((here : History) → StandsFor setting mid here → GoesOnFrom setting here after) → GoesOnFrom setting history after
-goes_further setting history mid after first next =
-    let here = history_from setting history first.requests in
-    let second = next here first.stands in
+answers-append : (setting : Setting) (history : History) (xs ys : List Frame) → answers setting history (xs ++ ys) ≡ answers setting history xs ++ answers setting (history_from setting history xs) ys
+answers-append setting history [] ys = refl
+answers-append setting history (x ∷ xs) ys = ap (λ (rest : List Reply). answer setting history x ∷ rest) (answers-append setting (next setting history x) xs ys)
+
+runs_on : (setting : Setting) (history : History) (xs ys : List Frame) (first second : List Reply) (mid after : Service) → Runs setting history xs first mid
+    → Runs setting (history_from setting history (without_wants xs first)) ys second after → Runs setting history (xs ++ ys) (first ++ second) after
+runs_on setting history xs ys first second mid after one two =
+    let kept = without_wants-append xs ys first second one.count in
+    let here = history_from setting history (without_wants xs first) in
+    let joined : other_replies first ++ other_replies second ≡ answers setting history (without_wants xs first) ++ answers setting here (without_wants ys second) =
+    ap (λ (rs : List Reply). rs ++ other_replies second) one.answered ∙ ap (λ (rs : List Reply). answers setting history (without_wants xs first) ++ rs) two.answered in
     record {
-      requests = first.requests ++ second.requests;
-      stands = subst (StandsFor setting after) (sym (history_from-append setting history first.requests second.requests)) second.stands;
+      count = omega (arith, one.count, two.count, length-append first second, length-append xs ys);
+      spelled = spelled-append first second one.spelled two.spelled;
+      wants = wants-append xs ys first second one.count one.wants two.wants;
+      answered = other_replies-append first second ∙ (joined ∙ (sym (answers-append setting history (without_wants xs first) (without_wants ys second)) ∙ ap (answers setting history) (sym kept)));
+      stands = subst (λ (fs : List Frame). StandsFor setting after (history_from setting history fs)) (sym kept)
+          (subst (StandsFor setting after) (sym (history_from-append setting history (without_wants xs first) (without_wants ys second))) two.stands);
     }
+
+-- ---- the service goes on
+
+-- it stays where it is
+pub goes_nowhere : (setting : Setting) (history : History) (most : ℕ) (service : Service) → StandsFor setting service history → GoesOnFrom setting history most service
+goes_nowhere setting history most service stands = record { requests = []; replies = []; within = omega arith; runs = Runs-none setting history service stands }
+
+-- a request was handled
+pub goes_on : (setting : Setting) (history : History) (before after : Service) (frame : Frame) (reply : Reply) → StandsFor setting before history → Handles setting history frame reply (StandsFor setting after)
+    → HasReplySpelling reply → GoesOnFrom setting history 1 after
+goes_on setting history before after frame reply stands handles spelled = record {
+  requests = frame ∷ [];
+  replies = reply ∷ [];
+  within = omega arith;
+  runs = Runs-push setting history [] [] before after frame reply (Runs-none setting history before stands) handles spelled;
+}
+
+-- and then further
+pub goes_further : (setting : Setting) (history : History) (first second most : ℕ) (mid after : Service) → first + second ≤ most → GoesOnFrom setting history first mid
+    → ((here : History) → StandsFor setting mid here → GoesOnFrom setting here second after) → GoesOnFrom setting history most after
+goes_further setting history first second most mid after enough one next =
+    let here = history_from setting history (without_wants one.requests one.replies) in
+    let two = next here one.runs.stands in
+    record {
+      requests = one.requests ++ two.requests;
+      replies = one.replies ++ two.replies;
+      within = omega (arith, enough, one.within, two.within, length-append one.requests two.requests);
+      runs = runs_on setting history one.requests two.requests one.replies two.replies mid after one.runs two.runs;
+    }
+
+-- by no more than these
+pub goes_within : (setting : Setting) (history : History) (count most : ℕ) (service : Service) → count ≤ most → GoesOnFrom setting history count service → GoesOnFrom setting history most service
+goes_within setting history count most service enough on =
+    record { requests = on.requests; replies = on.replies; within = omega (arith, enough, on.within); runs = on.runs }

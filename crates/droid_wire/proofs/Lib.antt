@@ -4,6 +4,7 @@ pub mod AnswersOnce
 pub mod Ends
 pub mod GoingOn
 pub mod Held
+pub mod InTurn
 pub mod Invariant
 pub mod Passing
 pub mod ReadStreams

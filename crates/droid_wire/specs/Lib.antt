@@ -3,6 +3,7 @@ pub use Rattle.droid_wire_client.specs.Cores
 pub use Rattle.droid_wire_client.specs.Places
 pub use Rattle.droid_wire_client.specs.declared as client_types
 pub mod Desks
+pub mod InTurn
 pub mod Schedules
 pub mod Serving
 pub mod Steps

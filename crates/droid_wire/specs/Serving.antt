@@ -9,9 +9,8 @@ use Rattle.droid_frame.specs.Frames.{frame_bytes}
 use Rattle.droid_frame.specs.types.frame.Frame.{Frame}
 use Rattle.droid_frame.specs.types.reply.Reply.{Reply}
 use Rattle.droid_core.specs.Running.{Runs}
-use Rattle.droid_core.specs.Standing.{StandsFor}
 use Rattle.droid_core.specs.declared.service.Service.{Service}
-use Rattle.droid_core.specs.Histories.{History, history_from}
+use Rattle.droid_core.specs.Histories.{History}
 use Rattle.droid_core.specs.Setting.{Setting}
 use Rattle.droid_wire.specs.declared.ended.Ended.{Ended}
 use Rattle.droid_wire.specs.declared.ended.Ended.TheVariants.{Closed, Turns}
@@ -66,7 +65,10 @@ Outcome setting history turns input left old new after (Err (faults.Frame fault)
     Serves setting history input old new after (λ count rest. (count < turns) × Tells fault rest × ReadsNoFrame (Some rest) left)
 Outcome setting history turns input left old new after (Err (faults.Write written)) = ServesCut setting history turns input left old new after written
 
--- the service stands for the history after some requests more
-pub record GoesOnFrom (setting : Setting) (history : History) (service : Service) : Type 0 where
+-- requests more were handled, at most so many, in order and each with one reply; the service stands for the history after
+-- them, but for those that were refused for want of memory
+pub record GoesOnFrom (setting : Setting) (history : History) (most : ℕ) (service : Service) : Type 0 where
   pub requests : List Frame
-  pub stands : StandsFor setting service (history_from setting history requests)
+  pub replies : List Reply
+  pub within : length requests ≤ most
+  pub runs : Runs setting history requests replies service

@@ -1,11 +1,13 @@
 //! Answering the frames of a stream.
 
 ghost use Rattle.std.specs.Prelude.{◌≡◌, ◌+◌, ◌*◌, ◌≤◌, ℕ, None, IfSome, IfOk, IsErrOf, IsErrAnd};
+ghost use Rattle.droid_frame.specs.types.frame.Frame.{Frame};
+ghost use Rattle.droid_frame.specs.types.reply.Reply.{Reply};
 ghost use Rattle.droid_frame.specs.Seen.{IsSound, TellsFault};
 ghost use Rattle.droid_core.specs.Standing.{StandsFor, limits_of, registry_of};
 ghost use Rattle.droid_core.specs.Histories.{History};
 ghost use Rattle.droid_core.specs.Setting.{Setting};
-ghost use Rattle.droid_frame.specs.Over.{TellsFaultOver};
+ghost use Rattle.droid_wire.specs.InTurn.{ReadsFrame, TellsFaultInTurn, WritesReply};
 ghost use Rattle.droid_wire.specs.Serving.{GoesOnFrom, Outcome};
 ghost use Rattle.droid_wire.specs.Steps.{TurnGives};
 
@@ -28,14 +30,15 @@ pub fn serve<R: SteadyRead, W: SteadyWrite>(
     // Frames from the front of the input were handled as in a run, and their reply frames were written; the end says why no more.
     ensures outcome { (setting : Setting) (history : History) → StandsFor setting service.old history → IfSome (R.remaining reader.old) (λ input.
         Outcome setting history turns input (R.remaining reader.new) (W.contents writer.old) (W.contents writer.new) service.new result) }
-    // The reader is said to have failed exactly where it did, or was interrupted for the 65th time in one frame.
+    // Frame after frame, the reader is said to have failed exactly where it did, or was interrupted for the 65th time
+    // since that frame began.
     ensures read_fault { IsSound (R.seen reader.old) →
-        TellsFaultOver (R.seen reader.old).interruptions turns (R.seen reader.new) (IsErrOf result (ServeFault.Frame FrameFault.Read)) }
-    // So is a writer with no end of room.
+        TellsFaultInTurn R.seen (ReadsFrame R.remaining) (λ count. count ≤ turns) reader.old reader.new (IsErrOf result (ServeFault.Frame FrameFault.Read)) }
+    // So is a writer with no end of room, reply after reply.
     ensures write_fault { IsSound (W.seen writer.old) → W.room writer.old ≡ None →
-        TellsFaultOver (W.seen writer.old).interruptions turns (W.seen writer.new) (IsErrAnd result (λ fault. (written : ℕ) × (fault ≡ ServeFault.Write written))) }
-    // Whatever comes, also of an input that isn't known, the service goes on from its history.
-    ensures goes_on { (setting : Setting) (history : History) → StandsFor setting service.old history → GoesOnFrom setting history service.new }
+        TellsFaultInTurn W.seen (WritesReply W.contents) (λ count. count ≤ turns) writer.old writer.new (IsErrAnd result (λ fault. (written : ℕ) × (fault ≡ ServeFault.Write written))) }
+    // Whatever comes, also of an input that isn't known, the service goes on from its history by at most so many requests.
+    ensures goes_on { (setting : Setting) (history : History) → StandsFor setting service.old history → GoesOnFrom setting history turns service.new }
     ensures limits { limits_of service.new ≡ limits_of service.old }
     ensures registry { registry_of service.new ≡ registry_of service.old }
 {
@@ -66,7 +69,9 @@ fn answer_next<R: SteadyRead, W: SteadyWrite>(
         TellsFault (R.seen reader.old).interruptions (R.seen reader.new) (IsErrOf result (ServeFault.Frame FrameFault.Read)) }
     ensures write_fault { IsSound (W.seen writer.old) → W.room writer.old ≡ None →
         TellsFault (W.seen writer.old).interruptions (W.seen writer.new) (IsErrAnd result (λ fault. (cut : ℕ) × (fault ≡ ServeFault.Write cut))) × (W.room writer.new ≡ None) }
-    ensures goes_on { (setting : Setting) (history : History) → StandsFor setting service.old history → GoesOnFrom setting history service.new }
+    ensures read { IfOk result (λ answered. IfSome answered (λ _. (frame : Frame) × ReadsFrame R.remaining frame reader.old reader.new)) }
+    ensures wrote { IfOk result (λ answered. IfSome answered (λ _. (sent : Frame × Reply) × WritesReply W.contents sent writer.old writer.new)) }
+    ensures goes_on { (setting : Setting) (history : History) → StandsFor setting service.old history → GoesOnFrom setting history 1 service.new }
     ensures limits { limits_of service.new ≡ limits_of service.old }
     ensures registry { registry_of service.new ≡ registry_of service.old }
 {

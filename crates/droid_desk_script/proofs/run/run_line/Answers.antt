@@ -60,3 +60,11 @@ returns-clause-told g c = λ sound endless.
     let still = c.in_ok-write_all.ensures.counts old.interruptions counts in
     let none = room_stays _ _ (rw endless at c.in_ok-write_all.ensures.room_ok) in
     (told_none old.interruptions new _ _ (λ e. absurd cc) still, none)
+
+pub returns-clause-wrote : goal.returns-clause-wrote
+returns-clause-wrote g c =
+    let answer = c.in_ok-answer.answer in
+    let old = g.W.Write.contents c.args.writer.now in
+    let new = g.W.Write.contents c.write_all.new.writer in
+    let text : c.as_slice.result.now ≡ answer_line answer = c.as_slice.ensures.value ∙ c.in_ok-printed.ensures in
+    (answer, subst (Appends old new) text c.in_ok-write_all.ensures.ok)

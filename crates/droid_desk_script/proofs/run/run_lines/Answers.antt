@@ -1,7 +1,7 @@
-use Rattle.std.proofs.Common.{rules, ◌≡◌, true, false, length, refl, arith}
-use Rattle.droid_desk_script.specs.Scripts.{is_bad}
+use Rattle.std.proofs.Common.{rules, ℕ, ◌≡◌, ◌≤◌, true, false, length, refl, arith}
+use Rattle.droid_desk_script.specs.Scripts.{WritesAnswer, is_bad}
 use Rattle.droid_desk_lines.specs.Lines.{lines_of}
-use Rattle.droid_frame.proofs.Lasting.{lasts_next, told_none, told_over}
+use Rattle.droid_wire.proofs.InTurn.{over_next, over_none, told_idle, told_next}
 use Rattle.droid_desk_script.proofs.Runs.{start, step, stop, line_is_left, lines_are_within}
 use Rattle.droid_desk_script.proofs.Writes.{on_err}
 use Rattle.droid_desk_script.proofs.run.run_lines.Goals as goal
@@ -9,7 +9,7 @@ use Rattle.droid_desk_script.proofs.run.run_lines.Goals as goal
 pub loop-line-init : goal.loop-line-init
 loop-line-init g c = record {
   progress = start c.args.service.now c.args.input.now _ (g.W.Write.contents c.args.writer.now) refl refl;
-  lasts = λ sound endless. (record { sound = sound; counted = omega arith; within = omega arith }, endless);
+  lasts = λ sound endless. (over_none g.W.SteadyWrite.seen (WritesAnswer g.W.Write.contents) c.args.writer.now _ refl sound, endless);
 }
 
 pub returns-in_err-is_bad-clause-front : goal.returns-in_err-is_bad-clause-front
@@ -28,7 +28,11 @@ loop-line-preserved-then-is_bad g c =
       lasts = λ sound endless.
           let now = c.loop-line.invariant.lasts sound endless in
           let told = c.in_ok-is_bad.ensures.told now.0.sound now.1 in
-          (lasts_next _ c.loop-line.tally.lines _ (g.W.SteadyWrite.seen c.loop-line.writer) _ refl now.0 (told.0.otherwise (λ e. absurd cc)), told.1);
+          let wrote = c.in_ok-is_bad.ensures.wrote in (
+            over_next g.W.SteadyWrite.seen (WritesAnswer g.W.Write.contents) c.args.writer.now c.loop-line.writer c.run_line.new.writer c.loop-line.tally.lines _ wrote.0 refl now.0 wrote.1
+                (told.0.otherwise (λ e. absurd cc)),
+            told.1,
+          );
     }
 
 pub loop-line-preserved : goal.loop-line-preserved
@@ -41,21 +45,25 @@ loop-line-preserved g c =
       lasts = λ sound endless.
           let now = c.loop-line.invariant.lasts sound endless in
           let told = c.in_ok-is_bad.ensures.told now.0.sound now.1 in
-          (lasts_next _ c.loop-line.tally.lines _ (g.W.SteadyWrite.seen c.loop-line.writer) _ refl now.0 (told.0.otherwise (λ e. absurd cc)), told.1);
+          let wrote = c.in_ok-is_bad.ensures.wrote in (
+            over_next g.W.SteadyWrite.seen (WritesAnswer g.W.Write.contents) c.args.writer.now c.loop-line.writer c.run_line.new.writer c.loop-line.tally.lines _ wrote.0 refl now.0 wrote.1
+                (told.0.otherwise (λ e. absurd cc)),
+            told.1,
+          );
     }
 
 pub returns-in_err-is_bad-clause-told : goal.returns-in_err-is_bad-clause-told
 returns-in_err-is_bad-clause-told g c = λ sound endless.
-    let start = (g.W.SteadyWrite.seen c.args.writer.now).interruptions in
     let now = c.loop-line.invariant.lasts sound endless in
     let told = (c.in_err-is_bad.ensures.told now.0.sound now.1).0 in
-    told_over start c.loop-line.tally.lines (length (lines_of c.args.input.now)) (g.W.SteadyWrite.seen c.loop-line.writer) (g.W.SteadyWrite.seen c.run_line.new.writer) _ _
+    let MayBe = λ (count : ℕ). count ≤ length (lines_of c.args.input.now) in
+    told_next g.W.SteadyWrite.seen (WritesAnswer g.W.Write.contents) MayBe c.args.writer.now c.loop-line.writer c.run_line.new.writer c.loop-line.tally.lines _ _
     now.0 (line_is_left c.args.service.now c.loop-line.service c.args.input.now c.loop-line.rest.now c.in-Some.line.now c.in-Some.after.now c.loop-line.tally
     (g.W.Write.contents c.args.writer.now) (g.W.Write.contents c.loop-line.writer) c.loop-line.invariant.progress c.in-Some.ensures.line) told (λ e. search rules) (λ e. search rules)
 
 pub returns-clause-told : goal.returns-clause-told
 returns-clause-told g c = λ sound endless.
-    let start = (g.W.SteadyWrite.seen c.args.writer.now).interruptions in
     let now = c.loop-line.invariant.lasts sound endless in
-    told_none start c.loop-line.tally.lines (length (lines_of c.args.input.now)) (g.W.SteadyWrite.seen c.loop-line.writer) _ (λ e. absurd cc) now.0
-    (lines_are_within _ _ _ _ _ _ _ c.loop-line.invariant.progress)
+    let MayBe = λ (count : ℕ). count ≤ length (lines_of c.args.input.now) in
+    told_idle g.W.SteadyWrite.seen (WritesAnswer g.W.Write.contents) MayBe c.args.writer.now c.loop-line.writer c.loop-line.tally.lines _ now.0
+    (lines_are_within _ _ _ _ _ _ _ c.loop-line.invariant.progress) (λ e. absurd cc)

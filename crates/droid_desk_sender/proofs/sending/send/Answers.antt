@@ -1,13 +1,18 @@
-use Rattle.std.proofs.Common.{◌≡◌, ◌+◌, Bool, true, false, cond, ap, refl, sym, ◌∙◌, List, ℕ, arith}
+use Rattle.std.proofs.Common.{◌≡◌, ◌+◌, Bool, true, false, cond, ap, refl, sym, ◌∙◌, List, ℕ, length, arith}
 use Rattle.std.specs.Io.KnownBytes.{prepend_known}
 use Rattle.std.proofs.KnownBytes.{prepend_known-nil}
 use Rattle.droid_desk_sender.specs.Sending.{SendsFront}
 use Rattle.droid_desk_sender.specs.declared.fault.SendFault.TheVariants.{Memory}
 use Rattle.droid_desk_sender.specs.declared.tally.Tally.{Tally}
-use Rattle.droid_desk_sender.proofs.PassingOn.{came_from, passed_on, stops_not_reading}
-use Rattle.droid_frame.proofs.Lasting.{lasts_next, lasts_none, lasts_once_more, told_none, told_over}
+use Rattle.droid_desk_sender.proofs.PassingOn.{came_from, of_reading, passed_on, stops_not_reading, told_unless}
+use Rattle.droid_frame.proofs.Scopes.{counts_begin, told_none}
+use Rattle.droid_frame.specs.Seen.{Counts}
+use Rattle.droid_wire.specs.InTurn.{AtMost}
+use Rattle.droid_wire.proofs.InTurn.{over_next, over_none, told_idle, told_next}
+use Rattle.droid_desk_lines.specs.Lines.{lines_of}
+use Rattle.droid_desk_sender.specs.Along.{ReadsReply, WritesPrinted, WritesRequest}
 use Rattle.droid_desk_sender.proofs.Passing.{if_err_same}
-use Rattle.droid_desk_sender.proofs.Sent.{along, gives_found, one_at_most, plus_none, start, step, stopped, unread_more}
+use Rattle.droid_desk_sender.proofs.Sent.{gives_found, line_found, lines_within, one_at_most, plus_none, start, step, stopped, unread_more}
 use Rattle.droid_desk_sender.proofs.sending.send.Goals as goal
 use Rattle.droid_desk_sender.proofs.sending.send.Goals.{then-is_bad, else-is_bad}
 
@@ -19,10 +24,10 @@ loop-init g c =
           (ap (λ (held : List ℕ). prepend_known held script) c.new-reader.ensures ∙ prepend_known-nil script) refl refl;
       counted = refl;
       bad = omega arith;
-      reads = λ sound. lasts_none 0 (g.L.SteadyRead.seen c.args.lines.now) sound;
-      hears = λ sound. lasts_none 0 (g.R.SteadyRead.seen c.args.replies.now) sound;
-      sends = λ sound endless. (lasts_none 0 (g.F.SteadyWrite.seen c.args.frames.now) sound, endless);
-      prints = λ sound endless. (lasts_none 0 (g.T.SteadyWrite.seen c.args.text.now) sound, endless);
+      reads = λ sound. counts_begin (g.L.SteadyRead.seen c.args.lines.now) _ c.new-retries.ensures sound;
+      hears = λ sound. over_none g.R.SteadyRead.seen (ReadsReply g.R.Read.remaining) c.args.replies.now _ refl sound;
+      sends = λ sound endless. (over_none g.F.SteadyWrite.seen (WritesRequest g.F.Write.contents) c.args.frames.now _ refl sound, endless);
+      prints = λ sound endless. (over_none g.T.SteadyWrite.seen (WritesPrinted g.T.Write.contents) c.args.text.now _ refl sound, endless);
     }
 
 pub returns-in_err-line-clause-front : goal.returns-in_err-line-clause-front
@@ -35,25 +40,16 @@ returns-in_err-line-clause-front g c =
 
 pub returns-in_err-line-clause-lines_fault : goal.returns-in_err-line-clause-lines_fault
 returns-in_err-line-clause-lines_fault g c = λ sound.
-    let now = c.loop.invariant.reads sound in
     let passed = c.from_residual.ensures.1 in
     let fault = c.in_err-line.field-0.0 in
-    record {
-      count = c.loop.tally.lines + 1;
-      within = along c.args.client.now c.loop.client _ _ _ _ _ _ _ _ c.loop.tally _ c.loop.invariant.so_far (omega arith);
-      told = told_over _ c.loop.tally.lines _ (g.L.SteadyRead.seen c.loop.lines) (g.L.SteadyRead.seen c.next_line.new.reader) _ _ now (omega arith)
-          (c.in_err-line.ensures.failed now.sound) (λ e. passed_on _ fault _ passed e) (λ e. came_from _ fault _ passed e);
-    }
+    told_unless _ _ c.next_line.new.retries _ _ (c.in_err-line.ensures.counts _ (c.loop.invariant.reads sound)) (λ e. passed_on _ fault _ passed e) (λ e. came_from _ fault _ passed e)
 
 pub returns-in_default-clause-lines_fault : goal.returns-in_default-clause-lines_fault
 returns-in_default-clause-lines_fault g c = λ sound.
-    let now = c.loop.invariant.reads sound in
-    record {
-      count = c.loop.tally.lines + 1;
-      within = along c.args.client.now c.loop.client _ _ _ _ _ _ _ _ c.loop.tally _ c.loop.invariant.so_far (omega arith);
-      told = told_over _ c.loop.tally.lines _ (g.L.SteadyRead.seen c.loop.lines) (g.L.SteadyRead.seen c.next_line.new.reader) _ _ now (omega arith)
-          (c.in_ok-line.ensures.failed now.sound) (λ e. absurd cc) (λ e. absurd cc);
-    }
+    told_unless _ _ c.next_line.new.retries _ _ (c.in_ok-line.ensures.counts _ (c.loop.invariant.reads sound)) (λ e. absurd cc) (λ e. absurd cc)
+
+pub returns-clause-lines_fault : goal.returns-clause-lines_fault
+returns-clause-lines_fault g c = λ sound. told_none _ _ c.loop.retries _ (λ e. absurd cc) (c.loop.invariant.reads sound)
 
 pub returns-in_err-is_bad-clause-front : goal.returns-in_err-is_bad-clause-front
 returns-in_err-is_bad-clause-front g c =
@@ -70,51 +66,105 @@ returns-in_err-is_bad-clause-front g c =
 
 pub returns-in_err-is_bad-clause-lines_fault : goal.returns-in_err-is_bad-clause-lines_fault
 returns-in_err-is_bad-clause-lines_fault g c = λ sound.
-    let now = c.loop.invariant.reads sound in
     let fault = c.in_err-is_bad.field-0.0 in
-    record {
-      count = c.loop.tally.lines + 1;
-      within = along c.args.client.now c.loop.client _ _ _ _ _ _ _ _ c.loop.tally _ c.loop.invariant.so_far (omega arith);
-      told = told_none _ (c.loop.tally.lines + 1) _ (g.L.SteadyRead.seen c.next_line.new.reader) _
-          (λ e. stops_not_reading _ fault _ _ _ _ _ _ _ _ _ c.from_residual-in_err-is_bad.ensures.1 c.in_err-is_bad.ensures.stops e)
-          (lasts_once_more _ c.loop.tally.lines (g.L.SteadyRead.seen c.loop.lines) _ now ((c.in_ok-line.ensures.failed now.sound).otherwise (λ e. absurd cc))) (omega arith);
-    }
+    told_none _ _ c.next_line.new.retries _ (λ e. stops_not_reading _ fault _ _ _ _ _ _ _ _ _ c.from_residual-in_err-is_bad.ensures.1 c.in_err-is_bad.ensures.stops e)
+    ((c.in_ok-line.ensures.counts _ (c.loop.invariant.reads sound)).otherwise (λ e. absurd cc))
 
 pub returns-in_err-is_bad-clause-replies_fault : goal.returns-in_err-is_bad-clause-replies_fault
 returns-in_err-is_bad-clause-replies_fault g c = λ sound.
     let now = c.loop.invariant.hears sound in
     let passed = c.from_residual-in_err-is_bad.ensures.1 in
     let fault = c.in_err-is_bad.field-0.0 in
-    record {
-      count = c.loop.tally.lines + 1;
-      within = along c.args.client.now c.loop.client _ _ _ _ _ _ _ _ c.loop.tally _ c.loop.invariant.so_far (omega arith);
-      told = told_over _ c.loop.tally.lines _ (g.R.SteadyRead.seen c.loop.replies) (g.R.SteadyRead.seen c.send_line.new.replies) _ _ now (omega arith)
-          (c.in_err-is_bad.ensures.replies_fault now.sound) (λ e. passed_on _ fault _ passed e) (λ e. came_from _ fault _ passed e);
-    }
+    let line = c.as_slice.result.now in
+    let rest = prepend_known c.loop.reader (g.L.Read.remaining c.loop.lines) in
+    let more = prepend_known c.next_line.new.self (g.L.Read.remaining c.next_line.new.reader) in
+    let gives = gives_found (λ line. line.items) rest more c.in_ok-line.field-0 c.in-Some.line line c.in-Some.is c.as_slice.ensures.value c.in_ok-line.ensures.line in
+    told_next g.R.SteadyRead.seen (ReadsReply g.R.Read.remaining) (AtMost (g.L.Read.remaining c.args.lines.now) (λ script. length (lines_of script))) c.args.replies.now c.loop.replies c.send_line.new.replies c.loop.tally.lines _ _ now
+    (line_found c.args.client.now c.loop.client _ rest more _ _ _ _ _ _ line c.loop.tally c.loop.invariant.so_far gives)
+    (c.in_err-is_bad.ensures.replies_fault now.sound) (λ e. passed_on _ fault _ passed e) (λ e. came_from _ fault _ passed e)
+
+pub returns-in_err-line-clause-replies_fault : goal.returns-in_err-line-clause-replies_fault
+returns-in_err-line-clause-replies_fault g c = λ sound.
+    let now = c.loop.invariant.hears sound in
+    told_idle g.R.SteadyRead.seen (ReadsReply g.R.Read.remaining) (AtMost (g.L.Read.remaining c.args.lines.now) (λ script. length (lines_of script))) c.args.replies.now c.loop.replies c.loop.tally.lines _ now
+    (lines_within c.args.client.now c.loop.client _ _ _ _ _ _ _ _ c.loop.tally c.loop.invariant.so_far)
+    (λ e. of_reading _ c.in_err-line.field-0.0 _ c.from_residual.ensures.1 c.in_err-line.ensures.faults e)
+
+pub returns-in_default-clause-replies_fault : goal.returns-in_default-clause-replies_fault
+returns-in_default-clause-replies_fault g c = λ sound.
+    let now = c.loop.invariant.hears sound in
+    told_idle g.R.SteadyRead.seen (ReadsReply g.R.Read.remaining) (AtMost (g.L.Read.remaining c.args.lines.now) (λ script. length (lines_of script))) c.args.replies.now c.loop.replies c.loop.tally.lines _ now
+    (lines_within c.args.client.now c.loop.client _ _ _ _ _ _ _ _ c.loop.tally c.loop.invariant.so_far) (λ e. absurd cc)
+
+pub returns-clause-replies_fault : goal.returns-clause-replies_fault
+returns-clause-replies_fault g c = λ sound.
+    let now = c.loop.invariant.hears sound in
+    told_idle g.R.SteadyRead.seen (ReadsReply g.R.Read.remaining) (AtMost (g.L.Read.remaining c.args.lines.now) (λ script. length (lines_of script))) c.args.replies.now c.loop.replies c.loop.tally.lines _ now
+    (lines_within c.args.client.now c.loop.client _ _ _ _ _ _ _ _ c.loop.tally c.loop.invariant.so_far) (λ e. absurd cc)
 
 pub returns-in_err-is_bad-clause-frames_fault : goal.returns-in_err-is_bad-clause-frames_fault
 returns-in_err-is_bad-clause-frames_fault g c = λ sound endless.
     let now = c.loop.invariant.sends sound endless in
     let passed = c.from_residual-in_err-is_bad.ensures.1 in
     let fault = c.in_err-is_bad.field-0.0 in
-    record {
-      count = c.loop.tally.lines + 1;
-      within = along c.args.client.now c.loop.client _ _ _ _ _ _ _ _ c.loop.tally _ c.loop.invariant.so_far (omega arith);
-      told = told_over _ c.loop.tally.lines _ (g.F.SteadyWrite.seen c.loop.frames) (g.F.SteadyWrite.seen c.send_line.new.frames) _ _ now.0 (omega arith)
-          (c.in_err-is_bad.ensures.frames_fault now.0.sound now.1).0 (λ e. passed_on _ fault _ passed e) (λ e. came_from _ fault _ passed e);
-    }
+    let line = c.as_slice.result.now in
+    let rest = prepend_known c.loop.reader (g.L.Read.remaining c.loop.lines) in
+    let more = prepend_known c.next_line.new.self (g.L.Read.remaining c.next_line.new.reader) in
+    let gives = gives_found (λ line. line.items) rest more c.in_ok-line.field-0 c.in-Some.line line c.in-Some.is c.as_slice.ensures.value c.in_ok-line.ensures.line in
+    told_next g.F.SteadyWrite.seen (WritesRequest g.F.Write.contents) (AtMost (g.L.Read.remaining c.args.lines.now) (λ script. length (lines_of script))) c.args.frames.now c.loop.frames c.send_line.new.frames c.loop.tally.lines _ _ now.0
+    (line_found c.args.client.now c.loop.client _ rest more _ _ _ _ _ _ line c.loop.tally c.loop.invariant.so_far gives)
+    ((c.in_err-is_bad.ensures.frames_fault now.0.sound now.1).0) (λ e. passed_on _ fault _ passed e) (λ e. came_from _ fault _ passed e)
+
+pub returns-in_err-line-clause-frames_fault : goal.returns-in_err-line-clause-frames_fault
+returns-in_err-line-clause-frames_fault g c = λ sound endless.
+    let now = c.loop.invariant.sends sound endless in
+    told_idle g.F.SteadyWrite.seen (WritesRequest g.F.Write.contents) (AtMost (g.L.Read.remaining c.args.lines.now) (λ script. length (lines_of script))) c.args.frames.now c.loop.frames c.loop.tally.lines _ now.0
+    (lines_within c.args.client.now c.loop.client _ _ _ _ _ _ _ _ c.loop.tally c.loop.invariant.so_far)
+    (λ e. of_reading _ c.in_err-line.field-0.0 _ c.from_residual.ensures.1 c.in_err-line.ensures.faults e)
+
+pub returns-in_default-clause-frames_fault : goal.returns-in_default-clause-frames_fault
+returns-in_default-clause-frames_fault g c = λ sound endless.
+    let now = c.loop.invariant.sends sound endless in
+    told_idle g.F.SteadyWrite.seen (WritesRequest g.F.Write.contents) (AtMost (g.L.Read.remaining c.args.lines.now) (λ script. length (lines_of script))) c.args.frames.now c.loop.frames c.loop.tally.lines _ now.0
+    (lines_within c.args.client.now c.loop.client _ _ _ _ _ _ _ _ c.loop.tally c.loop.invariant.so_far) (λ e. absurd cc)
+
+pub returns-clause-frames_fault : goal.returns-clause-frames_fault
+returns-clause-frames_fault g c = λ sound endless.
+    let now = c.loop.invariant.sends sound endless in
+    told_idle g.F.SteadyWrite.seen (WritesRequest g.F.Write.contents) (AtMost (g.L.Read.remaining c.args.lines.now) (λ script. length (lines_of script))) c.args.frames.now c.loop.frames c.loop.tally.lines _ now.0
+    (lines_within c.args.client.now c.loop.client _ _ _ _ _ _ _ _ c.loop.tally c.loop.invariant.so_far) (λ e. absurd cc)
 
 pub returns-in_err-is_bad-clause-text_fault : goal.returns-in_err-is_bad-clause-text_fault
 returns-in_err-is_bad-clause-text_fault g c = λ sound endless.
     let now = c.loop.invariant.prints sound endless in
     let passed = c.from_residual-in_err-is_bad.ensures.1 in
     let fault = c.in_err-is_bad.field-0.0 in
-    record {
-      count = c.loop.tally.lines + 1;
-      within = along c.args.client.now c.loop.client _ _ _ _ _ _ _ _ c.loop.tally _ c.loop.invariant.so_far (omega arith);
-      told = told_over _ c.loop.tally.lines _ (g.T.SteadyWrite.seen c.loop.text) (g.T.SteadyWrite.seen c.send_line.new.text) _ _ now.0 (omega arith)
-          (c.in_err-is_bad.ensures.text_fault now.0.sound now.1).0 (λ e. passed_on _ fault _ passed e) (λ e. came_from _ fault _ passed e);
-    }
+    let line = c.as_slice.result.now in
+    let rest = prepend_known c.loop.reader (g.L.Read.remaining c.loop.lines) in
+    let more = prepend_known c.next_line.new.self (g.L.Read.remaining c.next_line.new.reader) in
+    let gives = gives_found (λ line. line.items) rest more c.in_ok-line.field-0 c.in-Some.line line c.in-Some.is c.as_slice.ensures.value c.in_ok-line.ensures.line in
+    told_next g.T.SteadyWrite.seen (WritesPrinted g.T.Write.contents) (AtMost (g.L.Read.remaining c.args.lines.now) (λ script. length (lines_of script))) c.args.text.now c.loop.text c.send_line.new.text c.loop.tally.lines _ _ now.0
+    (line_found c.args.client.now c.loop.client _ rest more _ _ _ _ _ _ line c.loop.tally c.loop.invariant.so_far gives)
+    ((c.in_err-is_bad.ensures.text_fault now.0.sound now.1).0) (λ e. passed_on _ fault _ passed e) (λ e. came_from _ fault _ passed e)
+
+pub returns-in_err-line-clause-text_fault : goal.returns-in_err-line-clause-text_fault
+returns-in_err-line-clause-text_fault g c = λ sound endless.
+    let now = c.loop.invariant.prints sound endless in
+    told_idle g.T.SteadyWrite.seen (WritesPrinted g.T.Write.contents) (AtMost (g.L.Read.remaining c.args.lines.now) (λ script. length (lines_of script))) c.args.text.now c.loop.text c.loop.tally.lines _ now.0
+    (lines_within c.args.client.now c.loop.client _ _ _ _ _ _ _ _ c.loop.tally c.loop.invariant.so_far)
+    (λ e. of_reading _ c.in_err-line.field-0.0 _ c.from_residual.ensures.1 c.in_err-line.ensures.faults e)
+
+pub returns-in_default-clause-text_fault : goal.returns-in_default-clause-text_fault
+returns-in_default-clause-text_fault g c = λ sound endless.
+    let now = c.loop.invariant.prints sound endless in
+    told_idle g.T.SteadyWrite.seen (WritesPrinted g.T.Write.contents) (AtMost (g.L.Read.remaining c.args.lines.now) (λ script. length (lines_of script))) c.args.text.now c.loop.text c.loop.tally.lines _ now.0
+    (lines_within c.args.client.now c.loop.client _ _ _ _ _ _ _ _ c.loop.tally c.loop.invariant.so_far) (λ e. absurd cc)
+
+pub returns-clause-text_fault : goal.returns-clause-text_fault
+returns-clause-text_fault g c = λ sound endless.
+    let now = c.loop.invariant.prints sound endless in
+    told_idle g.T.SteadyWrite.seen (WritesPrinted g.T.Write.contents) (AtMost (g.L.Read.remaining c.args.lines.now) (λ script. length (lines_of script))) c.args.text.now c.loop.text c.loop.tally.lines _ now.0
+    (lines_within c.args.client.now c.loop.client _ _ _ _ _ _ _ _ c.loop.tally c.loop.invariant.so_far) (λ e. absurd cc)
 
 pub loop-preserved : goal.loop-preserved
 loop-preserved g c =
@@ -123,6 +173,7 @@ loop-preserved g c =
     let more = prepend_known c.next_line.new.self (g.L.Read.remaining c.next_line.new.reader) in
     let gives = gives_found (λ line. line.items) rest more c.in_ok-line.field-0 c.in-Some.line line c.in-Some.is c.as_slice.ensures.value c.in_ok-line.ensures.line in
     let bad = c.in_ok-is_bad.is_bad in
+    let done = c.in_ok-is_bad.ensures.done in
     let next : (c.if-is_bad.tally.lines ≡ c.loop.tally.lines + 1) × (c.if-is_bad.tally.bad ≡ c.loop.tally.bad + cond bad 1 0) = elim c.if-is_bad.branch [
       | then-is_bad w ↦
           let yes : bad ≡ true = w.if-is_bad.true in
@@ -135,20 +186,25 @@ loop-preserved g c =
       so_far = step c.args.client.now c.loop.client c.send_line.new.client _ rest more _ _ _ _ _ _ _ _ _ line bad c.loop.tally c.if-is_bad.tally c.loop.invariant.so_far gives c.in_ok-is_bad.ensures.done next.0 next.1;
       counted = next.0 ∙ ap (λ (n : ℕ). n + 1) c.loop.invariant.counted;
       bad = omega (arith, next.0, next.1, c.loop.invariant.bad, one_at_most bad);
-      reads = λ sound.
-          let now = c.loop.invariant.reads sound in
-          lasts_next _ c.loop.tally.lines c.if-is_bad.tally.lines (g.L.SteadyRead.seen c.loop.lines) _ next.0 now ((c.in_ok-line.ensures.failed now.sound).otherwise (λ e. absurd cc));
+      reads = λ sound. (c.in_ok-line.ensures.counts _ (c.loop.invariant.reads sound)).otherwise (λ e. absurd cc);
       hears = λ sound.
           let now = c.loop.invariant.hears sound in
-          lasts_next _ c.loop.tally.lines c.if-is_bad.tally.lines (g.R.SteadyRead.seen c.loop.replies) _ next.0 now ((c.in_ok-is_bad.ensures.replies_fault now.sound).otherwise (λ e. absurd cc));
+          over_next g.R.SteadyRead.seen (ReadsReply g.R.Read.remaining) c.args.replies.now c.loop.replies c.send_line.new.replies c.loop.tally.lines c.if-is_bad.tally.lines done.exchange next.0 now done.read
+          ((c.in_ok-is_bad.ensures.replies_fault now.sound).otherwise (λ e. absurd cc));
       sends = λ sound endless.
           let now = c.loop.invariant.sends sound endless in
-          let told = c.in_ok-is_bad.ensures.frames_fault now.0.sound now.1 in
-          (lasts_next _ c.loop.tally.lines c.if-is_bad.tally.lines (g.F.SteadyWrite.seen c.loop.frames) _ next.0 now.0 (told.0.otherwise (λ e. absurd cc)), told.1);
+          let told = c.in_ok-is_bad.ensures.frames_fault now.0.sound now.1 in (
+            over_next g.F.SteadyWrite.seen (WritesRequest g.F.Write.contents) c.args.frames.now c.loop.frames c.send_line.new.frames c.loop.tally.lines c.if-is_bad.tally.lines done.exchange next.0 now.0 done.frames
+                (told.0.otherwise (λ e. absurd cc)),
+            told.1,
+          );
       prints = λ sound endless.
           let now = c.loop.invariant.prints sound endless in
-          let told = c.in_ok-is_bad.ensures.text_fault now.0.sound now.1 in
-          (lasts_next _ c.loop.tally.lines c.if-is_bad.tally.lines (g.T.SteadyWrite.seen c.loop.text) _ next.0 now.0 (told.0.otherwise (λ e. absurd cc)), told.1);
+          let told = c.in_ok-is_bad.ensures.text_fault now.0.sound now.1 in (
+            over_next g.T.SteadyWrite.seen (WritesPrinted g.T.Write.contents) c.args.text.now c.loop.text c.send_line.new.text c.loop.tally.lines c.if-is_bad.tally.lines done.exchange next.0 now.0 done.text
+                (told.0.otherwise (λ e. absurd cc)),
+            told.1,
+          );
     }
 
 pub returns-clause-front : goal.returns-clause-front

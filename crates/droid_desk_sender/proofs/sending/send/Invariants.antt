@@ -1,8 +1,9 @@
 -- The first lines were sent, and the streams lasted.
 use Rattle.std.proofs.Common.{◌≡◌, ◌≤◌, None}
 use Rattle.std.specs.Io.KnownBytes.{prepend_known}
-use Rattle.droid_frame.specs.Seen.{IsSound}
-use Rattle.droid_frame.specs.Over.{LastsOver}
+use Rattle.droid_frame.specs.Seen.{Counts, IsSound}
+use Rattle.droid_wire.proofs.InTurn.{OverSoMany}
+use Rattle.droid_desk_sender.specs.Along.{ReadsReply, WritesPrinted, WritesRequest}
 use Rattle.droid_desk_sender.proofs.Sent.{SoFar}
 use Rattle.droid_desk_sender.proofs.sending.send.Given as goal
 
@@ -12,10 +13,10 @@ invariant-loop g l = record {
       (g.F.Write.contents l.fn.frames) (g.F.Write.contents l.frames) (g.T.Write.contents l.fn.text) (g.T.Write.contents l.text) l.client l.tally;
   counted : l.tally.lines ≡ l.counter;
   bad : l.tally.bad ≤ l.tally.lines;
-  reads : IsSound (g.L.SteadyRead.seen l.fn.lines) → LastsOver (g.L.SteadyRead.seen l.fn.lines).interruptions l.tally.lines (g.L.SteadyRead.seen l.lines);
-  hears : IsSound (g.R.SteadyRead.seen l.fn.replies) → LastsOver (g.R.SteadyRead.seen l.fn.replies).interruptions l.tally.lines (g.R.SteadyRead.seen l.replies);
+  reads : IsSound (g.L.SteadyRead.seen l.fn.lines) → Counts (g.L.SteadyRead.seen l.fn.lines).interruptions (g.L.SteadyRead.seen l.lines) l.retries;
+  hears : IsSound (g.R.SteadyRead.seen l.fn.replies) → OverSoMany g.R.SteadyRead.seen (ReadsReply g.R.Read.remaining) l.fn.replies l.replies l.tally.lines;
   sends : IsSound (g.F.SteadyWrite.seen l.fn.frames) → g.F.SteadyWrite.room l.fn.frames ≡ None →
-      LastsOver (g.F.SteadyWrite.seen l.fn.frames).interruptions l.tally.lines (g.F.SteadyWrite.seen l.frames) × (g.F.SteadyWrite.room l.frames ≡ None);
+      OverSoMany g.F.SteadyWrite.seen (WritesRequest g.F.Write.contents) l.fn.frames l.frames l.tally.lines × (g.F.SteadyWrite.room l.frames ≡ None);
   prints : IsSound (g.T.SteadyWrite.seen l.fn.text) → g.T.SteadyWrite.room l.fn.text ≡ None →
-      LastsOver (g.T.SteadyWrite.seen l.fn.text).interruptions l.tally.lines (g.T.SteadyWrite.seen l.text) × (g.T.SteadyWrite.room l.text ≡ None);
+      OverSoMany g.T.SteadyWrite.seen (WritesPrinted g.T.Write.contents) l.fn.text l.text l.tally.lines × (g.T.SteadyWrite.room l.text ≡ None);
 }

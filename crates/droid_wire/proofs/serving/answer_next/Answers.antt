@@ -19,15 +19,21 @@ returns-clause-gives g c = λ setting history stands.
     (c.handle-reply.ensures.handles setting history stands) c.handle-reply.ensures.spelled c.in-Err.ensures.err
 
 pub returns-in_err-frame-clause-goes_on : goal.returns-in_err-frame-clause-goes_on
-returns-in_err-frame-clause-goes_on g c = λ setting history stands. goes_nowhere setting history c.args.service.now stands
+returns-in_err-frame-clause-goes_on g c = λ setting history stands. goes_nowhere setting history 1 c.args.service.now stands
 
 pub returns-in_default-clause-goes_on : goal.returns-in_default-clause-goes_on
-returns-in_default-clause-goes_on g c = λ setting history stands. goes_nowhere setting history c.args.service.now stands
+returns-in_default-clause-goes_on g c = λ setting history stands. goes_nowhere setting history 1 c.args.service.now stands
 
 pub returns-in-Ok-clause-goes_on : goal.returns-in-Ok-clause-goes_on
 returns-in-Ok-clause-goes_on g c = λ setting history stands.
-    goes_on setting history c.in-Frame.frame c.handle-reply.result c.handle-reply.new.self (c.handle-reply.ensures.handles setting history stands)
+    goes_on setting history c.args.service.now c.handle-reply.new.self c.in-Frame.frame c.handle-reply.result stands (c.handle-reply.ensures.handles setting history stands) c.handle-reply.ensures.spelled
 
 pub returns-clause-goes_on : goal.returns-clause-goes_on
 returns-clause-goes_on g c = λ setting history stands.
-    goes_on setting history c.in-Frame.frame c.handle-reply.result c.handle-reply.new.self (c.handle-reply.ensures.handles setting history stands)
+    goes_on setting history c.args.service.now c.handle-reply.new.self c.in-Frame.frame c.handle-reply.result stands (c.handle-reply.ensures.handles setting history stands) c.handle-reply.ensures.spelled
+
+pub returns-in-Ok-clause-read : goal.returns-in-Ok-clause-read
+returns-in-Ok-clause-read g c = (c.in-Frame.frame, rw c.in-Frame.is at c.in_ok-frame.ensures.brought)
+
+pub returns-in-Ok-clause-wrote : goal.returns-in-Ok-clause-wrote
+returns-in-Ok-clause-wrote g c = ((c.in-Frame.frame, c.handle-reply.result), c.in-Ok.ensures.ok)

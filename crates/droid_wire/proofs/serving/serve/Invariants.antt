@@ -4,8 +4,9 @@ use Rattle.droid_frame.specs.Seen.{IsSound}
 use Rattle.droid_core.specs.Standing.{StandsFor, limits_of, registry_of}
 use Rattle.droid_core.specs.Histories.{History}
 use Rattle.droid_core.specs.Setting.{Setting}
-use Rattle.droid_frame.specs.Over.{LastsOver}
+use Rattle.droid_wire.specs.InTurn.{ReadsFrame, WritesReply}
 use Rattle.droid_wire.specs.Serving.{GoesOnFrom}
+use Rattle.droid_wire.proofs.InTurn.{OverSoMany}
 use Rattle.droid_wire.proofs.SoFar.{SoFar}
 use Rattle.droid_wire.proofs.serving.serve.Given as goal
 
@@ -15,10 +16,10 @@ invariant-loop g l = record {
       SoFar setting history input (g.R.Read.remaining l.reader) (g.W.Write.contents l.fn.writer) (g.W.Write.contents l.writer) l.service l.counter l.written);
   room : l.written ≤ l.counter * 1048658;
   within : l.counter ≤ l.fn.turns;
-  reads : IsSound (g.R.SteadyRead.seen l.fn.reader) → LastsOver (g.R.SteadyRead.seen l.fn.reader).interruptions l.counter (g.R.SteadyRead.seen l.reader);
+  reads : IsSound (g.R.SteadyRead.seen l.fn.reader) → OverSoMany g.R.SteadyRead.seen (ReadsFrame g.R.Read.remaining) l.fn.reader l.reader l.counter;
   writes : IsSound (g.W.SteadyWrite.seen l.fn.writer) → g.W.SteadyWrite.room l.fn.writer ≡ None →
-      LastsOver (g.W.SteadyWrite.seen l.fn.writer).interruptions l.counter (g.W.SteadyWrite.seen l.writer) × (g.W.SteadyWrite.room l.writer ≡ None);
-  goes_on : (setting : Setting) (history : History) → StandsFor setting l.fn.service history → GoesOnFrom setting history l.service;
+      OverSoMany g.W.SteadyWrite.seen (WritesReply g.W.Write.contents) l.fn.writer l.writer l.counter × (g.W.SteadyWrite.room l.writer ≡ None);
+  goes_on : (setting : Setting) (history : History) → StandsFor setting l.fn.service history → GoesOnFrom setting history l.counter l.service;
   limits : limits_of l.service ≡ limits_of l.fn.service;
   registry : registry_of l.service ≡ registry_of l.fn.service;
 }

@@ -1,22 +1,21 @@
 use Rattle.std.proofs.Common.{ℕ, List, Option, IfSome, sym, subst}
 use Rattle.std.specs.Io.KnownBytes.{prepend_known}
-use Rattle.droid_frame.proofs.Scopes.{counts_none, is_error, told_fault, told_none}
+use Rattle.droid_frame.proofs.Scopes.{is_error}
+use Rattle.droid_desk_sender.proofs.PassingOn.{unless_given_up, unless_not}
 use Rattle.droid_desk_sender.specs.Reading.{GivesLine, MovesAll, MovesToFeed}
 use Rattle.droid_desk_sender.proofs.Feeds.{gives_fed, gives_last, moved_on, plain_more}
 use Rattle.droid_desk_sender.proofs.line_reader.LineReader.next_line.Goals as goal
 
-pub returns-in_err-move_line-clause-failed : goal.returns-in_err-move_line-clause-failed
-returns-in_err-move_line-clause-failed g c = λ sound.
-    let start = (g.L.SteadyRead.seen c.args.reader.now).interruptions in
-    let now = c.loop-line.invariant.counts start (counts_none _ sound) in
+pub returns-in_err-move_line-clause-counts : goal.returns-in_err-move_line-clause-counts
+returns-in_err-move_line-clause-counts g c = λ start counts.
+    let now = c.loop-line.invariant.counts start counts in
     let is = is_error c.from_residual.result _ c.from_residual.ensures.1 in
-    told_none start _ c.loop-line.retries _ (λ e. absurd cc) now
+    unless_not start _ c.loop-line.retries _ (λ e. absurd cc) now
 
-pub returns-in_err-refill-clause-failed : goal.returns-in_err-refill-clause-failed
-returns-in_err-refill-clause-failed g c = λ sound.
-    let start = (g.L.SteadyRead.seen c.args.reader.now).interruptions in
-    let now = c.loop-line.invariant.counts start (counts_none _ sound) in
-    told_fault start _ _ (is_error c.from_residual-in_err-refill.result _ c.from_residual-in_err-refill.ensures.1) (c.in_err-refill.ensures.counts start now)
+pub returns-in_err-refill-clause-counts : goal.returns-in_err-refill-clause-counts
+returns-in_err-refill-clause-counts g c = λ start counts.
+    let now = c.loop-line.invariant.counts start counts in
+    unless_given_up start _ _ _ (is_error c.from_residual-in_err-refill.result _ c.from_residual-in_err-refill.ensures.1) (c.in_err-refill.ensures.counts start now)
 
 pub returns-then-not-branch-2-clause-line : goal.returns-then-not-branch-2-clause-line
 returns-then-not-branch-2-clause-line g c =
@@ -33,11 +32,10 @@ returns-then-not-branch-2-clause-line g c =
     subst (λ (o : Option (List ℕ)). IfSome known (λ script. GivesLine script (prepend_known c.refill.new.self rem) o)) (sym c.last_line.ensures)
     (gives_last known rem after c.refill.new.self plain came end.0 end.1)
 
-pub returns-then-not-branch-2-clause-failed : goal.returns-then-not-branch-2-clause-failed
-returns-then-not-branch-2-clause-failed g c = λ sound.
-    let start = (g.L.SteadyRead.seen c.args.reader.now).interruptions in
-    let now = c.loop-line.invariant.counts start (counts_none _ sound) in
-    told_none start _ c.refill.new.retries _ (λ e. absurd cc) (c.in_ok-refill.ensures.counts start now)
+pub returns-then-not-branch-2-clause-counts : goal.returns-then-not-branch-2-clause-counts
+returns-then-not-branch-2-clause-counts g c = λ start counts.
+    let now = c.loop-line.invariant.counts start counts in
+    unless_not start _ c.refill.new.retries _ (λ e. absurd cc) (c.in_ok-refill.ensures.counts start now)
 
 pub loop-line-preserved : goal.loop-line-preserved
 loop-line-preserved g c =
@@ -59,8 +57,7 @@ returns-clause-line g c =
     let moves : MovesToFeed c.loop-line.self c.move_line.new.self c.loop-line.line.items c.move_line.new.line.items = rw c.if-not-branch.false at c.in_ok-move_line.ensures in
     gives_fed known rem c.loop-line.line.items c.loop-line.self c.move_line.new.self c.move_line.new.line.items c.loop-line.invariant.plain c.loop-line.invariant.came moves
 
-pub returns-clause-failed : goal.returns-clause-failed
-returns-clause-failed g c = λ sound.
-    let start = (g.L.SteadyRead.seen c.args.reader.now).interruptions in
-    let now = c.loop-line.invariant.counts start (counts_none _ sound) in
-    told_none start _ c.loop-line.retries _ (λ e. absurd cc) now
+pub returns-clause-counts : goal.returns-clause-counts
+returns-clause-counts g c = λ start counts.
+    let now = c.loop-line.invariant.counts start counts in
+    unless_not start _ c.loop-line.retries _ (λ e. absurd cc) now

@@ -9,7 +9,7 @@ abbrev pub invariant-loop-line : goal.invariant-loop-line
 invariant-loop-line g l = record {
   came : Consumes (prepend_known l.fn.self (g.L.Read.remaining l.fn.reader)) (prepend_known l.self (g.L.Read.remaining l.reader)) l.line.items;
   plain : HasNoFeed l.line.items;
-  counts : (start : ℕ) → Counts start (g.L.SteadyRead.seen l.fn.reader) 0 → Counts start (g.L.SteadyRead.seen l.reader) l.retries;
+  counts : (start : ℕ) → Counts start (g.L.SteadyRead.seen l.fn.reader) l.fn.retries → Counts start (g.L.SteadyRead.seen l.reader) l.retries;
 }
 
 -- each turn reads a byte
