@@ -18,8 +18,8 @@ pub fn next_line(input: &[u8]) -> Option<(&[u8], &[u8])>
     }
 }
 
-/// The place of the first line feed.
-fn line_end(input: &[u8]) -> Option<usize>
+/// The place of the first line feed, behind which the next line begins.
+pub fn line_end(input: &[u8]) -> Option<usize>
     ensures first { result ≡ position_from is_line_feed 0 input.now }
     ensures within { IfSome result (λ place. place < length input.now) }
 {

@@ -12,6 +12,6 @@ mod print;
 mod requests;
 mod words;
 
-pub use cut::next_line;
+pub use cut::{line_end, next_line};
 pub use parse::{Line, parse_line, parse_request_line};
 pub use print::{print_answer, print_reply};

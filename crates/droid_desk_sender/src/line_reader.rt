@@ -2,14 +2,13 @@
 
 ghost use Rattle.std.specs.Prelude.{◌≡◌, ◌<◌, ◌≤◌, ◌-◌, ℕ, List, [], IfOk, IfErr, IfSome, IsErrOf, OnOk, OnErr, MatchBool, length, take, drop};
 ghost use Rattle.std.specs.Io.KnownBytes.{Consumes, IsAtEnd, Keeps, prepend_known};
-ghost use Rattle.std.specs.List.{position_from};
 ghost use Rattle.std.specs.Option.{option_map};
 ghost use Rattle.droid_frame.specs.Seen.{Counts, CountsOn};
-ghost use Rattle.droid_desk_lines.specs.Lines.{is_line_feed};
 ghost use Rattle.droid_desk_sender.specs.Reading.{CountsUnless, GivesLine, Moves, where_some};
 ghost use Rattle.droid_desk_sender.specs.Sending.{IsOfReading};
 
 use crate::fault::SendFault;
+use droid_desk_lines::line_end;
 use droid_frame::{ReadFault, Retries, SteadyRead, read_some};
 use std::alloc::{AllocError, Global};
 use std::marker::Model;
@@ -77,7 +76,7 @@ impl LineReader {
         ensures { IfOk result (λ fed. Moves fed self.old self.new line.old.items line.new.items) }
     {
         let unread = &self.chunk[self.from..self.to];
-        match feed_in(unread) {
+        match line_end(unread) {
             Some(place) => {
                 line.extend_from_slice(&unread[..place])?;
                 self.from += place + 1;
@@ -117,12 +116,4 @@ fn last_line(line: Vec<u8>) -> Option<Vec<u8>>
         return None;
     }
     Some(line)
-}
-
-/// The place of the first line feed.
-fn feed_in(bytes: &[u8]) -> Option<usize>
-    ensures first { result ≡ position_from is_line_feed 0 bytes.now }
-    ensures within { IfSome result (λ place. place < length bytes.now) }
-{
-    bytes.iter().position(|byte| *byte == b'\n')
 }

@@ -23,4 +23,4 @@ pub use droid_frame_values::{
 };
 pub use replies::{reply_body, reply_body_len};
 pub use requests::request_frame;
-pub use stream::{Arrival, FrameFault, read_frame, write_frame, write_reply};
+pub use stream::{Arrival, FrameFault, HEADER_LENGTH, read_frame, write_frame, write_reply};

@@ -1,5 +1,8 @@
 //! What a client asks.
 
+ghost use Rattle.std.specs.Prelude.{◌≡◌};
+ghost use Rattle.droid_frame_values.specs.Bodies.{request_kind};
+
 use crate::blob::Blob;
 use crate::filter::Filter;
 use crate::text::Text;
@@ -83,4 +86,22 @@ pub enum Request {
         /// Which records are shown.
         filter: Filter,
     },
+}
+
+impl Request {
+    /// The kind of the frame that holds the request, from 1 to 8.
+    pub fn kind(&self) -> u8
+        ensures { result ≡ request_kind self.now }
+    {
+        match self {
+            Request::CreateProfile { .. } => 1,
+            Request::AddFolder { .. } => 2,
+            Request::AddFile { .. } => 3,
+            Request::Piece { .. } => 4,
+            Request::Finish { .. } => 5,
+            Request::Abandon { .. } => 6,
+            Request::Status { .. } => 7,
+            Request::Export { .. } => 8,
+        }
+    }
 }

@@ -9,12 +9,10 @@ ghost use Rattle.droid_frame.specs.ReplyFrames.{reply_frame};
 ghost use Rattle.droid_frame.specs.StreamWrites.{Stops};
 
 use droid_frame::{
-    Progress, Reply, SteadyWrite, Unsteady, WriteFault, reply_body_len, write_all, write_reply,
+    HEADER_LENGTH, Progress, Reply, SteadyWrite, Unsteady, WriteFault, reply_body_len, write_all,
+    write_reply,
 };
 use std::alloc::Global;
-
-/// How many bytes a frame has before its body.
-pub(crate) const HEADER_SIZE: u64 = 18;
 
 /// How many bytes the body of a reply has at most that is gathered.
 const GATHERED: usize = 4_096;
@@ -51,7 +49,7 @@ fn gathered(alloc: Global, client: u32, number: u64, reply: &Reply) -> Option<Ve
     if size > GATHERED {
         return None;
     }
-    let Ok(bytes) = Vec::with_capacity(alloc, HEADER_SIZE as usize + size) else {
+    let Ok(bytes) = Vec::with_capacity(alloc, HEADER_LENGTH + size) else {
         return None;
     };
     let mut frame = Unsteady::new(bytes);

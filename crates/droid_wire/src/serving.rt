@@ -13,9 +13,11 @@ ghost use Rattle.droid_wire.specs.Steps.{TurnGives};
 
 use crate::ended::Ended;
 use crate::fault::ServeFault;
-use crate::sending::{HEADER_SIZE, send_reply};
+use crate::sending::send_reply;
 use droid_core::Service;
-use droid_frame::{Arrival, FrameFault, SteadyRead, SteadyWrite, read_frame, reply_body_len};
+use droid_frame::{
+    Arrival, FrameFault, HEADER_LENGTH, SteadyRead, SteadyWrite, read_frame, reply_body_len,
+};
 use std::alloc::Global;
 
 /// Reads frames, at most `turns` of them, and answers each by one reply frame with its client and number
@@ -80,7 +82,7 @@ fn answer_next<R: SteadyRead, W: SteadyWrite>(
     };
     let (client, number) = (frame.client, frame.number);
     let reply = service.handle(frame);
-    let size = HEADER_SIZE + reply_body_len(&reply) as u64;
+    let size = HEADER_LENGTH as u64 + reply_body_len(&reply) as u64;
     match send_reply(alloc, client, number, &reply, writer) {
         Ok(()) => Ok(Some(size)),
         Err(fault) => Err(ServeFault::Write {

@@ -28,26 +28,11 @@ pub fn request_frame(
 {
     Ok(Frame {
         version: VERSION,
-        kind: kind_of(request),
+        kind: request.kind(),
         client,
         number,
         body: body_of(alloc, request)?,
     })
-}
-
-fn kind_of(request: &Request) -> u8
-    ensures { result ≡ request_kind request.now }
-{
-    match request {
-        Request::CreateProfile { .. } => 1,
-        Request::AddFolder { .. } => 2,
-        Request::AddFile { .. } => 3,
-        Request::Piece { .. } => 4,
-        Request::Finish { .. } => 5,
-        Request::Abandon { .. } => 6,
-        Request::Status { .. } => 7,
-        Request::Export { .. } => 8,
-    }
 }
 
 /// The body, in a buffer of exactly its length.

@@ -3,8 +3,8 @@
 ghost use Rattle.std.specs.Prelude.{◌≡◌};
 ghost use Rattle.droid_frame.specs.Headers.{header_bytes};
 
-/// How many bytes a header has.
-pub(crate) const HEADER_LENGTH: usize = 18;
+/// How many bytes the header of a frame has: all of it but the body.
+pub const HEADER_LENGTH: usize = 18;
 
 /// The fields of a header, in the order in which they stand on a stream.
 #[derive(Clone, Copy)]

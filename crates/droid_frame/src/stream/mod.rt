@@ -9,6 +9,7 @@ mod writing;
 
 pub use arrival::Arrival;
 pub use fault::FrameFault;
+pub use header::HEADER_LENGTH;
 pub use reading::read_frame;
 pub use replies::write_reply;
 pub use writing::write_frame;

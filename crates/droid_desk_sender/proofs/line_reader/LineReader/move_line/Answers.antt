@@ -9,7 +9,7 @@ returns-in_ok-extend_from_slice-in-Some c =
     let inside = c.self.inside in
     let place = c.in-Some.place in
     let held = take (inside.to - inside.from) (drop inside.from inside.chunk) in
-    let cut = cut_at held place (sym c.feed_in.ensures.first ∙ c.in-Some.is) in
+    let cut = cut_at held place (sym c.line_end.ensures.first ∙ c.in-Some.is) in
     let room : place + 1 ≤ inside.to - inside.from = omega (arith, c.in-Some.ensures.within, length-take (inside.to - inside.from) (drop inside.from inside.chunk)) in
     record {
       front = take place held;
@@ -23,7 +23,7 @@ returns-in_ok-extend_from_slice-in-None c =
     let inside = c.self.inside in
     let held = take (inside.to - inside.from) (drop inside.from inside.chunk) in
     record {
-      plain = subst HasNoFeed c.self.view_is (none_plain held 0 (sym c.feed_in.ensures.first ∙ c.in-None.is));
+      plain = subst HasNoFeed c.self.view_is (none_plain held 0 (sym c.line_end.ensures.first ∙ c.in-None.is));
       none_left = view_empty inside.chunk inside.to;
       moved = c.in_ok-extend_from_slice-in-None.ensures.items ∙ ap (λ (l : List ℕ). c.args.line.now.items ++ l) c.self.view_is;
     }
