@@ -4,7 +4,22 @@ each time, so they are compared exactly."""
 import hashlib
 import unittest
 
-from asking import ABANDONED, CLIENT, FINISHED, MADE, NODE, TAKEN, abandon, counted, create, file, finish, frame, piece, reply
+from asking import (
+    ABANDONED,
+    CLIENT,
+    FINISHED,
+    MADE,
+    NODE,
+    TAKEN,
+    abandon,
+    counted,
+    create,
+    file,
+    finish,
+    frame,
+    piece,
+    reply,
+)
 from session import KEPT, NOT_KEPT, replies_of, requests_of
 
 FEW, MANY = 1_000, 100_000
