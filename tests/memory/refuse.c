@@ -1,38 +1,128 @@
-/* Preloaded into a program, this refuses the one allocation whose number, counted from 1, is in the
- * environment variable REFUSE. At the end it writes how many allocations were asked for into the file
- * that the variable ALLOCATIONS names. */
+/* Preloaded into a program, this counts its allocations and refuses some of them, by these environment variables:
+ *   REFUSE        the one allocation of this number, counted from 1, is refused
+ *   LIMIT         each allocation of more than so many bytes is refused
+ *   ALLOCATIONS   a file; at the end it gets how many allocations were asked for
+ *   COUNTS        a file; at the end it gets three numbers, as they were when standard input had ended, with all that
+ *                 the program keeps still there: how many allocations were asked for, for how many bytes together, and
+ *                 how many bytes were held, which were allocated and not freed
+ * A block that is made larger or smaller is one more allocation, of its new size. */
 #define _GNU_SOURCE
 #include <dlfcn.h>
 #include <stddef.h>
+#include <stdint.h>
 #include <stdio.h>
 #include <stdlib.h>
+#include <unistd.h>
 
-static long asked;
+/* Stands before each block that is given out here. A block of another call, as calloc, has the C library's own
+ * numbers there, which are no MARK. */
+struct head {
+    size_t size;
+    size_t mark;
+};
+#define MARK 0x64726f69645f6d65u
 
-static int is_refused(void) {
-    const char *number = getenv("REFUSE");
-    ++asked;
-    return number && atol(number) == asked;
+struct counts {
+    long asked;
+    size_t bytes, held;
+};
+
+static struct counts now, at_end;
+static int has_ended;
+static long refused;
+static size_t limit = SIZE_MAX;
+
+__attribute__((constructor)) static void read_variables(void) {
+    const char *number = getenv("REFUSE"), *size = getenv("LIMIT");
+    if (number) refused = atol(number);
+    if (size) limit = strtoull(size, NULL, 10);
+}
+
+static int is_refused(size_t size) {
+    ++now.asked;
+    now.bytes += size;
+    return now.asked == refused || size > limit;
+}
+
+static struct head *head_of(void *block) {
+    struct head *head = (struct head *)block - 1;
+    return head->mark == MARK ? head : NULL;
+}
+
+static void *given(struct head *head, size_t size) {
+    head->size = size;
+    head->mark = MARK;
+    now.held += size;
+    return head + 1;
 }
 
 void *malloc(size_t size) {
     static void *(*next)(size_t);
+    struct head *head;
     if (!next) next = (void *(*)(size_t))dlsym(RTLD_NEXT, "malloc");
-    return is_refused() ? NULL : next(size);
+    if (is_refused(size)) return NULL;
+    head = next(sizeof *head + size);
+    return head ? given(head, size) : NULL;
 }
 
 void *realloc(void *block, size_t size) {
     static void *(*next)(void *, size_t);
+    struct head *head;
+    size_t before;
     if (!next) next = (void *(*)(void *, size_t))dlsym(RTLD_NEXT, "realloc");
-    return is_refused() ? NULL : next(block, size);
+    if (!block) return malloc(size);
+    head = head_of(block);
+    if (!head) return next(block, size);
+    if (is_refused(size)) return NULL;
+    before = head->size;
+    head = next(head, sizeof *head + size);
+    if (!head) return NULL;
+    now.held -= before;
+    return given(head, size);
+}
+
+void free(void *block) {
+    static void (*next)(void *);
+    struct head *head;
+    if (!next) next = (void (*)(void *))dlsym(RTLD_NEXT, "free");
+    if (!block) return;
+    head = head_of(block);
+    if (head) {
+        now.held -= head->size;
+        head->mark = 0;
+    }
+    next(head ? (void *)head : block);
+}
+
+ssize_t read(int file, void *bytes, size_t size) {
+    static ssize_t (*next)(int, void *, size_t);
+    ssize_t count;
+    if (!next) next = (ssize_t (*)(int, void *, size_t))dlsym(RTLD_NEXT, "read");
+    count = next(file, bytes, size);
+    if (file == 0 && count == 0 && size > 0 && !has_ended) {
+        has_ended = 1;
+        at_end = now;
+    }
+    return count;
+}
+
+static FILE *file_in(const char *variable) {
+    const char *name = getenv(variable);
+    return name ? fopen(name, "w") : NULL;
 }
 
 __attribute__((destructor)) static void report(void) {
-    const char *name = getenv("ALLOCATIONS");
-    long count = asked;
-    FILE *file = name ? fopen(name, "w") : NULL;
+    long asked = now.asked;
+    FILE *file;
+    if (!has_ended) at_end = now;
+    file = file_in("ALLOCATIONS");
     if (file) {
-        fprintf(file, "%ld\n", count);
+        fprintf(file, "%ld\n", asked);
+        fclose(file);
+    }
+    file = file_in("COUNTS");
+    if (file) {
+        fprintf(file, "%ld %zu %zu\n", at_end.asked, at_end.bytes, at_end.held);
         fclose(file);
     }
 }

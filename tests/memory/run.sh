@@ -1,7 +1,12 @@
 #!/bin/sh
 # Runs tests of the crates again and again, each time with another of their allocations refused. A test
 # asks again where memory was wanting, so it passes whichever allocation is refused. The tests are those
-# that `rt ci` or `rt test` left in the crates' out/. Then runs the program in the same way (program.sh).
+# that `rt ci` or `rt test` left in the crates' out/. Then runs the program:
+#   program.sh            its script, with each allocation refused in turn
+#   refused_once.py       a stream of frames, with each allocation refused in turn
+#   limited.py            every allocation of more than so many bytes refused
+#   costs_of_requests.py  what a request of each kind makes it ask for, by the table costs_of_requests
+#   kept_for_ever.py      what it holds after long streams
 set -u
 top=$(cd "$(dirname "$0")/../.." && pwd)
 work=$(mktemp -d) || exit 1
@@ -59,5 +64,17 @@ else
     echo "an assembly asked for memory '$with_calls' times with every call and '$without' times with none"
 fi
 sh "$top/tests/memory/program.sh" "$work/refuse.so" || failed=$((failed + 1))
+# what these tests of the program share with those of its commands: tests/program/wire/harness.py
+export DROID_DESK="$top/crates/droid_desk/out/droid_desk" REFUSING="$work/refuse.so"
+export PYTHONPATH="$top/tests/memory:$top/tests/program/wire"
+for tests in refused_once limited costs_of_requests kept_for_ever; do
+    if python3 -S -B -m unittest -q "$tests" 2>"$work/said"; then
+        passed=$((passed + 1))
+        echo "$tests: passed"
+    else
+        failed=$((failed + 1))
+        cat "$work/said"
+    fi
+done
 echo "$passed passed, $failed failed"
 [ "$failed" -eq 0 ]

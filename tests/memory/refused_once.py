@@ -1,0 +1,121 @@
+"""One allocation is refused within one request, each in turn, in a stream that sends each request twice in a row. The
+request is answered Refused 18 and changes nothing, so it is answered as it should be when it comes again, and so is all
+that follows. One refusal, one answer 18: of a program that tries a refused commit a second time there would be none.
+
+Where the memory for its body is refused, no request was read, and the stream ends. And these may be refused without a
+trace, the last that a request asks for:
+- the buffer in which a small reply is gathered (crates/droid_wire/src/sending.rt): without it the reply goes out in parts;
+- what the database takes when a commit stands already, to bring its second copy of the tables to the same rows: without
+  it the next change makes that copy anew. A row takes an allocation for its numbers and one for its texts and bytes."""
+
+import os
+import unittest
+from concurrent.futures import ThreadPoolExecutor
+from typing import NamedTuple
+
+from asking import (
+    ABANDONED,
+    CLIENT,
+    FINISHED,
+    HEADER,
+    MADE,
+    MEMORY,
+    NODE,
+    PROGRESS,
+    TAKEN,
+    abandon,
+    counted,
+    create,
+    export,
+    file,
+    finish,
+    folder,
+    frame,
+    piece,
+    refusal,
+    reply,
+    run_over,
+    status,
+)
+from session import ALL, ALL_TEXT, CONTENT, FOUND, LETTERS, folder_row, part, replies_of, requests_of
+
+GATHERED = 1
+# the row of a profile, and of a reply with its entry in the index by client and number
+PROFILE = 1
+REPLY = 2 + 1
+# the row of a node, and with its entries in the indexes by number and by name
+CHANGED_NODE = 2
+NEW_NODE = CHANGED_NODE + 1 + 2
+
+TEXT = ALL_TEXT + folder_row(8, b"f") + LETTERS.replace(b'"2","1"', b'"9","8"').replace(b"/in/", b"/f/")
+
+# requests after the session, their replies, and how many allocations a new one may go without at its end
+REQUESTS = [
+    (create(40), reply(MADE, 40, 6), PROFILE + REPLY),
+    (folder(41, b"f"), reply(NODE, 41, 8), NEW_NODE + PROFILE + REPLY),
+    (file(42, b"a.abc", 26, 16, parent=8), reply(NODE, 42, 9), NEW_NODE + PROFILE + REPLY),
+    (piece(43, 9, 1, CONTENT[16:]), reply(TAKEN, 43, 1), REPLY),
+    (piece(44, 9, 0, CONTENT[:16]), reply(TAKEN, 44, 2), REPLY),
+    (status(45, 9), reply(PROGRESS, 45, 2, 2), 0),
+    (finish(46, 9), frame(FINISHED, CLIENT, 46, FOUND), CHANGED_NODE + REPLY),
+    (abandon(47, 4), reply(ABANDONED, 47), REPLY),
+    (status(48, 9), reply(PROGRESS, 48, 2, 2), 0),
+    (folder(49, b"f"), refusal(49, 9), 0),
+    (export(50), part(50, 25, TEXT), 0),
+]
+
+
+class Step(NamedTuple):
+    """A request of the stream with its reply, the first and the last of the allocations that are its own, and how many
+    of the last ones it may go without."""
+
+    request: bytes
+    answer: bytes
+    first: int
+    last: int
+    spared: int
+
+    def number(self):
+        return HEADER.unpack_from(self.request)[3]
+
+    def place_of(self, allocation):
+        """Which of the request's allocations this is, for who reads a failure."""
+        _, kind, _, number, _ = HEADER.unpack_from(self.request)
+        return f"request {number} of kind {kind}, allocation {allocation - self.first + 1} of {self.last - self.first + 1}"
+
+
+class RefusedOnce(unittest.TestCase):
+    def setUp(self):
+        self.stream = requests_of(ALL)
+        self.steps = []
+        asked = counted(self.stream)[1].asked
+        for request, answer, spared in REQUESTS:
+            for more in (spared, 0):
+                self.stream += request
+                before, asked = asked, counted(self.stream)[1].asked
+                step = Step(request, answer, before + 1, asked, GATHERED + more)
+                self.assertLess(step.first + step.spared, step.last, "its allocations were not seen")
+                self.steps.append(step)
+
+    def due(self, place, allocation):
+        """How `run` has to end where this allocation is refused, which is one of the step at this place."""
+        step = self.steps[place]
+        answers = [step.answer for step in self.steps]
+        if allocation == step.first:
+            return 4, replies_of(ALL) + b"".join(answers[:place]), "fault: Memory\n"
+        if allocation <= step.last - step.spared:
+            answers[place] = refusal(step.number(), MEMORY)
+        return 0, replies_of(ALL) + b"".join(answers), ""
+
+    def test_one_refusal_one_answer(self):
+        answers = b"".join(step.answer for step in self.steps)
+        self.assertEqual(run_over(self.stream), (0, replies_of(ALL) + answers, ""))
+        rows = [(place, at) for place, step in enumerate(self.steps) for at in range(step.first, step.last + 1)]
+        with ThreadPoolExecutor(os.cpu_count()) as pool:
+            told = pool.map(lambda row: run_over(self.stream, REFUSE=row[1]), rows)
+            wrong = [row for row, ended in zip(rows, told) if ended != self.due(*row)]
+        self.assertEqual(wrong, [], "\n".join(self.steps[place].place_of(at) for place, at in wrong))
+
+
+if __name__ == "__main__":
+    unittest.main()
