@@ -1,10 +1,12 @@
 -- What the row of a node says of the folder of a new node.
 use Rattle.std.proofs.Common.{◌≡◌, ◌≢◌, inl, inr, ℕ, zero, suc, ℤ, List, [], true, false, Option, Some, None, Result, Ok, Err, IfOk, IfErr, option_map, is_none, slice_get, refl, sym, ap, ◌∙◌}
 use Rattle.std.proofs.lemmas.Bool.{cases_Bool}
+use Rattle.std.specs.Prelude.{MatchBool, ⊤}
 use Rattle.droid_frame.specs.types.refusal.Refusal.{Refusal}
 use Rattle.droid_frame.specs.types.refusal.Refusal.TheVariants.{NoSuchNode, NotAFolder}
 use Rattle.droid_core_spec.specs.Conditions.{is_missing, is_file}
 use Rattle.droid_core_spec.specs.Setting.{Setting}
+use Rattle.droid_core_spec.specs.Wants.{is_want_of}
 use Rattle.droid_core_spec.specs.World.{Content, Node, Folder, File, Abandoned, Profile, World, numbered, unless_abandoned, path}
 use Rattle.droid_store.specs.Changes.{new_file, new_folder}
 use Rattle.droid_store.specs.declared.rows.NodeRow.{NodeRow}
@@ -13,6 +15,7 @@ use Rattle.droid_store.specs.Rows.{Rows, node_at, row_of}
 use Rattle.droid_core_rows.specs.Rows.{file_row, stored_in, stored, KeepsWorld}
 use Rattle.droid_core_rows.proofs.LookUps.{node_found}
 use Rattle.droid_core.specs.Places.{IsFolderPath, FindsFolder}
+use Rattle.droid_core_state.proofs.Staying.{if_refused}
 
 pub top_found : (profile : Profile) (parent : ℕ) (found : List ℕ) → parent ≡ 0 → found ≡ [] → IsFolderPath profile parent found
 unfolding is_missing is_file
@@ -77,3 +80,8 @@ module _ (setting : Setting) (world : World) (rows : Rows) (number : ℕ) (profi
   no_row_finds (suc place) below is =
       let missing = no_row_said setting number profile (suc place) (slice_get profile.nodes place) (is ∙ ap (option_map row_of) (node_is (suc place))) in
       λ more. rw missing refl
+
+  -- the row is missing, or memory or the database was wanting
+  pub nothing_finds : (id : ℕ) (refusal : Refusal) → id ≢ 0 → MatchBool (is_want_of refusal) ⊤ ((refusal ≡ NoSuchNode) × (node_at number id rows ≡ None)) → FindsFolder profile id (Err refusal)
+  nothing_finds id refusal below none = if_refused (is_want_of refusal)
+      (λ (it : (refusal ≡ NoSuchNode) × (node_at number id rows ≡ None)) more. no_row_finds id below (ap (option_map row_of) (sym it.1)) more ∙ ap Some (sym it.0)) none

@@ -1,5 +1,5 @@
 -- The first refusal of a new node's place and name.
-use Rattle.std.proofs.Common.{◌≡◌, ℕ, ◌+◌, List, ◌∷◌, ◌++◌, length, true, false, Some, None, Err, refl, sym, ap, ◌∙◌}
+use Rattle.std.proofs.Common.{◌≡◌, ℕ, ◌+◌, List, ◌∷◌, ◌++◌, length, Bool, true, false, Option, Some, None, option_map, is_some, Result, Ok, Err, IfOk, refl, sym, ap, ◌∙◌}
 use Rattle.std.specs.Prelude.{nat_lt}
 use Rattle.droid_frame.specs.types.refusal.Refusal.{Refusal}
 use Rattle.droid_frame.specs.types.refusal.Refusal.TheVariants.{BadName, PathTooLong, NameTaken}
@@ -7,9 +7,26 @@ use Rattle.droid_core_spec.specs.Conditions.{is_bad_name, is_too_deep}
 use Rattle.droid_core_spec.specs.Judging.{Check, refusal_of, place_checks}
 use Rattle.droid_core_spec.specs.Wants.{is_want_of}
 use Rattle.droid_core_spec.specs.World.{Profile, is_taken}
-use Rattle.droid_core.specs.Places.{FindsPlace}
-use Rattle.droid_core.specs.Places.{IsFolderPath, FindsFolder}
+use Rattle.droid_store.specs.declared.fault.StoreFault.{StoreFault}
+use Rattle.droid_store.specs.Rows.{Node}
+use Rattle.droid_core.specs.Places.{IsFolderPath, FindsFolder, FindsPlace, taken_in}
 use Rattle.droid_core_state.proofs.Staying.{if_refused}
+
+-- ---- what the store answered of a node of this name
+
+of_child : (node : Option Node) → is_some (option_map (λ (n : Node). n.id) node) ≡ is_some node
+of_child None = refl
+of_child (Some node) = refl
+
+pub child_told : (found : Result (Option ℕ) StoreFault) (node : Option Node) (there : Bool) → IfOk found (λ id. id ≡ option_map (λ (n : Node). n.id) node) → Ok there ≡ taken_in found → there ≡ is_some node
+child_told (Ok id) node there is told = (let same : there ≡ is_some id = cc in same) ∙ ap is_some is ∙ of_child node
+child_told (Err fault) node there is told = absurd cc
+
+pub no_child : (node : Option Node) → is_some node ≡ false → node ≡ None
+no_child None isnt = refl
+no_child (Some node) isnt = absurd cc
+
+-- ---- the first refusal
 
 -- what is refused for the folder is refused for the place
 pub folder_refused : (profile : Profile) (parent : ℕ) (name : List ℕ) (refusal : Refusal) → FindsFolder profile parent (Err refusal) → FindsPlace profile parent name (Err refusal)

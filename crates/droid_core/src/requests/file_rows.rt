@@ -58,7 +58,7 @@ pub fn file_of(store: &mut Store, number: u32, file: u32) -> Result<FileRow, Ref
 
 /// The node that was looked up in the store: one that isn't there, or was abandoned, is refused, and
 /// what the store gave up for is told as it is.
-fn node_of(found: Result<Option<NodeRow>, StoreFault>) -> Result<NodeRow, Refusal>
+pub fn node_of(found: Result<Option<NodeRow>, StoreFault>) -> Result<NodeRow, Refusal>
     ensures told { result ≡ node_in found }
     ensures found { IfOk result (λ row. found ≡ Ok (Some row)) }
     ensures none { IfErr result (λ refusal. MatchBool (is_want_of refusal) ⊤ ((refusal ≡ Refusal.NoSuchNode) × (found ≡ Ok None))) }

@@ -1,17 +1,18 @@
 //! The place of a new node, and the room that its profile has for one, looked up in the store.
 
-ghost use Rattle.std.specs.Prelude.{◌≡◌, ◌≢◌, Some, None, IfOk, IfErr, OnOk, IsTrue, is_some};
+ghost use Rattle.std.specs.Prelude.{◌≡◌, ◌≢◌, Some, None, IfOk, IfErr, OnOk, IsTrue};
 ghost use Rattle.droid_core_spec.specs.Setting.{Setting};
 ghost use Rattle.droid_core_spec.specs.Wants.{is_want_of};
 ghost use Rattle.droid_core_spec.specs.World.{Profile, World, numbered};
 ghost use Rattle.droid_core_rows.specs.Rows.{KeepsWorld};
 ghost use Rattle.droid_core_rows.specs.Sound.{IsSound};
-ghost use Rattle.droid_core.specs.Places.{FindsFolder, FindsPlace};
+ghost use Rattle.droid_core.specs.Places.{FindsFolder, FindsPlace, taken_in};
 ghost use Rattle.droid_store.specs.Rows.{child_at};
 
+use crate::requests::file_rows::node_of;
 use droid_core_state::{Parts, Room, is_bad_name, is_too_deep_below, new_path, store_refusal};
 use droid_frame::{Refusal, Text};
-use droid_store::{NodeRow, NodeState, ProfileRow, Store};
+use droid_store::{NodeRow, NodeState, ProfileRow, Store, StoreFault};
 use std::alloc::Global;
 
 /// The path of a new node of this folder, where its place and its name allow one.
@@ -34,7 +35,7 @@ pub fn place_of(
     if is_too_deep_below(folder.as_str(), name) {
         return Err(Refusal::PathTooLong);
     }
-    if is_taken(store, number, parent, name)? {
+    if is_taken(store.child(number, parent, name))? {
         return Err(Refusal::NameTaken);
     }
     match new_path(alloc, folder.as_str(), name) {
@@ -52,11 +53,8 @@ fn folder_path(alloc: Global, store: &mut Store, number: u32, parent: u32) -> Re
     if parent == 0 {
         return Ok(Text::from(String::new(alloc)));
     }
-    match store.node(number, parent) {
-        Ok(Some(row)) => path_of(row),
-        Ok(None) => Err(Refusal::NoSuchNode),
-        Err(fault) => Err(store_refusal(fault)),
-    }
+    let row = node_of(store.node(number, parent))?;
+    path_of(row)
 }
 
 /// The path of a node that is a folder.
@@ -71,13 +69,13 @@ fn path_of(row: NodeRow) -> Result<Text, Refusal>
     }
 }
 
-/// Whether a node lies in this folder under this name, byte for byte.
-fn is_taken(store: &mut Store, number: u32, parent: u32, name: &str) -> Result<bool, Refusal>
-    ensures same { store.new ≡ store.old }
-    ensures taken { IfOk result (λ taken. taken ≡ is_some (child_at number parent name.now store.old)) }
+/// Whether the node that was looked up in the store is there. What the store gave up for is told as
+/// it is.
+fn is_taken(found: Result<Option<u32>, StoreFault>) -> Result<bool, Refusal>
+    ensures told { result ≡ taken_in found }
     ensures want { IfErr result (λ refusal. IsTrue (is_want_of refusal)) }
 {
-    match store.child(number, parent, name) {
+    match found {
         Ok(found) => Ok(found.is_some()),
         Err(fault) => Err(store_refusal(fault)),
     }

@@ -1,7 +1,8 @@
 use Rattle.std.proofs.Common.{sym, ap, ◌∙◌, ℕ, List, ◌∷◌, ◌++◌}
 use Rattle.std.proofs.lemmas.Result.{err_from_is_err_and}
 use Rattle.droid_core_rows.proofs.LookUps.{child_found}
-use Rattle.droid_core.proofs.PlaceChecks.{folder_refused, bad_name, too_deep, taken, allowed}
+use Rattle.droid_store.specs.Rows.{child_at}
+use Rattle.droid_core.proofs.PlaceChecks.{child_told, no_child, folder_refused, bad_name, too_deep, taken, allowed}
 use Rattle.droid_core.proofs.requests.new_places.place_of.Goals as goal
 
 pub returns-in_err-folder-clause-found : goal.returns-in_err-folder-clause-found
@@ -25,15 +26,20 @@ pub returns-then-branch-clause-found : goal.returns-then-branch-clause-found
 returns-then-branch-clause-found c = λ setting world profile keeps sound found.
     let folder = c.in_ok-folder.ensures.found setting world profile keeps found in
     let short = rw c.as_str.ensures.value at c.if-is_too_deep_below.ensures in
-    let there = rw c.folder_path.ensures.same at c.in_ok-is_taken.ensures.taken in
+    let there = rw c.folder_path.ensures.same at (child_told c.child.result (child_at c.args.number c.args.parent c.args.name.now c.folder_path.new.store) _ c.child.ensures.found c.in_ok-is_taken.ensures.told) in
     taken profile c.args.parent c.args.name.now c.in_ok-folder.folder folder (sym c.if-is_bad_name.ensures) (sym short)
     (sym (child_found setting world c.args.store.now c.args.number c.args.parent c.args.name.now profile keeps.nodes found) ∙ sym there ∙ c.if-branch.true)
+
+pub returns-in-Ok-clause-free : goal.returns-in-Ok-clause-free
+returns-in-Ok-clause-free c =
+    let there = rw c.folder_path.ensures.same at (child_told c.child.result (child_at c.args.number c.args.parent c.args.name.now c.folder_path.new.store) _ c.child.ensures.found c.in_ok-is_taken.ensures.told) in
+    no_child (child_at c.args.number c.args.parent c.args.name.now c.args.store.now) (sym there ∙ c.if-branch.false)
 
 pub returns-in-Ok-clause-found : goal.returns-in-Ok-clause-found
 returns-in-Ok-clause-found c = λ setting world profile keeps sound found.
     let folder = c.in_ok-folder.ensures.found setting world profile keeps found in
     let short = rw c.as_str.ensures.value at c.if-is_too_deep_below.ensures in
-    let there = rw c.folder_path.ensures.same at c.in_ok-is_taken.ensures.taken in
+    let there = rw c.folder_path.ensures.same at (child_told c.child.result (child_at c.args.number c.args.parent c.args.name.now c.folder_path.new.store) _ c.child.ensures.found c.in_ok-is_taken.ensures.told) in
     let way = rw c.as_str-2.ensures.value at c.in-Ok.ensures in (
       allowed profile c.args.parent c.args.name.now c.in_ok-folder.folder folder (sym c.if-is_bad_name.ensures) (sym short)
           (sym (child_found setting world c.args.store.now c.args.number c.args.parent c.args.name.now profile keeps.nodes found) ∙ sym there ∙ c.if-branch.false),
