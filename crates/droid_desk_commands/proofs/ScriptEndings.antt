@@ -1,10 +1,10 @@
 -- What the end of a script says of the program's ending.
-use Rattle.std.proofs.Common.{◌≡◌, ℕ, Bool, true, false, cond, eqb, List, [], Option, Some, None, Result, Ok, Err, OnOk, IfOk, IfErr, IfSome, refl, sym, ◌∙◌, subst, arith}
+use Rattle.std.proofs.Common.{◌≡◌, ℕ, Bool, true, false, cond, eqb, List, [], length, Option, Some, None, Result, Ok, Err, OnOk, IfOk, IfErr, IfSome, refl, sym, ap, ◌∙◌, subst, arith}
 use Rattle.std.specs.Prelude.{IsErrOf}
 use Rattle.std.specs.Io.KnownBytes.{Keeps}
 use Rattle.std.proofs.KnownBytes.{Keeps-refl}
 use Rattle.std.proofs.lemmas.Bool.{eqb-true, eqb-false}
-use Rattle.droid_desk_commands.specs.declared.ending.Ending.TheVariants.{Done, BadLine}
+use Rattle.droid_desk_commands.specs.declared.ending.Ending.TheVariants.{Done, BadLine, Script}
 use Rattle.droid_desk_script.specs.declared.fault.ScriptFault.{ScriptFault}
 use Rattle.droid_desk_script.specs.declared.fault.ScriptFault.TheVariants.{TooLong, Read, Memory, Write}
 use Rattle.droid_desk_script.specs.declared.tally.Tally.{Tally}
@@ -12,7 +12,11 @@ use Rattle.droid_core.specs.declared.service.Service.{Service}
 use Rattle.droid_core.specs.Setting.{Setting}
 use Rattle.droid_desk_commands.specs.Endings.{ending_of, EndsAs, PrintsAll}
 use Rattle.droid_desk_lines.specs.Lines.{lines_of}
-use Rattle.droid_desk_script.specs.Scripts.{RunsAll, RunsFront, Counts, IsOfReading, IsOfHandling, IsTooLong}
+use Rattle.droid_desk_script.specs.Scripts.{RunsAll, RunsFront, Counts, IsOfReading, IsOfHandling, IsTooLong, WritesAnswer}
+use Rattle.droid_frame.specs.Seen.{IsSound}
+use Rattle.droid_frame.specs.stream_types.seen.Seen.{Seen}
+use Rattle.droid_wire.specs.InTurn.{AtMost, TellsFaultInTurn}
+use Rattle.droid_wire.proofs.InTurn.{over_none, told_idle}
 
 pub keeps_same : (old new : Option (List ℕ)) → new ≡ old → Keeps old new
 keeps_same old new e = subst (Keeps old) (sym e) (Keeps-refl old)
@@ -44,3 +48,27 @@ ends (Some input) (Err TooLong) setting after old new all tally front before too
 ends (Some input) (Err Read) setting after old new all tally front before too_long = before tt
 ends (Some input) (Err Memory) setting after old new all tally front before too_long = (after, front tt)
 ends (Some input) (Err Write) setting after old new all tally front before too_long = (after, front tt)
+
+-- ---- a fault ends the program as that fault, and no other end does
+
+not_script : (b : Bool) (fault : ScriptFault) → cond b Done BadLine ≡ Script fault → ⊥
+not_script true fault is = absurd cc
+not_script false fault is = absurd cc
+
+pub of_end : (r : Result Tally ScriptFault) (fault : ScriptFault) → ending_of r ≡ Script fault → IsErrOf r fault
+of_end (Ok tally) fault is = absurd (not_script (eqb tally.bad 0) fault is)
+of_end (Err other) fault is = let same : other ≡ fault = cc in ap (λ (e : ScriptFault). Err e) same
+
+pub to_end : (r : Result Tally ScriptFault) (fault : ScriptFault) → IsErrOf r fault → ending_of r ≡ Script fault
+to_end (Ok tally) fault is = absurd cc
+to_end (Err other) fault is = let same : other ≡ fault = cc in ap (λ (e : ScriptFault). Script e) same
+
+none_yet : (known : Option (List ℕ)) → AtMost known (λ script. length (lines_of script)) 0
+none_yet None = tt
+none_yet (Some script) = omega arith
+
+-- nothing was asked of the writer
+pub unwritten : {S : Type 0} (seen : S → Seen) (contents : S → Option (List ℕ)) (known : Option (List ℕ)) (writer : S) (P : Type 0) → IsSound (seen writer) → (P → ⊥)
+    → TellsFaultInTurn seen (WritesAnswer contents) (AtMost known (λ script. length (lines_of script))) writer writer P
+unwritten {S} seen contents known writer P sound not =
+    told_idle seen (WritesAnswer contents) (AtMost known (λ script. length (lines_of script))) writer writer 0 P (over_none seen (WritesAnswer contents) writer 0 refl sound) (none_yet known) not

@@ -8,8 +8,7 @@ use Rattle.droid_desk_commands.specs.declared.ending.Ending.TheVariants.{Done, B
 use Rattle.droid_desk_commands.specs.Sends.{SendEndsAs, sending_end_of}
 use Rattle.droid_desk_sender.specs.declared.fault.SendFault.{SendFault}
 use Rattle.droid_desk_sender.specs.declared.tally.Tally.{Tally}
-use Rattle.droid_desk_sender.specs.Along.{TellsFaultAlong}
-use Rattle.droid_frame.specs.Over.{TellsFaultOver}
+use Rattle.droid_frame.specs.Seen.{TellsFault}
 use Rattle.droid_desk_sender.specs.Sending.{SendsAll, SendsFront}
 use Rattle.droid_frame.specs.stream_types.seen.Seen.{Seen}
 
@@ -34,15 +33,15 @@ not_sent : (b : Bool) (fault : SendFault) → cond b Done BadLine ≡ Send fault
 not_sent true fault is = absurd cc
 not_sent false fault is = absurd cc
 
-told_over : (start count : ℕ) (seen : Seen) (r : Result Tally SendFault) (fault : SendFault)
-    → TellsFaultOver start count seen (IsErrOf r fault) → TellsFaultOver start count seen (sending_end_of r ≡ Send fault)
-told_over start count seen (Ok tally) fault told = record { fault = λ is. absurd (not_sent (eqb tally.bad 0) fault is); otherwise = λ not. told.otherwise (λ is. absurd cc) }
-told_over start count seen (Err other) fault told = record {
-  fault = λ is. told.fault (let same : other ≡ fault = cc in ap (λ (e : SendFault). Err e) same);
-  otherwise = λ not. told.otherwise (λ is. not (let same : other ≡ fault = cc in ap (λ (e : SendFault). Send e) same));
-}
+-- ---- a fault ends the program as that fault, and no other end does
 
--- a fault of a stream ends the program as that fault, and no other end does
-pub told_along : (script : Option (List ℕ)) (start : ℕ) (seen : Seen) (r : Result Tally SendFault) (fault : SendFault)
-    → TellsFaultAlong script start seen (IsErrOf r fault) → TellsFaultAlong script start seen (sending_end_of r ≡ Send fault)
-told_along script start seen r fault told = record { count = told.count; within = told.within; told = told_over start told.count seen r fault told.told }
+pub of_end : (r : Result Tally SendFault) (fault : SendFault) → sending_end_of r ≡ Send fault → IsErrOf r fault
+of_end (Ok tally) fault is = absurd (not_sent (eqb tally.bad 0) fault is)
+of_end (Err other) fault is = let same : other ≡ fault = cc in ap (λ (e : SendFault). Err e) same
+
+pub to_end : (r : Result Tally SendFault) (fault : SendFault) → IsErrOf r fault → sending_end_of r ≡ Send fault
+to_end (Ok tally) fault is = absurd cc
+to_end (Err other) fault is = let same : other ≡ fault = cc in ap (λ (e : SendFault). Send e) same
+
+pub told_end : (start : ℕ) (seen : Seen) (r : Result Tally SendFault) (fault : SendFault) → TellsFault start seen (IsErrOf r fault) → TellsFault start seen (sending_end_of r ≡ Send fault)
+told_end start seen r fault told = record { fault = λ is. told.fault (of_end r fault is); otherwise = λ not. told.otherwise (λ is. not (to_end r fault is)) }

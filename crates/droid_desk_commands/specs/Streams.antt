@@ -33,9 +33,10 @@ StreamEndsAs setting history (Send fault) input left old new after = ⊥
 StreamEndsAs setting history Socket input left old new after = ⊥
 StreamEndsAs setting history BadLine input left old new after = ⊥
 
--- a connection gives one of the outcomes of serving its stream, which isn't told
-abbrev pub ConnectionGives : Setting → History → List ℕ → Option (List ℕ) → Option (List ℕ) → Option (List ℕ) → Service → Type 0
-ConnectionGives setting history input left old new after = (outcome : Result Ended ServeFault) × Outcome setting history stream_turns input left old new after outcome
+-- a connection, of which so many frames are answered at the most, gives one of the outcomes of serving its stream, which
+-- isn't told
+abbrev pub ConnectionGives : Setting → History → ℕ → List ℕ → Option (List ℕ) → Option (List ℕ) → Option (List ℕ) → Service → Type 0
+ConnectionGives setting history turns input left old new after = (outcome : Result Ended ServeFault) × Outcome setting history turns input left old new after outcome
 
 -- Of so many connections that were to be served, all came; or one could not be taken, and fewer came.
 abbrev pub CameTo : Ending → ℕ → ℕ → ℕ → Type 0

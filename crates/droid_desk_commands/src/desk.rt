@@ -5,7 +5,8 @@ ghost use Rattle.droid_frame.specs.Seen.{IsSound, TellsFault};
 ghost use Rattle.droid_core.specs.Setting.{Setting};
 ghost use Rattle.droid_desk_lines.specs.Lines.{lines_of};
 ghost use Rattle.droid_desk_commands.specs.Sample.{sample};
-ghost use Rattle.droid_frame.specs.Over.{TellsFaultOver};
+ghost use Rattle.droid_wire.specs.InTurn.{AtMost, TellsFaultInTurn};
+ghost use Rattle.droid_desk_script.specs.Scripts.{WritesAnswer};
 ghost use Rattle.droid_desk_commands.specs.Endings.{ending_of, EndsAs, EndsOver, IsProgramSetting};
 
 use crate::ending::Ending;
@@ -32,8 +33,8 @@ pub fn run_sample<R: SteadyRead, W: SteadyWrite>(
     ensures ends { EndsOver (Some sample) result (R.remaining reader.old) (W.contents writer.old) (W.contents writer.new) }
     ensures registry_fault { result ≢ Ending.Registry RegistryFault.Read }
     ensures read_fault { IsSound (R.seen reader.old) → TellsFault (R.seen reader.old).interruptions (R.seen reader.new) (result ≡ Ending.Script ScriptFault.Read) }
-    ensures write_fault { IsSound (W.seen writer.old) → W.room writer.old ≡ None → IfSome (R.remaining reader.old) (λ input.
-        TellsFaultOver (W.seen writer.old).interruptions (length (lines_of input)) (W.seen writer.new) (result ≡ Ending.Script ScriptFault.Write)) }
+    ensures write_fault { IsSound (W.seen writer.old) → W.room writer.old ≡ None →
+        TellsFaultInTurn W.seen (WritesAnswer W.contents) (AtMost (R.remaining reader.old) (λ script. length (lines_of script))) writer.old writer.new (result ≡ Ending.Script ScriptFault.Write) }
 {
     let mut file = sample_registry();
     run_desk(alloc, &mut file, reader, writer)
@@ -50,8 +51,8 @@ pub fn run_desk<F: SteadyRead, R: SteadyRead, W: SteadyWrite>(
     // The streams are said to have failed exactly where they did, or were interrupted too often.
     ensures registry_fault { IsSound (F.seen file.old) → TellsFault (F.seen file.old).interruptions (F.seen file.new) (result ≡ Ending.Registry RegistryFault.Read) }
     ensures read_fault { IsSound (R.seen reader.old) → TellsFault (R.seen reader.old).interruptions (R.seen reader.new) (result ≡ Ending.Script ScriptFault.Read) }
-    ensures write_fault { IsSound (W.seen writer.old) → W.room writer.old ≡ None → IfSome (R.remaining reader.old) (λ input.
-        TellsFaultOver (W.seen writer.old).interruptions (length (lines_of input)) (W.seen writer.new) (result ≡ Ending.Script ScriptFault.Write)) }
+    ensures write_fault { IsSound (W.seen writer.old) → W.room writer.old ≡ None →
+        TellsFaultInTurn W.seen (WritesAnswer W.contents) (AtMost (R.remaining reader.old) (λ script. length (lines_of script))) writer.old writer.new (result ≡ Ending.Script ScriptFault.Write) }
 {
     match Registry::read(alloc, file) {
         Ok(registry) => run_script(alloc, registry, reader, writer),
@@ -70,8 +71,8 @@ fn run_script<R: SteadyRead, W: SteadyWrite>(
         EndsAs setting result input (W.contents writer.old) (W.contents writer.new)) }
     ensures registry_read { (fault : _) → result ≢ Ending.Registry fault }
     ensures read_fault { IsSound (R.seen reader.old) → TellsFault (R.seen reader.old).interruptions (R.seen reader.new) (result ≡ Ending.Script ScriptFault.Read) }
-    ensures write_fault { IsSound (W.seen writer.old) → W.room writer.old ≡ None → IfSome (R.remaining reader.old) (λ input.
-        TellsFaultOver (W.seen writer.old).interruptions (length (lines_of input)) (W.seen writer.new) (result ≡ Ending.Script ScriptFault.Write)) }
+    ensures write_fault { IsSound (W.seen writer.old) → W.room writer.old ≡ None →
+        TellsFaultInTurn W.seen (WritesAnswer W.contents) (AtMost (R.remaining reader.old) (λ script. length (lines_of script))) writer.old writer.new (result ≡ Ending.Script ScriptFault.Write) }
 {
     let mut service = match Service::new(alloc, registry, LIMITS) {
         Ok(service) => service,

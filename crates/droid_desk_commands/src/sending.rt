@@ -1,9 +1,11 @@
 //! The requests of lines, sent by a client that is made for them.
 
-ghost use Rattle.std.specs.Prelude.{◌≡◌, ◌<◌, ◌^◌, None};
-ghost use Rattle.droid_frame.specs.Seen.{IsSound};
+ghost use Rattle.std.specs.Prelude.{◌≡◌, ◌<◌, ◌^◌, None, length};
+ghost use Rattle.droid_frame.specs.Seen.{IsSound, TellsFault};
 ghost use Rattle.droid_wire.specs.Cores.{new_core};
-ghost use Rattle.droid_desk_sender.specs.Along.{TellsFaultAlong};
+ghost use Rattle.droid_wire.specs.InTurn.{AtMost, TellsFaultInTurn};
+ghost use Rattle.droid_desk_lines.specs.Lines.{lines_of};
+ghost use Rattle.droid_desk_sender.specs.Along.{ReadsReply, WritesPrinted, WritesRequest};
 ghost use Rattle.droid_desk_commands.specs.Sends.{SendEndsAs, sending_end_of};
 
 use crate::ending::Ending;
@@ -25,15 +27,14 @@ pub fn send_lines<L: SteadyRead, R: SteadyRead, F: SteadyWrite, T: SteadyWrite>(
     requires { first < 2 ^ 63 }
     ensures ends { SendEndsAs (new_core client first) result (L.remaining lines.old) (R.remaining replies.old) (R.remaining replies.new)
         (F.contents frames.old) (F.contents frames.new) (T.contents text.old) (T.contents text.new) }
-    // The streams are said to have failed exactly where they did, or were interrupted too often for one line, frame or text.
-    ensures lines_fault { IsSound (L.seen lines.old) →
-        TellsFaultAlong (L.remaining lines.old) (L.seen lines.old).interruptions (L.seen lines.new) (result ≡ Ending.Send SendFault.Lines) }
-    ensures replies_fault { IsSound (R.seen replies.old) →
-        TellsFaultAlong (L.remaining lines.old) (R.seen replies.old).interruptions (R.seen replies.new) (result ≡ Ending.Send (SendFault.Replies FrameFault.Read)) }
+    // The streams are said to have failed exactly where they did, or were interrupted too often: the lines over all of them, the others for one line.
+    ensures lines_fault { IsSound (L.seen lines.old) → TellsFault (L.seen lines.old).interruptions (L.seen lines.new) (result ≡ Ending.Send SendFault.Lines) }
+    ensures replies_fault { IsSound (R.seen replies.old) → TellsFaultInTurn R.seen (ReadsReply R.remaining) (AtMost (L.remaining lines.old) (λ script. length (lines_of script)))
+        replies.old replies.new (result ≡ Ending.Send (SendFault.Replies FrameFault.Read)) }
     ensures frames_fault { IsSound (F.seen frames.old) → F.room frames.old ≡ None →
-        TellsFaultAlong (L.remaining lines.old) (F.seen frames.old).interruptions (F.seen frames.new) (result ≡ Ending.Send SendFault.Frames) }
+        TellsFaultInTurn F.seen (WritesRequest F.contents) (AtMost (L.remaining lines.old) (λ script. length (lines_of script))) frames.old frames.new (result ≡ Ending.Send SendFault.Frames) }
     ensures text_fault { IsSound (T.seen text.old) → T.room text.old ≡ None →
-        TellsFaultAlong (L.remaining lines.old) (T.seen text.old).interruptions (T.seen text.new) (result ≡ Ending.Send SendFault.Text) }
+        TellsFaultInTurn T.seen (WritesPrinted T.contents) (AtMost (L.remaining lines.old) (λ script. length (lines_of script))) text.old text.new (result ≡ Ending.Send SendFault.Text) }
 {
     let mut core = Client::new(alloc, client, first);
     let outcome = send(alloc, &mut core, lines, replies, frames, text);

@@ -1,8 +1,11 @@
-use Rattle.std.proofs.Common.{[], IfErr, IfSome, ap, ◌∙◌, sym}
+use Rattle.std.proofs.Common.{[], length, IfErr, IfSome, ap, ◌∙◌, sym}
 use Rattle.std.specs.Io.KnownBytes.{Keeps}
 use Rattle.droid_desk_commands.specs.Endings.{ending_of, EndsAs}
-use Rattle.droid_desk_script.specs.Scripts.{IsOfReading}
-use Rattle.droid_desk_commands.proofs.ScriptEndings.{ends, keeps_same, if_err_then}
+use Rattle.droid_desk_script.specs.Scripts.{IsOfReading, WritesAnswer}
+use Rattle.droid_desk_commands.proofs.ScriptEndings.{ends, if_err_then, keeps_same, of_end, to_end, unwritten}
+use Rattle.droid_wire.specs.InTurn.{AtMost}
+use Rattle.droid_wire.proofs.InTurn.{told_as}
+use Rattle.droid_desk_lines.specs.Lines.{lines_of}
 use Rattle.droid_desk_commands.proofs.desk.run_script.Goals as goal
 
 pub returns-clause-ends : goal.returns-clause-ends
@@ -18,3 +21,11 @@ returns-clause-ends g c = λ setting program.
     ends known result setting c.script-outcome.new.service old new (c.script-outcome.ensures.all setting [] empty) c.script-outcome.ensures.tally
     (c.script-outcome.ensures.front setting [] empty) before c.script-outcome.ensures.too_long in
     rw c.end_of.ensures ended
+
+pub returns-in-Err-clause-write_fault : goal.returns-in-Err-clause-write_fault
+returns-in-Err-clause-write_fault g c = λ sound endless. unwritten g.W.SteadyWrite.seen g.W.Write.contents (g.R.Read.remaining c.args.reader.now) c.args.writer.now _ sound (λ e. absurd cc)
+
+pub returns-clause-write_fault : goal.returns-clause-write_fault
+returns-clause-write_fault g c = λ sound endless.
+    rw c.end_of.ensures (told_as g.W.SteadyWrite.seen (WritesAnswer g.W.Write.contents) (AtMost (g.R.Read.remaining c.args.reader.now) (λ script. length (lines_of script))) c.args.writer.now c.script-outcome.new.writer _ _
+    (c.script-outcome.ensures.write_fault sound endless) (of_end c.script-outcome.result _) (to_end c.script-outcome.result _))

@@ -1,4 +1,7 @@
-use Rattle.droid_desk_commands.proofs.StreamEndings.{read_told, stream_ends, write_told}
+use Rattle.droid_desk_commands.proofs.StreamEndings.{of_end, of_written, stream_ends, to_end, to_written}
+use Rattle.droid_wire.specs.InTurn.{ReadsFrame, WritesReply}
+use Rattle.droid_wire.proofs.InTurn.{told_as}
+use Rattle.std.proofs.Common.{◌≤◌}
 use Rattle.droid_desk_commands.proofs.stream.answer_stream.Goals as goal
 
 pub returns-clause-ends : goal.returns-clause-ends
@@ -8,7 +11,11 @@ returns-clause-ends g c = λ setting history stands.
     (c.serve-ended.ensures.outcome setting history stands))
 
 pub returns-clause-read_fault : goal.returns-clause-read_fault
-returns-clause-read_fault g c = λ sound. rw c.end_of.ensures (read_told _ _ _ c.serve-ended.result _ (c.serve-ended.ensures.read_fault sound))
+returns-clause-read_fault g c = λ sound.
+    rw c.end_of.ensures (told_as g.R.SteadyRead.seen (ReadsFrame g.R.Read.remaining) (λ count. count ≤ 1000000) c.args.reader.now c.serve-ended.new.reader _ _
+    (c.serve-ended.ensures.read_fault sound) (of_end c.serve-ended.result _) (to_end c.serve-ended.result _))
 
 pub returns-clause-write_fault : goal.returns-clause-write_fault
-returns-clause-write_fault g c = λ sound endless. rw c.end_of.ensures (write_told _ _ _ c.serve-ended.result (c.serve-ended.ensures.write_fault sound endless))
+returns-clause-write_fault g c = λ sound endless.
+    rw c.end_of.ensures (told_as g.W.SteadyWrite.seen (WritesReply g.W.Write.contents) (λ count. count ≤ 1000000) c.args.writer.now c.serve-ended.new.writer _ _
+    (c.serve-ended.ensures.write_fault sound endless) (of_written c.serve-ended.result) (to_written c.serve-ended.result))
