@@ -15,8 +15,8 @@ use Rattle.droid_desk_lines.specs.Lines.{lines_of}
 use Rattle.droid_desk_script.specs.Scripts.{RunsAll, RunsFront, Counts, IsOfReading, IsOfHandling, IsTooLong, WritesAnswer}
 use Rattle.droid_frame.specs.Seen.{IsSound}
 use Rattle.droid_frame.specs.stream_types.seen.Seen.{Seen}
-use Rattle.droid_wire.specs.InTurn.{AtMost, TellsFaultInTurn}
-use Rattle.droid_wire.proofs.InTurn.{over_none, told_idle}
+use Rattle.droid_frame.specs.InTurn.{AtMost, TellsFaultInTurn}
+use Rattle.droid_frame.proofs.InTurn.{over_none, told_idle}
 
 pub keeps_same : (old new : Option (List ℕ)) → new ≡ old → Keeps old new
 keeps_same old new e = subst (Keeps old) (sym e) (Keeps-refl old)

@@ -5,7 +5,7 @@ ghost use Rattle.droid_frame.specs.Seen.{IsSound, TellsFault};
 ghost use Rattle.droid_core.specs.Setting.{Setting};
 ghost use Rattle.droid_desk_lines.specs.Lines.{lines_of};
 ghost use Rattle.droid_desk_commands.specs.Sample.{sample};
-ghost use Rattle.droid_wire.specs.InTurn.{AtMost, TellsFaultInTurn};
+ghost use Rattle.droid_frame.specs.InTurn.{AtMost, TellsFaultInTurn};
 ghost use Rattle.droid_desk_script.specs.Scripts.{WritesAnswer};
 ghost use Rattle.droid_desk_commands.specs.Endings.{ending_of, EndsAs, EndsOver, IsProgramSetting};
 

@@ -3,7 +3,7 @@
 ghost use Rattle.std.specs.Prelude.{◌≡◌, ◌<◌, ◌^◌, None, length};
 ghost use Rattle.droid_frame.specs.Seen.{IsSound, TellsFault};
 ghost use Rattle.droid_wire.specs.Cores.{new_core};
-ghost use Rattle.droid_wire.specs.InTurn.{AtMost, TellsFaultInTurn};
+ghost use Rattle.droid_frame.specs.InTurn.{AtMost, TellsFaultInTurn};
 ghost use Rattle.droid_desk_lines.specs.Lines.{lines_of};
 ghost use Rattle.droid_desk_sender.specs.Along.{ReadsReply, WritesPrinted, WritesRequest};
 ghost use Rattle.droid_desk_commands.specs.Sends.{SendEndsAs, sending_end_of};

@@ -5,7 +5,8 @@ ghost use Rattle.droid_frame.specs.Seen.{IsSound};
 ghost use Rattle.droid_core.specs.Standing.{StandsFor, limits_of, registry_of};
 ghost use Rattle.droid_core.specs.Histories.{History};
 ghost use Rattle.droid_core.specs.Setting.{Setting};
-ghost use Rattle.droid_wire.specs.InTurn.{ReadsFrame, TellsFaultInTurn, WritesReply};
+ghost use Rattle.droid_frame.specs.InTurn.{TellsFaultInTurn};
+ghost use Rattle.droid_wire.specs.Turns.{ReadsFrame, WritesReply};
 ghost use Rattle.droid_wire.specs.Serving.{GoesOnFrom};
 ghost use Rattle.droid_desk_commands.specs.Streams.{ConnectionGives, StreamEndsAs, stream_ending_of};
 

@@ -8,7 +8,7 @@ use Rattle.droid_frame.specs.stream_types.fault.InputFault.TheVariants as inputs
 use Rattle.droid_desk_lines.specs.Lines.{lines_of}
 use Rattle.droid_desk_script.specs.declared.fault.ScriptFault.{ScriptFault}
 use Rattle.droid_desk_script.specs.declared.fault.ScriptFault.TheVariants.{Write}
-use Rattle.droid_wire.specs.InTurn.{AtMost}
+use Rattle.droid_frame.specs.InTurn.{AtMost}
 use Rattle.droid_desk_script.specs.Scripts.{WritesFront, reading_fault}
 
 -- a write that stopped wrote the first bytes

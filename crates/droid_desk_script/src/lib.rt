@@ -7,7 +7,7 @@ ghost use Rattle.droid_core.specs.Histories.{History};
 ghost use Rattle.droid_core.specs.Setting.{Setting};
 ghost use Rattle.droid_desk_lines.specs.Lines.{lines_of};
 ghost use Rattle.droid_desk_script.specs.Scripts.{RunsAll, RunsFront, Counts, GoesOnFrom, IsOfHandling, IsOfReading, IsTooLong, WritesAnswer};
-ghost use Rattle.droid_wire.specs.InTurn.{AtMost, TellsFaultInTurn};
+ghost use Rattle.droid_frame.specs.InTurn.{AtMost, TellsFaultInTurn};
 ghost use Rattle.droid_core.specs.Standing.{StandsFor, limits_of, registry_of};
 
 mod fault;

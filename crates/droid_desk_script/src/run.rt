@@ -7,7 +7,7 @@ ghost use Rattle.droid_core.specs.Setting.{Setting};
 ghost use Rattle.droid_desk_lines.specs.Lines.{lines_of, line_value};
 ghost use Rattle.droid_desk_script.specs.Scripts.{RunsAll, RunsFront, LineAnswered, Counts, IsOfHandling, WritesAnswer, is_bad};
 ghost use Rattle.droid_frame.specs.types.reply.Reply.{Reply};
-ghost use Rattle.droid_wire.specs.InTurn.{TellsFaultInTurn};
+ghost use Rattle.droid_frame.specs.InTurn.{TellsFaultInTurn};
 ghost use Rattle.droid_core.specs.Standing.{StandsFor, limits_of, registry_of};
 
 use crate::fault::ScriptFault;

@@ -7,7 +7,7 @@ use Rattle.std.proofs.KnownBytes.{Appends-nil, Appends-trans, Consumes-nil, Cons
 use Rattle.std.proofs.lemmas.Grind.{flat_map-append}
 use Rattle.std.proofs.lemmas.List.Sums.{sum_by-append}
 use Rattle.droid_wire.specs.Cores.{Core}
-use Rattle.droid_wire.specs.InTurn.{AtMost}
+use Rattle.droid_frame.specs.InTurn.{AtMost}
 use Rattle.droid_desk_lines.specs.Lines.{lines_of}
 use Rattle.droid_desk_sender.specs.declared.fault.SendFault.{SendFault}
 use Rattle.droid_desk_sender.specs.declared.tally.Tally.{Tally}

@@ -3,7 +3,7 @@
 ghost use Rattle.std.specs.Prelude.{◌≡◌, None, IfOk, IfErr, IsErrOf, length};
 ghost use Rattle.droid_frame.specs.Seen.{IsSound, TellsFault};
 ghost use Rattle.droid_frame.specs.Bodies.{Fits};
-ghost use Rattle.droid_wire.specs.InTurn.{AtMost, TellsFaultInTurn};
+ghost use Rattle.droid_frame.specs.InTurn.{AtMost, TellsFaultInTurn};
 ghost use Rattle.droid_desk_lines.specs.Lines.{lines_of};
 ghost use Rattle.droid_desk_sender.specs.Along.{ReadsReply, WritesPrinted, WritesRequest};
 ghost use Rattle.droid_desk_sender.specs.Sending.{SendsAll, SendsFront};

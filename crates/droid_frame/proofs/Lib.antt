@@ -1,4 +1,4 @@
-pub use Rattle.droid_frame_stream.proofs.Lasting
+pub use Rattle.droid_frame_stream.proofs.InTurn
 pub use Rattle.droid_frame_stream.proofs.Scopes
 pub use Rattle.droid_frame_stream.proofs.Stopping
 pub use Rattle.droid_frame_bodies.proofs.RequestLaws

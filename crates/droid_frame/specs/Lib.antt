@@ -15,7 +15,7 @@ pub use Rattle.droid_frame_bodies.specs.filters.Values as FilterValues
 pub use Rattle.droid_frame_bodies.specs.replies.Values as ReplyValues
 pub use Rattle.droid_frame_bodies.specs.requests.Values
 pub use Rattle.droid_frame_bodies.specs.declared.body_fault
-pub use Rattle.droid_frame_stream.specs.Over
+pub use Rattle.droid_frame_stream.specs.InTurn
 pub use Rattle.droid_frame_stream.specs.Reads
 pub use Rattle.droid_frame_stream.specs.Seen
 pub use Rattle.droid_frame_stream.specs.Writes

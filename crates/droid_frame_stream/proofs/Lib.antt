@@ -1,5 +1,5 @@
+pub mod InTurn
 pub mod Inputs
-pub mod Lasting
 pub mod Parts
 pub mod Scopes
 pub mod Stopping

@@ -1,4 +1,4 @@
-pub mod Over
+pub mod InTurn
 pub mod Reads
 pub mod Seen
 pub mod Writes

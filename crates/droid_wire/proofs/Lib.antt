@@ -4,7 +4,6 @@ pub mod AnswersOnce
 pub mod Ends
 pub mod GoingOn
 pub mod Held
-pub mod InTurn
 pub mod Invariant
 pub mod Passing
 pub mod ReadStreams

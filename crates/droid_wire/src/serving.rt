@@ -7,7 +7,8 @@ ghost use Rattle.droid_frame.specs.Seen.{IsSound, TellsFault};
 ghost use Rattle.droid_core.specs.Standing.{StandsFor, limits_of, registry_of};
 ghost use Rattle.droid_core.specs.Histories.{History};
 ghost use Rattle.droid_core.specs.Setting.{Setting};
-ghost use Rattle.droid_wire.specs.InTurn.{ReadsFrame, TellsFaultInTurn, WritesReply};
+ghost use Rattle.droid_frame.specs.InTurn.{TellsFaultInTurn};
+ghost use Rattle.droid_wire.specs.Turns.{ReadsFrame, WritesReply};
 ghost use Rattle.droid_wire.specs.Serving.{GoesOnFrom, Outcome};
 ghost use Rattle.droid_wire.specs.Steps.{TurnGives};
 

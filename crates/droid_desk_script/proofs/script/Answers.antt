@@ -2,8 +2,8 @@ use Rattle.std.proofs.Common.{◌≡◌, ◌≤◌, List, ℕ, IfSome, length, r
 use Rattle.droid_desk_script.specs.declared.fault.ScriptFault.{ScriptFault}
 use Rattle.droid_desk_lines.specs.Lines.{lines_of}
 use Rattle.droid_desk_script.specs.Scripts.{RunsFront, IsOfHandling, WritesAnswer}
-use Rattle.droid_wire.specs.InTurn.{AtMost}
-use Rattle.droid_wire.proofs.InTurn.{over_none, told_idle, told_within}
+use Rattle.droid_frame.specs.InTurn.{AtMost}
+use Rattle.droid_frame.proofs.InTurn.{over_none, told_idle, told_within}
 use Rattle.droid_desk_script.proofs.Runs.{goes_nowhere, goes_on, runs_nothing}
 use Rattle.droid_desk_script.proofs.Writes.{if_err, if_some, lines_known, no_write}
 use Rattle.droid_desk_script.proofs.script.Goals as goal

@@ -3,8 +3,8 @@ use Rattle.std.specs.Io.KnownBytes.{Keeps}
 use Rattle.droid_desk_commands.specs.Endings.{ending_of, EndsAs}
 use Rattle.droid_desk_script.specs.Scripts.{IsOfReading, WritesAnswer}
 use Rattle.droid_desk_commands.proofs.ScriptEndings.{ends, if_err_then, keeps_same, of_end, to_end, unwritten}
-use Rattle.droid_wire.specs.InTurn.{AtMost}
-use Rattle.droid_wire.proofs.InTurn.{told_as}
+use Rattle.droid_frame.specs.InTurn.{AtMost}
+use Rattle.droid_frame.proofs.InTurn.{told_as}
 use Rattle.droid_desk_lines.specs.Lines.{lines_of}
 use Rattle.droid_desk_commands.proofs.desk.run_script.Goals as goal
 

@@ -1,6 +1,6 @@
 use Rattle.droid_desk_commands.proofs.SendEndings.{of_end, send_ends, told_end, to_end}
-use Rattle.droid_wire.specs.InTurn.{AtMost}
-use Rattle.droid_wire.proofs.InTurn.{told_as}
+use Rattle.droid_frame.specs.InTurn.{AtMost}
+use Rattle.droid_frame.proofs.InTurn.{told_as}
 use Rattle.droid_desk_lines.specs.Lines.{lines_of}
 use Rattle.droid_desk_sender.specs.Along.{ReadsReply, WritesPrinted, WritesRequest}
 use Rattle.std.proofs.Common.{length}

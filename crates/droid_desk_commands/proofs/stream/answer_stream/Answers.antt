@@ -1,6 +1,6 @@
 use Rattle.droid_desk_commands.proofs.StreamEndings.{of_end, of_written, stream_ends, to_end, to_written}
-use Rattle.droid_wire.specs.InTurn.{ReadsFrame, WritesReply}
-use Rattle.droid_wire.proofs.InTurn.{told_as}
+use Rattle.droid_wire.specs.Turns.{ReadsFrame, WritesReply}
+use Rattle.droid_frame.proofs.InTurn.{told_as}
 use Rattle.std.proofs.Common.{◌≤◌}
 use Rattle.droid_desk_commands.proofs.stream.answer_stream.Goals as goal
 

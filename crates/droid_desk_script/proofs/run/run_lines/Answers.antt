@@ -1,7 +1,7 @@
 use Rattle.std.proofs.Common.{rules, ℕ, ◌≡◌, ◌≤◌, true, false, length, refl, arith}
 use Rattle.droid_desk_script.specs.Scripts.{WritesAnswer, is_bad}
 use Rattle.droid_desk_lines.specs.Lines.{lines_of}
-use Rattle.droid_wire.proofs.InTurn.{over_next, over_none, told_idle, told_next}
+use Rattle.droid_frame.proofs.InTurn.{over_next, over_none, told_idle, told_next}
 use Rattle.droid_desk_script.proofs.Runs.{start, step, stop, line_is_left, lines_are_within}
 use Rattle.droid_desk_script.proofs.Writes.{on_err}
 use Rattle.droid_desk_script.proofs.run.run_lines.Goals as goal

@@ -1,6 +1,6 @@
 use Rattle.std.proofs.Common.{◌≡◌, length, None}
 use Rattle.droid_frame.specs.Seen.{IsSound}
-use Rattle.droid_wire.proofs.InTurn.{OverSoMany}
+use Rattle.droid_frame.proofs.InTurn.{OverSoMany}
 use Rattle.droid_desk_script.specs.Scripts.{WritesAnswer}
 use Rattle.droid_desk_script.proofs.Runs.{Progress}
 use Rattle.droid_desk_script.proofs.run.run_lines.Given as goal

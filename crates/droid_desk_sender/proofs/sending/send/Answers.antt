@@ -7,8 +7,8 @@ use Rattle.droid_desk_sender.specs.declared.tally.Tally.{Tally}
 use Rattle.droid_desk_sender.proofs.PassingOn.{came_from, of_reading, passed_on, stops_not_reading, told_unless}
 use Rattle.droid_frame.proofs.Scopes.{counts_begin, told_none}
 use Rattle.droid_frame.specs.Seen.{Counts}
-use Rattle.droid_wire.specs.InTurn.{AtMost}
-use Rattle.droid_wire.proofs.InTurn.{over_next, over_none, told_idle, told_next}
+use Rattle.droid_frame.specs.InTurn.{AtMost}
+use Rattle.droid_frame.proofs.InTurn.{over_next, over_none, told_idle, told_next}
 use Rattle.droid_desk_lines.specs.Lines.{lines_of}
 use Rattle.droid_desk_sender.specs.Along.{ReadsReply, WritesPrinted, WritesRequest}
 use Rattle.droid_desk_sender.proofs.Passing.{if_err_same}

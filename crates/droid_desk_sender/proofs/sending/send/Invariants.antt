@@ -2,7 +2,7 @@
 use Rattle.std.proofs.Common.{◌≡◌, ◌≤◌, None}
 use Rattle.std.specs.Io.KnownBytes.{prepend_known}
 use Rattle.droid_frame.specs.Seen.{Counts, IsSound}
-use Rattle.droid_wire.proofs.InTurn.{OverSoMany}
+use Rattle.droid_frame.proofs.InTurn.{OverSoMany}
 use Rattle.droid_desk_sender.specs.Along.{ReadsReply, WritesPrinted, WritesRequest}
 use Rattle.droid_desk_sender.proofs.Sent.{SoFar}
 use Rattle.droid_desk_sender.proofs.sending.send.Given as goal

@@ -4,13 +4,14 @@ use Rattle.droid_frame.specs.types.frame.Frame.{Frame}
 use Rattle.droid_frame.specs.types.reply.Reply.{Reply}
 use Rattle.droid_frame.specs.declared.stream.fault.FrameFault.TheVariants.{Read}
 use Rattle.droid_wire.specs.declared.fault.ServeFault.TheVariants as faults
-use Rattle.droid_wire.specs.InTurn.{ReadsFrame, TellsFaultInTurn, WritesReply}
+use Rattle.droid_frame.specs.InTurn.{TellsFaultInTurn}
+use Rattle.droid_wire.specs.Turns.{ReadsFrame, WritesReply}
 use Rattle.droid_wire.specs.declared.ended.Ended.{Ended}
 use Rattle.droid_wire.specs.declared.fault.ServeFault.{ServeFault}
 use Rattle.droid_wire.specs.Serving.{Outcome}
 use Rattle.droid_wire.proofs.Ends.{stopped, stream_closed}
 use Rattle.droid_wire.proofs.GoingOn.{goes_further, goes_nowhere, goes_within}
-use Rattle.droid_wire.proofs.InTurn.{over_next, over_none, told_idle, told_next}
+use Rattle.droid_frame.proofs.InTurn.{over_next, over_none, told_idle, told_next}
 use Rattle.droid_wire.proofs.Passing.{if_err_same, same_fault}
 use Rattle.droid_wire.proofs.SoFar.{so_far_more, so_far_none}
 use Rattle.droid_wire.proofs.serving.serve.Goals as goal

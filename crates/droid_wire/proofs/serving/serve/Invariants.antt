@@ -4,9 +4,9 @@ use Rattle.droid_frame.specs.Seen.{IsSound}
 use Rattle.droid_core.specs.Standing.{StandsFor, limits_of, registry_of}
 use Rattle.droid_core.specs.Histories.{History}
 use Rattle.droid_core.specs.Setting.{Setting}
-use Rattle.droid_wire.specs.InTurn.{ReadsFrame, WritesReply}
+use Rattle.droid_wire.specs.Turns.{ReadsFrame, WritesReply}
 use Rattle.droid_wire.specs.Serving.{GoesOnFrom}
-use Rattle.droid_wire.proofs.InTurn.{OverSoMany}
+use Rattle.droid_frame.proofs.InTurn.{OverSoMany}
 use Rattle.droid_wire.proofs.SoFar.{SoFar}
 use Rattle.droid_wire.proofs.serving.serve.Given as goal
 

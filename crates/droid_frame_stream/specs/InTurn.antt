@@ -1,13 +1,7 @@
 -- Streams over several frames, replies or lines, one after the other, in each of which 64 interruptions are tried again.
 use Rattle.std.specs.Prelude.{◌≡◌, ℕ, ◌+◌, ◌⊎◌, List, [], ◌∷◌, length, ◌≤◌, Option, IfSome}
-use Rattle.std.specs.Io.KnownBytes.{Appends, Consumes}
-use Rattle.droid_frame.specs.Frames.{frame_bytes}
-use Rattle.droid_frame.specs.ReplyFrames.{reply_frame}
-use Rattle.droid_frame.specs.Seen.{Lasts, TellsFault}
-use Rattle.droid_frame.specs.Streams.{IsReadable}
-use Rattle.droid_frame.specs.stream_types.seen.Seen.{Seen}
-use Rattle.droid_frame.specs.types.frame.Frame.{Frame}
-use Rattle.droid_frame.specs.types.reply.Reply.{Reply}
+use Rattle.droid_frame_stream.specs.declared.seen.Seen.{Seen}
+use Rattle.droid_frame_stream.specs.Seen.{Lasts, TellsFault}
 
 -- A stream went over these items, one after the other, each from the state that the one before left it in. Each did this to
 -- the stream; and in each it lasted: it didn't fail, and was interrupted 64 times at most.
@@ -24,14 +18,6 @@ pub record TellsFaultInTurn {S A : Type 0} (seen : S → Seen) (Does : A → S �
   pub middle : S
   pub over : GoesOver seen Does first items middle
   pub ends : (MayBe (length items) × (last ≡ middle) × (is_fault → ⊥)) ⊎ (MayBe (length items + 1) × TellsFault (seen middle).interruptions (seen last) is_fault)
-
--- this frame was read
-abbrev pub ReadsFrame : {S : Type 0} → (S → Option (List ℕ)) → Frame → S → S → Type 0
-ReadsFrame remaining frame old new = IsReadable frame × Consumes (remaining old) (remaining new) (frame_bytes frame)
-
--- the frame of this reply was written, with the client and the number of this frame
-abbrev pub WritesReply : {S : Type 0} → (S → Option (List ℕ)) → Frame × Reply → S → S → Type 0
-WritesReply contents answered old new = Appends (contents old) (contents new) (reply_frame answered.0.client answered.0.number answered.1)
 
 -- no more than so many, by what the bytes tell, where they are known
 abbrev pub AtMost : Option (List ℕ) → (List ℕ → ℕ) → ℕ → Type 0

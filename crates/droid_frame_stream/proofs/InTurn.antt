@@ -1,8 +1,8 @@
 -- Streams over one item after the other.
 use Rattle.std.proofs.Common.{◌≡◌, ℕ, ◌+◌, List, [], ◌∷◌, ◌++◌, length, refl, sym, subst, arith, inl, inr, length-append}
-use Rattle.droid_frame.specs.Seen.{IsSound, Lasts, TellsFault}
-use Rattle.droid_frame.specs.stream_types.seen.Seen.{Seen}
-use Rattle.droid_wire.specs.InTurn.{GoesOver, TellsFaultInTurn}
+use Rattle.droid_frame_stream.specs.Seen.{IsSound, Lasts, TellsFault}
+use Rattle.droid_frame_stream.specs.declared.seen.Seen.{Seen}
+use Rattle.droid_frame_stream.specs.InTurn.{GoesOver, TellsFaultInTurn}
 
 -- one more
 over_more : {S A : Type 0} (seen : S → Seen) (Does : A → S → S → Type 0) (first : S) (items : List A) (middle : S) (item : A) (last : S)
