@@ -1,5 +1,5 @@
 -- The bytes of all pieces are those before the first missing one, and those past it.
-use Rattle.std.proofs.Common.{◌≡◌, ◌≢◌, ℕ, zero, suc, ◌+◌, ◌<◌, ◌≤◌, true, List, [], ◌∷◌, length, get_or, filter, nat_le, Option, None, Some, IsSome, refl, sym, ap, ◌∙◌, arith, inl, inr, add-one, zero-add, length-append}
+use Rattle.std.proofs.Common.{◌≡◌, ◌≢◌, ℕ, zero, suc, ◌+◌, ◌<◌, true, List, [], ◌∷◌, length, get_or, filter, nat_le, Option, None, Some, IsSome, refl, sym, ap, ◌∙◌, arith, inl, inr, add-one, zero-add, length-append}
 use Rattle.std.specs.List.{All, AllPairs, range_with_len}
 use Rattle.std.specs.Option.{is_none}
 use Rattle.std.proofs.lemmas.Bool.Decides.{eqb_tells, leb_tells}
