@@ -4,6 +4,7 @@
 #   example       what examples/ shows
 #   registry.sh   registry files, good and bad
 #   streams.sh    streams that are interrupted or fail
+#   endings.sh    no service before no input
 #   model.sh      a model in Python, on the same cases
 #   random.sh     the program and the model on random scripts
 #   wire/run.sh   frames on standard streams and on connections, in Python
@@ -39,6 +40,7 @@ part example "$top/examples" "$program"
 part example "$top/examples" "$tests/model/main.py"
 part sh "$tests/registry.sh" "$program"
 part sh "$tests/streams.sh" "$program"
+part sh "$tests/endings.sh" "$program"
 part sh "$tests/model.sh"
 part sh "$tests/random.sh" "$program"
 part sh "$tests/wire/run.sh" "$program"
