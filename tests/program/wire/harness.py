@@ -30,6 +30,18 @@ def read_exactly(stream, count):
     return read
 
 
+def read_until_reset(stream, count):
+    """So many bytes of a socket, or fewer where it ends before: also by a reset, which comes where the other end has not
+    read all that was sent."""
+    read = b""
+    try:
+        while len(read) < count and (part := stream.recv(count - len(read))):
+            read += part
+    except ConnectionResetError:
+        pass
+    return read
+
+
 def read_frame(stream):
     """The next frame of a socket as its kind, client, number and body, or None where the socket ends."""
     header = read_exactly(stream, HEADER.size)

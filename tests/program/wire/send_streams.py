@@ -7,7 +7,7 @@ import subprocess
 import time
 import unittest
 
-from harness import PROGRAM, SECONDS, Serve, connect, frame, listen, preloaded, read_exactly, read_frame, send
+from harness import PROGRAM, SECONDS, Serve, connect, frame, listen, preloaded, read_exactly, read_frame, read_until_reset, send
 from run_command import REPLIES, REQUESTS
 from send_faults import made
 
@@ -127,21 +127,10 @@ class ServeStreams(unittest.TestCase):
             with self.subTest(row=row), Serve(2, env=preloaded("STREAMS", **variables(row))) as service:
                 with connect(service.port) as stream:
                     stream.sendall(REQUESTS)
-                    self.assertEqual(self.replies_of(stream), REPLIES[:replied])
+                    self.assertEqual(read_until_reset(stream, len(REPLIES)), REPLIES[:replied])
                 with connect(service.port) as stream:
                     stream.sendall(REQUESTS)
                     self.assertEqual(read_exactly(stream, len(REPLIES)), REPLIES)
-
-    @staticmethod
-    def replies_of(stream):
-        """All replies, or those before the connection ends: by a reset, where not all that was sent was read."""
-        read = b""
-        try:
-            while len(read) < len(REPLIES) and (part := stream.recv(4096)):
-                read += part
-        except ConnectionResetError:
-            pass
-        return read
 
     def test_cut_short(self):
         self.ends([("RECEIVE_WIDTH=1", 85), ("SEND_WIDTH=1", 85)])

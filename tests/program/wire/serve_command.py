@@ -4,11 +4,12 @@ import os
 import socket
 import struct
 import tempfile
+import threading
 import unittest
 from hashlib import md5
 
-from harness import HEADER, SECONDS, Serve, connect, frame, listen, read_exactly, read_frame, run, send
-from run_command import CREATE, FOLDER, MADE, MALFORMED, NODE, REPLIES, REQUESTS, SESSION, SHORT_FINISH
+from harness import HEADER, SECONDS, Serve, connect, frame, listen, read_exactly, read_frame, read_until_reset, run, send
+from run_command import CREATE, FOLDER, MADE, MALFORMED, MOST_FRAMES, NODE, REPLIES, REQUESTS, SESSION, SHORT_FINISH
 
 EXPORT = frame(8, 1, 9, b"\0\0\0\1" + bytes(8) + b"\0\x10\0\0" + b"\1\0")
 HEADER_ROW = 193
@@ -21,6 +22,15 @@ def rows_shown(stream):
     kind, client, number, body = read_frame(stream)
     assert (kind, client, number) == (135, 1, 9), (kind, client, number)
     return struct.unpack(">QQ", body[:16])
+
+
+def send_until_reset(stream, requests):
+    """Sends all of it, or what is taken before the other end has closed."""
+    try:
+        stream.sendall(requests)
+        stream.shutdown(socket.SHUT_WR)
+    except OSError:
+        pass
 
 
 def finished(method, content, *puids):
@@ -74,6 +84,22 @@ class ServeCommand(unittest.TestCase):
                 self.assertEqual(service.process.wait(SECONDS), 0)
                 with self.assertRaises(ConnectionRefusedError):
                     connect(service.port)
+
+    def test_no_more_than_a_million_frames_of_a_connection_are_answered(self):
+        """The next connection is served then, and has as many again."""
+        with Serve(2) as service:
+            with connect(service.port) as stream:
+                sender = threading.Thread(target=send_until_reset, args=(stream, SHORT_FINISH * (MOST_FRAMES + 1)), daemon=True)
+                sender.start()
+                answered = 0
+                while part := read_until_reset(stream, len(MALFORMED) * 1_000):
+                    self.assertEqual(part, MALFORMED * 1_000)
+                    answered += 1_000
+                sender.join(SECONDS)
+            self.assertEqual(answered, MOST_FRAMES)
+            with connect(service.port) as stream:
+                stream.sendall(CREATE)
+                self.assertEqual(read_exactly(stream, len(MADE)), MADE)
 
     def test_what_ends_a_connection_ends_that_one_alone(self):
         rests = [b"\x09" + CREATE[1:], HEADER.pack(1, 1, 1, 1, 1_048_641), CREATE[:17], CREATE[:22], b"GET / HTTP/1.1\r\n\r\n"]
