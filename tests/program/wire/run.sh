@@ -15,7 +15,7 @@ ${CC:-cc} -shared -fPIC -o "$PRELOAD_STREAMS" ../streams.c -ldl || exit 1
 ${CC:-cc} -shared -fPIC -o "$PRELOAD_REFUSE" ../../memory/refuse.c -ldl || exit 1
 export DROID_DESK PRELOAD_STREAMS PRELOAD_REFUSE
 failed=0
-for tests in run_command serve_command send_faults send_streams send_memory send_sizes two_senders waiting; do
+for tests in run_command serve_command send_faults send_streams send_memory send_sizes two_senders waiting steady_memory; do
     if python3 -S -B -m unittest -q "$tests" 2>"$work/err"; then
         echo "$tests: passed"
     else
