@@ -31,8 +31,8 @@ def read_exactly(stream, count):
 
 
 def read_until_reset(stream, count):
-    """So many bytes of a socket, or fewer where it ends before: also by a reset, which comes where the other end has not
-    read all that was sent."""
+    """So many bytes of a socket, or fewer where it ends before: also by a reset, which comes where the other end has
+    not read all that was sent."""
     read = b""
     try:
         while len(read) < count and (part := stream.recv(count - len(read))):

@@ -12,9 +12,8 @@ from two_senders import HEADER
 # lines, a name and a reply that need more than a few bytes
 NAME = b"n" * 255
 LINES = b"create 65536 0\nfolder 1 0 0 " + NAME + b"\nexport 1 0 1048576 any type=Folder ext=" + b"e" * 255 + b",f\n"
-TEXT = HEADER + b'"1","","file:/%s/","/%s","%s","","Done","","Folder","","1970-01-01T00:00:00","false","","","","","",""\n' % (
-    (NAME,) * 3
-)
+ROW = b'"1","","file:/%s/","/%s","%s","","Done","","Folder","","1970-01-01T00:00:00","false","","","","","",""\n'
+TEXT = HEADER + ROW % (NAME, NAME, NAME)
 PRINTED = [b"made 1\n", b"node 1\n", b"part 2 %d %d\n" % (len(TEXT), len(TEXT)) + TEXT]
 FRONTS = [b"".join(PRINTED[:count]) for count in range(4)]
 MEMORY = "fault: Memory\n"
@@ -33,13 +32,14 @@ class SendMemory(unittest.TestCase):
         """How many allocations a `send` of the lines asks for."""
         with tempfile.TemporaryDirectory() as folder, Serve() as service:
             path = os.path.join(folder, "count")
-            self.assertEqual(send(service.port, 7, LINES, env=preloaded("REFUSE", ALLOCATIONS=path)), (0, FRONTS[3], ""))
+            counting = preloaded("REFUSE", ALLOCATIONS=path)
+            self.assertEqual(send(service.port, 7, LINES, env=counting), (0, FRONTS[3], ""))
             with open(path, encoding="ascii") as file:
                 return int(file.read())
 
     def with_refused(self, number):
-        """How a `send` ends of which this allocation is refused, how many replies it printed, and how many commands were
-        accepted then. The same lines sent again are answered as if nothing had been."""
+        """How a `send` ends of which this allocation is refused, how many replies it printed, and how many commands
+        were accepted then. The same lines sent again are answered as if nothing had been."""
         with Serve(3) as service:
             status, out, said = send(service.port, 7, LINES, env=preloaded("REFUSE", REFUSE=number))
             self.assertIn(out, FRONTS)

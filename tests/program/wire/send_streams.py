@@ -7,7 +7,8 @@ import subprocess
 import time
 import unittest
 
-from harness import PROGRAM, SECONDS, Serve, connect, frame, listen, preloaded, read_exactly, read_frame, read_until_reset, send
+from harness import PROGRAM, SECONDS, Serve, connect, frame, listen, preloaded, send
+from harness import read_exactly, read_frame, read_until_reset
 from run_command import REPLIES, REQUESTS
 from send_faults import made
 

@@ -8,7 +8,8 @@ import threading
 import unittest
 from hashlib import md5
 
-from harness import HEADER, SECONDS, Serve, connect, frame, listen, read_exactly, read_frame, read_until_reset, run, send
+from harness import HEADER, SECONDS, Serve, connect, frame, listen, run, send
+from harness import read_exactly, read_frame, read_until_reset
 from run_command import CREATE, FOLDER, MADE, MALFORMED, MOST_FRAMES, NODE, REPLIES, REQUESTS, SESSION, SHORT_FINISH
 
 EXPORT = frame(8, 1, 9, b"\0\0\0\1" + bytes(8) + b"\0\x10\0\0" + b"\1\0")
@@ -89,7 +90,8 @@ class ServeCommand(unittest.TestCase):
         """The next connection is served then, and has as many again."""
         with Serve(2) as service:
             with connect(service.port) as stream:
-                sender = threading.Thread(target=send_until_reset, args=(stream, SHORT_FINISH * (MOST_FRAMES + 1)), daemon=True)
+                sent = SHORT_FINISH * (MOST_FRAMES + 1)
+                sender = threading.Thread(target=send_until_reset, args=(stream, sent), daemon=True)
                 sender.start()
                 answered = 0
                 while part := read_until_reset(stream, len(MALFORMED) * 1_000):
