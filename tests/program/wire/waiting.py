@@ -8,7 +8,7 @@ import time
 import unittest
 
 import session
-from harness import PROGRAM, SECONDS, Serve, connect, frame, read_exactly, read_frame
+from harness import HEADER, PROGRAM, SECONDS, Serve, connect, frame, read_exactly, read_frame
 
 CREATE = (65536).to_bytes(4, "big") + b"\0"
 TICKS = os.sysconf("SC_CLK_TCK")
@@ -57,6 +57,11 @@ class NothingHeldBack(unittest.TestCase):
         cls.registry = os.path.join(folder.name, "registry.csv")
         with open(cls.registry, "wb") as file:
             file.write(session.REGISTRY)
+
+    def test_the_session_goes_to_the_limits(self):
+        """A body of 1,048,640 bytes, and a part of 1,048,576 behind its two numbers."""
+        longest = [max(map(len, side)) - HEADER.size for side in zip(*self.steps)]
+        self.assertEqual(longest, [1_048_640, 16 + 1_048_576])
 
     def replies_come(self, stream, front):
         sent = 0
