@@ -10,7 +10,7 @@ names=
 for case in "$tests"/cases/*/; do
     grep -qs '^script' "$case/args" || continue
     [ "$(cat "$case/status" 2>/dev/null)" = 2 ] && continue
-    [ -f "$case/out.has" ] || [ -f "$case/from" ] || names="$names $(basename "$case")"
+    grep -q -- --help "$case/args" || [ -f "$case/from" ] || names="$names $(basename "$case")"
 done
 echo "the model:"
 failed=0

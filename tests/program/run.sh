@@ -4,8 +4,10 @@
 #   example       what examples/ shows
 #   registry.sh   registry files, good and bad
 #   streams.sh    streams that are interrupted or fail
+#   endings.sh    no service before no input
 #   model.sh      a model in Python, on the same cases
 #   random.sh     the program and the model on random scripts
+#   sizes.sh      and on scripts that go past usual sizes
 #   wire/run.sh   frames on standard streams and on connections, in Python
 set -u
 top=$(cd "$(dirname "$0")/../.." && pwd)
@@ -39,8 +41,10 @@ part example "$top/examples" "$program"
 part example "$top/examples" "$tests/model/main.py"
 part sh "$tests/registry.sh" "$program"
 part sh "$tests/streams.sh" "$program"
+part sh "$tests/endings.sh" "$program"
 part sh "$tests/model.sh"
 part sh "$tests/random.sh" "$program"
+part sh "$tests/sizes.sh" "$program"
 part sh "$tests/wire/run.sh" "$program"
 echo "$passed passed, $failed failed"
 [ "$failed" -eq 0 ]

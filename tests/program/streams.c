@@ -1,18 +1,40 @@
-/* Preloaded into a program, this interrupts its reads of standard input and its writes to standard output,
- * cuts them short or lets them fail, by these environment variables:
- *   READ_INTERRUPTIONS, WRITE_INTERRUPTIONS   so many calls are interrupted first
- *   READ_ROOM, WRITE_ROOM                     after so many bytes each call fails
- *   READ_FAILS_ONCE                           after so many bytes one call fails, and the next goes on
- *   READ_WIDTH, WRITE_WIDTH                   a call takes at most so many bytes; a write of width 0 takes none */
+/* Preloaded into a program, this interrupts its calls on four streams, cuts them short or lets them fail:
+ *   READ      its reads of standard input      RECEIVE   what its sockets receive
+ *   WRITE     its writes to standard output    SEND      what they send
+ * by environment variables, which begin with these words:
+ *   READ_INTERRUPTIONS     so many calls are interrupted first
+ *   READ_INTERRUPTED_AT    BYTES:CALLS,BYTES:CALLS.. with rising BYTES: after so many bytes so many calls are interrupted
+ *   READ_ROOM              after so many bytes each call fails
+ *   READ_FAILS_ONCE        after so many bytes one call fails, and the next goes on
+ *   READ_WIDTH             a call takes at most so many bytes; a write of width 0 takes none */
 #define _GNU_SOURCE
 #include <dlfcn.h>
 #include <errno.h>
+#include <stdio.h>
 #include <stdlib.h>
+#include <sys/socket.h>
 #include <unistd.h>
 
-static long number(const char *name, long otherwise) {
-    const char *text = getenv(name);
-    return text ? atol(text) : otherwise;
+struct stream {
+    const char *name;
+    int error;          /* with which a call fails */
+    long calls, done, failures;
+    const char *places; /* what is left of INTERRUPTED_AT, or NULL before it was looked at */
+    long place, left;   /* the next of them, or -1, and how many calls are interrupted there */
+};
+
+static struct stream input = {.name = "READ", .error = EIO}, output = {.name = "WRITE", .error = EPIPE};
+static struct stream received = {.name = "RECEIVE", .error = EIO}, sent = {.name = "SEND", .error = EPIPE};
+
+static const char *text(const struct stream *stream, const char *what) {
+    char name[64];
+    snprintf(name, sizeof name, "%s_%s", stream->name, what);
+    return getenv(name);
+}
+
+static long number(const struct stream *stream, const char *what, long otherwise) {
+    const char *found = text(stream, what);
+    return found ? atol(found) : otherwise;
 }
 
 static ssize_t failed(int error) {
@@ -20,39 +42,85 @@ static ssize_t failed(int error) {
     return -1;
 }
 
-static size_t least(size_t a, long b) {
-    return b >= 0 && (size_t)b < a ? (size_t)b : a;
+static void next_place(struct stream *stream) {
+    char *end;
+    stream->place = -1;
+    if (!*stream->places) return;
+    stream->place = strtol(stream->places, &end, 10);
+    stream->left = strtol(end + 1, &end, 10);
+    stream->places = *end ? end + 1 : end;
+}
+
+static int is_interrupted(struct stream *stream) {
+    if (!stream->places) {
+        const char *places = text(stream, "INTERRUPTED_AT");
+        stream->places = places ? places : "";
+        next_place(stream);
+    }
+    if (stream->calls++ < number(stream, "INTERRUPTIONS", 0)) return 1;
+    if (stream->done != stream->place) return 0;
+    if (stream->left-- > 0) return 1;
+    next_place(stream);
+    return 0;
+}
+
+static ssize_t least(ssize_t a, long b) {
+    return b >= 0 && b < a ? b : a;
+}
+
+/* how many bytes at most, so that a call ends at this place, where it lies ahead */
+static ssize_t up_to(const struct stream *stream, long place, ssize_t size) {
+    return stream->done < place ? least(size, place - stream->done) : size;
+}
+
+/* how many bytes the next call takes at the most, or -1 where it fails */
+static ssize_t allowed(struct stream *stream, size_t size) {
+    long room = number(stream, "ROOM", -1), fails_once = number(stream, "FAILS_ONCE", -1);
+    ssize_t most = size;
+    if (is_interrupted(stream)) return failed(EINTR);
+    if (stream->done == fails_once && stream->failures++ == 0) return failed(stream->error);
+    if (stream->done == room) return failed(stream->error);
+    most = least(most, number(stream, "WIDTH", -1));
+    most = up_to(stream, room, most);
+    most = up_to(stream, fails_once, most);
+    return up_to(stream, stream->place, most);
+}
+
+static ssize_t counted(struct stream *stream, ssize_t count) {
+    if (count > 0) stream->done += count;
+    return count;
 }
 
 ssize_t read(int file, void *bytes, size_t size) {
     static ssize_t (*next)(int, void *, size_t);
-    static long calls, done, failures;
-    ssize_t count;
+    ssize_t most;
     if (!next) next = (ssize_t (*)(int, void *, size_t))dlsym(RTLD_NEXT, "read");
     if (file != 0) return next(file, bytes, size);
-    if (calls++ < number("READ_INTERRUPTIONS", 0)) return failed(EINTR);
-    if (done == number("READ_FAILS_ONCE", -1) && failures++ == 0) return failed(EIO);
-    if (done == number("READ_ROOM", -1)) return failed(EIO);
-    size = least(size, number("READ_WIDTH", -1));
-    if (done < number("READ_ROOM", -1)) size = least(size, number("READ_ROOM", -1) - done);
-    if (done < number("READ_FAILS_ONCE", -1)) size = least(size, number("READ_FAILS_ONCE", -1) - done);
-    count = next(file, bytes, size);
-    if (count > 0) done += count;
-    return count;
+    most = allowed(&input, size);
+    return most < 0 ? -1 : counted(&input, next(file, bytes, most));
 }
 
 ssize_t write(int file, const void *bytes, size_t size) {
     static ssize_t (*next)(int, const void *, size_t);
-    static long calls, done;
-    ssize_t count;
+    ssize_t most;
     if (!next) next = (ssize_t (*)(int, const void *, size_t))dlsym(RTLD_NEXT, "write");
     if (file != 1) return next(file, bytes, size);
-    if (calls++ < number("WRITE_INTERRUPTIONS", 0)) return failed(EINTR);
-    if (done == number("WRITE_ROOM", -1)) return failed(EPIPE);
-    size = least(size, number("WRITE_WIDTH", -1));
-    if (done < number("WRITE_ROOM", -1)) size = least(size, number("WRITE_ROOM", -1) - done);
-    if (size == 0) return 0;
-    count = next(file, bytes, size);
-    if (count > 0) done += count;
-    return count;
+    most = allowed(&output, size);
+    return most <= 0 ? most : counted(&output, next(file, bytes, most));
+}
+
+ssize_t recv(int file, void *bytes, size_t size, int flags) {
+    static ssize_t (*next)(int, void *, size_t, int);
+    ssize_t most;
+    if (!next) next = (ssize_t (*)(int, void *, size_t, int))dlsym(RTLD_NEXT, "recv");
+    most = allowed(&received, size);
+    return most < 0 ? -1 : counted(&received, next(file, bytes, most, flags));
+}
+
+ssize_t send(int file, const void *bytes, size_t size, int flags) {
+    static ssize_t (*next)(int, const void *, size_t, int);
+    ssize_t most;
+    if (!next) next = (ssize_t (*)(int, const void *, size_t, int))dlsym(RTLD_NEXT, "send");
+    most = allowed(&sent, size);
+    return most <= 0 ? most : counted(&sent, next(file, bytes, most, flags));
 }

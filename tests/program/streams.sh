@@ -47,6 +47,22 @@ write_fails_behind_the_last_reply 0 31 - WRITE_ROOM=31
 write_takes_nothing 4 0 Write WRITE_WIDTH=0
 ROWS
 
+# the lines end at 19, 39, 59 and 80, and what they print at 7, 14, 21 and 31; of the whole input 64 interruptions are
+# tried again, and of each printed reply
+compare script "$top/crates/droid_desk/stdin" "$top/crates/droid_desk/stdout" <<'ROWS'
+read_interrupted_64_times_within_a_line 0 31 - READ_INTERRUPTED_AT=30:64
+read_interrupted_65_times_within_a_line 4 0 Read READ_INTERRUPTED_AT=30:65
+read_interrupted_64_times_over_two_lines 0 31 - READ_INTERRUPTED_AT=10:32,30:32
+read_interrupted_65_times_over_two_lines 4 0 Read READ_INTERRUPTED_AT=10:64,30:1
+read_interrupted_65_times_with_the_end 4 0 Read READ_INTERRUPTED_AT=10:64,80:1
+written_interrupted_64_times_within_two_replies 0 31 - WRITE_INTERRUPTED_AT=3:64,10:64
+written_interrupted_64_times_before_each_reply 0 31 - WRITE_INTERRUPTED_AT=0:64,7:64,14:64,21:64
+written_interrupted_64_times_over_one_reply 0 31 - WRITE_INTERRUPTED_AT=7:32,10:32
+written_interrupted_65_times_over_one_reply 4 10 Write WRITE_INTERRUPTED_AT=7:32,10:33
+written_interrupted_65_times_within_the_second_reply 4 10 Write WRITE_INTERRUPTED_AT=3:64,10:65
+written_interrupted_65_times_within_the_last_reply 4 25 Write WRITE_INTERRUPTED_AT=3:64,10:64,17:64,25:65
+ROWS
+
 # frames: version and kind, client, number, length of the body, body
 zeros='\0\0\0\0\0\0\0\0'
 client='\0\0\0\001'
@@ -83,6 +99,19 @@ write_fails_in_the_third_reply 4 50 Write WRITE_ROOM=50 WRITE_WIDTH=7
 write_fails_between_replies 4 44 Write WRITE_ROOM=44
 write_fails_behind_the_last_reply 0 85 - WRITE_ROOM=85
 write_takes_nothing 4 0 Write WRITE_WIDTH=0
+read_interrupted_64_times_within_two_frames 0 85 - READ_INTERRUPTED_AT=10:64,40:64
+read_interrupted_64_times_before_each_frame_and_the_end 0 85 - READ_INTERRUPTED_AT=0:64,23:64,59:64,95:64,132:64
+read_interrupted_64_times_over_header_and_body 0 85 - READ_INTERRUPTED_AT=10:32,20:32
+read_interrupted_65_times_over_header_and_body 4 0 Read READ_INTERRUPTED_AT=10:32,20:33
+read_interrupted_65_times_within_the_second_frame 4 22 Read READ_INTERRUPTED_AT=10:64,40:65
+read_interrupted_65_times_within_the_last_frame 4 66 Read READ_INTERRUPTED_AT=10:64,40:64,80:64,120:65
+read_interrupted_65_times_at_the_end 4 85 Read READ_INTERRUPTED_AT=10:64,132:65
+written_interrupted_64_times_within_two_replies 0 85 - WRITE_INTERRUPTED_AT=5:64,30:64
+written_interrupted_64_times_before_each_reply 0 85 - WRITE_INTERRUPTED_AT=0:64,22:64,44:64,66:64
+written_interrupted_64_times_over_header_and_body 0 85 - WRITE_INTERRUPTED_AT=5:32,20:32
+written_interrupted_65_times_over_header_and_body 4 20 Write WRITE_INTERRUPTED_AT=5:32,20:33
+written_interrupted_65_times_within_the_second_reply 4 30 Write WRITE_INTERRUPTED_AT=5:64,30:65
+written_interrupted_65_times_within_the_last_reply 4 80 Write WRITE_INTERRUPTED_AT=5:64,30:64,50:64,80:65
 ROWS
 echo "streams: $passed passed, $failed failed"
 [ "$failed" -eq 0 ]

@@ -1,5 +1,6 @@
 """What the tests over loopback share: the layout of frames (docs/FORMATS.md), and the program's commands as
-processes. The program's path is in the variable DROID_DESK. Nothing here waits longer than some seconds."""
+processes. The program's path is in the variable DROID_DESK, and those of libraries that are preloaded into it in
+PRELOAD_STREAMS (streams.c) and PRELOAD_REFUSE (refuse.c). Nothing here waits longer than some seconds."""
 
 import os
 import socket
@@ -26,6 +27,18 @@ def read_exactly(stream, count):
         if not part:
             break
         read += part
+    return read
+
+
+def read_until_reset(stream, count):
+    """So many bytes of a socket, or fewer where it ends before: also by a reset, which comes where the other end has
+    not read all that was sent."""
+    read = b""
+    try:
+        while len(read) < count and (part := stream.recv(count - len(read))):
+            read += part
+    except ConnectionResetError:
+        pass
     return read
 
 
@@ -64,32 +77,44 @@ def free_port():
         return listener.getsockname()[1]
 
 
-def run(arguments, given=b"", out=subprocess.PIPE):
+def preloaded(library, **variables):
+    """An environment in which a library, "STREAMS" or "REFUSE", is preloaded and finds these variables."""
+    found = {name: str(value) for name, value in variables.items()}
+    return os.environ | {"LD_PRELOAD": os.environ[f"PRELOAD_{library}"]} | found
+
+
+def run(arguments, given=b"", out=subprocess.PIPE, env=None):
     """Runs the program over these bytes, and gives its status, what it wrote, and what it said."""
     done = subprocess.run(
-        [PROGRAM, *map(str, arguments)], input=given, stdout=out, stderr=subprocess.PIPE, timeout=SECONDS
+        [PROGRAM, *map(str, arguments)], input=given, stdout=out, stderr=subprocess.PIPE, timeout=SECONDS, env=env
     )
     return done.returncode, done.stdout, done.stderr.decode("ascii")
 
 
-def send(port, client, lines, first=None):
+def send(port, client, lines, first=None, env=None):
     """Runs `send` over these lines."""
     more = [] if first is None else ["--first", first]
-    return run(["send", "--port", port, "--client", client, *more], lines)
+    return run(["send", "--port", port, "--client", client, *more], lines, env=env)
 
 
 class Serve:
-    """`serve` on a free port, for so many connections. At the end of a `with` it has ended, well and silently."""
+    """`serve` on this port or on a free one, for so many connections. At the end of a `with` it has ended, well and
+    silently."""
 
-    def __init__(self, connections=None, options=()):
-        self.port = free_port()
+    def __init__(self, connections=None, options=(), port=None, env=None):
+        self.port = port or free_port()
+        self.env = env
         self.arguments = ["serve", "--port", str(self.port), *options]
         if connections is not None:
             self.arguments += ["--connections", str(connections)]
 
     def __enter__(self):
         self.process = subprocess.Popen(
-            [PROGRAM, *self.arguments], stdin=subprocess.DEVNULL, stdout=subprocess.PIPE, stderr=subprocess.PIPE
+            [PROGRAM, *self.arguments],
+            stdin=subprocess.DEVNULL,
+            stdout=subprocess.PIPE,
+            stderr=subprocess.PIPE,
+            env=self.env,
         )
         said = self.process.stdout.readline()
         assert said == f"listening {self.port}\n".encode("ascii"), said

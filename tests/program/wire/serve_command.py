@@ -1,11 +1,16 @@
 """`serve`: frames on connections to a port, one connection after the other over one service."""
 
+import os
 import socket
 import struct
+import tempfile
+import threading
 import unittest
+from hashlib import md5
 
-from harness import HEADER, SECONDS, Serve, connect, frame, listen, read_exactly, read_frame, run
-from run_command import CREATE, FOLDER, MADE, MALFORMED, NODE, REPLIES, REQUESTS, SESSION, SHORT_FINISH
+from harness import HEADER, SECONDS, Serve, connect, frame, listen, run, send
+from harness import read_exactly, read_frame, read_until_reset
+from run_command import CREATE, FOLDER, MADE, MALFORMED, MOST_FRAMES, NODE, REPLIES, REQUESTS, SESSION, SHORT_FINISH
 
 EXPORT = frame(8, 1, 9, b"\0\0\0\1" + bytes(8) + b"\0\x10\0\0" + b"\1\0")
 HEADER_ROW = 193
@@ -18,6 +23,21 @@ def rows_shown(stream):
     kind, client, number, body = read_frame(stream)
     assert (kind, client, number) == (135, 1, 9), (kind, client, number)
     return struct.unpack(">QQ", body[:16])
+
+
+def send_until_reset(stream, requests):
+    """Sends all of it, or what is taken before the other end has closed."""
+    try:
+        stream.sendall(requests)
+        stream.shutdown(socket.SHUT_WR)
+    except OSError:
+        pass
+
+
+def finished(method, content, *puids):
+    """The reply to the end of a file with this content, under number 4: no extension is amiss."""
+    texts = b"".join(bytes([len(puid)]) + puid for puid in puids)
+    return 132, 1, 4, method + b"\0" + md5(content).digest() + struct.pack(">H", len(puids)) + texts
 
 
 class ServeCommand(unittest.TestCase):
@@ -66,6 +86,23 @@ class ServeCommand(unittest.TestCase):
                 with self.assertRaises(ConnectionRefusedError):
                     connect(service.port)
 
+    def test_no_more_than_a_million_frames_of_a_connection_are_answered(self):
+        """The next connection is served then, and has as many again."""
+        with Serve(2) as service:
+            with connect(service.port) as stream:
+                sent = SHORT_FINISH * (MOST_FRAMES + 1)
+                sender = threading.Thread(target=send_until_reset, args=(stream, sent), daemon=True)
+                sender.start()
+                answered = 0
+                while part := read_until_reset(stream, len(MALFORMED) * 1_000):
+                    self.assertEqual(part, MALFORMED * 1_000)
+                    answered += 1_000
+                sender.join(SECONDS)
+            self.assertEqual(answered, MOST_FRAMES)
+            with connect(service.port) as stream:
+                stream.sendall(CREATE)
+                self.assertEqual(read_exactly(stream, len(MADE)), MADE)
+
     def test_what_ends_a_connection_ends_that_one_alone(self):
         rests = [b"\x09" + CREATE[1:], HEADER.pack(1, 1, 1, 1, 1_048_641), CREATE[:17], CREATE[:22], b"GET / HTTP/1.1\r\n\r\n"]
         with Serve(len(rests) + 1) as service:
@@ -104,6 +141,57 @@ class ServeCommand(unittest.TestCase):
             self.assertEqual(body[16:].count(b"\n"), 201)
             for name in names:
                 self.assertIn(b'"/' + name + b'"', body)
+
+    def test_it_is_reached_at_127_0_0_1_alone(self):
+        """127.0.0.2 is an address of this machine too: who listens on all of them is reached there."""
+        with socket.create_server(("0.0.0.0", 0)) as everywhere:
+            socket.create_connection(("127.0.0.2", everywhere.getsockname()[1]), timeout=SECONDS).close()
+        with Serve() as service:
+            with self.assertRaises(ConnectionRefusedError):
+                socket.create_connection(("127.0.0.2", service.port), timeout=SECONDS)
+            with connect(service.port) as stream:
+                stream.sendall(CREATE)
+                self.assertEqual(read_exactly(stream, len(MADE)), MADE)
+
+    def test_the_last_port(self):
+        last = 65_535
+        with Serve(2, port=last) as service:
+            with connect(service.port) as stream:
+                stream.sendall(CREATE)
+                self.assertEqual(read_exactly(stream, len(MADE)), MADE)
+            self.assertEqual(send(last, 1, b"create 65536 0\nfolder 1 0 0 in\n"), (0, b"made 1\nnode 1\n", ""))
+
+    def test_files_are_identified_by_the_registry(self):
+        """By a signature of an own one, and of the sample where there is none."""
+        with tempfile.TemporaryDirectory() as folder:
+            own = os.path.join(folder, "own.csv")
+            with open(own, "w", encoding="ascii") as file:
+                file.write("F,own/1,Own,,,\nS,own/1,BOF,0,0,6F776E\n")
+            rows = [
+                (["--registry", own], b"own", finished(b"\1", b"own", b"own/1")),
+                (["--registry", own], b"message", finished(b"\0", b"message")),
+                ([], b"own", finished(b"\0", b"own")),
+                ([], b"message", finished(b"\1", b"message", b"dev/1")),
+            ]
+            for options, content, reply in rows:
+                with self.subTest(options=options, content=content), Serve(options=options) as service:
+                    self.assertEqual(self.end_of_a_file(service.port, content), reply)
+
+    @staticmethod
+    def end_of_a_file(port, content):
+        """The reply to the end of a file of one piece, in a profile of its own."""
+        size = len(content)
+        requests = [
+            CREATE,
+            frame(3, 1, 2, b"\0\0\0\1" + bytes(12) + struct.pack(">QI", size, size) + b"f"),
+            frame(4, 1, 3, struct.pack(">III", 1, 1, 0) + content),
+            frame(5, 1, 4, struct.pack(">II", 1, 1)),
+        ]
+        with connect(port) as stream:
+            for request in requests:
+                stream.sendall(request)
+                reply = read_frame(stream)
+        return reply
 
     def test_a_port_in_use(self):
         with listen() as listener:

@@ -1,10 +1,14 @@
-"""What `serve` does while nothing comes."""
+"""What the program does while nothing comes: it uses no processor, and holds back no reply."""
 
 import os
+import socket
+import subprocess
+import tempfile
 import time
 import unittest
 
-from harness import Serve, connect, frame, read_frame
+import session
+from harness import HEADER, PROGRAM, SECONDS, Serve, connect, frame, read_exactly, read_frame
 
 CREATE = (65536).to_bytes(4, "big") + b"\0"
 TICKS = os.sysconf("SC_CLK_TCK")
@@ -37,6 +41,72 @@ class Waiting(unittest.TestCase):
             self.assertEqual(read_frame(first), (129, 7, 1, b"\0\0\0\1"))
             first.close()
             self.assertEqual(read_frame(second), (129, 8, 1, b"\0\0\0\2"))
+
+
+class NothingHeldBack(unittest.TestCase):
+    """Each reply comes whole while no more than the front of the next frame was sent: nothing of it, its first byte, its
+    header, or more than fits into what is usually read at once."""
+
+    FRONTS = (0, 1, 18, 9_000)
+
+    @classmethod
+    def setUpClass(cls):
+        cls.steps = session.steps()
+        folder = tempfile.TemporaryDirectory()
+        cls.addClassCleanup(folder.cleanup)
+        cls.registry = os.path.join(folder.name, "registry.csv")
+        with open(cls.registry, "wb") as file:
+            file.write(session.REGISTRY)
+
+    def test_the_session_goes_to_the_limits(self):
+        """A body of 1,048,640 bytes, and a part of 1,048,576 behind its two numbers."""
+        longest = [max(map(len, side)) - HEADER.size for side in zip(*self.steps)]
+        self.assertEqual(longest, [1_048_640, 16 + 1_048_576])
+
+    def replies_come(self, stream, front):
+        sent = 0
+        following = [request for request, _ in self.steps[1:]] + [b""]
+        for (request, reply), after in zip(self.steps, following):
+            ahead = after[: min(front, max(len(after) - 1, 0))]
+            stream.sendall(request[sent:] + ahead)
+            found = read_exactly(stream, len(reply))
+            self.assertTrue(found == reply, (request[:60], reply[:60], found[:60], len(found)))
+            sent = len(ahead)
+
+    def test_by_run(self):
+        for front in self.FRONTS:
+            near, far = socket.socketpair()
+            near.settimeout(SECONDS)
+            words = [PROGRAM, "run", "--registry", self.registry]
+            with self.subTest(front=front), subprocess.Popen(words, stdin=far, stdout=far) as service, near:
+                far.close()
+                self.replies_come(near, front)
+                near.shutdown(socket.SHUT_WR)
+                self.assertEqual((near.recv(1), service.wait(SECONDS)), (b"", 0))
+
+    def test_by_serve(self):
+        for front in self.FRONTS:
+            with self.subTest(front=front), Serve(options=["--registry", self.registry]) as service:
+                with connect(service.port) as stream:
+                    self.replies_come(stream, front)
+
+    def test_by_send(self):
+        """What a line prints is there while the next line has only begun."""
+        text = b"create 65536 0\nfolder 1 0 0 in\nhello\nstatus 1 2\n"
+        ends = [(18, b"made 1\n"), (35, b"node 1\n"), (39, b"bad line\n"), (len(text), b"refused 4\n")]
+        near, far = socket.socketpair()
+        near.settimeout(SECONDS)
+        with Serve() as service:
+            words = [PROGRAM, "send", "--port", str(service.port), "--client", "7"]
+            with subprocess.Popen(words, stdin=far, stdout=far) as sender, near:
+                far.close()
+                sent = 0
+                for end, printed in ends:
+                    near.sendall(text[sent:end])
+                    self.assertEqual(read_exactly(near, len(printed)), printed)
+                    sent = end
+                near.shutdown(socket.SHUT_WR)
+                self.assertEqual(sender.wait(SECONDS), 5)
 
 
 if __name__ == "__main__":

@@ -1,0 +1,140 @@
+#!/usr/bin/env -S python3 -S -B
+"""Writes a script that goes past usual sizes, or the registry of one: `large_script.py NAME`."""
+
+import sys
+
+LARGEST_PART = 1_048_576
+LONGEST_NAME = 255
+MOST_FORMATS = 4_096
+PIECES = 4_200
+NODES = 1_500
+
+
+def asked(number, *words, client=1):
+    return " ".join(map(str, (client, number, *words)))
+
+
+def parts(number, profile, count, *filter_words):
+    """An export in so many parts of the largest size."""
+    for place in range(count):
+        yield asked(number + place, "export", profile, place * LARGEST_PART, LARGEST_PART, *filter_words)
+
+
+def pieces():
+    """A file of many pieces of a byte: first in order, then each sixteen backward."""
+    yield asked(1, "create", 65536, 0)
+    yield asked(2, "file", 1, 0, 0, PIECES, 1, "many")
+    half = PIECES // 2
+    backward = [start + 15 - place for start in range(half, PIECES, 16) for place in range(16)]
+    for index in [*range(half), *(index for index in backward if index < PIECES)]:
+        yield asked(10 + index, "piece", 1, 1, index, "%02x" % (index % 256))
+        if index % 1_000 == 999:
+            yield asked(3, "status", 1, 1)
+    yield asked(4, "finish", 1, 1)
+    yield asked(3, "status", 1, 1)
+    yield asked(10 + PIECES - 1, "piece", 1, 1, PIECES - 1, "%02x" % ((PIECES - 1) % 256))
+    yield from parts(5, 1, 1)
+
+
+def nodes():
+    """Many folders with the longest names, many files that are finished and some that are abandoned, all of them asked for
+    again, and their export."""
+    yield asked(1, "create", 65536, 0)
+    folders = [
+        asked(number, "folder", 1, number - 2 if number % 3 == 0 else 0, number, ("%d" % number).ljust(LONGEST_NAME, "_"))
+        for number in range(2, NODES + 2)
+    ]
+    yield from folders
+    for number in range(2, NODES + 2):
+        yield asked(number, "file", 1, number - 1, -number, 0, 1, f"{number}.txt", client=2)
+        yield asked(number, "abandon" if number % 50 == 0 else "finish", 1, NODES + number - 1, client=3)
+    yield from folders
+    yield from parts(NODES + 10, 1, 3)
+    yield from parts(NODES + 20, 1, 1, "all", "type=File", f"atmost={2 ** 64 - 1}")
+
+
+def formats():
+    """Files of as many formats as there can be, by their signatures and by their extension, and their exports."""
+    yield asked(1, "create", 65536, 0)
+    yield asked(2, "create", 65536, 1)
+    for profile, name, content in ((1, "a.q", "61"), (2, "b.q", "7a"), (1, "c.q", "7a"), (1, "d.z", "61")):
+        client = 2 + ord(name[0]) - ord("a")
+        node = 1 if name in ("a.q", "b.q") else ord(name[0]) - ord("a")
+        yield asked(1, "file", profile, 0, 0, 1, 1, name, client=client)
+        yield asked(2, "piece", profile, node, 0, content, client=client)
+        yield asked(3, "finish", profile, node, client=client)
+    yield from parts(10, 1, 9)
+    yield from parts(20, 2, 5)
+    yield from parts(30, 2, 1, "any", "ext=Q")
+    yield from parts(40, 1, 1, "all", f"puid={puid(MOST_FORMATS)}", "mismatch=true")
+
+
+def puid(number):
+    return "dev/%028d" % number
+
+
+def registry():
+    """Formats with the longest texts, each with a signature and an extension."""
+    text = "t" * LONGEST_NAME
+    for number in range(1, MOST_FORMATS + 1):
+        yield f"F,{puid(number)},{text},{text},{text},"
+        yield f"E,{puid(number)},q,,,"
+        yield f"S,{puid(number)},BOF,0,0,61"
+
+
+def clients():
+    """Client numbers from all over their range, and such request numbers; each line twice."""
+    yield asked(1, "create", 65536, 0)
+    spread = {*range(1_000), *range(0, 1 << 32, 4_294_967)}
+    spread |= {power + more for power in (1 << bit for bit in range(33)) for more in (-1, 0, 1)}
+    for client in sorted(found for found in spread if found < 1 << 32):
+        yield from twice(asked(2, "folder", 1, 0, 0, f"client {client}", client=client))
+    for number in sorted({power + more for power in (1 << bit for bit in range(64)) for more in (-1, 0, 1)}):
+        yield from twice(asked(number, "folder", 1, 0, 0, f"number {number}", client=9_999))
+    for client in (0, 1, (1 << 32) - 1):
+        yield from all_kinds(client)
+
+
+def twice(line):
+    yield line
+    yield line
+
+
+def all_kinds(client):
+    """Each kind of request, as the client's own."""
+    yield asked(10, "create", 9, 1, client=client)
+    profile = {0: 2, 1: 3}.get(client, 4)
+    yield asked(11, "folder", profile, 0, 0, "in", client=client)
+    yield asked(12, "file", profile, 1, 0, 3, 2, "a.txt", client=client)
+    yield asked(13, "piece", profile, 2, 1, "63", client=client)
+    yield asked(14, "piece", profile, 2, 0, "6162", client=client)
+    yield asked(15, "status", profile, 2, client=client)
+    yield asked(16, "finish", profile, 2, client=client)
+    yield asked(17, "file", profile, 1, 0, 3, 2, "b.txt", client=client)
+    yield asked(18, "abandon", profile, 3, client=client)
+    yield asked(19, "export", profile, 0, LARGEST_PART, client=client)
+
+
+def filters():
+    """As many criteria with as many texts as a line can have, and texts as long as they can be; the last one decides."""
+    yield asked(1, "create", 65536, 0)
+    yield asked(2, "file", 1, 0, 0, 0, 1, "e.txt")
+    yield asked(3, "finish", 1, 1)
+    yield asked(4, "file", 1, 0, 0, 0, 1, "e." + "x" * 253)
+    yield asked(5, "finish", 1, 2)
+    for name in ("puid", "ext"):
+        many = f" {name}=" + ",".join(["0123456789abcde"] * 255)
+        long = f" {name}=" + ",".join(["y" * 255] * 255)
+        for last in (" puid=a,dev/4", " ext=a,TXT", " puid=dev/5", " ext=" + "X" * 253, " mismatch=true"):
+            yield asked(6, "export", 1, 0, LARGEST_PART, "any" + many * 254 + last)
+            yield asked(7, "export", 1, 0, LARGEST_PART, "any" + long * 16 + last)
+    yield asked(8, "export", 1, 0, LARGEST_PART, "all" + " type=File" * 254 + " ext=txt")
+
+
+def main(name):
+    lines = {"pieces": pieces, "nodes": nodes, "formats": formats, "registry": registry, "clients": clients, "filters": filters}
+    for line in lines[name]():
+        print(line)
+
+
+main(*sys.argv[1:])

@@ -1,0 +1,77 @@
+"""`send` past usual sizes: many lines, the longest lines, the largest replies, and client numbers at both ends."""
+
+import unittest
+from hashlib import md5
+
+from harness import Serve, send
+from two_senders import HEADER
+
+LARGEST_PIECE = 1_048_576
+# what a body has beside a piece's bytes
+LONGEST_PIECE_LINE = 1_048_640 - 12
+LINES = 1_500
+
+
+class SendSizes(unittest.TestCase):
+    def test_many_lines(self):
+        folders = b"".join(b"folder 1 0 0 f%d\n" % number for number in range(1, LINES + 1))
+        nodes = b"".join(b"node %d\n" % number for number in range(1, LINES + 1))
+        with Serve() as service:
+            lines = b"create 65536 0\n" + folders + b"status 1 %d\n" % (LINES + 1) * LINES
+            printed = b"made 1\n" + nodes + b"refused 4\n" * LINES
+            self.assertEqual(send(service.port, 7, lines), (0, printed, ""))
+
+    def test_the_largest_pieces(self):
+        """The last two have as many bytes as a frame holds, and one more."""
+        content = bytes(range(256)) * (LARGEST_PIECE // 256)
+        lines = [b"create 65536 0", b"file 1 0 0 %d %d x.bin" % (2 * LARGEST_PIECE, LARGEST_PIECE)]
+        lines += [b"piece 1 1 %d " % index + content.hex().encode("ascii") for index in (1, 0)]
+        lines += [b"piece 1 1 0 " + b"61" * count for count in (LONGEST_PIECE_LINE, LONGEST_PIECE_LINE + 1)]
+        lines += [b"finish 1 1"]
+        digest = md5(content * 2).hexdigest().encode("ascii")
+        printed = b"made 1\nnode 1\ntaken 1\ntaken 2\nrefused 13\nbad line\nfinished none false %s -\n" % digest
+        with Serve() as service:
+            self.assertEqual(send(service.port, 7, b"\n".join(lines)), (5, printed, ""))
+
+    def test_lines_of_a_mebibyte(self):
+        """With a line feed behind the last one and without."""
+        name = b"n" * (LARGEST_PIECE - len(b"folder 1 0 0 "))
+        line = b"folder 1 0 0 " + name
+        for lines, status, printed in (
+            (line, 0, b"refused 3\n"),
+            (line + b"\n" + line + b"\n", 0, b"refused 3\nrefused 3\n"),
+            (b"x" * LARGEST_PIECE + b"\n" + line, 5, b"bad line\nrefused 3\n"),
+        ):
+            with self.subTest(size=len(lines)), Serve() as service:
+                self.assertEqual(send(service.port, 7, lines), (status, printed, ""))
+
+    def test_the_largest_reply(self):
+        """A part of a mebibyte and the one after it, which are the whole text."""
+        names = [b"%04d" % number + b"n" * 251 for number in range(1, LINES + 1)]
+        folders = b"".join(b"folder 1 0 0 %s\n" % name for name in names)
+        row = b'"%d","","file:/%s/","/%s","%s","","Done","","Folder","","1970-01-01T00:00:00","false","","","","","",""\n'
+        text = HEADER + b"".join(row % (number, name, name, name) for number, name in enumerate(names, 1))
+        self.assertLess(LARGEST_PIECE, len(text))
+        shown = b"".join(
+            b"part %d %d %d\n" % (LINES + 1, len(text), len(part)) + part
+            for part in (text[:LARGEST_PIECE], text[LARGEST_PIECE:])
+        )
+        lines = b"create 65536 0\n" + folders + b"export 1 0 1048576\nexport 1 1048576 1048576\n"
+        with Serve() as service:
+            status, out, said = send(service.port, 7, lines)
+        self.assertEqual((status, said), (0, ""))
+        printed = b"made 1\n" + b"".join(b"node %d\n" % number for number in range(1, LINES + 1)) + shown
+        self.assertTrue(out == printed, len(out))
+
+    def test_clients(self):
+        clients = [0, 1, 2, 255, 256, 65_535, 65_536, 2**31 - 1, 2**31, 2**32 - 2, 2**32 - 1]
+        with Serve(2 * len(clients)) as service:
+            for profile, client in enumerate(clients, 1):
+                for _ in range(2):
+                    lines = b"create 65536 0\nfolder %d 0 0 in\n" % profile
+                    printed = b"made %d\nnode 1\n" % profile
+                    self.assertEqual(send(service.port, client, lines), (0, printed, ""))
+
+
+if __name__ == "__main__":
+    unittest.main()
