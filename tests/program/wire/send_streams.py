@@ -46,6 +46,10 @@ class SendStreams(unittest.TestCase):
                 ("READ_INTERRUPTED_AT=5:65", 0, "Read"),
                 ("READ_INTERRUPTED_AT=20:65", 7, "Read"),
                 ("READ_INTERRUPTED_AT=31:65", 14, "Read"),
+                # of the whole input, not of each line
+                ("READ_INTERRUPTED_AT=5:64,20:1", 7, "Read"),
+                ("READ_INTERRUPTED_AT=5:32,20:33", 7, "Read"),
+                ("READ_INTERRUPTED_AT=5:32,20:32,31:1", 14, "Read"),
                 ("READ_ROOM=0", 0, "Read"),
                 ("READ_ROOM=5", 0, "Read"),
                 ("READ_ROOM=20", 7, "Read"),
