@@ -1,8 +1,10 @@
 -- What a part of an export shows, and of which records one can be made.
 use Rattle.std.proofs.Common.{◌≡◌, inl, inr, ℕ, zero, suc, ◌+◌, ◌<◌, ◌≤◌, ℤ, pos, negsuc, T, Bool, true, false, not, nat_le, IsTrue, List, [], ◌∷◌, length, drop, get_or, Some, None, refl, sym, subst, arith}
 use Rattle.std.proofs.lemmas.Bool.{cases_Bool, and_parts, leb-true}
+use Rattle.std.proofs.lemmas.Int.{ints}
 use Rattle.std.specs.Int.Signed.{lt_z, lt_z_no}
 use Rattle.std.specs.List.{AllByRecursion}
+use Rattle.std.specs.Prelude.{◌≤ℤ◌}
 use Rattle.droid_export.specs.Moments.{IsMoment}
 use Rattle.droid_export.specs.Text.{text}
 use Rattle.droid_frame.specs.types.filter.Filter.{Filter}
@@ -28,6 +30,21 @@ unfolding is_moment
 moment_written seconds is =
     let parts = and_parts (not (lt_z seconds (negsuc 62135596799))) (not (lt_z (pos 253402300799) seconds)) is in
     (lt_z_no (subst T (sym parts.0) tt), lt_z_no (subst T (sym parts.1) tt))
+
+-- and one that can be written is in range
+pub moment_in_range : (seconds : ℤ) → IsMoment seconds → is_moment seconds ≡ true
+unfolding is_moment
+moment_in_range seconds is =
+    let low : negsuc 62135596799 ≤ℤ seconds = is.0 in
+    let high : seconds ≤ℤ pos 253402300799 = is.1 in
+    let not_below : lt_z seconds (negsuc 62135596799) ≡ false = grind (arith, ints) in
+    let not_above : lt_z (pos 253402300799) seconds ≡ false = grind (arith, ints) in
+    rw (not_below, not_above) refl
+
+pub each_at : {X : Type 0} (P : X → Type 0) (items : List X) (place : ℕ) (item : X) → place < length items → item ≡ get_or items place item → AllByRecursion P items → P item
+each_at P [] place item within is all = absurd (omega arith)
+each_at P (first ∷ items) zero item within is all = subst P (sym is) all.0
+each_at P (first ∷ items) (suc place) item within is all = each_at P items place item (omega arith) is all.1
 
 all_from : {X : Type 0} (P : X → Type 0) (items : List X) (place : ℕ) (item : X) → place < length items → item ≡ get_or items place item → P item
     → AllByRecursion P (drop (suc place) items) → AllByRecursion P (drop place items)

@@ -1,6 +1,6 @@
 //! Parts of a profile's export.
 
-ghost use Rattle.std.specs.Prelude.{◌≡◌, ◌≤◌, IfOk, IfErr, IsTrue, length};
+ghost use Rattle.std.specs.Prelude.{◌≡◌, ◌≤◌, IfOk, IfErr, IsOk, IsTrue, length};
 ghost use Rattle.droid_core_state.specs.Changes.{Comes, answered};
 ghost use Rattle.droid_core_state.specs.Standing.{IsIn};
 ghost use Rattle.droid_core_state.specs.declared.stamps.Stamp.{Stamp};
@@ -56,18 +56,30 @@ fn records_in(store: &mut Store, number: u32) -> Result<Vec<Record>, Refusal>
     match store.records(number) {
         Err(fault) => Err(store_refusal(fault)),
         Ok(records) => {
-            if have_moments(records.as_slice()) {
-                Ok(records)
-            } else {
-                Err(Refusal::Store)
-            }
+            let written = with_moments(records)?;
+            Ok(written)
         }
     }
 }
 
+/// The records, of which each has a moment that can be written. That one hasn't is true of no service,
+/// and would be answered as if the database had refused.
+fn with_moments(records: Vec<Record>) -> Result<Vec<Record>, Refusal>
+    ensures same { IfOk result (λ written. written.items ≡ records.items) }
+    ensures moments { IfOk result (λ written. HaveMoments written.items) }
+    ensures written { HaveMoments records.items → IsOk result }
+    ensures want { IfErr result (λ refusal. refusal ≡ Refusal.Store) }
+{
+    if !have_moments(records.as_slice()) {
+        return Err(Refusal::Store);
+    }
+    Ok(records)
+}
+
 /// Whether each record has a moment that can be written.
 fn have_moments(records: &[Record]) -> bool
-    ensures { IsTrue result → HaveMoments records.now }
+    ensures all { IsTrue result → HaveMoments records.now }
+    ensures none { HaveMoments records.now → IsTrue result }
 {
     for node in records {
         if !is_moment(node.modified) {
