@@ -2,7 +2,7 @@
 
 use crate::vectors::{CREATE, FOLDER, MADE, NODE, joined, service};
 use droid_frame::{FrameFault, Unsteady};
-use droid_frame_shaky::{BYTE_BY_BYTE, Manner, STEADY, ShakyReader, ShakyWriter, Stop};
+use droid_frame_shaky::{BYTE_BY_BYTE, Manner, NOWHERE, STEADY, ShakyReader, ShakyWriter, Stop};
 use droid_wire::{Ended, ServeFault, serve};
 use std::alloc::Global;
 use std::process::Abort;
@@ -110,6 +110,24 @@ fn interruptions(rt: HostRuntime) -> Result<(), Fail> {
         for (interruptions, wanted) in [(64, (Ok(Ended::Closed), 44)), (65, (Err(fault), 0))] {
             let manner = Manner {
                 interruptions,
+                ..STEADY
+            };
+            ends(&rt, rt.alloc(), place, manner, 9, wanted)?;
+        }
+    }
+    Ok(())
+}
+
+/// They are counted anew for each frame, and for each reply: only the sixty-fifth within the second is a fault.
+#[test]
+fn interruptions_in_each(rt: HostRuntime) -> Result<(), Fail> {
+    let read = ServeFault::Frame(FrameFault::Read);
+    let write = ServeFault::Write { written: 30 };
+    for (which, fault, written) in [(Which::Requests, read, 22), (Which::Replies, write, 30)] {
+        let place = (which, usize::MAX, Stop::Ends);
+        for (times, wanted) in [(64, (Ok(Ended::Closed), 44)), (65, (Err(fault), written))] {
+            let manner = Manner {
+                places: [(5, 64), (30, times), NOWHERE],
                 ..STEADY
             };
             ends(&rt, rt.alloc(), place, manner, 9, wanted)?;
