@@ -5,7 +5,7 @@ use crate::frames::{CREATE, FOLDER, joined};
 use crate::sending::{LINES, PRINTED, Streams, replies, sent, steady};
 use droid_desk_sender::{SendFault, Tally};
 use droid_frame::FrameFault;
-use droid_frame_shaky::{BYTE_BY_BYTE, Manner, STEADY, ShakyReader, ShakyWriter, Stop};
+use droid_frame_shaky::{BYTE_BY_BYTE, Manner, NOWHERE, STEADY, ShakyReader, ShakyWriter, Stop};
 use std::alloc::Global;
 use std::process::Abort;
 use std::test::Fail;
@@ -139,6 +139,52 @@ fn interruptions(rt: HostRuntime) -> Result<(), Fail> {
             let streams = stopping(alloc, place, manner, replies.as_slice());
             ends(&rt, alloc, streams, wanted)?;
         }
+    }
+    Ok(())
+}
+
+/// They are counted anew for each reply, for each request's frame and for what each line prints: only the sixty-fifth
+/// within the second is a fault. Those of the lines are counted over all of them.
+#[test]
+fn interruptions_in_each(rt: HostRuntime) -> Result<(), Fail> {
+    let alloc = rt.alloc();
+    let replies = replies(alloc)?;
+    let read = SendFault::Replies(FrameFault::Read);
+    let rows = [
+        (Which::Lines, [(5, 32), (20, 32)], ALL),
+        (
+            Which::Lines,
+            [(5, 32), (20, 33)],
+            (Err(SendFault::Lines), 23, 7),
+        ),
+        (
+            Which::Lines,
+            [(5, 64), (20, 1)],
+            (Err(SendFault::Lines), 23, 7),
+        ),
+        (Which::Replies, [(5, 64), (30, 64)], ALL),
+        (Which::Replies, [(5, 64), (30, 65)], (Err(read), 59, 7)),
+        (Which::Frames, [(5, 64), (30, 64)], ALL),
+        (
+            Which::Frames,
+            [(5, 64), (30, 65)],
+            (Err(SendFault::Frames), 30, 7),
+        ),
+        (Which::Text, [(3, 64), (10, 64)], ALL),
+        (
+            Which::Text,
+            [(3, 64), (10, 65)],
+            (Err(SendFault::Text), 59, 10),
+        ),
+    ];
+    for (which, [first, second], wanted) in rows {
+        let manner = Manner {
+            places: [first, second, NOWHERE],
+            ..STEADY
+        };
+        let place = (which, usize::MAX, Stop::Ends);
+        let streams = stopping(alloc, place, manner, replies.as_slice());
+        ends(&rt, alloc, streams, wanted)?;
     }
     Ok(())
 }
