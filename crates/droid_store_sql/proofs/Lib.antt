@@ -3,6 +3,12 @@ pub mod Inserts
 pub mod Creates
 pub mod Changes
 pub mod Transactions
+pub mod Wants
+pub mod SureEdits
+pub mod FreeEdits
+pub mod Clashes
+pub mod RewrittenRows
+pub mod SureTables
 pub mod Selects
 pub mod Comparisons
 pub mod LookUps

@@ -1,3 +1,5 @@
 pub mod KeyedRows
+pub mod NewTables
 pub mod Queries
 pub mod Transactions
+pub mod Wants
