@@ -1,5 +1,5 @@
 -- No two rows come under one key, also after each change.
-use Rattle.std.proofs.Common.{◌≡◌, inl, inr, ℕ, ◌<◌, ◌≤◌, ◌==◌, ◌&&◌, List, [], ◌∷◌, ◌++◌, length, map, find, filter, Bool, true, false, not, None, if◌then◌else◌, bytes_eq, refl, sym, ap, subst, ◌∙◌, arith, zero, suc, ◌+◌, Some, Option, option_map, unwrap_or}
+use Rattle.std.proofs.Common.{◌≡◌, inl, inr, ℕ, ◌<◌, ◌≤◌, ◌==◌, ◌&&◌, List, [], ◌∷◌, ◌++◌, map, find, filter, Bool, true, not, None, bytes_eq, refl, sym, ap, subst, ◌∙◌, arith, zero, suc, ◌+◌, Some, Option, option_map, unwrap_or}
 use Rattle.std.proofs.lemmas.Bool.{cases_Bool, and_parts, eqb-true}
 use Rattle.std.proofs.lemmas.Slice.Eq.{bytes_eq-Decides}
 use Rattle.std.specs.List.{AllByRecursion}

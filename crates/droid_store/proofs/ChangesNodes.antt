@@ -1,8 +1,8 @@
 -- A node is finished, and a node is taken out.
-use Rattle.std.proofs.Common.{◌≡◌, ◌==◌, ◌≤◌, ℕ, ℤ, pos, List, [], ◌∷◌, length, map, filter, Bool, true, false, not, inl, inr, if◌then◌else◌, Ok, refl, sym, ap, subst, ◌∙◌, arith}
+use Rattle.std.proofs.Common.{◌≡◌, ◌==◌, ℕ, pos, List, [], ◌∷◌, map, filter, Bool, true, false, not, inl, inr, if◌then◌else◌, Ok, refl, sym, ap, ◌∙◌, arith}
 use Rattle.std.proofs.lemmas.Bool.{cases_Bool}
 use Rattle.std.specs.List.{AllByRecursion, list_all}
-use Rattle.sqlite.specs.declared.types.Value.TheVariants.{Int, Text, Blob}
+use Rattle.sqlite.specs.declared.types.Value.TheVariants.{Text, Blob}
 use Rattle.sqlite.specs.Order.{Row}
 use Rattle.sqlite.specs.Term.{holds}
 use Rattle.sqlite.specs.Cast.{cast_row}
@@ -28,18 +28,18 @@ use Rattle.droid_store.proofs.Meanings.{by_number, finished_columns, finish_quer
 use Rattle.droid_store.proofs.NodeEffects.{node_tail}
 use Rattle.droid_store.proofs.NodeOrder.{few_numbered}
 
-passes : (profile file : ℕ) (more : Row) (x : ℕ × Node) → list_all (holds ((number profile ∷ number file ∷ more) ∷ node_row x ∷ [])) by_number ≡ is_node profile file x.1
+pub passes : (profile file : ℕ) (more : Row) (x : ℕ × Node) → list_all (holds ((number profile ∷ number file ∷ more) ∷ node_row x ∷ [])) by_number ≡ is_node profile file x.1
 passes profile file more x = rw (equal_numbers x.1.profile profile, equal_numbers x.1.id file) (all_of_two (x.1.profile == profile) (x.1.id == file))
 
 abbrev node_table : Table
 node_table = record nodes { tree = 1 }
 
 -- each node is stored as it is
-stored : (x : ℕ × Node) → cast_row node_table (node_row x) ≡ node_row x
+pub stored : (x : ℕ × Node) → cast_row node_table (node_row x) ≡ node_row x
 stored x =
     rw (cast_int (pos x.0), cast_int (pos x.1.profile), cast_int (pos x.1.id), cast_int (pos x.1.parent), cast_int x.1.modified, cast_int (pos (state_number x.1.state)), cast_int (pos x.1.size), cast_int (pos x.1.piece_size), cast_int (pos (method_number x.1.method)), cast_int _) refl
 
-abbrev with_puids : Method → Bool → List ℕ → List (List ℕ) → ℕ × Node → ℕ × Node
+abbrev pub with_puids : Method → Bool → List ℕ → List (List ℕ) → ℕ × Node → ℕ × Node
 with_puids method mismatch md5 puids x = (x.0, finished method mismatch md5 puids x.1)
 
 words_changed : (p : Node → Bool) (change : Node → Node) (ns : List Node) → ((n : Node) → AllByRecursion IsWord (change n).puids) → AllByRecursion (λ (n : Node). AllByRecursion IsWord n.puids) ns

@@ -1,5 +1,5 @@
 -- How many profiles, unfinished files and replies there are after each change.
-use Rattle.std.proofs.Common.{◌≡◌, inl, inr, ℕ, zero, suc, ◌+◌, ◌-◌, ◌≤◌, List, [], ◌∷◌, ◌++◌, length, map, find, filter, Bool, true, false, not, Some, None, option_map, refl, sym, ap, subst, ◌∙◌, arith, length-append}
+use Rattle.std.proofs.Common.{◌≡◌, inl, inr, ℕ, zero, suc, ◌+◌, ◌-◌, ◌≤◌, List, [], ◌∷◌, ◌++◌, length, map, find, filter, Bool, true, false, not, Some, option_map, refl, sym, ap, ◌∙◌, arith, length-append}
 use Rattle.std.proofs.lemmas.Bool.{cases_Bool}
 use Rattle.std.proofs.lemmas.List.Elements.{filter-append}
 use Rattle.std.proofs.lemmas.List.Sums.{length-filter}
@@ -8,8 +8,7 @@ use Rattle.droid_frame.specs.types.method.Method.{Method}
 use Rattle.droid_store_sql.specs.KeyedRows.{changed_where}
 use Rattle.droid_store.specs.declared.rows.Counts.{Counts}
 use Rattle.droid_store.specs.declared.rows.Entry.{Entry}
-use Rattle.droid_store.specs.declared.rows.NodeState.{NodeState}
-use Rattle.droid_store.specs.declared.rows.NodeState.TheVariants.{Folder, Unfinished, Finished}
+use Rattle.droid_store.specs.declared.rows.NodeState.TheVariants.{Folder, Unfinished}
 use Rattle.droid_store.specs.declared.rows.ProfileRow.{ProfileRow}
 use Rattle.droid_store.specs.Changes.{with_reply, with_profile, counted, with_node, finished, with_finished, without_node, IsOpen}
 use Rattle.droid_store.specs.Kept.{AreApart}

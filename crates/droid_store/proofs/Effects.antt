@@ -1,12 +1,10 @@
 -- What each statement makes of the typed rows.
-use Rattle.std.proofs.Common.{◌≡◌, ℕ, ℤ, suc, ◌+◌, pos, List, [], ◌∷◌, ◌++◌, length, map, Bool, Ok, Err, Result, OnOk, OnErr, IsTrue, refl, sym, ap, subst, ◌∙◌, arith}
-use Rattle.std.specs.List.{AllByRecursion}
-use Rattle.sqlite.specs.declared.types.Value.TheVariants.{Null, Int, Text, Blob}
+use Rattle.std.proofs.Common.{◌≡◌, ℕ, ◌+◌, pos, List, [], ◌∷◌, ◌++◌, length, map, Bool, Ok, Err, Result, IsTrue, refl, sym, ap, subst, ◌∙◌, arith}
+use Rattle.sqlite.specs.declared.types.Value.TheVariants.{Null, Blob}
 use Rattle.sqlite.specs.Order.{Row}
 use Rattle.sqlite.specs.declared.error.Error.{Error}
 use Rattle.sqlite.specs.State.{State, Executes, ExecutesInside}
-use Rattle.droid_store_sql.specs.KeyedRows.{numbered_from, next_key}
-use Rattle.droid_store_sql.specs.Transactions.{Within}
+use Rattle.droid_store_sql.specs.KeyedRows.{numbered_from}
 use Rattle.droid_store_sql.proofs.Inserts.{inserts}
 use Rattle.droid_store_sql.proofs.RowEdits.{added, added_next}
 use Rattle.droid_store_sql.proofs.Rising.{rising_numbered, numbered_append, next_numbered, numbered_below}
@@ -56,7 +54,7 @@ adds_profile old new profile limit all rows next count has h =
       words = has.words;
     }
 
-abbrev reply_tail : ℕ × Entry → Row
+abbrev pub reply_tail : ℕ × Entry → Row
 reply_tail e = Null ∷ number e.1.client ∷ number e.1.number ∷ number e.1.kind ∷ Blob e.1.mark ∷ Blob e.1.body ∷ []
 
 pub adds_reply : (old new : State) (e : Entry) (rows : Rows) (count : ℕ) → Holds rows old.now

@@ -1,7 +1,7 @@
 -- What the look-ups of a node give: by its number, and by where it lies under what name.
 use Rattle.std.proofs.Common.{◌≡◌, ◌==◌, bytes_eq, ℕ, List, [], ◌∷◌, Some, None, Err, Result, IsTrue, IfOk, option_map, refl}
 use Rattle.std.specs.List.{list_all}
-use Rattle.sqlite.specs.declared.types.Value.TheVariants.{Int, Text, Blob}
+use Rattle.sqlite.specs.declared.types.Value.TheVariants.{Text}
 use Rattle.sqlite.specs.declared.error.Error.{Error}
 use Rattle.sqlite.specs.declared.error.Error.TheVariants.{QueryReturnedNoRows}
 use Rattle.sqlite.specs.Order.{Row}
@@ -12,7 +12,7 @@ use Rattle.droid_store_sql.proofs.Comparisons.{equal_numbers, equal_texts, all_o
 use Rattle.droid_store_sql.proofs.LookUps.{looks_up}
 use Rattle.droid_store_sql.proofs.SeenRows.{finds_seen, none_shown}
 use Rattle.droid_store.specs.declared.statements.TheConstants.{FIND_NODE, FIND_CHILD}
-use Rattle.droid_store.specs.Encoded.{number, flag, state_number, method_number, joined, node_row}
+use Rattle.droid_store.specs.Encoded.{number, node_row}
 use Rattle.droid_store.specs.Kept.{Holds, AreApart}
 use Rattle.droid_store.specs.Rows.{Node, Rows, is_node, node_at, is_child, child_at}
 use Rattle.droid_store.specs.Tables.{store_schema}

@@ -19,7 +19,7 @@ use Rattle.droid_store_sql.proofs.Selects.{selects_first}
 use Rattle.droid_store_sql.proofs.SeenRows.{none_shown}
 use Rattle.droid_store.specs.declared.rows.ProfileRow.{ProfileRow}
 use Rattle.droid_store.specs.declared.statements.TheConstants.{FIND_PROFILE}
-use Rattle.droid_store.specs.Encoded.{number, flag, profile_row}
+use Rattle.droid_store.specs.Encoded.{number, profile_row}
 use Rattle.droid_store.specs.Kept.{Holds}
 use Rattle.droid_store.specs.Rows.{Rows, profile_at}
 use Rattle.droid_store.specs.Tables.{store_schema}

@@ -1,5 +1,5 @@
 -- What a look-up found, as the row or none.
-use Rattle.std.proofs.Common.{◌≡◌, Option, Some, None, Ok, Err, Result, IfOk, MatchOption, option_map, sym, ap, ◌∙◌}
+use Rattle.std.proofs.Common.{◌≡◌, Option, Some, None, Ok, Err, Result, IfOk, MatchOption, option_map, sym, ap}
 use Rattle.sqlite.specs.Order.{Row}
 use Rattle.sqlite.specs.declared.error.Error.{Error}
 use Rattle.sqlite.specs.declared.error.Error.TheVariants.{QueryReturnedNoRows}

@@ -5,6 +5,7 @@ pub mod CountsAfter
 pub mod Decoded
 pub mod Effects
 pub mod EntryFound
+pub mod FaultsOfReading
 pub mod FindsNodes
 pub mod FindsProfiles
 pub mod FindsReplies
@@ -16,5 +17,12 @@ pub mod Makes
 pub mod Meanings
 pub mod NodeEffects
 pub mod NodeOrder
+pub mod ReadableAfter
 pub mod RecordsSoFar
 pub mod Started
+pub mod ToldFaults
+pub mod Unique
+pub mod Wanting
+pub mod WantingChanges
+pub mod WantingLookUps
+pub mod WantingTables

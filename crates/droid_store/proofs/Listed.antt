@@ -1,5 +1,5 @@
 -- The list of a profile's records, whatever comes of it.
-use Rattle.std.proofs.Common.{◌≡◌, ℕ, Bool, List, [], ◌∷◌, map, filter, Ok, Err, Result, IfOk, IfErr, IsTrue, sym, subst, ◌⊎◌, inl, inr}
+use Rattle.std.proofs.Common.{◌≡◌, ℕ, Bool, List, [], ◌∷◌, map, filter, Ok, Err, Result, IfOk, IfErr, IsTrue, sym, subst, inl, inr}
 use Rattle.std.proofs.lemmas.Bool.{cases_Bool}
 use Rattle.std.specs.List.{AllByRecursion}
 use Rattle.droid_frame.specs.types.record.Record.{Record}

@@ -1,5 +1,5 @@
 -- The three tables are made.
-use Rattle.std.proofs.Common.{◌≡◌, ℕ, List, [], ◌∷◌, Ok, Err, Result, OnOk, refl, sym, subst, ◌∙◌}
+use Rattle.std.proofs.Common.{ℕ, [], ◌∷◌, Ok, Err, Result, OnOk, refl, sym, ◌∙◌}
 use Rattle.sqlite.specs.State.{State, Executes}
 use Rattle.sqlite.specs.declared.error.Error.{Error}
 use Rattle.droid_store_sql.specs.Transactions.{Settled}

@@ -1,18 +1,16 @@
 -- What the statements mean.
-use Rattle.std.proofs.Common.{◌≡◌, ℕ, List, [], ◌∷◌, codes, pos, negsuc, false, true, Some, None, Ok, refl}
+use Rattle.std.proofs.Common.{◌≡◌, ℕ, List, [], ◌∷◌, codes, pos, false, Ok, refl}
 use Rattle.sqlite.specs.declared.types.Value.TheVariants.{Null, Int, Text, Blob}
-use Rattle.sqlite.specs.Term.{Term, lit, col, op2}
+use Rattle.sqlite.specs.Term.{Term, lit, col}
 use Rattle.sqlite.specs.Query.{Query}
 use Rattle.sqlite.specs.Source.TheVariants.{Values}
 use Rattle.sqlite.specs.Command.TheVariants.{Insert, Select, Update, Delete, CreateTable}
-use Rattle.sqlite.specs.Collation.TheVariants.{Binary}
-use Rattle.sqlite_sql.specs.declared.ops.BinaryOp.TheVariants.{Compare}
-use Rattle.sqlite_sql.specs.declared.ops.CompareOp.TheVariants.{Eq, Ne}
 use Rattle.sqlite.specs.Compile.{table_defined_by}
 use Rattle.sqlite_tied.specs.Compute.{everything}
 use Rattle.sqlite.specs.Listing.{understood, reads_listing}
 use Rattle.sqlite.proofs.Callers.{IsPlain, command_of, statement_of}
 use Rattle.droid_store_sql.specs.Queries.{select, equals, differs, rising_by}
+use Rattle.droid_store_sql.specs.Wants.{IsWhole}
 use Rattle.droid_store.specs.declared.statements.TheConstants.{MAKE_PROFILES, MAKE_NODES, MAKE_REPLIES, ADD_PROFILE, ADD_NODE, ADD_REPLY, COUNT_NODES, FINISH_NODE, REMOVE_NODE, FIND_PROFILE, FIND_NODE, FIND_CHILD, FIND_REPLY, LIST_RECORDS}
 use Rattle.droid_store.specs.Tables.{profiles, nodes, replies, no_schema, first_schema, second_schema, store_schema}
 
@@ -199,3 +197,61 @@ records_is = (refl, refl)
 pub records_plain : IsPlain (understood store_schema LIST_RECORDS.now)
 unfolding understood everything
 records_plain = (refl, refl)
+
+-- ---- each text is one statement to its end, with so many parameters
+
+pub profiles_whole : IsWhole MAKE_PROFILES.now 0 (understood no_schema MAKE_PROFILES.now)
+unfolding understood everything
+profiles_whole = (refl, refl)
+
+pub nodes_whole : IsWhole MAKE_NODES.now 0 (understood first_schema MAKE_NODES.now)
+unfolding understood everything
+nodes_whole = (refl, refl)
+
+pub replies_whole : IsWhole MAKE_REPLIES.now 0 (understood second_schema MAKE_REPLIES.now)
+unfolding understood everything
+replies_whole = (refl, refl)
+
+pub add_profile_whole : IsWhole ADD_PROFILE.now 3 (understood store_schema ADD_PROFILE.now)
+unfolding understood everything
+add_profile_whole = (refl, refl)
+
+pub add_node_whole : IsWhole ADD_NODE.now 9 (understood store_schema ADD_NODE.now)
+unfolding understood everything
+add_node_whole = (refl, refl)
+
+pub add_reply_whole : IsWhole ADD_REPLY.now 5 (understood store_schema ADD_REPLY.now)
+unfolding understood everything
+add_reply_whole = (refl, refl)
+
+pub count_whole : IsWhole COUNT_NODES.now 2 (understood store_schema COUNT_NODES.now)
+unfolding understood everything
+count_whole = (refl, refl)
+
+pub finish_whole : IsWhole FINISH_NODE.now 6 (understood store_schema FINISH_NODE.now)
+unfolding understood everything
+finish_whole = (refl, refl)
+
+pub remove_whole : IsWhole REMOVE_NODE.now 2 (understood store_schema REMOVE_NODE.now)
+unfolding understood everything
+remove_whole = (refl, refl)
+
+pub find_profile_whole : IsWhole FIND_PROFILE.now 1 (understood store_schema FIND_PROFILE.now)
+unfolding understood everything
+find_profile_whole = (refl, refl)
+
+pub find_node_whole : IsWhole FIND_NODE.now 2 (understood store_schema FIND_NODE.now)
+unfolding understood everything
+find_node_whole = (refl, refl)
+
+pub find_child_whole : IsWhole FIND_CHILD.now 3 (understood store_schema FIND_CHILD.now)
+unfolding understood everything
+find_child_whole = (refl, refl)
+
+pub find_reply_whole : IsWhole FIND_REPLY.now 2 (understood store_schema FIND_REPLY.now)
+unfolding understood everything
+find_reply_whole = (refl, refl)
+
+pub records_whole : IsWhole LIST_RECORDS.now 1 (understood store_schema LIST_RECORDS.now)
+unfolding understood everything
+records_whole = (refl, refl)

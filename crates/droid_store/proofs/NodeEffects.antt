@@ -1,12 +1,12 @@
 -- What the statements on nodes make of the typed rows.
-use Rattle.std.proofs.Common.{◌≡◌, ℕ, ℤ, zero, suc, ◌+◌, ◌<◌, ◌≤◌, ◌==◌, ◌&&◌, pos, List, [], ◌∷◌, ◌++◌, length, map, filter, replicate, Bool, true, false, not, inl, inr, if◌then◌else◌, Ok, refl, sym, ap, subst, ◌∙◌, arith}
+use Rattle.std.proofs.Common.{◌≡◌, ℕ, ℤ, zero, suc, ◌+◌, ◌<◌, ◌≤◌, ◌==◌, ◌&&◌, pos, List, [], ◌∷◌, ◌++◌, length, map, filter, replicate, Bool, true, false, inl, inr, Ok, refl, ap, ◌∙◌, arith}
 use Rattle.std.proofs.lemmas.Bool.{cases_Bool, eqb-true}
 use Rattle.std.proofs.lemmas.Bool.Decides.{nat_tests}
 use Rattle.std.specs.List.{AllByRecursion}
 use Rattle.sqlite.specs.declared.types.Value.TheVariants.{Null, Int, Text, Blob}
 use Rattle.sqlite.specs.Order.{Row}
 use Rattle.sqlite.specs.State.{State, Executes}
-use Rattle.droid_store_sql.specs.KeyedRows.{numbered_from, next_key, AreRising, AreBelow, changed_where}
+use Rattle.droid_store_sql.specs.KeyedRows.{numbered_from, next_key, AreRising, changed_where}
 use Rattle.droid_store_sql.proofs.Changes.{updates}
 use Rattle.droid_store_sql.proofs.Comparisons.{equal_numbers}
 use Rattle.droid_store_sql.proofs.Inserts.{inserts}
@@ -19,7 +19,7 @@ use Rattle.droid_store.specs.declared.rows.NodeState.{NodeState}
 use Rattle.droid_store.specs.declared.rows.ProfileRow.{ProfileRow}
 use Rattle.droid_store.specs.declared.statements.TheConstants.{ADD_NODE, COUNT_NODES}
 use Rattle.droid_store.specs.Changes.{IsWord, new_node, counted}
-use Rattle.droid_store.specs.Encoded.{number, flag, state_number, method_number, joined, profile_row, node_row}
+use Rattle.droid_store.specs.Encoded.{number, flag, state_number, method_number, joined, profile_row}
 use Rattle.droid_store.specs.Kept.{Holds}
 use Rattle.droid_store.specs.Rows.{Node, Rows}
 use Rattle.droid_store.specs.Tables.{profiles, nodes, store_schema}
@@ -106,10 +106,10 @@ adds_node old new profile id parent modified state size piece_size name path row
 abbrev pub with_counted : ℕ → ℕ → Rows → Rows
 with_counted profile count rows = record rows { profiles = counted profile count rows.profiles }
 
-abbrev counting : ℕ → ℕ × ProfileRow → ℕ × ProfileRow
+abbrev pub counting : ℕ → ℕ × ProfileRow → ℕ × ProfileRow
 counting count p = (p.0, record p.1 { nodes = count })
 
-abbrev has_number : ℕ → ℕ × ProfileRow → Bool
+abbrev pub has_number : ℕ → ℕ × ProfileRow → Bool
 has_number n p = p.0 == n
 
 none_counted : (n before count : ℕ) (ps : List ProfileRow) → n ≤ before → map (changed_where (has_number n) (counting count)) (numbered_from (suc before) ps) ≡ numbered_from (suc before) ps

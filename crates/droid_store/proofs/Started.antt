@@ -1,5 +1,5 @@
 -- A transaction begins with what was there.
-use Rattle.std.proofs.Common.{◌≡◌, true, sym, subst}
+use Rattle.std.proofs.Common.{◌≡◌, true, sym, subst, Result, Ok, Err, OnOk}
 use Rattle.sqlite_trees.specs.declared.memory.MemStore.{MemStore}
 use Rattle.sqlite.specs.Held.{Held, state}
 use Rattle.sqlite.specs.Steps.{over_memory}
@@ -10,3 +10,8 @@ use Rattle.droid_store.specs.Rows.{Rows}
 
 pub started : (old tx : Held MemStore) (rows : Rows) → tx ≡ record old { in_transaction = true } → Settled (state over_memory old) (Holds rows) → Within (state over_memory tx) (Holds rows) (Holds rows)
 started old tx rows begun has = subst (λ h. Within (state over_memory h) (Holds rows) (Holds rows)) (sym begun) (begins (state over_memory old) (Holds rows) has)
+
+-- what holds anyway holds where a call succeeds
+pub on_ok : {U E : Type 0} (r : Result U E) (P : Type 0) → P → OnOk r P
+on_ok (Ok done) P p = p
+on_ok (Err e) P p = tt

@@ -1,5 +1,5 @@
 -- Typed rows as rows of the database's values, and back.
-use Rattle.std.specs.Prelude.{◌==◌, ℕ, suc, ℤ, pos, Bool, not, if◌then◌else◌, List, [], ◌∷◌, map}
+use Rattle.std.specs.Prelude.{◌==◌, ℕ, ℤ, pos, Bool, not, if◌then◌else◌, List, [], ◌∷◌, map}
 use Rattle.std.specs.List.{slice_split, join_with_byte}
 use Rattle.sqlite.specs.declared.types.Value.{Value}
 use Rattle.sqlite.specs.declared.types.Value.TheVariants.{Null, Int, Text, Blob}

@@ -1,11 +1,12 @@
 -- As what a failed call of the database is told.
 use Rattle.sqlite.specs.declared.error.Error.{Error}
 use Rattle.sqlite.specs.declared.error.Error.TheVariants.{SqliteFailure}
-use Rattle.sqlite.specs.declared.error.ErrorCode.TheVariants.{OutOfMemory}
+use Rattle.sqlite.specs.declared.error.ErrorCode.TheVariants.{OutOfMemory, NoRowid}
 use Rattle.droid_store.specs.declared.fault.StoreFault.{StoreFault}
 use Rattle.droid_store.specs.declared.fault.StoreFault.TheVariants.{Memory, Refused}
 
--- want of memory as that, and whatever else the database says as a refusal
+-- Want of memory as that, and want of a number for a row too: there are more of those than any memory has room for rows. Whatever else the database says is a refusal.
 abbrev pub fault_of : Error → StoreFault
 fault_of (SqliteFailure OutOfMemory) = Memory
+fault_of (SqliteFailure NoRowid) = Memory
 fault_of _ = Refused

@@ -1,5 +1,5 @@
 -- How the tables hold the rows.
-use Rattle.std.specs.Prelude.{◌≡◌, ◌≤◌, ◌<◌, ℕ, List, [], ◌∷◌, map, filter, length, Result, OnOk, OnErr, option_map, unwrap_or}
+use Rattle.std.specs.Prelude.{◌≡◌, ◌≤◌, ◌<◌, ℕ, List, [], ◌∷◌, map, filter, length, Result, None, OnOk, OnErr, IfErr, option_map, unwrap_or}
 use Rattle.sqlite.specs.declared.error.Error.{Error}
 use Rattle.std.specs.List.{AllByRecursion}
 use Rattle.sqlite.specs.Effect.{Database}
@@ -11,6 +11,7 @@ use Rattle.sqlite_trees.specs.declared.memory.MemStore.{MemStore}
 use Rattle.droid_store.specs.Changes.{IsWord}
 use Rattle.droid_store_sql.specs.KeyedRows.{numbered_from, AreRising}
 use Rattle.droid_store_sql.specs.Transactions.{Within}
+use Rattle.droid_store_sql.specs.Wants.{IsWant}
 use Rattle.droid_store.specs.Encoded.{profile_row, node_row, reply_row, rows_in}
 use Rattle.droid_store.specs.Rows.{Node, Rows, is_child, is_for, profile_at}
 use Rattle.droid_store.specs.Tables.{store_schema}
@@ -42,6 +43,12 @@ pub record AreApart (rows : Rows) : Type 0 where
   pub numbers : AreInOrder rows.nodes
   pub accepted : AllByRecursion (λ (n : Node). n.id ≤ accepted_in n.profile rows) rows.nodes
 
+-- no two rows under one unique key
+pub record HasKeys (rows : Rows) : Type 0 where
+  pub replies : (client number : ℕ) → length (filter (is_for client number) rows.replies) ≤ 1
+  pub children : (profile parent : ℕ) (name : List ℕ) → length (filter (is_child profile parent name) rows.nodes) ≤ 1
+  pub numbers : AreInOrder rows.nodes
+
 abbrev pub kept : Held MemStore → Rows
 kept c = rows_in (state over_memory c).now
 
@@ -57,3 +64,7 @@ Steps old new r before after = (saved : Rows) → Within old (Holds before) (Hol
 -- and where it fails, a rollback still goes back to what it did
 abbrev pub Saves : {U : Type 0} → State → State → Result U Error → Rows → Type 0
 Saves old new r before = (saved : Rows) → Within old (Holds before) (Holds saved) → OnErr r (Holds saved new.committed)
+
+-- and where it fails, it does so for want alone
+abbrev pub Wants : {U : Type 0} → State → State → Result U Error → Rows → Type 0
+Wants old new r before = (saved : Rows) → Within old (Holds before) (Holds saved) → old.step_limit ≡ None → IfErr r IsWant

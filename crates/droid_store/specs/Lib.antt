@@ -3,6 +3,8 @@ pub mod Encoded
 pub mod Faults
 pub mod Kept
 pub mod Nodes
+pub mod Ranges
 pub mod Rows
 pub mod Shown
+pub mod Sizes
 pub mod Tables

@@ -1,5 +1,5 @@
 -- What a store holds: typed rows in order (this project's own).
-use Rattle.std.specs.Prelude.{ℕ, zero, suc, ℤ, ◌==◌, ◌&&◌, Bool, true, false, not, List, [], ◌∷◌, map, filter, find, length, Option, None, option_map}
+use Rattle.std.specs.Prelude.{ℕ, zero, suc, ℤ, ◌==◌, ◌&&◌, Bool, true, false, not, List, [], map, filter, find, length, Option, None}
 use Rattle.std.specs.List.{slice_get, count_by}
 use Rattle.std.specs.Str.{bytes_eq}
 use Rattle.droid_frame.specs.types.method.Method.{Method}

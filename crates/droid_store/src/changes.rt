@@ -1,13 +1,15 @@
 //! Single statements in a transaction.
 
-ghost use Rattle.std.specs.Prelude.{◌≡◌, ◌+◌, ◌<◌, ◌^◌, ◌++◌, ◌∷◌, [], List, ℕ, length, pos};
+ghost use Rattle.std.specs.Prelude.{◌≡◌, ◌+◌, ◌<◌, ◌^◌, ◌++◌, ◌∷◌, [], List, ℕ, Some, length, pos};
 ghost use Rattle.sqlite.specs.Held.{state};
 ghost use Rattle.sqlite.specs.Steps.{over_memory};
 ghost use Rattle.std.specs.List.{AllByRecursion};
-ghost use Rattle.droid_store.specs.Changes.{with_profile, with_reply, with_node, with_finished, without_node, counted, IsWord};
+ghost use Rattle.droid_store.specs.Changes.{with_profile, with_reply, with_node, with_finished, finished, without_node, counted, IsWord};
 ghost use Rattle.droid_store.specs.Encoded.{joined, method_number};
-ghost use Rattle.droid_store.specs.Kept.{AreApart, Steps, Saves};
-ghost use Rattle.droid_store.specs.Rows.{Rows};
+ghost use Rattle.droid_store.specs.Kept.{AreApart, HasKeys, Steps, Saves, Wants};
+ghost use Rattle.droid_store.specs.Ranges.{EntryFits};
+ghost use Rattle.droid_store.specs.Rows.{Rows, Node, node_at};
+ghost use Rattle.droid_store.specs.Sizes.{entry_size, node_size, FitsARow};
 ghost use Rattle.droid_store.specs.Nodes.{node_of};
 
 use crate::rows::{Entry, NodeState};
@@ -45,6 +47,8 @@ pub(crate) fn insert_profile(
     ensures same_reference { tx.new.conn.ghost_name ≡ tx.old.conn.ghost_name }
     ensures ok { (rows : Rows) → profile ≡ length rows.profiles + 1 → Steps (state over_memory tx.old.conn.now) (state over_memory tx.new.conn.now) result rows (with_profile scan_limit match_all rows) }
     ensures err { (rows : Rows) → Saves (state over_memory tx.old.conn.now) (state over_memory tx.new.conn.now) result rows }
+    ensures limit { tx.new.conn.now.step_limit ≡ tx.old.conn.now.step_limit }
+    ensures want { (rows : Rows) → profile ≡ length rows.profiles + 1 → HasKeys rows → Wants (state over_memory tx.old.conn.now) (state over_memory tx.new.conn.now) result rows }
 {
     tx.execute(ADD_PROFILE, params![profile, scan_limit, match_all])
 }
@@ -57,6 +61,9 @@ pub(crate) fn insert_reply(
     ensures same_reference { tx.new.conn.ghost_name ≡ tx.old.conn.ghost_name }
     ensures ok { (rows : Rows) → Steps (state over_memory tx.old.conn.now) (state over_memory tx.new.conn.now) result rows (with_reply entry.now rows) }
     ensures err { (rows : Rows) → Saves (state over_memory tx.old.conn.now) (state over_memory tx.new.conn.now) result rows }
+    ensures limit { tx.new.conn.now.step_limit ≡ tx.old.conn.now.step_limit }
+    ensures fits { EntryFits entry.now }
+    ensures want { (rows : Rows) → HasKeys (with_reply entry.now rows) → FitsARow (entry_size entry.now) → Wants (state over_memory tx.old.conn.now) (state over_memory tx.new.conn.now) result rows }
 {
     let mark = entry.mark.as_slice();
     let body = entry.body.as_slice();
@@ -81,6 +88,8 @@ fn insert_node(
     ensures same_reference { tx.new.conn.ghost_name ≡ tx.old.conn.ghost_name }
     ensures ok { (rows : Rows) → Steps (state over_memory tx.old.conn.now) (state over_memory tx.new.conn.now) result rows (record rows { nodes = rows.nodes ++ node_of node.now modified ∷ [] }) }
     ensures err { (rows : Rows) → Saves (state over_memory tx.old.conn.now) (state over_memory tx.new.conn.now) result rows }
+    ensures limit { tx.new.conn.now.step_limit ≡ tx.old.conn.now.step_limit }
+    ensures want { (rows : Rows) → HasKeys (record rows { nodes = rows.nodes ++ node_of node.now modified ∷ [] }) → FitsARow (node_size (node_of node.now modified)) → Wants (state over_memory tx.old.conn.now) (state over_memory tx.new.conn.now) result rows }
 {
     tx.execute(
         ADD_NODE,
@@ -102,6 +111,8 @@ fn count_nodes(tx: &mut Transaction<'_, MemStore>, profile: u32, nodes: u32) -> 
     ensures same_reference { tx.new.conn.ghost_name ≡ tx.old.conn.ghost_name }
     ensures ok { (rows : Rows) → Steps (state over_memory tx.old.conn.now) (state over_memory tx.new.conn.now) result rows (record rows { profiles = counted profile nodes rows.profiles }) }
     ensures err { (rows : Rows) → Saves (state over_memory tx.old.conn.now) (state over_memory tx.new.conn.now) result rows }
+    ensures limit { tx.new.conn.now.step_limit ≡ tx.old.conn.now.step_limit }
+    ensures want { (rows : Rows) → HasKeys rows → Wants (state over_memory tx.old.conn.now) (state over_memory tx.new.conn.now) result rows }
 {
     tx.execute(COUNT_NODES, params![profile, nodes])
 }
@@ -116,6 +127,8 @@ pub(crate) fn add_node(
     ensures same_reference { tx.new.conn.ghost_name ≡ tx.old.conn.ghost_name }
     ensures ok { (rows : Rows) → Steps (state over_memory tx.old.conn.now) (state over_memory tx.new.conn.now) result rows (with_node (node_of node.now modified) rows) }
     ensures err { (rows : Rows) → Saves (state over_memory tx.old.conn.now) (state over_memory tx.new.conn.now) result rows }
+    ensures limit { tx.new.conn.now.step_limit ≡ tx.old.conn.now.step_limit }
+    ensures want { (rows : Rows) → HasKeys (record rows { nodes = rows.nodes ++ node_of node.now modified ∷ [] }) → FitsARow (node_size (node_of node.now modified)) → Wants (state over_memory tx.old.conn.now) (state over_memory tx.new.conn.now) result rows }
 {
     insert_node(tx, node, modified)?;
     count_nodes(tx, node.profile, node.id)
@@ -141,6 +154,8 @@ pub(crate) fn finish_node(
     ensures ok { (rows : Rows) → AreApart rows → (puids : List (List ℕ)) → AllByRecursion IsWord puids → findings.now.formats.now ≡ joined puids
         → Steps (state over_memory tx.old.conn.now) (state over_memory tx.new.conn.now) result rows (with_finished profile file findings.now.method findings.now.mismatch findings.now.md5.now puids rows) }
     ensures err { (rows : Rows) → Saves (state over_memory tx.old.conn.now) (state over_memory tx.new.conn.now) result rows }
+    ensures limit { tx.new.conn.now.step_limit ≡ tx.old.conn.now.step_limit }
+    ensures want { (rows : Rows) → HasKeys rows → (puids : List (List ℕ)) → findings.now.formats.now ≡ joined puids → HasKeys (with_finished profile file findings.now.method findings.now.mismatch findings.now.md5.now puids rows) → ((n : Node) → node_at profile file rows ≡ Some n → FitsARow (node_size (finished findings.now.method findings.now.mismatch findings.now.md5.now puids n))) → Wants (state over_memory tx.old.conn.now) (state over_memory tx.new.conn.now) result rows }
 {
     tx.execute(
         FINISH_NODE,
@@ -174,6 +189,8 @@ pub(crate) fn delete_node(
     ensures same_reference { tx.new.conn.ghost_name ≡ tx.old.conn.ghost_name }
     ensures ok { (rows : Rows) → AreApart rows → Steps (state over_memory tx.old.conn.now) (state over_memory tx.new.conn.now) result rows (without_node profile file rows) }
     ensures err { (rows : Rows) → Saves (state over_memory tx.old.conn.now) (state over_memory tx.new.conn.now) result rows }
+    ensures limit { tx.new.conn.now.step_limit ≡ tx.old.conn.now.step_limit }
+    ensures want { (rows : Rows) → HasKeys rows → HasKeys (without_node profile file rows) → Wants (state over_memory tx.old.conn.now) (state over_memory tx.new.conn.now) result rows }
 {
     tx.execute(REMOVE_NODE, params![profile, file])
 }

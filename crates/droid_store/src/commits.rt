@@ -1,14 +1,18 @@
 //! Whole transactions: a change and the newest reply, both or neither.
 
-ghost use Rattle.std.specs.Prelude.{◌≡◌, ◌+◌, ◌<◌, ◌^◌, List, ℕ, length, OnOk, OnErr};
+ghost use Rattle.std.specs.Prelude.{◌≡◌, ◌+◌, ◌<◌, ◌^◌, List, ℕ, None, Some, length, OnOk, OnErr, IfErr};
 ghost use Rattle.std.specs.List.{AllByRecursion};
 ghost use Rattle.sqlite.specs.Held.{state};
 ghost use Rattle.sqlite.specs.Steps.{over_memory};
 ghost use Rattle.droid_store_sql.specs.Transactions.{Settled};
-ghost use Rattle.droid_store.specs.Changes.{with_node, with_profile, with_reply, with_finished, without_node, IsWord};
+ghost use Rattle.droid_store_sql.specs.Wants.{IsWant};
+ghost use Rattle.droid_store.specs.Changes.{with_node, with_profile, with_reply, finished, with_finished, without_node, IsWord};
 ghost use Rattle.droid_store.specs.Encoded.{joined};
-ghost use Rattle.droid_store.specs.Kept.{kept, Holds, AreApart};
+ghost use Rattle.droid_store.specs.Kept.{kept, Holds, AreApart, HasKeys};
 ghost use Rattle.droid_store.specs.Nodes.{node_of};
+ghost use Rattle.droid_store.specs.Ranges.{EntryFits};
+ghost use Rattle.droid_store.specs.Rows.{Node, node_at};
+ghost use Rattle.droid_store.specs.Sizes.{entry_size, node_size, FitsARow};
 
 use crate::changes::{
     Findings, NewNode, add_node, delete_node, finish_node, insert_profile, insert_reply,
@@ -22,6 +26,9 @@ pub(crate) fn write_reply(conn: &mut Connection<MemStore>, entry: &Entry) -> Res
     requires small { entry.now.number < 2 ^ 63 }
     ensures ok { OnOk result (Settled (state over_memory conn.new) (Holds (with_reply entry.now (kept conn.old)))) }
     ensures err { OnErr result (Settled (state over_memory conn.new) (Holds (kept conn.old))) }
+    ensures limit { conn.new.step_limit ≡ conn.old.step_limit }
+    ensures fits { OnOk result (EntryFits entry.now) }
+    ensures want { HasKeys (with_reply entry.now (kept conn.old)) → FitsARow (entry_size entry.now) → conn.old.step_limit ≡ None → IfErr result IsWant }
 {
     let mut tx = conn.transaction();
     insert_reply(&mut tx, entry)?;
@@ -40,6 +47,9 @@ pub(crate) fn write_profile(
     requires small { entry.now.number < 2 ^ 63 }
     ensures ok { OnOk result (Settled (state over_memory conn.new) (Holds (with_reply entry.now (with_profile scan_limit match_all (kept conn.old))))) }
     ensures err { OnErr result (Settled (state over_memory conn.new) (Holds (kept conn.old))) }
+    ensures limit { conn.new.step_limit ≡ conn.old.step_limit }
+    ensures fits { OnOk result (EntryFits entry.now) }
+    ensures want { HasKeys (kept conn.old) → HasKeys (with_reply entry.now (with_profile scan_limit match_all (kept conn.old))) → FitsARow (entry_size entry.now) → conn.old.step_limit ≡ None → IfErr result IsWant }
 {
     let mut tx = conn.transaction();
     insert_profile(&mut tx, profile, scan_limit, match_all)?;
@@ -58,6 +68,9 @@ pub(crate) fn write_node(
     requires size { node.now.size < 2 ^ 63 }
     ensures ok { OnOk result (Settled (state over_memory conn.new) (Holds (with_reply entry.now (with_node (node_of node.now modified) (kept conn.old))))) }
     ensures err { OnErr result (Settled (state over_memory conn.new) (Holds (kept conn.old))) }
+    ensures limit { conn.new.step_limit ≡ conn.old.step_limit }
+    ensures fits { OnOk result (EntryFits entry.now) }
+    ensures want { HasKeys (kept conn.old) → HasKeys (with_reply entry.now (with_node (node_of node.now modified) (kept conn.old))) → FitsARow (entry_size entry.now) → FitsARow (node_size (node_of node.now modified)) → conn.old.step_limit ≡ None → IfErr result IsWant }
 {
     let mut tx = conn.transaction();
     add_node(&mut tx, node, modified)?;
@@ -78,6 +91,9 @@ pub(crate) fn write_finish(
     ensures ok { (puids : List (List ℕ)) → AllByRecursion IsWord puids → findings.now.formats.now ≡ joined puids
         → OnOk result (Settled (state over_memory conn.new) (Holds (with_reply entry.now (with_finished profile file findings.now.method findings.now.mismatch findings.now.md5.now puids (kept conn.old))))) }
     ensures err { (puids : List (List ℕ)) → AllByRecursion IsWord puids → findings.now.formats.now ≡ joined puids → OnErr result (Settled (state over_memory conn.new) (Holds (kept conn.old))) }
+    ensures limit { conn.new.step_limit ≡ conn.old.step_limit }
+    ensures fits { OnOk result (EntryFits entry.now) }
+    ensures want { (puids : List (List ℕ)) → AllByRecursion IsWord puids → findings.now.formats.now ≡ joined puids → HasKeys (kept conn.old) → HasKeys (with_reply entry.now (with_finished profile file findings.now.method findings.now.mismatch findings.now.md5.now puids (kept conn.old))) → FitsARow (entry_size entry.now) → ((n : Node) → node_at profile file (kept conn.old) ≡ Some n → FitsARow (node_size (finished findings.now.method findings.now.mismatch findings.now.md5.now puids n))) → conn.old.step_limit ≡ None → IfErr result IsWant }
 {
     let mut tx = conn.transaction();
     finish_node(&mut tx, profile, file, findings)?;
@@ -96,6 +112,9 @@ pub(crate) fn write_abandon(
     requires small { entry.now.number < 2 ^ 63 }
     ensures ok { OnOk result (Settled (state over_memory conn.new) (Holds (with_reply entry.now (without_node profile file (kept conn.old))))) }
     ensures err { OnErr result (Settled (state over_memory conn.new) (Holds (kept conn.old))) }
+    ensures limit { conn.new.step_limit ≡ conn.old.step_limit }
+    ensures fits { OnOk result (EntryFits entry.now) }
+    ensures want { HasKeys (kept conn.old) → HasKeys (with_reply entry.now (without_node profile file (kept conn.old))) → FitsARow (entry_size entry.now) → conn.old.step_limit ≡ None → IfErr result IsWant }
 {
     let mut tx = conn.transaction();
     delete_node(&mut tx, profile, file)?;

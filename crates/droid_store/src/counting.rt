@@ -1,28 +1,32 @@
-//! How much there is, after each change. No counter can reach its end: each step takes a row.
+//! How much there is, after each change. A counter ends only after memory: each step takes a row.
 
-ghost use Rattle.std.specs.Prelude.{◌≡◌, ◌+◌, ◌-◌, ◌≤◌, IfOk};
+ghost use Rattle.std.specs.Prelude.{◌≡◌, ◌+◌, ◌-◌, ◌≤◌, IfOk, IfErr};
+ghost use Rattle.droid_store.specs.declared.fault.StoreFault.TheVariants.{Memory};
 
 use crate::fault::StoreFault;
 use crate::rows::Counts;
 
 fn next(count: u64) -> Result<u64, StoreFault>
-    ensures { IfOk result (λ n. n ≡ count + 1) }
+    ensures next { IfOk result (λ n. n ≡ count + 1) }
+    ensures memory { IfErr result (λ fault. fault ≡ Memory) }
 {
     match count.checked_add(1) {
         Some(next) => Ok(next),
-        None => Err(StoreFault::Refused),
+        None => Err(StoreFault::Memory),
     }
 }
 
 pub(crate) fn one_more_profile(counts: Counts) -> Result<Counts, StoreFault>
-    ensures { IfOk result (λ after. after ≡ record counts { profiles = counts.profiles + 1 }) }
+    ensures more { IfOk result (λ after. after ≡ record counts { profiles = counts.profiles + 1 }) }
+    ensures memory { IfErr result (λ fault. fault ≡ Memory) }
 {
     let profiles = next(counts.profiles)?;
     Ok(Counts { profiles, ..counts })
 }
 
 pub(crate) fn one_more_unfinished(counts: Counts) -> Result<Counts, StoreFault>
-    ensures { IfOk result (λ after. after ≡ record counts { unfinished = counts.unfinished + 1 }) }
+    ensures more { IfOk result (λ after. after ≡ record counts { unfinished = counts.unfinished + 1 }) }
+    ensures memory { IfErr result (λ fault. fault ≡ Memory) }
 {
     let unfinished = next(counts.unfinished)?;
     Ok(Counts {
@@ -42,7 +46,8 @@ pub(crate) fn one_less_unfinished(counts: Counts) -> Counts
 }
 
 pub(crate) fn one_more_reply(counts: Counts) -> Result<Counts, StoreFault>
-    ensures { IfOk result (λ after. after ≡ record counts { accepted = counts.accepted + 1 }) }
+    ensures more { IfOk result (λ after. after ≡ record counts { accepted = counts.accepted + 1 }) }
+    ensures memory { IfErr result (λ fault. fault ≡ Memory) }
 {
     let accepted = next(counts.accepted)?;
     Ok(Counts { accepted, ..counts })

@@ -9,7 +9,7 @@ use thiserror::Error;
 /// Why a call of the store gave up. Each leaves the rows as they were.
 #[derive(Clone, Copy, Debug, PartialEq, Eq, Error)]
 pub enum StoreFault {
-    /// Memory ran out.
+    /// Memory ran out, or the numbers of rows did, of which there are more than any memory has room for.
     #[error("out of memory")]
     Memory,
     /// The database refused for another cause.
@@ -25,6 +25,7 @@ impl From<SqlError> for StoreFault {
     fn from(error: SqlError) -> StoreFault {
         match error {
             SqlError::SqliteFailure(ErrorCode::OutOfMemory) => StoreFault::Memory,
+            SqlError::SqliteFailure(ErrorCode::NoRowid) => StoreFault::Memory,
             _ => StoreFault::Refused,
         }
     }

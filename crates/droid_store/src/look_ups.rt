@@ -1,10 +1,11 @@
 //! Look-ups of one row by its key. They change nothing, also where they fail.
 
-ghost use Rattle.std.specs.Prelude.{◌≡◌, ◌<◌, ◌^◌, IfOk, MatchOption, Ok, Err, map, filter, option_map};
+ghost use Rattle.std.specs.Prelude.{◌≡◌, ◌≢◌, ◌<◌, ◌^◌, None, IfOk, IfErr, MatchOption, Ok, Err, map, filter, option_map};
 ghost use Rattle.sqlite.specs.Held.{state};
 ghost use Rattle.sqlite.specs.Steps.{over_memory};
 ghost use Rattle.sqlite.specs.declared.error.Error.TheVariants.{QueryReturnedNoRows};
 ghost use Rattle.droid_store_sql.specs.Transactions.{Settled};
+ghost use Rattle.droid_store_sql.specs.Wants.{IsWant};
 ghost use Rattle.droid_store.specs.Kept.{kept, Holds, AreApart};
 ghost use Rattle.droid_store.specs.Rows.{profile_at, node_at, child_at, reply_for, is_listed};
 ghost use Rattle.droid_store.specs.Shown.{shown_profile, shown_node, shown_id, shown_reply};
@@ -15,7 +16,8 @@ use sqlite::{Connection, Error, MemStore, Row, params};
 
 /// The row, or `None` where the answer has none.
 fn or_none(answer: Result<Row, Error>) -> Result<Option<Row>, Error>
-    ensures { IfOk result (λ found. MatchOption found (answer ≡ Err QueryReturnedNoRows) (λ row. answer ≡ Ok row)) }
+    ensures found { IfOk result (λ found. MatchOption found (answer ≡ Err QueryReturnedNoRows) (λ row. answer ≡ Ok row)) }
+    ensures err { IfErr result (λ e. (answer ≡ Err e) × (e ≢ QueryReturnedNoRows)) }
 {
     match answer {
         Ok(row) => Ok(Some(row)),
@@ -32,6 +34,8 @@ pub(crate) fn find_profile(
     ensures same { kept conn.new ≡ kept conn.old }
     ensures holds { Settled (state over_memory conn.new) (Holds (kept conn.new)) }
     ensures found { IfOk result (λ found. found ≡ option_map shown_profile (profile_at profile (kept conn.old))) }
+    ensures limit { conn.new.step_limit ≡ conn.old.step_limit }
+    ensures want { conn.old.step_limit ≡ None → IfErr result IsWant }
 {
     let answer = conn.query_row(FIND_PROFILE, params![profile]);
     or_none(answer)
@@ -47,6 +51,8 @@ pub(crate) fn find_node(
     ensures same { kept conn.new ≡ kept conn.old }
     ensures holds { Settled (state over_memory conn.new) (Holds (kept conn.new)) }
     ensures found { IfOk result (λ found. found ≡ option_map shown_node (node_at profile id (kept conn.old))) }
+    ensures limit { conn.new.step_limit ≡ conn.old.step_limit }
+    ensures want { conn.old.step_limit ≡ None → IfErr result IsWant }
 {
     let answer = conn.query_row(FIND_NODE, params![profile, id]);
     or_none(answer)
@@ -63,6 +69,8 @@ pub(crate) fn find_child(
     ensures same { kept conn.new ≡ kept conn.old }
     ensures holds { Settled (state over_memory conn.new) (Holds (kept conn.new)) }
     ensures found { IfOk result (λ found. found ≡ option_map shown_id (child_at profile parent name.now (kept conn.old))) }
+    ensures limit { conn.new.step_limit ≡ conn.old.step_limit }
+    ensures want { conn.old.step_limit ≡ None → IfErr result IsWant }
 {
     let answer = conn.query_row(FIND_CHILD, params![profile, parent, name]);
     or_none(answer)
@@ -79,6 +87,8 @@ pub(crate) fn find_reply(
     ensures same { kept conn.new ≡ kept conn.old }
     ensures holds { Settled (state over_memory conn.new) (Holds (kept conn.new)) }
     ensures found { IfOk result (λ found. found ≡ option_map shown_reply (reply_for client number (kept conn.old))) }
+    ensures limit { conn.new.step_limit ≡ conn.old.step_limit }
+    ensures want { conn.old.step_limit ≡ None → IfErr result IsWant }
 {
     let answer = conn.query_row(FIND_REPLY, params![client, signed(number)]);
     or_none(answer)
@@ -91,6 +101,8 @@ pub(crate) fn list_nodes(conn: &mut Connection<MemStore>, profile: u32) -> Resul
     ensures same { kept conn.new ≡ kept conn.old }
     ensures holds { Settled (state over_memory conn.new) (Holds (kept conn.new)) }
     ensures found { IfOk result (λ rows. rows.items ≡ map shown_node (filter (is_listed profile) (kept conn.old).nodes)) }
+    ensures limit { conn.new.step_limit ≡ conn.old.step_limit }
+    ensures want { conn.old.step_limit ≡ None → IfErr result IsWant }
 {
     conn.query_all(LIST_RECORDS, params![profile])
 }

@@ -1,6 +1,6 @@
 //! Rows that a look-up shows, read as what they stand for.
 
-ghost use Rattle.std.specs.Prelude.{◌≡◌, List, ℕ, IfOk, Some, map};
+ghost use Rattle.std.specs.Prelude.{◌≡◌, ◌<◌, List, ℕ, IfOk, IfErr, Some, length, map};
 ghost use Rattle.std.specs.List.{AllByRecursion};
 ghost use Rattle.sqlite.specs.Order.{column};
 ghost use Rattle.sqlite.specs.declared.types.Value.TheVariants.{Blob as BlobValue};
@@ -11,6 +11,8 @@ ghost use Rattle.droid_store.specs.declared.rows.ProfileRow.{ProfileRow as Profi
 ghost use Rattle.droid_store.specs.Changes.{IsWord};
 ghost use Rattle.droid_store.specs.Encoded.{state_number, method_number};
 ghost use Rattle.droid_store.specs.Rows.{Node, row_of, record_of, kind_of};
+ghost use Rattle.droid_store.specs.Ranges.{ProfileFits, NodeFits, EntryFits};
+ghost use Rattle.droid_store.specs.declared.fault.StoreFault.TheVariants.{Memory};
 ghost use Rattle.droid_store.specs.Shown.{shown_profile, shown_node, shown_reply};
 
 use crate::fault::StoreFault;
@@ -21,7 +23,8 @@ use sqlite::Row;
 use std::alloc::Global;
 
 pub(crate) fn profile_of(row: &Row) -> Result<ProfileRow, StoreFault>
-    ensures { IfOk result (λ read. (p : ProfileRowValue) → row.now ≡ shown_profile p → read ≡ p) }
+    ensures read { IfOk result (λ read. (p : ProfileRowValue) → row.now ≡ shown_profile p → read ≡ p) }
+    ensures memory { (p : ProfileRowValue) → row.now ≡ shown_profile p → ProfileFits p → IfErr result (λ fault. fault ≡ Memory) }
 {
     let scan_limit = row.get(0)?;
     let match_all = row.get(1)?;
@@ -35,7 +38,8 @@ pub(crate) fn profile_of(row: &Row) -> Result<ProfileRow, StoreFault>
 
 /// The 16 bytes in this column.
 fn digest_in(row: &Row, at: usize) -> Result<[u8; 16], StoreFault>
-    ensures { IfOk result (λ read. (bytes : List ℕ) → column row.now at ≡ BlobValue bytes → read ≡ bytes) }
+    ensures read { IfOk result (λ read. (bytes : List ℕ) → column row.now at ≡ BlobValue bytes → read ≡ bytes) }
+    ensures memory { (bytes : List ℕ) → at < length row.now → column row.now at ≡ BlobValue bytes → length bytes ≡ 16 → IfErr result (λ fault. fault ≡ Memory) }
 {
     let bytes: Vec<u8> = row.get(at)?;
     match <[u8; 16]>::try_from(bytes.as_slice()) {
@@ -46,7 +50,8 @@ fn digest_in(row: &Row, at: usize) -> Result<[u8; 16], StoreFault>
 
 /// The reply that is kept under this client and number.
 pub(crate) fn entry_of(row: &Row, client: u32, number: u64) -> Result<Entry, StoreFault>
-    ensures { IfOk result (λ read. (e : EntryValue) → e.client ≡ client → e.number ≡ number → row.now ≡ shown_reply e → read ≡ e) }
+    ensures read { IfOk result (λ read. (e : EntryValue) → e.client ≡ client → e.number ≡ number → row.now ≡ shown_reply e → read ≡ e) }
+    ensures memory { (e : EntryValue) → row.now ≡ shown_reply e → EntryFits e → IfErr result (λ fault. fault ≡ Memory) }
 {
     let kind = kind_in(row)?;
     let mark = digest_in(row, 1)?;
@@ -62,7 +67,8 @@ pub(crate) fn entry_of(row: &Row, client: u32, number: u64) -> Result<Entry, Sto
 }
 
 fn kind_in(row: &Row) -> Result<u8, StoreFault>
-    ensures { IfOk result (λ read. (e : EntryValue) → row.now ≡ shown_reply e → read ≡ e.kind) }
+    ensures read { IfOk result (λ read. (e : EntryValue) → row.now ≡ shown_reply e → read ≡ e.kind) }
+    ensures memory { (e : EntryValue) → row.now ≡ shown_reply e → EntryFits e → IfErr result (λ fault. fault ≡ Memory) }
 {
     let kind: u32 = row.get(0)?;
     match u8::try_from(kind) {
@@ -83,7 +89,8 @@ struct Head {
 }
 
 fn head_of(row: &Row) -> Result<Head, StoreFault>
-    ensures { IfOk result (λ read. (n : Node) → row.now ≡ shown_node n → read ≡ record { id = n.id; parent = n.parent; modified = n.modified; state = n.state; size = n.size; piece_size = n.piece_size }) }
+    ensures read { IfOk result (λ read. (n : Node) → row.now ≡ shown_node n → read ≡ record { id = n.id; parent = n.parent; modified = n.modified; state = n.state; size = n.size; piece_size = n.piece_size }) }
+    ensures memory { (n : Node) → row.now ≡ shown_node n → NodeFits n → IfErr result (λ fault. fault ≡ Memory) }
 {
     let id = row.get(0)?;
     let parent = row.get(1)?;
@@ -111,7 +118,8 @@ struct Findings {
 }
 
 fn findings_of(alloc: Global, row: &Row) -> Result<Findings, StoreFault>
-    ensures { IfOk result (λ read. (n : Node) → AllByRecursion IsWord n.puids → row.now ≡ shown_node n → read ≡ record { method = n.method; mismatch = n.mismatch; md5 = n.md5; puids = n.puids }) }
+    ensures read { IfOk result (λ read. (n : Node) → AllByRecursion IsWord n.puids → row.now ≡ shown_node n → read ≡ record { method = n.method; mismatch = n.mismatch; md5 = n.md5; puids = n.puids }) }
+    ensures memory { (n : Node) → row.now ≡ shown_node n → NodeFits n → IfErr result (λ fault. fault ≡ Memory) }
 {
     let method = method_in(row)?;
     let mismatch = row.get(7)?;
@@ -137,7 +145,8 @@ fn kind_of(state: NodeState) -> NodeKind
 }
 
 pub(crate) fn node_of(alloc: Global, row: &Row) -> Result<NodeRow, StoreFault>
-    ensures { IfOk result (λ read. (n : Node) → AllByRecursion IsWord n.puids → row.now ≡ shown_node n → read ≡ row_of n) }
+    ensures read { IfOk result (λ read. (n : Node) → AllByRecursion IsWord n.puids → row.now ≡ shown_node n → read ≡ row_of n) }
+    ensures memory { (n : Node) → row.now ≡ shown_node n → NodeFits n → IfErr result (λ fault. fault ≡ Memory) }
 {
     let head = head_of(row)?;
     let name: String = row.get(8)?;
@@ -165,7 +174,8 @@ pub(crate) fn node_of(alloc: Global, row: &Row) -> Result<NodeRow, StoreFault>
 }
 
 fn state_in(row: &Row) -> Result<NodeState, StoreFault>
-    ensures { IfOk result (λ read. (n : Node) → row.now ≡ shown_node n → read ≡ n.state) }
+    ensures read { IfOk result (λ read. (n : Node) → row.now ≡ shown_node n → read ≡ n.state) }
+    ensures memory { (n : Node) → row.now ≡ shown_node n → IfErr result (λ fault. fault ≡ Memory) }
 {
     let number: u32 = row.get(3)?;
     match state_of(number) {
@@ -175,7 +185,8 @@ fn state_in(row: &Row) -> Result<NodeState, StoreFault>
 }
 
 fn method_in(row: &Row) -> Result<Method, StoreFault>
-    ensures { IfOk result (λ read. (n : Node) → row.now ≡ shown_node n → read ≡ n.method) }
+    ensures read { IfOk result (λ read. (n : Node) → row.now ≡ shown_node n → read ≡ n.method) }
+    ensures memory { (n : Node) → row.now ≡ shown_node n → IfErr result (λ fault. fault ≡ Memory) }
 {
     let number: u32 = row.get(6)?;
     match method_of(number) {
@@ -208,7 +219,8 @@ fn method_of(number: u32) -> Option<Method>
 
 /// The records of these rows, in order.
 pub(crate) fn records_in(alloc: Global, rows: &[Row]) -> Result<Vec<Record>, StoreFault>
-    ensures { IfOk result (λ records. (ns : List Node) → AllByRecursion (λ (n : Node). AllByRecursion IsWord n.puids) ns → rows.now ≡ map shown_node ns → records.items ≡ map record_of ns) }
+    ensures read { IfOk result (λ records. (ns : List Node) → AllByRecursion (λ (n : Node). AllByRecursion IsWord n.puids) ns → rows.now ≡ map shown_node ns → records.items ≡ map record_of ns) }
+    ensures memory { (ns : List Node) → AllByRecursion NodeFits ns → rows.now ≡ map shown_node ns → IfErr result (λ fault. fault ≡ Memory) }
 {
     let mut records = Vec::with_capacity(alloc, rows.len())?;
     for row in rows {
@@ -222,7 +234,8 @@ pub(crate) fn records_in(alloc: Global, rows: &[Row]) -> Result<Vec<Record>, Sto
 }
 
 fn record_in(alloc: Global, row: &Row) -> Result<Record, StoreFault>
-    ensures { IfOk result (λ read. (n : Node) → AllByRecursion IsWord n.puids → row.now ≡ shown_node n → read ≡ record_of n) }
+    ensures read { IfOk result (λ read. (n : Node) → AllByRecursion IsWord n.puids → row.now ≡ shown_node n → read ≡ record_of n) }
+    ensures memory { (n : Node) → row.now ≡ shown_node n → NodeFits n → IfErr result (λ fault. fault ≡ Memory) }
 {
     let NodeRow {
         state: _,

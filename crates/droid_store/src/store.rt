@@ -1,7 +1,8 @@
 //! The store: its reading calls, and one call for each kind of accepted command.
 
-ghost use Rattle.std.specs.Prelude.{◌≡◌, IfOk};
+ghost use Rattle.std.specs.Prelude.{◌≡◌, IfOk, IfErr};
 ghost use Rattle.droid_store.specs.Rows.{no_rows};
+ghost use Rattle.droid_store.specs.declared.fault.StoreFault.TheVariants.{Memory};
 
 use crate::fault::StoreFault;
 use crate::making::make_tables;
@@ -23,24 +24,26 @@ pub struct Store {
 }
 
 impl Model for Store {
-    ghost use Rattle.std.specs.Prelude.{◌≡◌};
+    ghost use Rattle.std.specs.Prelude.{◌≡◌, None};
     ghost use Rattle.sqlite.specs.Held.{state};
     ghost use Rattle.sqlite.specs.Steps.{over_memory};
     ghost use Rattle.droid_store_sql.specs.Transactions.{Settled};
     ghost use Rattle.droid_store.specs.Kept.{kept, Holds, AreApart};
+    ghost use Rattle.droid_store.specs.Ranges.{AreReadable};
     ghost use Rattle.droid_store.specs.Rows.{Rows, counts_of};
 
     ghost Value = { Rows };
 
     ghost view = { λ s. kept s.conn };
 
-    ghost invariant = { λ s. Settled (state over_memory s.conn) (Holds (kept s.conn)) × AreApart (kept s.conn) × (s.counts ≡ counts_of (kept s.conn)) };
+    ghost invariant = { λ s. Settled (state over_memory s.conn) (Holds (kept s.conn)) × AreApart (kept s.conn) × (s.counts ≡ counts_of (kept s.conn)) × (s.conn.step_limit ≡ None) × AreReadable (kept s.conn) };
 }
 
 impl Store {
     /// A store with no rows.
     pub fn in_memory(alloc: Global) -> Result<Store, StoreFault>
-        ensures { IfOk result (λ store. store ≡ no_rows) }
+        ensures empty { IfOk result (λ store. store ≡ no_rows) }
+        ensures memory { IfErr result (λ fault. fault ≡ Memory) }
     {
         let mut conn = Connection::open_in_memory(alloc)?;
         make_tables(&mut conn)?;

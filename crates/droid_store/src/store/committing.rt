@@ -1,9 +1,11 @@
 //! One call for each kind of accepted command: a change of the rows and its entry, both or neither.
 
-ghost use Rattle.std.specs.Prelude.{◌≡◌, ◌+◌, ◌<◌, ◌^◌, None, length, OnOk, OnErr};
+ghost use Rattle.std.specs.Prelude.{◌≡◌, ◌+◌, ◌<◌, ◌^◌, None, Some, length, OnOk, OnErr, IfErr};
 ghost use Rattle.std.specs.List.{AllByRecursion};
-ghost use Rattle.droid_store.specs.Changes.{IsNext, IsOpen, IsWord, new_folder, new_file, with_finished, with_node, with_profile, with_reply, without_node};
-ghost use Rattle.droid_store.specs.Rows.{child_at, reply_for};
+ghost use Rattle.droid_store.specs.Changes.{IsNext, IsOpen, IsWord, new_folder, new_file, finished, with_finished, with_node, with_profile, with_reply, without_node};
+ghost use Rattle.droid_store.specs.Rows.{Node, child_at, node_at, reply_for};
+ghost use Rattle.droid_store.specs.Sizes.{entry_size, node_size, FitsARow};
+ghost use Rattle.droid_store.specs.declared.fault.StoreFault.TheVariants.{Memory};
 
 use crate::changes::{Findings, NewNode};
 use crate::commits::{write_abandon, write_finish, write_node, write_profile, write_reply};
@@ -28,6 +30,7 @@ impl Store {
         requires next { profile ≡ length self.old.profiles + 1 }
         ensures ok { OnOk result (self.new ≡ with_reply entry.now (with_profile scan_limit match_all self.old)) }
         ensures err { OnErr result (self.new ≡ self.old) }
+        ensures memory { FitsARow (entry_size entry.now) → IfErr result (λ fault. fault ≡ Memory) }
     {
         let changed = one_more_profile(self.counts)?;
         let counts = one_more_reply(changed)?;
@@ -54,6 +57,7 @@ impl Store {
         requires free { child_at profile parent name.now self.old ≡ None }
         ensures ok { OnOk result (self.new ≡ with_reply entry.now (with_node (new_folder profile id parent modified name.now path.now) self.old)) }
         ensures err { OnErr result (self.new ≡ self.old) }
+        ensures memory { FitsARow (entry_size entry.now) → FitsARow (node_size (new_folder profile id parent modified name.now path.now)) → IfErr result (λ fault. fault ≡ Memory) }
     {
         let counts = one_more_reply(self.counts)?;
         let node = NewNode {
@@ -91,6 +95,7 @@ impl Store {
         requires free { child_at profile parent name.now self.old ≡ None }
         ensures ok { OnOk result (self.new ≡ with_reply entry.now (with_node (new_file profile id parent modified size piece_size name.now path.now) self.old)) }
         ensures err { OnErr result (self.new ≡ self.old) }
+        ensures memory { FitsARow (entry_size entry.now) → FitsARow (node_size (new_file profile id parent modified size piece_size name.now path.now)) → IfErr result (λ fault. fault ≡ Memory) }
     {
         let changed = one_more_unfinished(self.counts)?;
         let counts = one_more_reply(changed)?;
@@ -115,6 +120,7 @@ impl Store {
         requires small { entry.now.number < 2 ^ 63 }
         ensures ok { OnOk result (self.new ≡ with_reply entry.now self.old) }
         ensures err { OnErr result (self.new ≡ self.old) }
+        ensures memory { FitsARow (entry_size entry.now) → IfErr result (λ fault. fault ≡ Memory) }
     {
         let counts = one_more_reply(self.counts)?;
         write_reply(&mut self.conn, entry)?;
@@ -140,6 +146,7 @@ impl Store {
         requires puids { AllByRecursion IsWord puids.now }
         ensures ok { OnOk result (self.new ≡ with_reply entry.now (with_finished profile file method mismatch md5 puids.now self.old)) }
         ensures err { OnErr result (self.new ≡ self.old) }
+        ensures memory { FitsARow (entry_size entry.now) → ((n : Node) → node_at profile file self.old ≡ Some n → FitsARow (node_size (finished method mismatch md5 puids.now n))) → IfErr result (λ fault. fault ≡ Memory) }
     {
         let changed = one_less_unfinished(self.counts);
         let counts = one_more_reply(changed)?;
@@ -167,6 +174,7 @@ impl Store {
         requires file { IsOpen profile file self.old }
         ensures ok { OnOk result (self.new ≡ with_reply entry.now (without_node profile file self.old)) }
         ensures err { OnErr result (self.new ≡ self.old) }
+        ensures memory { FitsARow (entry_size entry.now) → IfErr result (λ fault. fault ≡ Memory) }
     {
         let changed = one_less_unfinished(self.counts);
         let counts = one_more_reply(changed)?;

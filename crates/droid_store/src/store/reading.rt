@@ -1,6 +1,7 @@
 //! The calls that read. They leave the rows as they are, also where they fail.
 
-ghost use Rattle.std.specs.Prelude.{◌≡◌, ◌<◌, ◌^◌, IfOk, Ok, option_map};
+ghost use Rattle.std.specs.Prelude.{◌≡◌, ◌<◌, ◌^◌, IfOk, IfErr, Ok, option_map};
+ghost use Rattle.droid_store.specs.declared.fault.StoreFault.TheVariants.{Memory};
 ghost use Rattle.droid_store.specs.Rows.{profile_at, node_at, child_at, reply_for, records_of, counts_of, row_of};
 
 use crate::fault::StoreFault;
@@ -16,6 +17,7 @@ impl Store {
         requires small { number < 2 ^ 63 }
         ensures same { self.new ≡ self.old }
         ensures found { IfOk result (λ found. found ≡ reply_for client number self.old) }
+        ensures memory { IfErr result (λ fault. fault ≡ Memory) }
     {
         let Some(row) = find_reply(&mut self.conn, client, number)? else {
             return Ok(None);
@@ -27,6 +29,7 @@ impl Store {
     pub fn profile(&mut self, profile: u32) -> Result<Option<ProfileRow>, StoreFault>
         ensures same { self.new ≡ self.old }
         ensures found { IfOk result (λ found. found ≡ profile_at profile self.old) }
+        ensures memory { IfErr result (λ fault. fault ≡ Memory) }
     {
         let Some(row) = find_profile(&mut self.conn, profile)? else {
             return Ok(None);
@@ -38,6 +41,7 @@ impl Store {
     pub fn node(&mut self, profile: u32, id: u32) -> Result<Option<NodeRow>, StoreFault>
         ensures same { self.new ≡ self.old }
         ensures found { IfOk result (λ found. found ≡ option_map row_of (node_at profile id self.old)) }
+        ensures memory { IfErr result (λ fault. fault ≡ Memory) }
     {
         let Some(row) = find_node(&mut self.conn, profile, id)? else {
             return Ok(None);
@@ -55,6 +59,7 @@ impl Store {
     ) -> Result<Option<u32>, StoreFault>
         ensures same { self.new ≡ self.old }
         ensures found { IfOk result (λ found. found ≡ option_map (λ n. n.id) (child_at profile parent name.now self.old)) }
+        ensures memory { IfErr result (λ fault. fault ≡ Memory) }
     {
         let Some(row) = find_child(&mut self.conn, profile, parent, name)? else {
             return Ok(None);
@@ -66,6 +71,7 @@ impl Store {
     pub fn records(&mut self, profile: u32) -> Result<Vec<Record>, StoreFault>
         ensures same { self.new ≡ self.old }
         ensures found { IfOk result (λ found. found.items ≡ records_of profile self.old) }
+        ensures memory { IfErr result (λ fault. fault ≡ Memory) }
     {
         let rows = list_nodes(&mut self.conn, profile)?;
         records_in(self.alloc, &rows)

@@ -5,6 +5,9 @@ use Rattle.sqlite.proofs.Callers.{memory_is_clean}
 use Rattle.droid_store.specs.declared.statements.TheConstants.{COUNT_NODES}
 use Rattle.droid_store.proofs.Effects.{stepped, kept_safe}
 use Rattle.droid_store.proofs.NodeEffects.{counts_nodes, with_counted}
+use Rattle.droid_store_sql.proofs.Wants.{in_memory}
+use Rattle.droid_store.proofs.Wanting.{wants_by}
+use Rattle.droid_store.proofs.WantingChanges.{count_params, count_wants}
 use Rattle.droid_store.proofs.changes.count_nodes.Goals as goal
 
 pub returns-clause-ok : goal.returns-clause-ok
@@ -19,3 +22,14 @@ returns-clause-err c rows =
     let old = state over_memory c.args.tx.now.conn.now in
     let new = state over_memory c.execute.new.self.conn.now in
     kept_safe COUNT_NODES.now _ old new c.execute.result rows refl (c.execute.ensures.runs (memory_is_clean c.execute.new.self.conn.now))
+
+pub returns-clause-limit : goal.returns-clause-limit
+returns-clause-limit c = c.execute.ensures.survives.limit
+
+pub returns-clause-want : goal.returns-clause-want
+returns-clause-want c rows keys =
+    let old = state over_memory c.args.tx.now.conn.now in
+    let new = state over_memory c.execute.new.self.conn.now in
+    wants_by COUNT_NODES.now (count_params c.args.profile c.args.nodes) old new c.execute.result rows
+    (rw (c.params-to_sql.ensures, c.params-to_sql-2.ensures) at (c.execute.ensures.runs (memory_is_clean c.execute.new.self.conn.now)))
+    (λ err none has h. count_wants old new c.args.profile c.args.nodes rows err (in_memory c.args.tx.now.conn.now c.execute.new.self.conn.now none) has keys h)

@@ -7,6 +7,9 @@ use Rattle.droid_store.specs.Changes.{without_node}
 use Rattle.droid_store.specs.Encoded.{number}
 use Rattle.droid_store.proofs.ChangesNodes.{removes_node}
 use Rattle.droid_store.proofs.Effects.{stepped, kept_safe}
+use Rattle.droid_store_sql.proofs.Wants.{in_memory}
+use Rattle.droid_store.proofs.Wanting.{wants_by}
+use Rattle.droid_store.proofs.WantingChanges.{remove_params, remove_wants}
 use Rattle.droid_store.proofs.changes.delete_node.Goals as goal
 
 pub returns-clause-ok : goal.returns-clause-ok
@@ -22,3 +25,14 @@ returns-clause-err c rows =
     let old = state over_memory c.args.tx.now.conn.now in
     let new = state over_memory c.execute.new.self.conn.now in
     kept_safe REMOVE_NODE.now _ old new c.execute.result rows refl (c.execute.ensures.runs (memory_is_clean c.execute.new.self.conn.now))
+
+pub returns-clause-limit : goal.returns-clause-limit
+returns-clause-limit c = c.execute.ensures.survives.limit
+
+pub returns-clause-want : goal.returns-clause-want
+returns-clause-want c rows keys later =
+    let old = state over_memory c.args.tx.now.conn.now in
+    let new = state over_memory c.execute.new.self.conn.now in
+    wants_by REMOVE_NODE.now (remove_params c.args.profile c.args.file) old new c.execute.result rows
+    (rw (c.params-to_sql.ensures, c.params-to_sql-2.ensures) at (c.execute.ensures.runs (memory_is_clean c.execute.new.self.conn.now)))
+    (λ err none has h. remove_wants old new c.args.profile c.args.file rows err (in_memory c.args.tx.now.conn.now c.execute.new.self.conn.now none) has keys later h)

@@ -8,6 +8,9 @@ use Rattle.droid_store.specs.Changes.{with_finished}
 use Rattle.droid_store.specs.Encoded.{number, flag, method_number, joined}
 use Rattle.droid_store.proofs.ChangesNodes.{finishes_node}
 use Rattle.droid_store.proofs.Effects.{stepped, kept_safe}
+use Rattle.droid_store_sql.proofs.Wants.{in_memory}
+use Rattle.droid_store.proofs.Wanting.{wants_by}
+use Rattle.droid_store.proofs.WantingChanges.{finish_params, finish_wants}
 use Rattle.droid_store.proofs.changes.finish_node.Goals as goal
 
 pub returns-clause-ok : goal.returns-clause-ok
@@ -25,3 +28,15 @@ returns-clause-err c rows =
     let old = state over_memory c.args.tx.now.conn.now in
     let new = state over_memory c.execute.new.self.conn.now in
     kept_safe FINISH_NODE.now _ old new c.execute.result rows refl (c.execute.ensures.runs (memory_is_clean c.execute.new.self.conn.now))
+
+pub returns-clause-limit : goal.returns-clause-limit
+returns-clause-limit c = c.execute.ensures.survives.limit
+
+pub returns-clause-want : goal.returns-clause-want
+returns-clause-want c rows keys puids is later small =
+    let old = state over_memory c.args.tx.now.conn.now in
+    let new = state over_memory c.execute.new.self.conn.now in
+    let f = c.args.findings.now in
+    wants_by FINISH_NODE.now (finish_params c.args.profile c.args.file f.method f.mismatch f.md5.now puids) old new c.execute.result rows
+    (rw (c.params-to_sql.ensures, c.params-to_sql-2.ensures, c.params-to_sql-3.ensures, c.params-to_sql-4.ensures, c.params-to_sql-5.ensures, c.params-to_sql-6.ensures, c.number_of.ensures, is) at (c.execute.ensures.runs (memory_is_clean c.execute.new.self.conn.now)))
+    (λ err none has h. finish_wants c.args.profile c.args.file f.method f.mismatch f.md5.now puids old new rows err (in_memory c.args.tx.now.conn.now c.execute.new.self.conn.now none) has keys later small h)

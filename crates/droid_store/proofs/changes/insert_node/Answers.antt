@@ -10,6 +10,8 @@ use Rattle.std.proofs.lemmas.Int.{to_z-of_z}
 use Rattle.std.specs.Int.{w64}
 use Rattle.droid_store.specs.Nodes.{node_of}
 use Rattle.droid_store.proofs.NodeEffects.{adds_node, with_last_node}
+use Rattle.droid_store_sql.proofs.Wants.{in_memory}
+use Rattle.droid_store.proofs.Wanting.{wants_by, node_params, node_wants}
 use Rattle.droid_store.proofs.changes.insert_node.Goals as goal
 
 pub returns-clause-ok : goal.returns-clause-ok
@@ -28,3 +30,16 @@ returns-clause-err c rows =
     let old = state over_memory c.args.tx.now.conn.now in
     let new = state over_memory c.execute.new.self.conn.now in
     kept_safe ADD_NODE.now _ old new c.execute.result rows refl (c.execute.ensures.runs (memory_is_clean c.execute.new.self.conn.now))
+
+pub returns-clause-limit : goal.returns-clause-limit
+returns-clause-limit c = c.execute.ensures.survives.limit
+
+pub returns-clause-want : goal.returns-clause-want
+returns-clause-want c rows keys small =
+    let old = state over_memory c.args.tx.now.conn.now in
+    let new = state over_memory c.execute.new.self.conn.now in
+    let n = c.args.node.now in
+    let fits : FitsSigned w64 (pos n.size) = search rules in
+    wants_by ADD_NODE.now (node_params n.profile n.id n.parent c.args.modified n.state n.size n.piece_size n.name.now n.path.now) old new c.execute.result rows
+    (rw (c.params-to_sql.ensures, c.params-to_sql-2.ensures, c.params-to_sql-3.ensures, c.params-to_sql-4.ensures, c.params-to_sql-5.ensures, c.params-to_sql-6.ensures, c.params-to_sql-7.ensures, c.params-to_sql-8.ensures, c.params-to_sql-9.ensures, c.signed.ensures, to_z-of_z w64 (pos n.size) fits, c.number.ensures, to_z-of_z w64 c.args.modified c.ranges.modified) at (c.execute.ensures.runs (memory_is_clean c.execute.new.self.conn.now)))
+    (λ err none has h. node_wants n.profile n.id n.parent c.args.modified n.state n.size n.piece_size n.name.now n.path.now old new rows err (in_memory c.args.tx.now.conn.now c.execute.new.self.conn.now none) has keys small h)

@@ -10,6 +10,8 @@ use Rattle.droid_store.specs.declared.statements.TheConstants.{ADD_REPLY}
 use Rattle.droid_store.proofs.Effects.{stepped, kept_safe}
 use Rattle.droid_store.specs.Changes.{with_reply}
 use Rattle.droid_store.proofs.Effects.{adds_reply}
+use Rattle.droid_store_sql.proofs.Wants.{in_memory}
+use Rattle.droid_store.proofs.Wanting.{wants_by, reply_params, reply_wants}
 use Rattle.droid_store.proofs.changes.insert_reply.Goals as goal
 
 pub returns-clause-ok : goal.returns-clause-ok
@@ -26,3 +28,16 @@ returns-clause-err c rows =
     let old = state over_memory c.args.tx.now.conn.now in
     let new = state over_memory c.execute.new.self.conn.now in
     kept_safe ADD_REPLY.now _ old new c.execute.result rows refl (c.execute.ensures.runs (memory_is_clean c.execute.new.self.conn.now))
+
+pub returns-clause-limit : goal.returns-clause-limit
+returns-clause-limit c = c.execute.ensures.survives.limit
+
+pub returns-clause-want : goal.returns-clause-want
+returns-clause-want c rows keys small =
+    let old = state over_memory c.args.tx.now.conn.now in
+    let new = state over_memory c.execute.new.self.conn.now in
+    let e = c.args.entry.now in
+    let fits : FitsSigned w64 (pos e.number) = search rules in
+    wants_by ADD_REPLY.now (reply_params c.args.entry.now) old new c.execute.result rows
+    (rw (c.params-to_sql.ensures, c.params-to_sql-2.ensures, c.params-to_sql-3.ensures, c.params-to_sql-4.ensures, c.params-to_sql-5.ensures, c.signed.ensures, to_z-of_z w64 (pos e.number) fits, c.from.ensures, c.as_slice-mark.ensures, c.as_slice-body.ensures.value) at (c.execute.ensures.runs (memory_is_clean c.execute.new.self.conn.now)))
+    (λ err none has h. reply_wants old new c.args.entry.now rows err (in_memory c.args.tx.now.conn.now c.execute.new.self.conn.now none) has keys small h)

@@ -1,4 +1,4 @@
-use Rattle.std.proofs.Common.{refl, sym, subst, rules}
+use Rattle.std.proofs.Common.{refl, subst, [], ◌∷◌}
 use Rattle.sqlite.specs.Held.{state}
 use Rattle.sqlite.specs.Steps.{over_memory}
 use Rattle.sqlite.proofs.Callers.{memory_is_clean}
@@ -8,6 +8,11 @@ use Rattle.droid_store.specs.Shown.{shown_profile}
 use Rattle.droid_store.proofs.Closed.{kept_is, kept_still}
 use Rattle.droid_store.proofs.FoundRows.{found_is}
 use Rattle.droid_store.proofs.FindsProfiles.{finds_profile}
+use Rattle.sqlite.specs.State.{QueriesRow}
+use Rattle.droid_store_sql.proofs.Wants.{in_memory}
+use Rattle.droid_store.specs.declared.statements.TheConstants.{FIND_PROFILE}
+use Rattle.droid_store.proofs.WantingLookUps.{row_or_none, profile_wants}
+use Rattle.droid_store.specs.Encoded.{number}
 use Rattle.droid_store.proofs.look_ups.find_profile.Goals as goal
 
 pub returns-clause-same : goal.returns-clause-same
@@ -35,4 +40,16 @@ returns-clause-found c =
     let new = state over_memory c.query_row-answer.new.self in
     let ran = rw (c.params-to_sql.ensures) at (c.query_row-answer.ensures.row (memory_is_clean c.query_row-answer.new.self)) in
     let it = finds_profile old new c.args.profile rows c.query_row-answer.result refl c.requires.holds ran in
-    found_is c.query_row-answer.result c.or_none.result shown_profile (profile_at c.args.profile rows) c.or_none.ensures it.1 it.2
+    found_is c.query_row-answer.result c.or_none.result shown_profile (profile_at c.args.profile rows) c.or_none.ensures.found it.1 it.2
+
+pub returns-clause-limit : goal.returns-clause-limit
+returns-clause-limit c = c.query_row-answer.ensures.survives.limit
+
+pub returns-clause-want : goal.returns-clause-want
+returns-clause-want c none =
+    let rows = kept c.args.conn.now in
+    let old = state over_memory c.args.conn.now in
+    let new = state over_memory c.query_row-answer.new.self in
+    let ran = rw (c.params-to_sql.ensures) at (c.query_row-answer.ensures.row (memory_is_clean c.query_row-answer.new.self)) in
+    row_or_none c.query_row-answer.result c.or_none.result c.or_none.ensures.err
+    (λ e other is. profile_wants old new c.args.profile rows e (in_memory c.args.conn.now c.query_row-answer.new.self none) c.requires.holds.holds other (subst (QueriesRow FIND_PROFILE.now (number c.args.profile ∷ []) old new) is ran))

@@ -1,4 +1,4 @@
-use Rattle.std.proofs.Common.{refl, pos, FitsSigned, rules}
+use Rattle.std.proofs.Common.{refl, pos, FitsSigned, rules, [], ◌∷◌, subst}
 use Rattle.std.proofs.lemmas.Int.{to_z-of_z}
 use Rattle.std.specs.Int.{w64}
 use Rattle.sqlite.specs.Held.{state}
@@ -10,6 +10,11 @@ use Rattle.droid_store.specs.Shown.{shown_reply}
 use Rattle.droid_store.proofs.Closed.{kept_is, kept_still}
 use Rattle.droid_store.proofs.FoundRows.{found_is}
 use Rattle.droid_store.proofs.FindsReplies.{finds_reply}
+use Rattle.sqlite.specs.State.{QueriesRow}
+use Rattle.droid_store_sql.proofs.Wants.{in_memory}
+use Rattle.droid_store.specs.declared.statements.TheConstants.{FIND_REPLY}
+use Rattle.droid_store.proofs.WantingLookUps.{row_or_none, reply_wants}
+use Rattle.droid_store.specs.Encoded.{number}
 use Rattle.droid_store.proofs.look_ups.find_reply.Goals as goal
 
 pub returns-clause-same : goal.returns-clause-same
@@ -40,4 +45,17 @@ returns-clause-found c =
     let fits : FitsSigned w64 (pos c.args.number) = search rules in
     let ran = rw (c.params-to_sql.ensures, c.params-to_sql-2.ensures, c.signed.ensures, to_z-of_z w64 (pos c.args.number) fits) at (c.query_row-answer.ensures.row (memory_is_clean c.query_row-answer.new.self)) in
     let it = finds_reply old new c.args.client c.args.number rows c.query_row-answer.result refl c.requires.holds c.requires.apart ran in
-    found_is c.query_row-answer.result c.or_none.result shown_reply (reply_for c.args.client c.args.number rows) c.or_none.ensures it.1 it.2
+    found_is c.query_row-answer.result c.or_none.result shown_reply (reply_for c.args.client c.args.number rows) c.or_none.ensures.found it.1 it.2
+
+pub returns-clause-limit : goal.returns-clause-limit
+returns-clause-limit c = c.query_row-answer.ensures.survives.limit
+
+pub returns-clause-want : goal.returns-clause-want
+returns-clause-want c none =
+    let rows = kept c.args.conn.now in
+    let old = state over_memory c.args.conn.now in
+    let new = state over_memory c.query_row-answer.new.self in
+    let fits : FitsSigned w64 (pos c.args.number) = search rules in
+    let ran = rw (c.params-to_sql.ensures, c.params-to_sql-2.ensures, c.signed.ensures, to_z-of_z w64 (pos c.args.number) fits) at (c.query_row-answer.ensures.row (memory_is_clean c.query_row-answer.new.self)) in
+    row_or_none c.query_row-answer.result c.or_none.result c.or_none.ensures.err
+    (λ e other is. reply_wants old new c.args.client c.args.number rows e (in_memory c.args.conn.now c.query_row-answer.new.self none) c.requires.holds.holds other (subst (QueriesRow FIND_REPLY.now (number c.args.client ∷ number c.args.number ∷ []) old new) is ran))

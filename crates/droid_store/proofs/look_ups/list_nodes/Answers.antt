@@ -1,11 +1,12 @@
-use Rattle.std.proofs.Common.{◌≡◌, Ok, Err, Result, IfOk, map, filter, refl, sym, subst, rules}
+use Rattle.std.proofs.Common.{refl}
 use Rattle.sqlite.specs.Held.{state}
 use Rattle.sqlite.specs.Steps.{over_memory}
 use Rattle.sqlite.proofs.Callers.{memory_is_clean}
 use Rattle.droid_store.specs.Kept.{kept}
 use Rattle.droid_store.proofs.Closed.{kept_is, kept_still}
-use Rattle.droid_store.proofs.ListsRecords.{lists_records}
 use Rattle.droid_store.proofs.Listed.{listed}
+use Rattle.droid_store_sql.proofs.Wants.{in_memory}
+use Rattle.droid_store.proofs.WantingLookUps.{failed_for, records_wants}
 use Rattle.droid_store.proofs.look_ups.list_nodes.Goals as goal
 
 pub returns : goal.returns
@@ -14,4 +15,4 @@ returns c =
     let clean = memory_is_clean c.query_all.new.self in
     let it = listed (λ v. v.items) (state over_memory c.args.conn.now) (state over_memory c.query_all.new.self) c.args.profile rows c.query_all.result refl c.requires.holds c.requires.apart
     (rw c.params-to_sql.ensures at (c.query_all.ensures.ok clean)) (rw c.params-to_sql.ensures at (c.query_all.ensures.err clean)) in
-    record { same = kept_is c.query_all.new.self rows it.0; holds = kept_still c.query_all.new.self rows it.0; found = it.1 }
+    record { same = kept_is c.query_all.new.self rows it.0; holds = kept_still c.query_all.new.self rows it.0; found = it.1; limit = c.query_all.ensures.survives.limit; want = λ none. failed_for c.query_all.result _ (rw c.params-to_sql.ensures at (c.query_all.ensures.err clean)) (λ e h. records_wants (state over_memory c.args.conn.now) (state over_memory c.query_all.new.self) c.args.profile rows e (in_memory c.args.conn.now c.query_all.new.self none) c.requires.holds.holds h) }

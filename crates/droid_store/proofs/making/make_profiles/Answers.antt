@@ -2,7 +2,16 @@ use Rattle.sqlite.specs.Held.{state}
 use Rattle.sqlite.specs.Steps.{over_memory}
 use Rattle.sqlite.proofs.Callers.{memory_is_clean}
 use Rattle.droid_store.proofs.Makes.{makes_profiles}
+use Rattle.droid_store_sql.proofs.Wants.{in_memory}
+use Rattle.droid_store.proofs.WantingTables.{profiles_want}
 use Rattle.droid_store.proofs.making.make_profiles.Goals as goal
 
 pub returns : goal.returns
-returns c = makes_profiles (state over_memory c.args.conn.now) (state over_memory c.execute.new.self) c.execute.result c.requires (c.execute.ensures.runs (memory_is_clean c.execute.new.self))
+returns c =
+    let old = state over_memory c.args.conn.now in
+    let new = state over_memory c.execute.new.self in
+    record {
+      made = makes_profiles old new c.execute.result c.requires (c.execute.ensures.runs (memory_is_clean c.execute.new.self));
+      limit = c.execute.ensures.survives.limit;
+      want = λ none. profiles_want old new c.execute.result (in_memory c.args.conn.now c.execute.new.self none) c.requires.holds.schema (c.execute.ensures.runs (memory_is_clean c.execute.new.self));
+    }

@@ -1,22 +1,25 @@
-use Rattle.std.proofs.Common.{◌≡◌, ◌∙◌, List, Bool, ap, sym, string_bytes}
+use Rattle.std.proofs.Common.{◌≡◌, ◌∙◌, ap, sym, refl, string_bytes, arith}
 use Rattle.sqlite.specs.Order.{column}
-use Rattle.droid_frame.specs.types.method.Method.{Method}
 use Rattle.droid_store_sql.proofs.Values.{same_flag, same_text}
 use Rattle.droid_store.specs.declared.read_rows.Findings.{Findings}
 use Rattle.droid_store.specs.Encoded.{joined, words_of}
 use Rattle.droid_store.proofs.Decoded.{words_again}
+use Rattle.droid_store.proofs.FaultsOfReading.{still_memory}
 use Rattle.droid_store.proofs.read_rows.findings_of.Goals as goal
 
-pub returns : goal.returns
-returns c n all is =
+pub returns-clause-read : goal.returns-clause-read
+returns-clause-read c n all is =
     let flag = rw is at c.in_ok-mismatch.ensures.ok.1 in
     let mismatch : c.in_ok-mismatch.mismatch ≡ n.mismatch = same_flag n.mismatch c.in_ok-mismatch.mismatch flag.0 flag.1 flag.2 in
     let text : joined n.puids ≡ string_bytes c.in_ok-formats.formats = same_text (joined n.puids) (string_bytes c.in_ok-formats.formats) (rw is at c.in_ok-formats.ensures.ok.1) in
-    let method : c.in_ok-method.method ≡ n.method = c.in_ok-method.ensures n is in
-    let md5 : c.in_ok-md5.md5 ≡ n.md5 = c.in_ok-md5.ensures n.md5 (ap (λ r. column r 11) is) in
+    let method : c.in_ok-method.method ≡ n.method = c.in_ok-method.ensures.read n is in
+    let md5 : c.in_ok-md5.md5 ≡ n.md5 = c.in_ok-md5.ensures.read n.md5 (ap (λ r. column r 11) is) in
     let puids : c.in_ok-puids.puids ≡ n.puids = c.in_ok-puids.ensures ∙ ap words_of (c.as_str.ensures.value ∙ sym text) ∙ words_again n.puids all in
     let made : Findings = record { method = n.method; mismatch = n.mismatch; md5 = n.md5; puids = n.puids } in
     ap (λ m. record made { method = m; mismatch = c.in_ok-mismatch.mismatch; md5 = c.in_ok-md5.md5; puids = c.in_ok-puids.puids }) method
     ∙ ap (λ b. record made { mismatch = b; md5 = c.in_ok-md5.md5; puids = c.in_ok-puids.puids }) mismatch
     ∙ ap (λ d. record made { md5 = d; puids = c.in_ok-puids.puids }) md5
     ∙ ap (λ ps. record made { puids = ps }) puids
+
+pub returns-in_err-md5-clause-memory : goal.returns-in_err-md5-clause-memory
+returns-in_err-md5-clause-memory c n is fits = still_memory c.from_residual-in_err-md5.result _ c.from_residual-in_err-md5.ensures.1 (c.in_err-md5.ensures.memory n.md5 (rw is (omega arith)) (rw is refl) fits.md5)

@@ -1,4 +1,4 @@
-use Rattle.std.proofs.Common.{◌≡◌, ◌==◌, ◌++◌, ◌∷◌, if◌then◌else◌, ap, sym, ◌∙◌, arith, Some, slice_get, option_map}
+use Rattle.std.proofs.Common.{◌≡◌, ◌==◌, ◌++◌, ◌∷◌, if◌then◌else◌, ap, sym, ◌∙◌, arith, Some, slice_get}
 use Rattle.std.specs.Option.{option_copied}
 use Rattle.droid_store.proofs.Joined.{joined_more, word_at}
 use Rattle.droid_store.proofs.words.join.Goals as goal

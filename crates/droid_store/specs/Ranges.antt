@@ -1,0 +1,29 @@
+-- Rows that can be read back: numbers in the range of their types, texts that are UTF-8, digests of 16 bytes.
+use Rattle.std.specs.Prelude.{◌≡◌, ◌<◌, ◌^◌, length, IsUtf8}
+use Rattle.std.specs.List.{AllByRecursion}
+use Rattle.droid_store.specs.declared.rows.Entry.{Entry}
+use Rattle.droid_store.specs.declared.rows.ProfileRow.{ProfileRow}
+use Rattle.droid_store.specs.Encoded.{joined}
+use Rattle.droid_store.specs.Rows.{Node, Rows}
+
+pub record ProfileFits (p : ProfileRow) : Type 0 where
+  pub scan_limit : p.scan_limit < 2 ^ 32
+  pub nodes : p.nodes < 2 ^ 32
+
+pub record NodeFits (n : Node) : Type 0 where
+  pub id : n.id < 2 ^ 32
+  pub parent : n.parent < 2 ^ 32
+  pub piece_size : n.piece_size < 2 ^ 32
+  pub name : IsUtf8 n.name
+  pub path : IsUtf8 n.path
+  pub formats : IsUtf8 (joined n.puids)
+  pub md5 : length n.md5 ≡ 16
+
+pub record EntryFits (e : Entry) : Type 0 where
+  pub kind : e.kind < 2 ^ 8
+  pub mark : length e.mark ≡ 16
+
+pub record AreReadable (rows : Rows) : Type 0 where
+  pub profiles : AllByRecursion ProfileFits rows.profiles
+  pub nodes : AllByRecursion NodeFits rows.nodes
+  pub replies : AllByRecursion EntryFits rows.replies
