@@ -16,11 +16,15 @@ import time
 
 import crates
 from crates import TOP, below, folder, named, read
+from processes import Running
 from standing import RT, Sums, note, stands
 
 SECONDS = os.path.join(TOP, "tools", "seconds.txt")
 # what one crate in work may take of the memory, in bytes: most take a fifth of it
 EACH = 4 << 30
+# how nice to others what the longest chain waits for is, and how nice the rest
+FIRST = os.getpriority(os.PRIO_PROCESS, 0)
+BEHIND = min(FIRST + 10, 19)
 
 
 def memory():
@@ -31,9 +35,11 @@ def memory():
     return EACH
 
 
-def run_in(place, words):
-    """Runs a command; gives its status, what it said, and the seconds of a processor that it used."""
+def run_in(place, words, begun=lambda pid: None):
+    """Runs a command, and tells its process to `begun`; gives its status, what it said, and the seconds of a processor
+    that it used."""
     with subprocess.Popen(words, cwd=place, stdout=subprocess.PIPE, stderr=subprocess.STDOUT, text=True) as run:
+        begun(run.pid)
         said = run.stdout.read()
         _, status, used = os.wait4(run.pid, 0)
         run.returncode = os.waitstatus_to_exitcode(status)
@@ -58,13 +64,12 @@ def bring_back(crate):
     shutil.rmtree(tree_of(crate), ignore_errors=True)
 
 
-def prove_library(crate, jobs, is_urgent):
-    """Proves and builds a library in a tree of its own, before others where it is urgent; gives what `run_in` does."""
+def prove_library(crate, jobs, begun):
+    """Proves and builds a library in a tree of its own; gives what `run_in` does."""
     crates.lay_out(tree_of(crate), crate)
     move_kept(crate, TOP, tree_of(crate))
-    words = [RT, "lib", "--jobs", str(jobs)]
     try:
-        return run_in(folder(crate, tree_of(crate)), words if is_urgent else ["nice", *words])
+        return run_in(folder(crate, tree_of(crate)), [RT, "lib", "--jobs", str(jobs)], begun)
     finally:
         bring_back(crate)
 
@@ -74,6 +79,15 @@ def seconds_of(libraries):
     lines = [line.split() for line in read(SECONDS).split("\n") if line and not line.startswith("#")]
     known = {name: int(seconds) for name, seconds in lines}
     return {crate: known.get(crate, statistics.median(known.values())) for crate in libraries}
+
+
+class Work:
+    """A library in work: when it was begun, the process that proves it, and its seconds of a processor so far."""
+
+    def __init__(self):
+        self.begun = time.time()
+        self.pid = None
+        self.used = 0
 
 
 class Build:
@@ -87,15 +101,15 @@ class Build:
         self.failed = None
         self.changed = threading.Condition()
         self.begun = time.time()
+        self.seconds = seconds_of(libraries)
         self.chains = self.chains_of(libraries)
 
     def chains_of(self, libraries):
         """Of each library, how long the longest chain of libraries takes that begins with it and goes up."""
-        seconds = seconds_of(libraries)
         chains = {}
         for crate in reversed(crates.lowest_first(libraries)):
             above = [chains[it] for it in chains if crate in named()[it]]
-            chains[crate] = seconds[crate] + max(above, default=0)
+            chains[crate] = self.seconds[crate] + max(above, default=0)
         return chains
 
     def ready(self):
@@ -107,10 +121,22 @@ class Build:
     def fits(self):
         return not self.work or (len(self.work) < self.cores and memory() > EACH)
 
+    def left(self, crate):
+        """How long the longest chain from this library up still takes."""
+        used = self.work[crate].used if crate in self.work else 0
+        return self.chains[crate] - min(used, self.seconds[crate])
+
     def is_longest(self, crate):
         """Whether the longest chain waits for this one, of those in work and itself."""
-        now = time.time()
-        return all(self.chains[crate] >= self.chains[it] - (now - begun) for it, begun in self.work.items())
+        return all(self.left(crate) >= self.left(it) for it in self.work)
+
+    def look_again(self):
+        """Puts what the longest chain waits for before the others in work."""
+        running = {crate: Running(work.pid) for crate, work in self.work.items() if work.pid}
+        for crate in running:
+            self.work[crate].used = max(self.work[crate].used, running[crate].seconds())
+        for crate in running:
+            running[crate].be_nice(FIRST if self.is_longest(crate) else BEHIND)
 
     def jobs_for(self, crate, ready):
         """All processors for what the longest chain waits for, and else a share of them."""
@@ -123,10 +149,15 @@ class Build:
         stand = self.all - len(self.waiting) - len(self.work)
         self.tell(f"{stand} of {self.all} libraries stand; in work: {', '.join(self.work)}")
 
-    def run(self, crate, jobs, is_urgent):
-        status, said, used = prove_library(crate, jobs, is_urgent)
+    def began(self, crate, pid):
         with self.changed:
-            took = time.time() - self.work.pop(crate)
+            self.work[crate].pid = pid
+            self.changed.notify_all()
+
+    def run(self, crate, jobs):
+        status, said, used = prove_library(crate, jobs, lambda pid: self.began(crate, pid))
+        with self.changed:
+            took = time.time() - self.work.pop(crate).begun
             self.tell(f"{crate} took {took:.0f} s, and {used:.0f} s of a processor")
             if status == 0:
                 note(crate, self.sums)
@@ -135,16 +166,17 @@ class Build:
             self.changed.notify_all()
 
     def begin(self, crate, ready):
-        how = self.jobs_for(crate, ready), self.is_longest(crate)
+        jobs = self.jobs_for(crate, ready)
         self.waiting.remove(crate)
-        self.work[crate] = time.time()
-        threading.Thread(target=self.run, args=(crate, *how)).start()
+        self.work[crate] = Work()
+        threading.Thread(target=self.run, args=(crate, jobs)).start()
         self.tell_work()
 
     def all_built(self):
         """Builds all; gives the first crate that failed with what was said, or None."""
         with self.changed:
             while (self.waiting and not self.failed) or self.work:
+                self.look_again()
                 ready = self.ready() if not self.failed and self.fits() else []
                 if ready:
                     self.begin(ready[0], ready)

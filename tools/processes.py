@@ -1,0 +1,39 @@
+"""A running command with all that came of it, as /proc has them. (`rt` gives what it starts groups of their own, so a
+signal or a priority for the command's group would miss most of it.)"""
+import contextlib
+import os
+
+from crates import read
+
+TICKS = os.sysconf("SC_CLK_TCK")
+
+
+def fields():
+    """Of each process, what its stat file has from its third field on."""
+    found = {}
+    for name in filter(str.isdigit, os.listdir("/proc")):
+        with contextlib.suppress(OSError):
+            found[int(name)] = read(f"/proc/{name}/stat").rpartition(")")[2].split()
+    return found
+
+
+class Running:
+    """A command's process, and those that came of it."""
+
+    def __init__(self, pid):
+        everywhere = fields()
+        more = {pid} & everywhere.keys()
+        self.processes = {}
+        while more:
+            self.processes.update((it, everywhere[it]) for it in more)
+            more = {it for it in everywhere if int(everywhere[it][1]) in more}
+
+    def seconds(self):
+        """The seconds of a processor that they used: each its own, and those of its children that have ended."""
+        return sum(int(ticks) for it in self.processes.values() for ticks in it[11:15]) / TICKS
+
+    def be_nice(self, niceness):
+        """Sets how nice they are to others. Where only root may make one less nice, it stays as it is."""
+        for pid in self.processes:
+            with contextlib.suppress(OSError):
+                os.setpriority(os.PRIO_PROCESS, pid, niceness)
