@@ -2,8 +2,8 @@
 """Holds crates.txt, the map, to the crates' own files: map.py. `make quick` begins with it.
 
 - A crate's line names the libraries that its own files name, and no other.
-- Of another family it names the head alone. Tests may also name what tests share, and the libraries of a family whose
-  head is a program.
+- Of another family it names the head alone, but for what stands in BELOW_HEADS. Tests may also name what tests share,
+  and the libraries of a family whose head is a program.
 - The program stands on few libraries, few paths lead down from it, and the gate tries few wrong bodies.
 """
 import glob
@@ -19,6 +19,8 @@ PROGRAM = "droid_desk"
 FAMILIES = ["droid_frame", "droid_pronom", "droid_assembly", "droid_store", "droid_export", "droid_core", "droid_wire", "droid_desk"]
 # a program that is no part of the family whose first words it has
 ALONE = ["droid_desk_bench"]
+# what a crate may name in the place of a head: a sender needs no service, and isn't proved only after one
+BELOW_HEADS = {"droid_desk_sender": ["droid_wire_client"]}
 # what tests share
 SHARED = ["droid_frame_shaky", "droid_frame_vectors", "droid_pronom_sample", "droid_store_steps"]
 # the kit's libraries that are named as std or a module of it: only a line tells that one of them is meant
@@ -75,7 +77,7 @@ def may_name(crate, low):
     head = family(low)
     has_no_surface = head and os.path.isfile(os.path.join(folder(head), "src", "main.rt"))
     for_tests = crate.endswith("_tests") and (low in SHARED or has_no_surface)
-    return low == head or head == family(crate) or for_tests
+    return low == head or head == family(crate) or for_tests or low in BELOW_HEADS.get(crate, [])
 
 
 def wrong_families(crate):

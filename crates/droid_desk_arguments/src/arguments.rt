@@ -1,12 +1,13 @@
 //! The command line: its words, and what they ask for.
 
-ghost use Rattle.std.specs.Prelude.{◌≡◌, [], IfOk, IfSome, codes, false, map, string_bytes};
-ghost use Rattle.clap.specs.Words.{app_of, fault_of, found_of, new_app, rows_of, rule_of, subcommand_rows_of};
+ghost use Rattle.std.specs.Prelude.{◌≡◌, [], IfOk, IfSome, codes, false, map, string_bytes, true};
+ghost use Rattle.clap.specs.Words.{app_of, fault_of, found_of, is_simple, is_simple_and_free, new_app, rows_of, rule_of, subcommand_of, subcommand_rows_of};
 ghost use Rattle.clap.specs.declared.builder.command.Command.TheViews.{out-Command};
 ghost use Rattle.droid_desk_arguments.specs.Asking.{IsAsked, IsAskedBy, WordsAsk};
-ghost use Rattle.droid_desk_arguments.specs.Commands.{number_named, port_option, program, registry_option, run_command, script_command, send_command, serve_command, wanting_command};
+ghost use Rattle.droid_desk_arguments.specs.Commands.{client_option, connections_option, first_option, number_named, port_option, program, registry_option, run_command, script_command, send_command, serve_command, wanting_command};
 
 use crate::help::{ABOUT, HELP, REGISTRY_HELP, SCRIPT_ABOUT, SCRIPT_HELP};
+use crate::no_command::{NoCommand, unused_words};
 use crate::stream_help::{
     CLIENT_HELP, CONNECTIONS_HELP, FIRST_HELP, RUN_ABOUT, RUN_HELP, SEND_ABOUT, SEND_HELP,
     SEND_PORT_HELP, SERVE_ABOUT, SERVE_HELP, SERVE_PORT_HELP,
@@ -68,12 +69,30 @@ pub enum Asked<'a> {
 }
 
 /// What the words ask for. Words that don't ask for one of the commands are an error.
-pub fn what_is_asked<'a>(alloc: Global, words: &'a [String]) -> Result<Asked<'a>, Error>
+pub fn what_is_asked<'a>(alloc: Global, words: &'a [String]) -> Result<Asked<'a>, NoCommand>
     ensures asks { IfOk result (λ asked. WordsAsk (map string_bytes words.entry.now) asked) }
     // They have no fault: no option is unknown, and each number is in its range.
     ensures taken { IfOk result (λ _. fault_of program (map string_bytes words.entry.now) ≡ []) }
 {
+    match asked_of_program(alloc, words) {
+        Ok(asked) => Ok(asked),
+        Err(error) => Err(unused_words(error)),
+    }
+}
+
+fn asked_of_program<'a>(alloc: Global, words: &'a [String]) -> Result<Asked<'a>, Error>
+    ensures asks { IfOk result (λ asked. WordsAsk (map string_bytes words.entry.now) asked) }
+    ensures taken { IfOk result (λ _. fault_of program (map string_bytes words.entry.now) ≡ []) }
+{
     let mut command = command(alloc)?;
+    asked_of(&mut command, words)
+}
+
+/// What the words ask the command for.
+fn asked_of<'a>(command: &mut Command<'a>, words: &'a [String]) -> Result<Asked<'a>, Error>
+    ensures asks { is_simple (app_of command.old) ≡ true → IfOk result (λ asked. IsAsked (subcommand_of (app_of command.old) (map string_bytes words.entry.now)) asked) }
+    ensures taken { is_simple_and_free (app_of command.old) ≡ true → IfOk result (λ _. fault_of (app_of command.old) (map string_bytes words.entry.now) ≡ []) }
+{
     let matches = command.try_get_matches_from_mut(words)?;
     match asked_by(&matches) {
         Some(asked) => Ok(asked),
@@ -183,12 +202,11 @@ fn serve<'a>(alloc: Global) -> Result<Command<'a>, AllocError>
     ensures shape { IfOk result (λ c. app_of c ≡ serve_command) }
     ensures local { IfOk result (λ c. (out-Command c).has_globals ≡ false) }
 {
-    let connections = number(alloc, CONNECTIONS, "K", CONNECTIONS_HELP, 1, 1_000);
     Command::new(alloc, SERVE)
         .about(SERVE_ABOUT)
         .after_help(SERVE_HELP)
         .arg(port(alloc, SERVE_PORT_HELP))?
-        .arg(connections)?
+        .arg(connections(alloc))?
         .arg(registry(alloc))
 }
 
@@ -196,14 +214,12 @@ fn send<'a>(alloc: Global) -> Result<Command<'a>, AllocError>
     ensures shape { IfOk result (λ c. app_of c ≡ send_command) }
     ensures local { IfOk result (λ c. (out-Command c).has_globals ≡ false) }
 {
-    let client = number(alloc, CLIENT, "C", CLIENT_HELP, 0, 4_294_967_295).required(true);
-    let first = number(alloc, FIRST, "N", FIRST_HELP, 0, 9_223_372_036_854_775_807);
     Command::new(alloc, SEND)
         .about(SEND_ABOUT)
         .after_help(SEND_HELP)
         .arg(port(alloc, SEND_PORT_HELP))?
-        .arg(client)?
-        .arg(first)
+        .arg(client(alloc))?
+        .arg(first(alloc))
 }
 
 fn registry<'a>(alloc: Global) -> Arg<'a>
@@ -222,6 +238,27 @@ fn port<'a>(alloc: Global, help: &'a str) -> Arg<'a>
     ensures local { result.global ≡ false }
 {
     number(alloc, PORT, "P", help, 1, 65_535).required(true)
+}
+
+fn connections<'a>(alloc: Global) -> Arg<'a>
+    ensures rule { rule_of result ≡ connections_option }
+    ensures local { result.global ≡ false }
+{
+    number(alloc, CONNECTIONS, "K", CONNECTIONS_HELP, 1, 1_000)
+}
+
+fn client<'a>(alloc: Global) -> Arg<'a>
+    ensures rule { rule_of result ≡ client_option }
+    ensures local { result.global ≡ false }
+{
+    number(alloc, CLIENT, "C", CLIENT_HELP, 0, 4_294_967_295).required(true)
+}
+
+fn first<'a>(alloc: Global) -> Arg<'a>
+    ensures rule { rule_of result ≡ first_option }
+    ensures local { result.global ≡ false }
+{
+    number(alloc, FIRST, "N", FIRST_HELP, 0, 9_223_372_036_854_775_807)
 }
 
 /// An option with a number from `least` to `most`.

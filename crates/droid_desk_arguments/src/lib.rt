@@ -3,6 +3,8 @@
 
 mod arguments;
 mod help;
+mod no_command;
 mod stream_help;
 
 pub use arguments::{Asked, what_is_asked};
+pub use no_command::{NoCommand, unread_words};

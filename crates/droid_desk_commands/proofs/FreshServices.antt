@@ -1,10 +1,9 @@
 -- A service that is made with a registry that was read.
 use Rattle.std.proofs.Common.{◌≡◌, ℕ, List, Option, Some, None, Result, Ok, Err, IfOk, IfErr, IfSome, refl}
-use Rattle.std.specs.Prelude.{IsErrOf}
 use Rattle.droid_core.specs.declared.service.Service.{Service}
 use Rattle.droid_desk_commands.specs.Fresh.{IsMadeOf, IsMadeWith, IsNoService, IsNotMadeOf}
 use Rattle.droid_desk_commands.specs.declared.ending.Ending.{Ending}
-use Rattle.droid_desk_commands.specs.declared.ending.Ending.TheVariants.{Done, Help, CommandLine, NoText, Registry, NoService, Script, Stream, Send, Socket, BadLine}
+use Rattle.droid_desk_commands.specs.declared.ending.Ending.TheVariants.{Done, Registry, NoService, Script, Stream, Send, Socket, BadLine}
 use Rattle.droid_pronom.specs.Registry.{Contents}
 use Rattle.droid_pronom.specs.RegistryFile.{File}
 use Rattle.droid_frame.specs.stream_types.seen.Seen.{Seen}
@@ -24,9 +23,6 @@ unmade_of file registry (NoService fault) read none = (none, registry, read)
 unmade_of file registry (Registry fault) read none = absurd none
 unmade_of file registry (Script fault) read none = absurd none
 unmade_of file registry (Stream fault) read none = absurd none
-unmade_of file registry (Help error) read none = absurd none
-unmade_of file registry (CommandLine error) read none = absurd none
-unmade_of file registry NoText read none = absurd none
 unmade_of file registry (Send fault) read none = absurd none
 unmade_of file registry Socket read none = absurd none
 unmade_of file registry BadLine read none = absurd none
@@ -39,3 +35,7 @@ not_made_of file registry (Err ending) read none = unmade_of file registry endin
 -- neither of two faults came
 pub told_neither : (start : ℕ) (seen : Seen) (P Q : Type 0) → (P → ⊥) → (Q → ⊥) → TellsFault start seen P → TellsFault start seen Q
 told_neither start seen P Q not_p not_q told = record { fault = λ q. absurd (not_q q); otherwise = λ _. told.otherwise not_p }
+
+-- one fault came exactly where another did
+pub told_alike : (start : ℕ) (seen : Seen) (P Q : Type 0) → (P → Q) → (Q → P) → TellsFault start seen P → TellsFault start seen Q
+told_alike start seen P Q to of told = record { fault = λ q. told.fault (of q); otherwise = λ not. told.otherwise (λ p. not (to p)) }

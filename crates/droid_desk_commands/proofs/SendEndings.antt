@@ -3,11 +3,10 @@ use Rattle.std.proofs.Common.{◌≡◌, ℕ, Bool, true, false, cond, eqb, List
 use Rattle.std.specs.Prelude.{IsErrOf}
 use Rattle.std.proofs.lemmas.Bool.{eqb-true, eqb-false}
 use Rattle.droid_wire.specs.Cores.{Core}
-use Rattle.droid_desk_commands.specs.declared.ending.Ending.{Ending}
 use Rattle.droid_desk_commands.specs.declared.ending.Ending.TheVariants.{Done, BadLine, Send}
 use Rattle.droid_desk_commands.specs.Sends.{SendEndsAs, sending_end_of}
 use Rattle.droid_desk_sender.specs.declared.fault.SendFault.{SendFault}
-use Rattle.droid_desk_sender.specs.declared.tally.Tally.{Tally}
+use Rattle.droid_desk_lines.specs.declared.tally.Tally.{Tally}
 use Rattle.droid_frame.specs.Seen.{TellsFault}
 use Rattle.droid_desk_sender.specs.Sending.{SendsAll, SendsFront}
 use Rattle.droid_frame.specs.stream_types.seen.Seen.{Seen}

@@ -2,38 +2,30 @@
 use Rattle.std.specs.Prelude.{◌≡◌, ℕ, ◌<◌, ◌==◌, if◌then◌else◌, List, [], codes, Option, IfSome, Result, Ok, Err}
 use Rattle.std.specs.List.{count_by}
 use Rattle.std.specs.Io.KnownBytes.{Keeps}
-use Rattle.std.specs.declared.io.ErrorKind.{ErrorKind as InputErrorKind}
-use Rattle.std.specs.declared.io.ErrorKind.TheVariants as reading
-use Rattle.clap.specs.declared.error.Error.{Error}
-use Rattle.clap.specs.declared.error.kind.ErrorKind.{ErrorKind}
-use Rattle.clap.specs.declared.error.kind.ErrorKind.TheVariants as words
 use Rattle.droid_desk_commands.specs.declared.ending.Ending.{Ending}
-use Rattle.droid_desk_commands.specs.declared.ending.Ending.TheVariants.{Done, Help, CommandLine, NoText, Registry, NoService, Script, Stream, Send, Socket, BadLine}
+use Rattle.droid_desk_commands.specs.declared.ending.Ending.TheVariants.{Done, Registry, NoService, Script, Stream, Send, Socket, BadLine}
 use Rattle.droid_desk_script.specs.declared.fault.ScriptFault.{ScriptFault}
 use Rattle.droid_desk_script.specs.declared.fault.ScriptFault.TheVariants.{TooLong, Read, Memory, Write}
-use Rattle.droid_desk_script.specs.declared.tally.Tally.{Tally}
 use Rattle.droid_core.specs.declared.service.Service.{Service}
 use Rattle.droid_core.specs.Identified.{IsOf}
 use Rattle.droid_core.specs.Limits.{Limits}
 use Rattle.droid_core.specs.Setting.{Setting}
 use Rattle.droid_desk_lines.specs.Lines.{lines_of}
+use Rattle.droid_desk_lines.specs.declared.tally.Tally.{Tally}
 use Rattle.droid_pronom.specs.Registry.{Contents}
 use Rattle.droid_pronom.specs.RegistryFile.{File}
 use Rattle.droid_pronom.specs.declared.registry.fault.RegistryFault.{RegistryFault}
 use Rattle.droid_pronom.specs.declared.registry.fault.RegistryFault.TheVariants as registry_faults
 use Rattle.droid_store.specs.declared.fault.StoreFault.{StoreFault}
 use Rattle.droid_store.specs.declared.fault.StoreFault.TheVariants as store_faults
-use Rattle.droid_frame.specs.declared.stream.fault.FrameFault.TheVariants as frame_faults
 use Rattle.droid_wire.specs.declared.fault.ServeFault.{ServeFault}
 use Rattle.droid_wire.specs.declared.fault.ServeFault.TheVariants as serve_faults
+use Rattle.droid_desk_sender.specs.Faults.{frame_fault_name}
 use Rattle.droid_desk_script.specs.Scripts.{RunsAll, RunsFront, IsTooLong, is_bad}
 
 -- the exit status
 abbrev pub status_of : Ending → ℕ
 status_of Done = 0
-status_of (Help error) = 0
-status_of (CommandLine error) = 2
-status_of NoText = 2
 status_of (Registry fault) = 3
 status_of (NoService fault) = 6
 status_of (Script fault) = 4
@@ -49,28 +41,16 @@ name_of store_faults.Refused = codes "Store"
 
 -- what a fault of a stream of frames is called
 abbrev pub stream_name_of : ServeFault → List ℕ
-stream_name_of (serve_faults.Frame frame_faults.Truncated) = codes "Truncated"
-stream_name_of (serve_faults.Frame frame_faults.BadVersion) = codes "BadVersion"
-stream_name_of (serve_faults.Frame frame_faults.TooLong) = codes "TooLong"
-stream_name_of (serve_faults.Frame frame_faults.Memory) = codes "Memory"
-stream_name_of (serve_faults.Frame frame_faults.Read) = codes "Read"
+stream_name_of (serve_faults.Frame fault) = frame_fault_name fault
 stream_name_of (serve_faults.Write written) = codes "Write"
 
--- the words of the command line could not be had: for want of memory, or one of them is no text
-abbrev pub unread_ending : InputErrorKind → Ending
-unread_ending reading.OutOfMemory = NoService store_faults.Memory
-unread_ending _ = NoText
-
--- they name no command to run: for want of memory, for help, or they are wrong
-abbrev pub unused_ending : ErrorKind → Error → Ending
-unused_ending words.OutOfMemory error = NoService store_faults.Memory
-unused_ending words.DisplayHelp error = Help error
-unused_ending words.DisplayVersion error = Help error
-unused_ending _ error = CommandLine error
+-- all lines were handled
+abbrev pub after_lines : Tally → Ending
+after_lines tally = if tally.bad == 0 then Done else BadLine
 
 -- how a script's end ends the program
 abbrev pub ending_of : Result Tally ScriptFault → Ending
-ending_of (Ok tally) = if tally.bad == 0 then Done else BadLine
+ending_of (Ok tally) = after_lines tally
 ending_of (Err fault) = Script fault
 
 -- the limits of the program's service
@@ -104,9 +84,6 @@ EndsAs setting (Registry fault) input old new = ⊥
 EndsAs setting (Stream fault) input old new = ⊥
 EndsAs setting (Send fault) input old new = ⊥
 EndsAs setting Socket input old new = ⊥
-EndsAs setting (Help error) input old new = ⊥
-EndsAs setting (CommandLine error) input old new = ⊥
-EndsAs setting NoText input old new = ⊥
 
 -- a registry file, where its bytes are known, comes to this fault, unless memory was refused or the file could
 -- not be read

@@ -4,7 +4,7 @@ use Rattle.droid_core.specs.Standing.{StandsFor, limits_of}
 use Rattle.droid_core.specs.declared.service.Service.{Service}
 use Rattle.droid_desk_commands.specs.Endings.{IsFaultOf, IsProgramSetting, program_limits}
 use Rattle.droid_desk_commands.specs.declared.ending.Ending.{Ending}
-use Rattle.droid_desk_commands.specs.declared.ending.Ending.TheVariants.{Done, Help, CommandLine, NoText, Registry, NoService, Script, Stream, Send, Socket, BadLine}
+use Rattle.droid_desk_commands.specs.declared.ending.Ending.TheVariants.{Done, Registry, NoService, Script, Stream, Send, Socket, BadLine}
 use Rattle.droid_core.specs.Setting.{Setting}
 use Rattle.droid_pronom.specs.Registry.{Contents}
 use Rattle.droid_pronom.specs.RegistryFile.{File}
@@ -27,9 +27,6 @@ IsNoService (Registry fault) = ⊥
 IsNoService (Script fault) = ⊥
 IsNoService (Stream fault) = ⊥
 IsNoService (Send fault) = ⊥
-IsNoService (Help error) = ⊥
-IsNoService (CommandLine error) = ⊥
-IsNoService NoText = ⊥
 IsNoService Socket = ⊥
 IsNoService BadLine = ⊥
 IsNoService Done = ⊥

@@ -1,15 +1,16 @@
 -- How sending the requests of lines ends.
-use Rattle.std.specs.Prelude.{◌≡◌, ℕ, ◌<◌, ◌==◌, if◌then◌else◌, List, Option, Result, Ok, Err}
+use Rattle.std.specs.Prelude.{◌≡◌, ℕ, ◌<◌, List, Option, Result, Ok, Err}
 use Rattle.droid_wire.specs.Cores.{Core}
 use Rattle.droid_desk_commands.specs.declared.ending.Ending.{Ending}
-use Rattle.droid_desk_commands.specs.declared.ending.Ending.TheVariants.{Done, Help, CommandLine, NoText, Registry, NoService, Script, Stream, Send, Socket, BadLine}
+use Rattle.droid_desk_commands.specs.declared.ending.Ending.TheVariants.{Done, Registry, NoService, Script, Stream, Send, Socket, BadLine}
+use Rattle.droid_desk_commands.specs.Endings.{after_lines}
 use Rattle.droid_desk_sender.specs.declared.fault.SendFault.{SendFault}
-use Rattle.droid_desk_sender.specs.declared.tally.Tally.{Tally}
+use Rattle.droid_desk_lines.specs.declared.tally.Tally.{Tally}
 use Rattle.droid_desk_sender.specs.Sending.{SendsAll, SendsFront}
 
 -- how the end of sending ends the program
 abbrev pub sending_end_of : Result Tally SendFault → Ending
-sending_end_of (Ok tally) = if tally.bad == 0 then Done else BadLine
+sending_end_of (Ok tally) = after_lines tally
 sending_end_of (Err fault) = Send fault
 
 -- all lines were sent, and something is said of how many of them were bad
@@ -33,7 +34,4 @@ SendEndsAs core (Stream fault) script input left old_frames new_frames old_text 
 SendEndsAs core (NoService fault) script input left old_frames new_frames old_text new_text = ⊥
 SendEndsAs core (Registry fault) script input left old_frames new_frames old_text new_text = ⊥
 SendEndsAs core (Script fault) script input left old_frames new_frames old_text new_text = ⊥
-SendEndsAs core (Help error) script input left old_frames new_frames old_text new_text = ⊥
-SendEndsAs core (CommandLine error) script input left old_frames new_frames old_text new_text = ⊥
-SendEndsAs core NoText script input left old_frames new_frames old_text new_text = ⊥
 SendEndsAs core Socket script input left old_frames new_frames old_text new_text = ⊥

@@ -2,7 +2,7 @@
 use Rattle.std.specs.Prelude.{◌≡◌, ℕ, ◌+◌, ◌<◌, List, Option, Result, Ok, Err}
 use Rattle.droid_core.specs.declared.service.Service.{Service}
 use Rattle.droid_desk_commands.specs.declared.ending.Ending.{Ending}
-use Rattle.droid_desk_commands.specs.declared.ending.Ending.TheVariants.{Done, Help, CommandLine, NoText, Registry, NoService, Script, Stream, Send, Socket, BadLine}
+use Rattle.droid_desk_commands.specs.declared.ending.Ending.TheVariants.{Done, Registry, NoService, Script, Stream, Send, Socket, BadLine}
 use Rattle.droid_core.specs.Histories.{History}
 use Rattle.droid_core.specs.Setting.{Setting}
 use Rattle.droid_wire.specs.Serving.{Outcome}
@@ -26,9 +26,6 @@ StreamEndsAs setting history (Stream fault) input left old new after = Outcome s
 StreamEndsAs setting history (NoService fault) input left old new after = ⊥
 StreamEndsAs setting history (Registry fault) input left old new after = ⊥
 StreamEndsAs setting history (Script fault) input left old new after = ⊥
-StreamEndsAs setting history (Help error) input left old new after = ⊥
-StreamEndsAs setting history (CommandLine error) input left old new after = ⊥
-StreamEndsAs setting history NoText input left old new after = ⊥
 StreamEndsAs setting history (Send fault) input left old new after = ⊥
 StreamEndsAs setting history Socket input left old new after = ⊥
 StreamEndsAs setting history BadLine input left old new after = ⊥
@@ -47,7 +44,4 @@ CameTo (Send fault) old new count = ⊥
 CameTo (NoService fault) old new count = ⊥
 CameTo (Registry fault) old new count = ⊥
 CameTo (Script fault) old new count = ⊥
-CameTo (Help error) old new count = ⊥
-CameTo (CommandLine error) old new count = ⊥
-CameTo NoText old new count = ⊥
 CameTo BadLine old new count = ⊥

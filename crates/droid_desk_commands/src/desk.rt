@@ -1,28 +1,24 @@
 //! A script over a fresh service, whose registry is read first.
 
-ghost use Rattle.std.specs.Prelude.{◌≡◌, ◌≢◌, None, Some, length, IfSome};
+ghost use Rattle.std.specs.Prelude.{◌≡◌, ◌≢◌, [], None, Some, length, IfSome};
 ghost use Rattle.droid_frame.specs.Seen.{IsSound, TellsFault};
 ghost use Rattle.droid_core.specs.Setting.{Setting};
+ghost use Rattle.droid_core.specs.Standing.{StandsFor};
 ghost use Rattle.droid_desk_lines.specs.Lines.{lines_of};
 ghost use Rattle.droid_desk_commands.specs.Sample.{sample};
 ghost use Rattle.droid_frame.specs.InTurn.{AtMost, TellsFaultInTurn};
 ghost use Rattle.droid_desk_script.specs.Scripts.{WritesAnswer};
-ghost use Rattle.droid_desk_commands.specs.Endings.{ending_of, EndsAs, EndsOver, IsProgramSetting};
+ghost use Rattle.droid_desk_commands.specs.Endings.{ending_of, EndsAs, EndsOver};
 
-use crate::ending::Ending;
+use crate::ending::{Ending, after_lines};
+use crate::fresh::fresh_service;
 use crate::sample::sample_registry;
-use droid_core::{Limits, Service};
-use droid_desk_script::{ScriptFault, Tally, script};
+use droid_core::Service;
+use droid_desk_lines::Tally;
+use droid_desk_script::{ScriptFault, script};
 use droid_frame::{SteadyRead, SteadyWrite};
-use droid_pronom::{Registry, RegistryFault};
+use droid_pronom::RegistryFault;
 use std::alloc::Global;
-
-/// What the program's service takes at the most.
-pub const LIMITS: Limits = Limits {
-    profiles: 64,
-    nodes: 100_000,
-    unfinished: 64,
-};
 
 /// Runs a script over a fresh service, which identifies files by the sample registry.
 pub fn run_sample<R: SteadyRead, W: SteadyWrite>(
@@ -54,31 +50,27 @@ pub fn run_desk<F: SteadyRead, R: SteadyRead, W: SteadyWrite>(
     ensures write_fault { IsSound (W.seen writer.old) → W.room writer.old ≡ None →
         TellsFaultInTurn W.seen (WritesAnswer W.contents) (AtMost (R.remaining reader.old) (λ script. length (lines_of script))) writer.old writer.new (result ≡ Ending.Script ScriptFault.Write) }
 {
-    match Registry::read(alloc, file) {
-        Ok(registry) => run_script(alloc, registry, reader, writer),
-        Err(fault) => Ending::Registry(fault),
+    match fresh_service(alloc, file) {
+        Ok(mut service) => run_script(alloc, &mut service, reader, writer),
+        Err(ending) => ending,
     }
 }
 
-/// Runs a script over a fresh service with this registry.
+/// Runs a script over a fresh service.
 fn run_script<R: SteadyRead, W: SteadyWrite>(
     alloc: Global,
-    registry: Registry,
+    service: &mut Service,
     reader: &mut R,
     writer: &mut W,
 ) -> Ending
-    ensures ends { (setting : Setting) → IsProgramSetting registry setting → IfSome (R.remaining reader.old) (λ input.
+    ensures ends { (setting : Setting) → StandsFor setting service.old [] → IfSome (R.remaining reader.old) (λ input.
         EndsAs setting result input (W.contents writer.old) (W.contents writer.new)) }
     ensures registry_read { (fault : _) → result ≢ Ending.Registry fault }
     ensures read_fault { IsSound (R.seen reader.old) → TellsFault (R.seen reader.old).interruptions (R.seen reader.new) (result ≡ Ending.Script ScriptFault.Read) }
     ensures write_fault { IsSound (W.seen writer.old) → W.room writer.old ≡ None →
         TellsFaultInTurn W.seen (WritesAnswer W.contents) (AtMost (R.remaining reader.old) (λ script. length (lines_of script))) writer.old writer.new (result ≡ Ending.Script ScriptFault.Write) }
 {
-    let mut service = match Service::new(alloc, registry, LIMITS) {
-        Ok(service) => service,
-        Err(fault) => return Ending::NoService(fault),
-    };
-    let outcome = script(alloc, &mut service, reader, writer);
+    let outcome = script(alloc, service, reader, writer);
     end_of(outcome)
 }
 
@@ -86,8 +78,7 @@ fn end_of(outcome: Result<Tally, ScriptFault>) -> Ending
     ensures { result ≡ ending_of outcome }
 {
     match outcome {
-        Ok(Tally { bad: 0, .. }) => Ending::Done,
-        Ok(_) => Ending::BadLine,
+        Ok(tally) => after_lines(tally),
         Err(fault) => Ending::Script(fault),
     }
 }

@@ -1,12 +1,11 @@
 //! How the program ends.
 
 ghost use Rattle.std.specs.Prelude.{◌≡◌};
-ghost use Rattle.droid_desk_commands.specs.Endings.{status_of, name_of, stream_name_of};
+ghost use Rattle.droid_desk_commands.specs.Endings.{after_lines, status_of, name_of, stream_name_of};
 
-use clap::Error;
+use droid_desk_lines::Tally;
 use droid_desk_script::ScriptFault;
-use droid_desk_sender::SendFault;
-use droid_frame::FrameFault;
+use droid_desk_sender::{SendFault, frame_fault_name};
 use droid_pronom::RegistryFault;
 use droid_store::StoreFault;
 use droid_wire::ServeFault;
@@ -17,15 +16,9 @@ use std::io;
 pub enum Ending {
     /// All is done.
     Done,
-    /// The command line asks for help.
-    Help(Error),
-    /// The command line is wrong.
-    CommandLine(Error),
-    /// A word of the command line is no text.
-    NoText,
     /// The registry was not read.
     Registry(RegistryFault),
-    /// No service could be made, or there is no memory for the command line.
+    /// No service could be made.
     NoService(StoreFault),
     /// The script ended early.
     Script(ScriptFault),
@@ -45,8 +38,7 @@ impl Ending {
         ensures { result ≡ status_of self.now }
     {
         match self {
-            Ending::Done | Ending::Help(_) => 0,
-            Ending::CommandLine(_) | Ending::NoText => 2,
+            Ending::Done => 0,
             Ending::Registry(_) => 3,
             Ending::NoService(_) => 6,
             Ending::Script(_) | Ending::Stream(_) | Ending::Send(_) | Ending::Socket => 4,
@@ -55,24 +47,30 @@ impl Ending {
     }
 
     /// Prints what the ending has to say.
-    pub fn print<R: Print + Eprint>(&self, rt: &R) -> io::Result<()> {
+    pub fn print<R: Eprint>(&self, rt: &R) -> io::Result<()> {
         match self {
-            Ending::Help(error) | Ending::CommandLine(error) => error.print(rt),
-            Ending::NoText => eprintln!(rt; "error: a word of the command line is not UTF-8"),
             Ending::Registry(fault) => eprintln!(rt; "fault: {fault}"),
-            Ending::NoService(fault) => {
-                let name = name_of(*fault);
-                eprintln!(rt; "fault: {name}")
-            }
-            Ending::Script(fault) => eprintln!(rt; "fault: {fault}"),
-            Ending::Stream(fault) => {
-                let name = stream_name_of(*fault);
-                eprintln!(rt; "fault: {name}")
-            }
-            Ending::Send(fault) => eprintln!(rt; "fault: {fault}"),
-            Ending::Socket => eprintln!(rt; "fault: Socket"),
+            Ending::NoService(fault) => print_fault(rt, name_of(*fault)),
+            Ending::Script(fault) => print_fault(rt, fault.name()),
+            Ending::Stream(fault) => print_fault(rt, stream_name_of(*fault)),
+            Ending::Send(fault) => print_fault(rt, fault.name()),
+            Ending::Socket => print_fault(rt, "Socket"),
             Ending::Done | Ending::BadLine => Ok(()),
         }
+    }
+}
+
+fn print_fault<R: Eprint>(rt: &R, name: &str) -> io::Result<()> {
+    eprintln!(rt; "fault: {name}")
+}
+
+/// How the program ends where all lines were handled.
+pub fn after_lines(tally: Tally) -> Ending
+    ensures { result ≡ after_lines tally }
+{
+    match tally {
+        Tally { bad: 0, .. } => Ending::Done,
+        _ => Ending::BadLine,
     }
 }
 
@@ -91,11 +89,7 @@ fn stream_name_of(fault: ServeFault) -> &'static str
     ensures { result.now ≡ stream_name_of fault }
 {
     match fault {
-        ServeFault::Frame(FrameFault::Truncated) => "Truncated",
-        ServeFault::Frame(FrameFault::BadVersion) => "BadVersion",
-        ServeFault::Frame(FrameFault::TooLong) => "TooLong",
-        ServeFault::Frame(FrameFault::Memory) => "Memory",
-        ServeFault::Frame(FrameFault::Read) => "Read",
+        ServeFault::Frame(fault) => frame_fault_name(&fault),
         ServeFault::Write { .. } => "Write",
     }
 }

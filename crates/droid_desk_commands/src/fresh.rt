@@ -4,12 +4,18 @@ ghost use Rattle.std.specs.Prelude.{◌≡◌, IfErr, IfOk, IsErrOf};
 ghost use Rattle.droid_frame.specs.Seen.{IsSound, TellsFault};
 ghost use Rattle.droid_desk_commands.specs.Fresh.{IsMadeOf, IsMadeWith, IsNoService, IsNotMadeOf};
 
-use crate::desk::LIMITS;
 use crate::ending::Ending;
-use droid_core::Service;
+use droid_core::{Limits, Service};
 use droid_frame::SteadyRead;
 use droid_pronom::{Registry, RegistryFault};
 use std::alloc::Global;
+
+/// What the program's service takes at the most.
+pub const LIMITS: Limits = Limits {
+    profiles: 64,
+    nodes: 100_000,
+    unfinished: 64,
+};
 
 /// Reads a registry file, and makes an empty service that identifies files by it and has the program's limits.
 pub fn fresh_service<F: SteadyRead>(alloc: Global, file: &mut F) -> Result<Service, Ending>

@@ -1,9 +1,6 @@
 //! The program: its command line, its files and streams, and how it ends.
 
-ghost use Rattle.std.specs.Prelude.{◌≡◌};
-ghost use Rattle.clap.specs.Values.{kind_of};
-ghost use Rattle.std.specs.IoError.{error_kind};
-ghost use Rattle.droid_desk_commands.specs.Endings.{unread_ending, unused_ending};
+ghost use Rattle.std.specs.Prelude.{◌<◌, ◌^◌};
 
 use crate::connections::serve_connections;
 use crate::desk::{run_desk, run_sample};
@@ -13,14 +10,11 @@ use crate::port::Port;
 use crate::sample::sample_registry;
 use crate::sending::send_lines;
 use crate::stream::answer_stream;
-use clap::Error;
-use clap::error::ErrorKind;
 use droid_core::Service;
-use droid_desk_arguments::{Asked, what_is_asked};
+use droid_desk_arguments::{Asked, NoCommand, unread_words, what_is_asked};
 use droid_desk_sender::SendFault;
-use droid_frame::{FrameFault, NUMBER_LIMIT, Unsteady};
+use droid_frame::{FrameFault, NUMBER_LIMIT, SteadyRead, Unsteady};
 use droid_pronom::RegistryFault;
-use droid_store::StoreFault;
 use droid_wire::ServeFault;
 use std::fs::{self, Files};
 use std::io::BufReader;
@@ -35,58 +29,81 @@ where
     R: Env + Files + Input + Print + Eprint + AllocGlobal,
     R: Net<Listener = TcpListener, Stream = TcpStream>,
 {
-    let ending = run_command(rt);
+    match words(rt) {
+        Ok(words) => with_words(rt, words.as_slice()),
+        Err(error) => tell_why(rt, &unread_words(&error)),
+    }
+}
+
+fn with_words<R>(rt: &R, words: &[String]) -> ExitCode
+where
+    R: Files + Input + Print + Eprint + AllocGlobal,
+    R: Net<Listener = TcpListener, Stream = TcpStream>,
+{
+    match what_is_asked(rt.alloc(), words) {
+        Ok(asked) => end(rt, &fulfil(rt, asked)),
+        Err(why) => tell_why(rt, &why),
+    }
+}
+
+fn tell_why<R: Print + Eprint>(rt: &R, why: &NoCommand) -> ExitCode {
+    let _ = why.print(rt);
+    ExitCode::from(why.status())
+}
+
+fn end<R: Eprint>(rt: &R, ending: &Ending) -> ExitCode {
     let _ = ending.print(rt);
     ExitCode::from(ending.status())
 }
 
-fn run_command<R>(rt: &R) -> Ending
+fn fulfil<R>(rt: &R, asked: Asked<'_>) -> Ending
 where
-    R: Env + Files + Input + Print + Eprint + AllocGlobal,
+    R: Files + Input + Print + AllocGlobal,
     R: Net<Listener = TcpListener, Stream = TcpStream>,
 {
-    let words = match words(rt) {
-        Ok(words) => words,
-        Err(error) => return unread_words(&error),
-    };
-    match what_is_asked(rt.alloc(), words.as_slice()) {
-        Ok(Asked::Script { registry }) => script_with(rt, registry),
-        Ok(Asked::Run { registry }) => run_with(rt, registry),
-        Ok(
-            Asked::Serve {
-                registry,
-                port,
-                connections,
-            },
-        ) => serve_with(rt, registry, port, connections),
-        Ok(
-            Asked::Send {
-                port,
-                client,
-                first,
-            },
-        ) => send_to(rt, port, client, first),
-        Err(error) => unused_words(error),
+    match asked {
+        Asked::Script { registry } => script_with(rt, registry),
+        Asked::Run { registry } => run_with(rt, registry),
+        Asked::Serve {
+            registry,
+            port,
+            connections,
+        } => serve_with(rt, registry, port, connections),
+        Asked::Send {
+            port,
+            client,
+            first,
+        } => send_to(rt, port, client, first),
     }
 }
 
 /// Runs a script from standard input to standard output, over the registry of the file at this path, or
 /// over the sample registry where there is none.
 fn script_with<R: Files + Input + Print + AllocGlobal>(rt: &R, path: Option<&str>) -> Ending {
-    let mut input = Unsteady::new(rt.reader());
-    let mut output = Unsteady::new(io::writer(rt));
     let Some(path) = path else {
-        return run_sample(rt.alloc(), &mut input, &mut output);
+        return sample_script(rt);
     };
     match fs::open(rt, path) {
-        Ok(file) => run_desk(
-            rt.alloc(),
-            &mut Unsteady::new(file),
-            &mut input,
-            &mut output,
-        ),
+        Ok(file) => script_over(rt, &mut Unsteady::new(file)),
         Err(_) => Ending::Registry(RegistryFault::Read),
     }
+}
+
+fn sample_script<R: Input + Print + AllocGlobal>(rt: &R) -> Ending {
+    run_sample(
+        rt.alloc(),
+        &mut Unsteady::new(rt.reader()),
+        &mut Unsteady::new(io::writer(rt)),
+    )
+}
+
+fn script_over<F: SteadyRead, R: Input + Print + AllocGlobal>(rt: &R, file: &mut F) -> Ending {
+    run_desk(
+        rt.alloc(),
+        file,
+        &mut Unsteady::new(rt.reader()),
+        &mut Unsteady::new(io::writer(rt)),
+    )
 }
 
 /// Answers frames from standard input to standard output.
@@ -153,12 +170,24 @@ where
     if first >= NUMBER_LIMIT {
         return Ending::Send(SendFault::NumbersUsedUp);
     }
-    let Ok(stream) = TcpStream::connect(rt, (Ipv4Addr::LOCALHOST, port)) else {
-        return Ending::Socket;
-    };
+    match TcpStream::connect(rt, (Ipv4Addr::LOCALHOST, port)) {
+        Ok(stream) => send_over(rt, &stream, client, first),
+        Err(_) => Ending::Socket,
+    }
+}
+
+/// Sends them over a connection.
+fn send_over<R: Input + Print + AllocGlobal>(
+    rt: &R,
+    stream: &TcpStream,
+    client: u32,
+    first: u64,
+) -> Ending
+    requires { first < 2 ^ 63 }
+{
     // A request's frame is written in two parts, and its reply is waited for.
     let _ = stream.set_nodelay(true);
-    let Ok(replies) = BufReader::new(rt.alloc(), &stream) else {
+    let Ok(replies) = BufReader::new(rt.alloc(), stream) else {
         return Ending::Send(SendFault::Memory);
     };
     send_lines(
@@ -167,7 +196,7 @@ where
         first,
         &mut Unsteady::new(rt.reader()),
         &mut Unsteady::new(replies),
-        &mut Unsteady::new(&stream),
+        &mut Unsteady::new(stream),
         &mut Unsteady::new(io::writer(rt)),
     )
 }
@@ -180,25 +209,4 @@ fn no_memory() -> Ending {
 fn words<R: Env + AllocGlobal>(rt: &R) -> io::Result<Vec<String>> {
     let words = env::args(rt)?.collect(rt.alloc())?;
     Ok(words)
-}
-
-/// How the program ends where the words of the command line can't be had.
-fn unread_words(error: &io::Error) -> Ending
-    ensures { result ≡ unread_ending (error_kind error.now) }
-{
-    match error.kind() {
-        io::ErrorKind::OutOfMemory => Ending::NoService(StoreFault::Memory),
-        _ => Ending::NoText,
-    }
-}
-
-/// How the program ends where the words of the command line name no command to run.
-fn unused_words(error: Error) -> Ending
-    ensures { result ≡ unused_ending (kind_of error) error }
-{
-    match error.kind() {
-        ErrorKind::OutOfMemory => Ending::NoService(StoreFault::Memory),
-        ErrorKind::DisplayHelp | ErrorKind::DisplayVersion => Ending::Help(error),
-        _ => Ending::CommandLine(error),
-    }
 }

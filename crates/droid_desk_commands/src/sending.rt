@@ -8,8 +8,9 @@ ghost use Rattle.droid_desk_lines.specs.Lines.{lines_of};
 ghost use Rattle.droid_desk_sender.specs.Along.{ReadsReply, WritesPrinted, WritesRequest};
 ghost use Rattle.droid_desk_commands.specs.Sends.{SendEndsAs, sending_end_of};
 
-use crate::ending::Ending;
-use droid_desk_sender::{SendFault, Tally, send};
+use crate::ending::{Ending, after_lines};
+use droid_desk_lines::Tally;
+use droid_desk_sender::{SendFault, send};
 use droid_frame::{FrameFault, SteadyRead, SteadyWrite};
 use droid_wire::Client;
 use std::alloc::Global;
@@ -45,8 +46,7 @@ fn end_of(outcome: Result<Tally, SendFault>) -> Ending
     ensures { result ≡ sending_end_of outcome }
 {
     match outcome {
-        Ok(Tally { bad: 0, .. }) => Ending::Done,
-        Ok(_) => Ending::BadLine,
+        Ok(tally) => after_lines(tally),
         Err(fault) => Ending::Send(fault),
     }
 }

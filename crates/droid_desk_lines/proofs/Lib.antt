@@ -5,3 +5,4 @@ pub mod LineCuts
 pub mod LineNumbers
 pub mod LineWords
 pub mod Printing
+pub mod Tallies

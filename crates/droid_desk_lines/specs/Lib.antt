@@ -3,4 +3,5 @@ pub mod InFront
 pub mod Lines
 pub mod Printed
 pub mod Requests
+pub mod Tallies
 pub mod Words

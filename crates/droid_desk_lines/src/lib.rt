@@ -10,8 +10,10 @@ pub mod laws;
 mod parse;
 mod print;
 mod requests;
+mod tally;
 mod words;
 
 pub use cut::{line_end, next_line};
 pub use parse::{Line, parse_line, parse_request_line};
 pub use print::{print_answer, print_reply};
+pub use tally::Tally;

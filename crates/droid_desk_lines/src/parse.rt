@@ -12,7 +12,7 @@ use std::alloc::{AllocError, Global};
 use std::str;
 
 /// A line that asks for something: `CLIENT NUMBER KIND ..`.
-#[derive(Debug, Drop)]
+#[derive(Drop)]
 pub struct Line {
     /// The client that sends the request.
     pub client: u32,

@@ -1,24 +1,23 @@
 -- Runs of lines, one after the other.
-use Rattle.std.proofs.Common.{◌≡◌, ℕ, ◌+◌, ◌<◌, ◌≤◌, Bool, true, false, cond, List, [], ◌∷◌, ◌++◌, length, Option, Some, None, Result, Ok, Err, OnOk, OnErr, refl, sym, ap, subst, ◌∙◌, append_assoc, append-nil, arith, length-append}
+use Rattle.std.proofs.Common.{◌≡◌, ℕ, ◌+◌, ◌<◌, ◌≤◌, Bool, true, false, List, [], ◌∷◌, ◌++◌, length, Option, Some, None, Result, Ok, Err, OnOk, OnErr, refl, sym, ap, subst, ◌∙◌, append_assoc, append-nil, arith, length-append}
 use Rattle.std.specs.Prelude.{MatchBool, IsSome}
-use Rattle.std.specs.List.{count_by}
 use Rattle.std.specs.Io.KnownBytes.{Appends}
 use Rattle.std.proofs.KnownBytes.{Appends-nil, Appends-trans}
 use Rattle.std.proofs.lemmas.Grind.{flat_map-append}
-use Rattle.std.proofs.lemmas.List.Sums.{sum_by-append}
 use Rattle.droid_frame.specs.types.frame.Frame.{Frame}
 use Rattle.droid_frame.specs.Bodies.{SpellsRequest, request_kind, request_body}
 use Rattle.droid_frame.specs.Frames.{frame_bytes, spelling}
 use Rattle.droid_frame.specs.types.reply.Reply.{Reply}
 use Rattle.droid_desk_lines.specs.declared.parse.Line.{Line}
-use Rattle.droid_desk_script.specs.declared.tally.Tally.{Tally}
 use Rattle.droid_core.specs.declared.service.Service.{Service}
 use Rattle.droid_core.specs.Setting.{Setting}
 use Rattle.droid_core.specs.Histories.{History, command, answer, next, Handles}
-use Rattle.droid_desk_lines.specs.Lines.{lines_of}
-use Rattle.droid_desk_lines.specs.Lines.{line_value}
+use Rattle.droid_desk_lines.specs.Lines.{line_value, lines_of}
 use Rattle.droid_desk_lines.specs.Printed.{answer_line}
-use Rattle.droid_desk_script.specs.Scripts.{frame_of, ScriptRun, script_text, LineAnswered, WritesFront, RunsAll, RunsFront, is_bad, Counts, GoesOnFrom}
+use Rattle.droid_desk_lines.specs.Tallies.{Counts, with_one_more}
+use Rattle.droid_desk_lines.specs.declared.tally.Tally.{Tally}
+use Rattle.droid_desk_lines.proofs.Tallies.{bad_within, counts_one_more}
+use Rattle.droid_desk_script.specs.Scripts.{frame_of, ScriptRun, script_text, LineAnswered, WritesFront, RunsAll, RunsFront, is_bad, GoesOnFrom}
 use Rattle.droid_core.specs.Standing.{StandsFor, limits_of, registry_of}
 use Rattle.droid_core.specs.Wants.{is_want}
 
@@ -156,15 +155,11 @@ front_of_more setting history xs ys service old new ran = record {
 
 -- ---- a loop over the lines
 
-at_most_one : (b : Bool) → cond b 1 0 ≤ 1
-at_most_one true = omega arith
-at_most_one false = omega arith
-
 -- the first lines ran, and those of the rest are left
 pub record Progress (before now : Service) (input rest : List ℕ) (tally : Tally) (old new : Option (List ℕ)) : Type 0 where
   pub front : List (List ℕ)
   pub cut : lines_of input ≡ front ++ lines_of rest
-  pub counted : Counts tally front
+  pub counted : Counts is_bad tally front
   pub ran : (setting : Setting) (history : History) → StandsFor setting before history → RunsAll setting history front now old new
   pub limits : limits_of now ≡ limits_of before
   pub registry : registry_of now ≡ registry_of before
@@ -175,7 +170,7 @@ pub start : (service : Service) (input : List ℕ) (tally : Tally) (bytes : Opti
 start service input tally bytes no_line no_bad = record {
   front = [];
   cut = refl;
-  counted = record { lines = no_line; bad = no_bad };
+  counted = record { lines_are = no_line; bad_are = no_bad };
   ran = λ setting history stands. record { replies = []; after = history; run = refl; stands = stands; writes = Appends-nil bytes };
   limits = refl;
   registry = refl;
@@ -183,29 +178,21 @@ start service input tally bytes no_line no_bad = record {
   bad = omega (arith, no_line, no_bad);
 }
 
-count_push : (lines : List (List ℕ)) (line : List ℕ) → count_by is_bad (lines ++ line ∷ []) ≡ count_by is_bad lines + cond (is_bad line) 1 0
-count_push lines line =
-    let joined : count_by is_bad (lines ++ line ∷ []) ≡ count_by is_bad lines + count_by is_bad (line ∷ []) = sum_by-append (λ l. cond (is_bad l) 1 0) lines (line ∷ []) in
-    omega (arith, joined)
-
-pub step : (before now later : Service) (input rest line after : List ℕ) (tally more : Tally) (old new newer : Option (List ℕ))
+pub step : (before now later : Service) (input rest line after : List ℕ) (tally : Tally) (old new newer : Option (List ℕ))
     → Progress before now input rest tally old new
     → lines_of rest ≡ line ∷ lines_of after → length after < length rest
     → ((setting : Setting) (history : History) → StandsFor setting now history → RunsAll setting history (line ∷ []) later new newer)
-    → limits_of later ≡ limits_of now → registry_of later ≡ registry_of now → more.lines ≡ tally.lines + 1 → more.bad ≡ tally.bad + cond (is_bad line) 1 0
-    → Progress before later input after more old newer
-step before now later input rest line after tally more old new newer so_far cut shorter ran limits registry lines bad = record {
+    → limits_of later ≡ limits_of now → registry_of later ≡ registry_of now
+    → Progress before later input after (with_one_more (is_bad line) tally) old newer
+step before now later input rest line after tally old new newer so_far cut shorter ran limits registry = record {
   front = so_far.front ++ line ∷ [];
   cut = so_far.cut ∙ (ap (λ (l : List (List ℕ)). so_far.front ++ l) cut ∙ sym (append_assoc so_far.front (line ∷ []) (lines_of after)));
-  counted = record {
-    lines = omega (arith, lines, so_far.counted.lines, length-append so_far.front (line ∷ []));
-    bad = bad ∙ (ap (λ (n : ℕ). n + cond (is_bad line) 1 0) so_far.counted.bad ∙ sym (count_push so_far.front line));
-  };
+  counted = counts_one_more is_bad tally so_far.front line so_far.counted;
   ran = λ setting history stands. runs_then setting history so_far.front (line ∷ []) now later old new newer (so_far.ran setting history stands) (ran setting);
   limits = limits ∙ so_far.limits;
   registry = registry ∙ so_far.registry;
-  room = omega (arith, lines, so_far.room, shorter);
-  bad = omega (arith, lines, bad, so_far.bad, at_most_one (is_bad line));
+  room = omega (arith, so_far.room, shorter);
+  bad = bad_within (is_bad line) tally so_far.bad;
 }
 
 pub stop : (before now later : Service) (input rest line after : List ℕ) (tally : Tally) (old new newer : Option (List ℕ))
@@ -228,12 +215,12 @@ all_lines before now input rest tally old new so_far none = so_far.cut ∙ (ap (
 pub line_is_left : (before now : Service) (input rest line after : List ℕ) (tally : Tally) (old new : Option (List ℕ))
     → Progress before now input rest tally old new → lines_of rest ≡ line ∷ lines_of after → tally.lines + 1 ≤ length (lines_of input)
 line_is_left before now input rest line after tally old new so_far cut =
-    omega (arith, so_far.counted.lines, ap length so_far.cut, ap length cut, length-append so_far.front (lines_of rest))
+    omega (arith, so_far.counted.lines_are, ap length so_far.cut, ap length cut, length-append so_far.front (lines_of rest))
 
 pub lines_are_within : (before now : Service) (input rest : List ℕ) (tally : Tally) (old new : Option (List ℕ))
     → Progress before now input rest tally old new → tally.lines ≤ length (lines_of input)
 lines_are_within before now input rest tally old new so_far =
-    omega (arith, so_far.counted.lines, ap length so_far.cut, length-append so_far.front (lines_of rest))
+    omega (arith, so_far.counted.lines_are, ap length so_far.cut, length-append so_far.front (lines_of rest))
 
 -- ---- the frame that a line sends
 

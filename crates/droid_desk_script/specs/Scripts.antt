@@ -1,6 +1,6 @@
 -- Runs of a script: which lines were handled, what they printed, and the history that they left.
-use Rattle.std.specs.Prelude.{◌≡◌, ℕ, ◌+◌, ◌*◌, ◌<◌, ◌≤◌, Bool, List, [], ◌∷◌, ◌++◌, length, Option, Some, None, is_none}
-use Rattle.std.specs.List.{flat_map, count_by}
+use Rattle.std.specs.Prelude.{◌≡◌, ℕ, ◌+◌, ◌*◌, ◌<◌, ◌≤◌, Bool, List, [], ◌∷◌, ◌++◌, codes, length, Option, Some, None, is_none}
+use Rattle.std.specs.List.{flat_map}
 use Rattle.std.specs.Io.KnownBytes.{Appends}
 use Rattle.droid_frame.specs.types.frame.Frame.{Frame}
 use Rattle.droid_frame.specs.types.reply.Reply.{Reply}
@@ -10,7 +10,6 @@ use Rattle.droid_desk_script.specs.declared.fault.ScriptFault.TheVariants.{TooLo
 use Rattle.droid_frame.specs.stream_types.fault.InputFault.{InputFault}
 use Rattle.droid_frame.specs.stream_types.fault.InputFault.TheVariants as inputs
 use Rattle.droid_desk_lines.specs.declared.parse.Line.{Line}
-use Rattle.droid_desk_script.specs.declared.tally.Tally.{Tally}
 use Rattle.droid_core.specs.declared.service.Service.{Service}
 use Rattle.droid_core.specs.Setting.{Setting}
 use Rattle.droid_core.specs.Histories.{History, Handles}
@@ -108,10 +107,12 @@ reading_fault inputs.Read = Read
 abbrev pub is_bad : List ℕ → Bool
 is_bad line = is_none (line_value line)
 
--- the lines, and the bad ones among them
-pub record Counts (tally : Tally) (script : List (List ℕ)) : Type 0 where
-  pub lines : tally.lines ≡ length script
-  pub bad : tally.bad ≡ count_by is_bad script
+-- what the program calls a fault
+abbrev pub script_fault_name : ScriptFault → List ℕ
+script_fault_name TooLong = codes "TooLong"
+script_fault_name Read = codes "Read"
+script_fault_name Memory = codes "Memory"
+script_fault_name Write = codes "Write"
 
 -- the faults that come before any line is handled
 abbrev pub IsOfReading : ScriptFault → Type 0

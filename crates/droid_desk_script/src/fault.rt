@@ -1,27 +1,47 @@
 //! Why a script ends early.
 
 ghost use Rattle.std.specs.Prelude.{◌≡◌};
+ghost use Rattle.droid_desk_script.specs.Scripts.{script_fault_name};
 
 use droid_frame::{InputFault, WriteFault};
 use std::alloc::AllocError;
-use thiserror::Error;
+use std::error::Error;
+use std::fmt::{self, Display, Formatter, Write};
 
 /// Why a script ended before its last line. It is shown by its name, as the program prints it.
-#[derive(Debug, Drop, Error)]
+#[derive(Debug, Drop)]
 pub enum ScriptFault {
     /// The input is longer than 67,108,864 bytes. No line was handled.
-    #[error("TooLong")]
     TooLong,
     /// The input could not be read. No line was handled.
-    #[error("Read")]
     Read,
     /// Memory was refused.
-    #[error("Memory")]
     Memory,
     /// A reply could not be written.
-    #[error("Write")]
     Write,
 }
+
+impl ScriptFault {
+    /// The name that the program prints.
+    pub fn name(&self) -> &'static str
+        ensures { result.now ≡ script_fault_name self.now }
+    {
+        match self {
+            ScriptFault::TooLong => "TooLong",
+            ScriptFault::Read => "Read",
+            ScriptFault::Memory => "Memory",
+            ScriptFault::Write => "Write",
+        }
+    }
+}
+
+impl Display for ScriptFault {
+    fn fmt<W: Write>(&self, f: &mut Formatter<W>) -> fmt::Result {
+        f.write_str(self.name())
+    }
+}
+
+impl Error for ScriptFault {}
 
 impl From<AllocError> for ScriptFault {
     ghost use Rattle.droid_desk_script.specs.declared.fault.ScriptFault.TheVariants.{Memory};

@@ -6,20 +6,20 @@ ghost use Rattle.droid_frame.specs.Seen.{IsSound, TellsFault};
 ghost use Rattle.droid_core.specs.Histories.{History};
 ghost use Rattle.droid_core.specs.Setting.{Setting};
 ghost use Rattle.droid_desk_lines.specs.Lines.{lines_of};
-ghost use Rattle.droid_desk_script.specs.Scripts.{RunsAll, RunsFront, Counts, GoesOnFrom, IsOfHandling, IsOfReading, IsTooLong, WritesAnswer};
+ghost use Rattle.droid_desk_lines.specs.Tallies.{Counts};
+ghost use Rattle.droid_desk_script.specs.Scripts.{RunsAll, RunsFront, GoesOnFrom, IsOfHandling, IsOfReading, IsTooLong, WritesAnswer, is_bad};
 ghost use Rattle.droid_frame.specs.InTurn.{AtMost, TellsFaultInTurn};
 ghost use Rattle.droid_core.specs.Standing.{StandsFor, limits_of, registry_of};
 
 mod fault;
 mod run;
-mod tally;
 
 use droid_core::Service;
+use droid_desk_lines::Tally;
 use droid_frame::{SteadyRead, SteadyWrite, read_to_end};
 pub use fault::ScriptFault;
 use run::run_lines;
 use std::alloc::Global;
-pub use tally::Tally;
 
 /// How many bytes a script has at most.
 const INPUT_LIMIT: usize = 67_108_864;
@@ -35,7 +35,7 @@ pub fn script<R: SteadyRead, W: SteadyWrite>(
     // All lines ran, and all that they print was written.
     ensures all { (setting : Setting) (history : History) → StandsFor setting service.old history → OnOk result (IfSome (R.remaining reader.old) (λ input.
         RunsAll setting history (lines_of input) service.new (W.contents writer.old) (W.contents writer.new))) }
-    ensures tally { IfOk result (λ tally. IfSome (R.remaining reader.old) (λ input. Counts tally (lines_of input))) }
+    ensures tally { IfOk result (λ tally. IfSome (R.remaining reader.old) (λ input. Counts is_bad tally (lines_of input))) }
     // After want of memory, or a write that failed, the first lines ran, and the first bytes of what they
     // print were written.
     ensures front { (setting : Setting) (history : History) → StandsFor setting service.old history → IfErr result (λ fault. IsOfHandling fault → IfSome (R.remaining reader.old) (λ input.

@@ -5,15 +5,15 @@ ghost use Rattle.droid_frame.specs.Seen.{IsSound, TellsFault};
 ghost use Rattle.droid_core.specs.Histories.{History};
 ghost use Rattle.droid_core.specs.Setting.{Setting};
 ghost use Rattle.droid_desk_lines.specs.Lines.{lines_of, line_value};
-ghost use Rattle.droid_desk_script.specs.Scripts.{RunsAll, RunsFront, LineAnswered, Counts, IsOfHandling, WritesAnswer, is_bad};
+ghost use Rattle.droid_desk_lines.specs.Tallies.{Counts};
+ghost use Rattle.droid_desk_script.specs.Scripts.{RunsAll, RunsFront, LineAnswered, IsOfHandling, WritesAnswer, is_bad};
 ghost use Rattle.droid_frame.specs.types.reply.Reply.{Reply};
 ghost use Rattle.droid_frame.specs.InTurn.{TellsFaultInTurn};
 ghost use Rattle.droid_core.specs.Standing.{StandsFor, limits_of, registry_of};
 
 use crate::fault::ScriptFault;
-use crate::tally::Tally;
 use droid_core::Service;
-use droid_desk_lines::{next_line, parse_line, print_answer};
+use droid_desk_lines::{Tally, next_line, parse_line, print_answer};
 use droid_frame::{Progress, Reply, SteadyWrite, request_frame, write_all};
 use std::alloc::{AllocError, Global};
 
@@ -28,7 +28,7 @@ pub fn run_lines<W: SteadyWrite>(
         OnOk result (RunsAll setting history (lines_of input.now) service.new (W.contents writer.old) (W.contents writer.new)) }
     ensures front { (setting : Setting) (history : History) → StandsFor setting service.old history →
         OnErr result (RunsFront setting history (lines_of input.now) service.new (W.contents writer.old) (W.contents writer.new)) }
-    ensures tally { IfOk result (λ tally. Counts tally (lines_of input.now)) }
+    ensures tally { IfOk result (λ tally. Counts is_bad tally (lines_of input.now)) }
     ensures limits { limits_of service.new ≡ limits_of service.old }
     ensures registry { registry_of service.new ≡ registry_of service.old }
     ensures told { IsSound (W.seen writer.old) → W.room writer.old ≡ None →
@@ -39,10 +39,7 @@ pub fn run_lines<W: SteadyWrite>(
     let mut rest = input;
     while let Some((line, after)) = next_line(rest) {
         let is_bad = run_line(alloc, service, line, writer)?;
-        tally.lines += 1;
-        if is_bad {
-            tally.bad += 1;
-        }
+        tally.count(is_bad);
         rest = after;
     }
     Ok(tally)

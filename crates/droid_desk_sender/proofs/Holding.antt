@@ -11,18 +11,18 @@ use Rattle.droid_frame.specs.types.refusal.Refusal.{Refusal}
 use Rattle.droid_frame.specs.types.reply.Reply.{Reply}
 use Rattle.droid_frame.specs.types.reply.Reply.TheVariants.{Made, Node, Taken, Finished, Abandoned, Progress, Part, Refused}
 use Rattle.droid_frame.specs.types.request.Request.{Request}
-use Rattle.droid_wire.specs.client_types.heard.Heard.{Heard}
-use Rattle.droid_wire.specs.client_types.heard.Heard.TheVariants as heard
-use Rattle.droid_wire.specs.client_types.slot.Slot.{Slot}
-use Rattle.droid_wire.specs.client_types.slot.State.{State}
-use Rattle.droid_wire.specs.client_types.slot.State.TheVariants.{Pending, Answered}
-use Rattle.droid_wire.specs.Cores.{Core, answer_in, answer_of, belongs, core_hearing, core_submitting, heard_by, heard_in, heard_of, heard_pending, new_slot, next_frame, pending_in, pending_of, refusal_in, refusal_of, slot_after, slot_answer, slot_at, slot_hearing, slot_refusal, slots_hearing}
+use Rattle.droid_wire_client.specs.declared.heard.Heard.{Heard}
+use Rattle.droid_wire_client.specs.declared.heard.Heard.TheVariants as heard
+use Rattle.droid_wire_client.specs.declared.slot.Slot.{Slot}
+use Rattle.droid_wire_client.specs.declared.slot.State.{State}
+use Rattle.droid_wire_client.specs.declared.slot.State.TheVariants.{Pending, Answered}
+use Rattle.droid_wire_client.specs.Cores.{Core, answer_in, answer_of, belongs, core_hearing, core_submitting, heard_by, heard_in, heard_of, heard_pending, new_slot, next_frame, pending_in, pending_of, refusal_in, refusal_of, slot_after, slot_answer, slot_at, slot_hearing, slot_refusal, slots_hearing}
 use Rattle.droid_frame.specs.Replies.{SpellsReply}
 use Rattle.droid_desk_lines.specs.Printed.{answer_line}
 use Rattle.droid_desk_sender.specs.Exchanges.{IsTaken}
 use Rattle.droid_desk_sender.specs.Steps.{Takes}
-use Rattle.droid_wire.proofs.Elements.{set_here}
-use Rattle.droid_wire.proofs.Steps.{slot_found}
+use Rattle.droid_wire_client.proofs.Elements.{set_here}
+use Rattle.droid_wire_client.proofs.Numbers.{slot_found}
 
 -- ---- the frame that was submitted last
 

@@ -7,8 +7,8 @@ use Rattle.droid_frame.specs.Frames.{frame_bytes}
 use Rattle.droid_frame.specs.types.frame.Frame.{Frame}
 use Rattle.droid_frame.specs.types.reply.Reply.{Reply}
 use Rattle.droid_frame.specs.types.request.Request.{Request}
-use Rattle.droid_wire.specs.Cores.{Core, core_hearing, core_submitting, new_slot, next_frame, next_number, slot_at, slot_hearing, slots_hearing}
-use Rattle.droid_wire.specs.client_types.slot.Slot.{Slot}
+use Rattle.droid_wire_client.specs.Cores.{Core, core_hearing, core_submitting, new_slot, next_frame, next_number, slot_at, slot_hearing, slots_hearing}
+use Rattle.droid_wire_client.specs.declared.slot.Slot.{Slot}
 use Rattle.droid_desk_sender.specs.Exchanges.{Exchange, GoodLine, LinesSent, sent_bytes}
 use Rattle.droid_desk_sender.specs.Numbering.{WritesNumbered, numbered_frames, requests_of}
 use Rattle.droid_desk_sender.specs.Sending.{Sends}

@@ -4,7 +4,7 @@ use Rattle.std.specs.Prelude.{IsErrAnd}
 use Rattle.droid_frame.specs.Seen.{Counts, GivesUp, TellsFault}
 use Rattle.droid_frame.specs.stream_types.seen.Seen.{Seen}
 use Rattle.droid_frame.proofs.Scopes.{lasts}
-use Rattle.droid_wire.specs.Cores.{Core}
+use Rattle.droid_wire_client.specs.Cores.{Core}
 use Rattle.droid_desk_sender.specs.Reading.{CountsUnless}
 use Rattle.droid_desk_sender.specs.Sending.{IsOfReading}
 use Rattle.droid_desk_sender.specs.declared.fault.SendFault.{SendFault}

@@ -1,19 +1,20 @@
 -- Lines that were sent, and one line more.
-use Rattle.std.proofs.Common.{◌≡◌, ℕ, ◌+◌, ◌≤◌, Bool, true, false, cond, List, [], ◌∷◌, ◌++◌, length, Option, Some, None, IfSome, refl, sym, ap, subst, ◌∙◌, append_assoc, append-nil, arith, inl, inr, length-append}
-use Rattle.std.specs.List.{count_by, flat_map}
+use Rattle.std.proofs.Common.{◌≡◌, ℕ, ◌+◌, Bool, List, [], ◌∷◌, ◌++◌, length, Option, Some, None, IfSome, refl, sym, ap, subst, ◌∙◌, append_assoc, append-nil, arith, inl, inr, length-append}
+use Rattle.std.specs.List.{flat_map}
 use Rattle.std.specs.Option.{option_map}
 use Rattle.std.specs.Io.KnownBytes.{Appends, Consumes}
 use Rattle.std.proofs.KnownBytes.{Appends-nil, Appends-trans, Consumes-nil, Consumes-trans, Keeps-refl}
 use Rattle.std.proofs.lemmas.Grind.{flat_map-append}
-use Rattle.std.proofs.lemmas.List.Sums.{sum_by-append}
-use Rattle.droid_wire.specs.Cores.{Core}
+use Rattle.droid_wire_client.specs.Cores.{Core}
 use Rattle.droid_frame.specs.InTurn.{AtMost}
 use Rattle.droid_desk_lines.specs.Lines.{lines_of}
+use Rattle.droid_desk_lines.specs.Tallies.{Counts, with_one_more}
+use Rattle.droid_desk_lines.specs.declared.tally.Tally.{Tally}
+use Rattle.droid_desk_lines.proofs.Tallies.{counts_one_more}
 use Rattle.droid_desk_sender.specs.declared.fault.SendFault.{SendFault}
-use Rattle.droid_desk_sender.specs.declared.tally.Tally.{Tally}
 use Rattle.droid_desk_sender.specs.Exchanges.{Exchange, LineSent, LinesSent, came_bytes, is_bad, printed, sent_bytes}
 use Rattle.droid_desk_sender.specs.Reading.{GivesLine}
-use Rattle.droid_desk_sender.specs.Sending.{Counts, IsOfReading, Sends, SendsAll, SendsFront}
+use Rattle.droid_desk_sender.specs.Sending.{IsOfReading, Sends, SendsAll, SendsFront}
 use Rattle.droid_desk_sender.specs.Steps.{LineDone}
 use Rattle.droid_desk_sender.specs.Stopping.{LineStops, Unsent}
 
@@ -49,7 +50,7 @@ sends_more core middle after lines line bad input left rest old_frames frames ne
 pub record SoFar (core : Core) (script rest input left old_frames frames old_text text : Option (List ℕ)) (after : Core) (tally : Tally) : Type 0 where
   pub lines : List (List ℕ)
   pub are : IfSome script (λ known. (unread : List ℕ) × (rest ≡ Some unread) × (lines_of known ≡ lines ++ lines_of unread))
-  pub counts : Counts tally lines
+  pub counts : Counts is_bad tally lines
   pub sends : Sends core lines input left old_frames frames old_text text after
 
 start_here : (script : Option (List ℕ)) → IfSome script (λ known. (unread : List ℕ) × (script ≡ Some unread) × (lines_of known ≡ [] ++ lines_of unread))
@@ -73,22 +74,14 @@ next_here (Some known) rest more lines line are gives =
     let here : GivesLine are.0 more (Some line) = subst (λ (o : Option (List ℕ)). IfSome o (λ unread. GivesLine unread more (Some line))) are.1 gives in
     (here.0, here.1, are.2 ∙ (ap (λ (ls : List (List ℕ)). lines ++ ls) here.2 ∙ sym (append_assoc lines (line ∷ []) (lines_of here.0))))
 
-count_push : (lines : List (List ℕ)) (line : List ℕ) → count_by is_bad (lines ++ line ∷ []) ≡ count_by is_bad lines + cond (is_bad line) 1 0
-count_push lines line =
-    let joined = sum_by-append (λ l. cond (is_bad l) 1 0) lines (line ∷ []) in
-    omega (arith, joined)
-
-pub step : (core middle after : Core) (script rest more input left now old_frames frames new_frames old_text text new_text : Option (List ℕ)) (line : List ℕ) (bad : Bool) (tally next : Tally)
+pub step : (core middle after : Core) (script rest more input left now old_frames frames new_frames old_text text new_text : Option (List ℕ)) (line : List ℕ) (bad : Bool) (tally : Tally)
     → SoFar core script rest input left old_frames frames old_text text middle tally → IfSome rest (λ unread. GivesLine unread more (Some line))
-    → LineDone middle line left now frames new_frames text new_text after bad → next.lines ≡ tally.lines + 1 → next.bad ≡ tally.bad + cond bad 1 0
-    → SoFar core script more input now old_frames new_frames old_text new_text after next
-step core middle after script rest more input left now old_frames frames new_frames old_text text new_text line bad tally next so_far gives done one bads = record {
+    → LineDone middle line left now frames new_frames text new_text after bad
+    → SoFar core script more input now old_frames new_frames old_text new_text after (with_one_more bad tally)
+step core middle after script rest more input left now old_frames frames new_frames old_text text new_text line bad tally so_far gives done = record {
   lines = so_far.lines ++ line ∷ [];
   are = next_here script rest more so_far.lines line so_far.are gives;
-  counts = record {
-    lines_are = omega (arith, one, so_far.counts.lines_are, length-append so_far.lines (line ∷ []));
-    bad_are = bads ∙ (ap (λ (n : ℕ). n + cond bad 1 0) so_far.counts.bad_are ∙ (ap (λ (b : Bool). count_by is_bad so_far.lines + cond b 1 0) done.bad_is ∙ sym (count_push so_far.lines line)));
-  };
+  counts = rw done.bad_is (counts_one_more is_bad tally so_far.lines line so_far.counts);
   sends = sends_more core middle after so_far.lines line bad input left now old_frames frames new_frames old_text text new_text so_far.sends done;
 }
 
@@ -179,11 +172,3 @@ pub gives_found : {A : Type 0} (view : A → List ℕ) (rest more : Option (List
 gives_found {A} view rest more found item line is same gives =
     subst (λ (l : List ℕ). IfSome rest (λ unread. GivesLine unread more (Some l))) (sym same)
     (subst (λ (o : Option A). IfSome rest (λ unread. GivesLine unread more (option_map view o))) is gives)
-
--- it adds one at most to the bad ones
-pub one_at_most : (bad : Bool) → cond bad 1 0 ≤ 1
-one_at_most true = omega arith
-one_at_most false = omega arith
-
-pub plus_none : (count : ℕ) → count ≡ count + 0
-plus_none count = omega arith

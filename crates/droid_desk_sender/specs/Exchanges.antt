@@ -6,9 +6,9 @@ use Rattle.droid_frame.specs.Streams.{IsReadable}
 use Rattle.droid_frame.specs.types.frame.Frame.{Frame}
 use Rattle.droid_frame.specs.types.reply.Reply.{Reply}
 use Rattle.droid_frame.specs.types.request.Request.{Request}
-use Rattle.droid_wire.specs.Cores.{Core, core_hearing, core_submitting, heard_of, next_frame, next_number}
-use Rattle.droid_wire.specs.client_types.heard.Heard.{Heard}
-use Rattle.droid_wire.specs.client_types.heard.Heard.TheVariants as heard
+use Rattle.droid_wire_client.specs.Cores.{Core, core_hearing, core_submitting, heard_of, next_frame, next_number}
+use Rattle.droid_wire_client.specs.declared.heard.Heard.{Heard}
+use Rattle.droid_wire_client.specs.declared.heard.Heard.TheVariants as heard
 use Rattle.droid_desk_lines.specs.Lines.{request_value}
 use Rattle.droid_desk_lines.specs.Printed.{answer_line}
 

@@ -5,7 +5,7 @@ use Rattle.std.specs.List.{filter_map, flat_map}
 use Rattle.droid_frame.specs.Frames.{frame_bytes}
 use Rattle.droid_frame.specs.types.frame.Frame.{Frame}
 use Rattle.droid_frame.specs.types.request.Request.{Request}
-use Rattle.droid_wire.specs.Cores.{Core, frame_of, next_number}
+use Rattle.droid_wire_client.specs.Cores.{Core, frame_of, next_number}
 use Rattle.droid_desk_lines.specs.Lines.{request_value}
 use Rattle.droid_desk_sender.specs.Sending.{Sends}
 

@@ -1,12 +1,13 @@
 -- Sending the lines of a script, one after the other (this project's own).
 use Rattle.std.specs.Prelude.{◌≡◌, ℕ, ◌⊎◌, List, ◌∷◌, ◌++◌, length, Option, IfSome}
 use Rattle.std.specs.Io.KnownBytes.{Appends, Consumes}
-use Rattle.std.specs.List.{count_by, flat_map}
-use Rattle.droid_wire.specs.Cores.{Core}
+use Rattle.std.specs.List.{flat_map}
+use Rattle.droid_wire_client.specs.Cores.{Core}
 use Rattle.droid_desk_lines.specs.Lines.{lines_of}
+use Rattle.droid_desk_lines.specs.Tallies.{Counts}
+use Rattle.droid_desk_lines.specs.declared.tally.Tally.{Tally}
 use Rattle.droid_desk_sender.specs.declared.fault.SendFault.{SendFault}
 use Rattle.droid_desk_sender.specs.declared.fault.SendFault.TheVariants.{Lines, Memory}
-use Rattle.droid_desk_sender.specs.declared.tally.Tally.{Tally}
 use Rattle.droid_desk_sender.specs.Exchanges.{Exchange, LinesSent, came_bytes, is_bad, printed, sent_bytes}
 use Rattle.droid_desk_sender.specs.Stopping.{LineStops, Undone}
 
@@ -19,16 +20,11 @@ pub record Sends (core : Core) (lines : List (List ℕ)) (input left old_frames 
   pub frames : Appends old_frames new_frames (flat_map sent_bytes exchanges)
   pub text : Appends old_text new_text (flat_map printed exchanges)
 
--- the lines, and the bad ones among them
-pub record Counts (tally : Tally) (lines : List (List ℕ)) : Type 0 where
-  pub lines_are : tally.lines ≡ length lines
-  pub bad_are : tally.bad ≡ count_by is_bad lines
-
 -- all lines of the script, where it is known, were sent
 pub record SendsAll (core : Core) (script input left old_frames new_frames old_text new_text : Option (List ℕ)) (after : Core) (tally : Tally) : Type 0 where
   pub lines : List (List ℕ)
   pub are_all : IfSome script (λ known. lines_of known ≡ lines)
-  pub counts : Counts tally lines
+  pub counts : Counts is_bad tally lines
   pub sends : Sends core lines input left old_frames new_frames old_text new_text after
 
 -- the faults that may come between two lines

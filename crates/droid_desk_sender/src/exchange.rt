@@ -6,7 +6,7 @@ ghost use Rattle.droid_frame.specs.Seen.{IsSound, TellsFault};
 ghost use Rattle.droid_frame.specs.Bodies.{Fits};
 ghost use Rattle.droid_frame.specs.Frames.{frame_bytes};
 ghost use Rattle.droid_frame.specs.types.request.Request.{Request};
-ghost use Rattle.droid_wire.specs.Cores.{Core, core_submitting, next_frame, next_number};
+ghost use Rattle.droid_wire_client.specs.Cores.{Core, core_submitting, next_frame, next_number};
 ghost use Rattle.droid_desk_sender.specs.Steps.{ReplyComes, RequestGoes};
 ghost use Rattle.droid_desk_sender.specs.Stopping.{WritesFront};
 
@@ -15,7 +15,7 @@ use droid_frame::{
     Arrival, Frame, FrameFault, Request, SteadyRead, SteadyWrite, WriteFault, read_frame,
     write_frame,
 };
-use droid_wire::Client;
+use droid_wire_client::Client;
 use std::alloc::Global;
 
 /// Submits a request, and sends its frame.

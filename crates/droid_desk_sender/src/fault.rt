@@ -1,50 +1,71 @@
 //! Why sending ends early.
 
 ghost use Rattle.std.specs.Prelude.{◌≡◌};
+ghost use Rattle.droid_desk_sender.specs.Faults.{frame_fault_name, send_fault_name};
 
 use droid_frame::{FrameFault, ReadFault};
-use droid_wire::{HearFault, SubmitFault};
+use droid_wire_client::{HearFault, SubmitFault};
 use std::alloc::AllocError;
-use thiserror::Error;
+use std::error::Error;
+use std::fmt::{self, Display, Formatter, Write};
 
 /// Why sending ended before the last line. It is shown by its name, as the program prints it.
-#[derive(Clone, Copy, Debug, PartialEq, Eq, Error)]
+#[derive(Clone, Copy, Debug, PartialEq, Eq)]
 pub enum SendFault {
     /// The lines could not be read.
-    #[error("Read")]
     Lines,
     /// Memory was refused, or there are more lines than 2^64 - 2.
-    #[error("Memory")]
     Memory,
     /// The next number would be 2^63.
-    #[error("NumbersUsedUp")]
     NumbersUsedUp,
     /// A request's frame could not be written.
-    #[error("Write")]
     Frames,
     /// The replies ended where one was due.
-    #[error("Closed")]
     Closed,
     /// No reply's frame could be read.
-    #[error("{}", frame_fault_name(.0))]
     Replies(FrameFault),
     /// A frame came that holds no reply.
-    #[error("Malformed")]
     Malformed,
     /// A reply came to another client, to a number that was never submitted, or of a kind that doesn't belong to
     /// the request.
-    #[error("Stranger")]
     Stranger,
     /// A reply came to a request that has its answer already.
-    #[error("Repeated")]
     Repeated,
     /// What a line prints could not be written.
-    #[error("Write")]
     Text,
 }
 
-/// The name of a frame's fault.
-fn frame_fault_name(fault: &FrameFault) -> &'static str {
+impl SendFault {
+    /// The name that the program prints.
+    pub fn name(&self) -> &'static str
+        ensures { result.now ≡ send_fault_name self.now }
+    {
+        match self {
+            SendFault::Lines => "Read",
+            SendFault::Memory => "Memory",
+            SendFault::NumbersUsedUp => "NumbersUsedUp",
+            SendFault::Frames | SendFault::Text => "Write",
+            SendFault::Closed => "Closed",
+            SendFault::Replies(fault) => frame_fault_name(fault),
+            SendFault::Malformed => "Malformed",
+            SendFault::Stranger => "Stranger",
+            SendFault::Repeated => "Repeated",
+        }
+    }
+}
+
+impl Display for SendFault {
+    fn fmt<W: Write>(&self, f: &mut Formatter<W>) -> fmt::Result {
+        f.write_str(self.name())
+    }
+}
+
+impl Error for SendFault {}
+
+/// The name of a frame's fault, as the program prints it.
+pub fn frame_fault_name(fault: &FrameFault) -> &'static str
+    ensures { result.now ≡ frame_fault_name fault.now }
+{
     match fault {
         FrameFault::Truncated => "Truncated",
         FrameFault::BadVersion => "BadVersion",

@@ -8,8 +8,6 @@ pub mod laws;
 mod line_reader;
 mod printing;
 mod sending;
-mod tally;
 
-pub use fault::SendFault;
+pub use fault::{SendFault, frame_fault_name};
 pub use sending::send;
-pub use tally::Tally;

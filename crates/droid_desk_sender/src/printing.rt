@@ -3,7 +3,7 @@
 ghost use Rattle.std.specs.Prelude.{◌≡◌, None, Some, IfOk, IfErr, OnOk, OnErr, IsErrOf, IsSome};
 ghost use Rattle.std.specs.Io.KnownBytes.{Appends};
 ghost use Rattle.droid_frame.specs.Seen.{IsSound, TellsFault};
-ghost use Rattle.droid_wire.specs.Cores.{answer_of, refusal_of};
+ghost use Rattle.droid_wire_client.specs.Cores.{answer_of, refusal_of};
 ghost use Rattle.droid_frame.specs.types.refusal.Refusal.{Refusal};
 ghost use Rattle.droid_frame.specs.types.reply.Reply.{Reply};
 ghost use Rattle.droid_desk_lines.specs.Printed.{answer_line};
@@ -13,7 +13,7 @@ ghost use Rattle.droid_desk_sender.specs.Stopping.{WritesFront};
 use crate::fault::SendFault;
 use droid_desk_lines::{print_answer, print_reply};
 use droid_frame::{Frame, Progress, Reply, SteadyWrite, write_all};
-use droid_wire::{Client, Heard};
+use droid_wire_client::{Client, Heard};
 use std::alloc::{AllocError, Global};
 
 /// Lets the client hear a reply's frame, and gives what is printed of the reply that it took.

@@ -14,10 +14,9 @@ use crate::exchange::{read_reply, send_request};
 use crate::fault::SendFault;
 use crate::line_reader::LineReader;
 use crate::printing::{hear, print_bad, write_text};
-use crate::tally::Tally;
-use droid_desk_lines::parse_request_line;
+use droid_desk_lines::{Tally, parse_request_line};
 use droid_frame::{FrameFault, Request, Retries, SteadyRead, SteadyWrite};
-use droid_wire::Client;
+use droid_wire_client::Client;
 use std::alloc::Global;
 
 /// Reads lines, submits the request of each, sends its frame, and prints the reply that comes next; a bad line
@@ -57,10 +56,7 @@ pub fn send<L: SteadyRead, R: SteadyRead, F: SteadyWrite, T: SteadyWrite>(
             return Ok(tally);
         };
         let is_bad = send_line(alloc, client, line.as_slice(), replies, frames, text)?;
-        tally.lines += 1;
-        if is_bad {
-            tally.bad += 1;
-        }
+        tally.count(is_bad);
     }
     Err(SendFault::Memory)
 }

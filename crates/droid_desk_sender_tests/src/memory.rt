@@ -3,7 +3,8 @@
 //! sending again gives the whole.
 
 use crate::frames::{CREATE, MADE, joined};
-use droid_desk_sender::{SendFault, Tally, send};
+use droid_desk_lines::Tally;
+use droid_desk_sender::{SendFault, send};
 use droid_frame::FrameFault;
 use droid_wire::Client;
 use std::alloc::{AllocError, Global};

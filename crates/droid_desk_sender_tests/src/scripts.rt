@@ -2,7 +2,7 @@
 
 use crate::frames::{CREATE, FOLDER, MADE, NODE, REFUSED, joined};
 use crate::sending::{LINES, Outcome, Streams, sent, steady};
-use droid_desk_sender::Tally;
+use droid_desk_lines::Tally;
 use droid_frame_shaky::{STEADY, ShakyReader, Stop};
 use std::alloc::Global;
 use std::test::Fail;

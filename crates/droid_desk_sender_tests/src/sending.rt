@@ -1,7 +1,8 @@
 //! Sending two lines over streams that stop.
 
 use crate::frames::{MADE, NODE, joined};
-use droid_desk_sender::{SendFault, Tally, send};
+use droid_desk_lines::Tally;
+use droid_desk_sender::{SendFault, send};
 use droid_frame::Unsteady;
 use droid_frame_shaky::{STEADY, ShakyReader, ShakyWriter, Stop};
 use droid_wire::Client;

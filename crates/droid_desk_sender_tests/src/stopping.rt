@@ -3,7 +3,8 @@
 
 use crate::frames::{CREATE, FOLDER, joined};
 use crate::sending::{LINES, PRINTED, Streams, replies, sent, steady};
-use droid_desk_sender::{SendFault, Tally};
+use droid_desk_lines::Tally;
+use droid_desk_sender::SendFault;
 use droid_frame::FrameFault;
 use droid_frame_shaky::{BYTE_BY_BYTE, Manner, NOWHERE, STEADY, ShakyReader, ShakyWriter, Stop};
 use std::alloc::Global;

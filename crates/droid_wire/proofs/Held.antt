@@ -17,8 +17,9 @@ use Rattle.droid_wire_client.specs.Cores.{Core, answer_in, new_core, next_frame,
 use Rattle.droid_wire.specs.Desks.{Desk, IsDesk, is_command, is_refused}
 use Rattle.droid_wire.specs.Schedules.{AreHeld, AreOnce, AreOnes, Event, Submits, Arrives, Wants, Replies, Drops, IsOnlyEntry, Moment, NoneReused, Sent, Want, WasAnswer, arrived, happens, replied, run, start, submitted, wanted}
 use Rattle.droid_wire_client.proofs.Elements.{counted}
+use Rattle.droid_wire_client.proofs.Numbers.{slot_found}
 use Rattle.droid_wire.proofs.Invariant.{Within, Says, Refusing, Kept, Told, IsSlot, IsState, Holds, same_within}
-use Rattle.droid_wire.proofs.Steps.{Marks, keeps, slot_found}
+use Rattle.droid_wire.proofs.Steps.{Marks, keeps}
 
 -- ---- frames are never taken back
 

@@ -1,4 +1,3 @@
-pub use Rattle.droid_wire_client.proofs.Elements
 pub mod Alone
 pub mod AnswersOnce
 pub mod Ends

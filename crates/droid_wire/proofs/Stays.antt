@@ -17,8 +17,8 @@ use Rattle.droid_wire.specs.Desks.{Desk}
 use Rattle.droid_wire.specs.Schedules.{Event, Submits, Arrives, Wants, Replies, Drops, Moment, Sent, Want, answer_at, arrived, core_answer, happens, replied, run, submitted, wanted}
 use Rattle.droid_wire_client.proofs.Elements.{push_stays, set_here, set_stays}
 use Rattle.droid_wire_client.proofs.Hearing.{was_pending}
+use Rattle.droid_wire_client.proofs.Numbers.{slot_found}
 use Rattle.droid_wire.proofs.Held.{answered_slot, run_append}
-use Rattle.droid_wire.proofs.Steps.{slot_found}
 
 -- a core that holds this answer to this number
 abbrev Keeps : Core → ℕ → Reply → Type 0

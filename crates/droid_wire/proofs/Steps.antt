@@ -2,7 +2,7 @@
 use Rattle.std.proofs.Common.{◌≡◌, ◌≢◌, ℕ, ◌+◌, ◌-◌, ◌^◌, ◌≤◌, ◌==◌, ◌&&◌, Bool, true, false, cond, ltb, List, [], ◌∷◌, ◌++◌, set, Option, Some, None, refl, sym, ap, ◌∙◌, subst, arith, inl, inr}
 use Rattle.std.specs.Bool.{if◌then◌else◌}
 use Rattle.std.specs.List.{Contains, count_by, slice_get}
-use Rattle.std.proofs.lemmas.Bool.{eqb-true, ltb-false}
+use Rattle.std.proofs.lemmas.Bool.{eqb-true}
 use Rattle.std.proofs.lemmas.Bool.Decides.{eqb_tells}
 use Rattle.std.proofs.lemmas.List.Elements.{Contains-append_left, Contains-push, Contains-push_cases}
 use Rattle.droid_frame.specs.types.frame.Frame.{Frame}
@@ -20,6 +20,7 @@ use Rattle.droid_wire_client.specs.Cores.{Core, belongs, core_hearing, core_subm
 use Rattle.droid_wire.specs.Desks.{Desk, Comes, Again, Accepts, Refuses, Tells, IsDesk, IsItsOwn, entry_at, is_command, is_refused}
 use Rattle.droid_wire.specs.Schedules.{AreOnes, Event, Submits, Arrives, Wants, Replies, Drops, Moment, Sent, Want, OfMemory, OfStore, arrived, happens, refusal_for, replied, reply_to, submitted, wanted}
 use Rattle.droid_wire_client.proofs.Elements.{contains_got, count_push, found_in, none_there, push_cases, set_cases}
+use Rattle.droid_wire_client.proofs.Numbers.{slot_found}
 use Rattle.droid_wire.proofs.Invariant.{Within, IsEntry, Says, Refusing, Kept, Told, IsRequest, IsReply, IsSlot, IsCore, Holds, same_within, reply_more, slot_more, core_more, entry_more}
 
 -- ---- a core submits
@@ -192,15 +193,6 @@ hearing_slot Was desk history frames client number slot reply heard.Answered so 
 hearing_slot Was desk history frames client number slot reply heard.Refused so is says = record { frame = is.frame; request = is.request; kind_is = is.kind_is; state = is.state }
 hearing_slot Was desk history frames client number slot reply heard.Repeated so is says = is
 hearing_slot Was desk history frames client number slot reply heard.Stranger so is says = is
-
-slot_found_by : (b : Bool) (core : Core) (number : ℕ) (slot : Slot) → ltb number core.first ≡ b → (if b then None else slice_get core.slots (number - core.first)) ≡ Some slot
-    → (core.first ≤ number) × (slice_get core.slots (number - core.first) ≡ Some slot)
-slot_found_by true core number slot is there = absurd cc
-slot_found_by false core number slot is there = (ltb-false number core.first is, there)
-
--- the slot of a number stands at its place
-pub slot_found : (core : Core) (number : ℕ) (slot : Slot) → slot_at core number ≡ Some slot → (core.first ≤ number) × (slice_get core.slots (number - core.first) ≡ Some slot)
-slot_found core number slot there = slot_found_by (ltb number core.first) core number slot refl there
 
 hearing_slots : (Was : History → Frame → Type 0) (desk : Desk) (history : History) (frames : List Frame) (core : Core) (number : ℕ) (reply : Reply) (o : Option Slot) → slot_at core number ≡ o → IsCore Was desk history frames core
     → ((frame : Frame) → IsRequest frames frame core.client number → Says Was desk history frame reply) → IsCore Was desk history frames (record core { slots = slots_hearing core number reply o })

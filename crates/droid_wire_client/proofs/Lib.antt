@@ -1,3 +1,4 @@
 pub mod Elements
 pub mod Hearing
+pub mod Numbers
 pub mod PendingPlaces

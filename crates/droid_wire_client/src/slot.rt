@@ -8,7 +8,7 @@ use crate::heard::Heard;
 use droid_frame::{Frame, Refusal, Reply};
 
 /// A submitted request: its kind, whether it is answered, and its last refusal.
-#[derive(Debug, Drop)]
+#[derive(Drop)]
 pub(crate) struct Slot {
     kind: u8,
     state: State,
@@ -16,7 +16,7 @@ pub(crate) struct Slot {
 }
 
 /// Whether a request is answered. Its frame is kept only until then.
-#[derive(Debug, Drop)]
+#[derive(Drop)]
 pub(crate) enum State {
     /// It isn't, and this is its frame.
     Pending(Frame),

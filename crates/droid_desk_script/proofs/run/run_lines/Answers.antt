@@ -1,8 +1,10 @@
-use Rattle.std.proofs.Common.{rules, ℕ, ◌≡◌, ◌≤◌, true, false, length, refl, arith}
+use Rattle.std.proofs.Common.{rules, ℕ, ◌≡◌, ◌≤◌, ◌∙◌, Bool, ap, length, refl, subst, sym}
 use Rattle.droid_desk_script.specs.Scripts.{WritesAnswer, is_bad}
 use Rattle.droid_desk_lines.specs.Lines.{lines_of}
+use Rattle.droid_desk_lines.specs.Tallies.{with_one_more}
+use Rattle.droid_desk_lines.specs.declared.tally.Tally.{Tally}
 use Rattle.droid_frame.proofs.InTurn.{over_next, over_none, told_idle, told_next}
-use Rattle.droid_desk_script.proofs.Runs.{start, step, stop, line_is_left, lines_are_within}
+use Rattle.droid_desk_script.proofs.Runs.{Progress, start, step, stop, line_is_left, lines_are_within}
 use Rattle.droid_desk_script.proofs.Writes.{on_err}
 use Rattle.droid_desk_script.proofs.run.run_lines.Goals as goal
 
@@ -18,35 +20,20 @@ returns-in_err-is_bad-clause-front g c = λ setting history stands.
     (g.W.Write.contents c.args.writer.now) (g.W.Write.contents c.loop-line.writer) (g.W.Write.contents c.run_line.new.writer)
     c.loop-line.invariant.progress c.in-Some.ensures.line c.in_err-is_bad.ensures.front setting history stands)
 
-pub loop-line-preserved-then-is_bad : goal.loop-line-preserved-then-is_bad
-loop-line-preserved-then-is_bad g c =
-    let bad : is_bad c.in-Some.line.now ≡ true = cc (c.in_ok-is_bad.ensures.bad, c.if-is_bad.true) in
-    record {
-      progress = step c.args.service.now c.loop-line.service c.run_line.new.service c.args.input.now c.loop-line.rest.now c.in-Some.line.now c.in-Some.after.now c.loop-line.tally _
-          (g.W.Write.contents c.args.writer.now) (g.W.Write.contents c.loop-line.writer) (g.W.Write.contents c.run_line.new.writer)
-          c.loop-line.invariant.progress c.in-Some.ensures.line c.in-Some.ensures.shorter c.in_ok-is_bad.ensures.all c.in_ok-is_bad.ensures.limits c.in_ok-is_bad.ensures.registry refl (rw bad refl);
-      lasts = λ sound endless.
-          let now = c.loop-line.invariant.lasts sound endless in
-          let told = c.in_ok-is_bad.ensures.told now.0.sound now.1 in
-          let wrote = c.in_ok-is_bad.ensures.wrote in (
-            over_next g.W.SteadyWrite.seen (WritesAnswer g.W.Write.contents) c.args.writer.now c.loop-line.writer c.run_line.new.writer c.loop-line.tally.lines _ wrote.0 refl now.0 wrote.1
-                (told.0.otherwise (λ e. absurd cc)),
-            told.1,
-          );
-    }
-
 pub loop-line-preserved : goal.loop-line-preserved
 loop-line-preserved g c =
-    let good : is_bad c.in-Some.line.now ≡ false = cc (c.in_ok-is_bad.ensures.bad, c.if-is_bad.false) in
+    let counted : c.count.new.self ≡ with_one_more (is_bad c.in-Some.line.now) c.loop-line.tally =
+    c.count.ensures ∙ ap (λ (bad : Bool). with_one_more bad c.loop-line.tally) c.in_ok-is_bad.ensures.bad in
     record {
-      progress = step c.args.service.now c.loop-line.service c.run_line.new.service c.args.input.now c.loop-line.rest.now c.in-Some.line.now c.in-Some.after.now c.loop-line.tally _
+      progress = subst (λ (tally : Tally). Progress c.args.service.now c.run_line.new.service c.args.input.now c.in-Some.after.now tally (g.W.Write.contents c.args.writer.now) (g.W.Write.contents c.run_line.new.writer)) (sym counted)
+          (step c.args.service.now c.loop-line.service c.run_line.new.service c.args.input.now c.loop-line.rest.now c.in-Some.line.now c.in-Some.after.now c.loop-line.tally
           (g.W.Write.contents c.args.writer.now) (g.W.Write.contents c.loop-line.writer) (g.W.Write.contents c.run_line.new.writer)
-          c.loop-line.invariant.progress c.in-Some.ensures.line c.in-Some.ensures.shorter c.in_ok-is_bad.ensures.all c.in_ok-is_bad.ensures.limits c.in_ok-is_bad.ensures.registry refl (rw good (omega arith));
+          c.loop-line.invariant.progress c.in-Some.ensures.line c.in-Some.ensures.shorter c.in_ok-is_bad.ensures.all c.in_ok-is_bad.ensures.limits c.in_ok-is_bad.ensures.registry);
       lasts = λ sound endless.
           let now = c.loop-line.invariant.lasts sound endless in
           let told = c.in_ok-is_bad.ensures.told now.0.sound now.1 in
           let wrote = c.in_ok-is_bad.ensures.wrote in (
-            over_next g.W.SteadyWrite.seen (WritesAnswer g.W.Write.contents) c.args.writer.now c.loop-line.writer c.run_line.new.writer c.loop-line.tally.lines _ wrote.0 refl now.0 wrote.1
+            over_next g.W.SteadyWrite.seen (WritesAnswer g.W.Write.contents) c.args.writer.now c.loop-line.writer c.run_line.new.writer c.loop-line.tally.lines _ wrote.0 (ap (λ (t : Tally). t.lines) counted) now.0 wrote.1
                 (told.0.otherwise (λ e. absurd cc)),
             told.1,
           );

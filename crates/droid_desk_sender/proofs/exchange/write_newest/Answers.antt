@@ -2,7 +2,7 @@ use Rattle.std.proofs.Common.{ℕ, ◌-◌, ap, subst, ◌∙◌, arith}
 use Rattle.std.specs.Io.KnownBytes.{Appends}
 use Rattle.droid_frame.specs.Frames.{frame_bytes}
 use Rattle.droid_frame.specs.types.frame.Frame.{Frame}
-use Rattle.droid_wire.specs.Cores.{next_frame}
+use Rattle.droid_wire_client.specs.Cores.{next_frame}
 use Rattle.droid_desk_sender.specs.Stopping.{WritesFront}
 use Rattle.droid_desk_sender.proofs.Holding.{copied_some, newest_is, some_pending, same_copied}
 use Rattle.droid_desk_sender.proofs.Passing.{front_of_frame, on_err}

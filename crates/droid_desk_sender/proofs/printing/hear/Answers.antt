@@ -1,6 +1,6 @@
 use Rattle.std.proofs.Common.{inr, refl, sym, ap, ◌∙◌}
 use Rattle.droid_frame.specs.types.reply.Reply.{Reply}
-use Rattle.droid_wire.specs.client_types.heard.Heard.TheVariants as heard
+use Rattle.droid_wire_client.specs.declared.heard.Heard.TheVariants as heard
 use Rattle.droid_desk_lines.specs.Printed.{answer_line}
 use Rattle.std.specs.Prelude.{Some}
 use Rattle.droid_desk_sender.specs.declared.fault.SendFault.TheVariants.{Memory}

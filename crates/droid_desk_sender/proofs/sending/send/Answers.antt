@@ -1,20 +1,19 @@
-use Rattle.std.proofs.Common.{◌≡◌, ◌+◌, Bool, true, false, cond, ap, refl, sym, ◌∙◌, List, ℕ, length, arith}
+use Rattle.std.proofs.Common.{◌≡◌, ◌+◌, ap, refl, ◌∙◌, List, ℕ, length, arith}
 use Rattle.std.specs.Io.KnownBytes.{prepend_known}
 use Rattle.std.proofs.KnownBytes.{prepend_known-nil}
 use Rattle.droid_desk_sender.specs.Sending.{SendsFront}
 use Rattle.droid_desk_sender.specs.declared.fault.SendFault.TheVariants.{Memory}
-use Rattle.droid_desk_sender.specs.declared.tally.Tally.{Tally}
 use Rattle.droid_desk_sender.proofs.PassingOn.{came_from, of_reading, passed_on, stops_not_reading, told_unless}
 use Rattle.droid_frame.proofs.Scopes.{counts_begin, told_none}
-use Rattle.droid_frame.specs.Seen.{Counts}
 use Rattle.droid_frame.specs.InTurn.{AtMost}
 use Rattle.droid_frame.proofs.InTurn.{over_next, over_none, told_idle, told_next}
 use Rattle.droid_desk_lines.specs.Lines.{lines_of}
+use Rattle.droid_desk_lines.specs.declared.tally.Tally.{Tally}
+use Rattle.droid_desk_lines.proofs.Tallies.{bad_within}
 use Rattle.droid_desk_sender.specs.Along.{ReadsReply, WritesPrinted, WritesRequest}
 use Rattle.droid_desk_sender.proofs.Passing.{if_err_same}
-use Rattle.droid_desk_sender.proofs.Sent.{gives_found, line_found, lines_within, one_at_most, plus_none, start, step, stopped, unread_more}
+use Rattle.droid_desk_sender.proofs.Sent.{gives_found, line_found, lines_within, start, step, stopped, unread_more}
 use Rattle.droid_desk_sender.proofs.sending.send.Goals as goal
-use Rattle.droid_desk_sender.proofs.sending.send.Goals.{then-is_bad, else-is_bad}
 
 pub loop-init : goal.loop-init
 loop-init g c =
@@ -174,34 +173,28 @@ loop-preserved g c =
     let gives = gives_found (λ line. line.items) rest more c.in_ok-line.field-0 c.in-Some.line line c.in-Some.is c.as_slice.ensures.value c.in_ok-line.ensures.line in
     let bad = c.in_ok-is_bad.is_bad in
     let done = c.in_ok-is_bad.ensures.done in
-    let next : (c.if-is_bad.tally.lines ≡ c.loop.tally.lines + 1) × (c.if-is_bad.tally.bad ≡ c.loop.tally.bad + cond bad 1 0) = elim c.if-is_bad.branch [
-      | then-is_bad w ↦
-          let yes : bad ≡ true = w.if-is_bad.true in
-          (rw w.tally-is refl, ap (λ (t : Tally). t.bad) w.tally-is ∙ ap (λ (b : Bool). c.loop.tally.bad + cond b 1 0) (sym yes))
-      | else-is_bad w ↦
-          let not : bad ≡ false = w.if-is_bad.false in
-          (rw w.tally-is refl, ap (λ (t : Tally). t.bad) w.tally-is ∙ (plus_none c.loop.tally.bad ∙ ap (λ (b : Bool). c.loop.tally.bad + cond b 1 0) (sym not)))
-    ] in
+    let counted = c.count.ensures in
+    let next : c.count.new.self.lines ≡ c.loop.tally.lines + 1 = ap (λ (t : Tally). t.lines) counted in
     record {
-      so_far = step c.args.client.now c.loop.client c.send_line.new.client _ rest more _ _ _ _ _ _ _ _ _ line bad c.loop.tally c.if-is_bad.tally c.loop.invariant.so_far gives c.in_ok-is_bad.ensures.done next.0 next.1;
-      counted = next.0 ∙ ap (λ (n : ℕ). n + 1) c.loop.invariant.counted;
-      bad = omega (arith, next.0, next.1, c.loop.invariant.bad, one_at_most bad);
+      so_far = rw counted (step c.args.client.now c.loop.client c.send_line.new.client _ rest more _ _ _ _ _ _ _ _ _ line bad c.loop.tally c.loop.invariant.so_far gives done);
+      counted = next ∙ ap (λ (n : ℕ). n + 1) c.loop.invariant.counted;
+      bad = rw counted (bad_within bad c.loop.tally c.loop.invariant.bad);
       reads = λ sound. (c.in_ok-line.ensures.counts _ (c.loop.invariant.reads sound)).otherwise (λ e. absurd cc);
       hears = λ sound.
           let now = c.loop.invariant.hears sound in
-          over_next g.R.SteadyRead.seen (ReadsReply g.R.Read.remaining) c.args.replies.now c.loop.replies c.send_line.new.replies c.loop.tally.lines c.if-is_bad.tally.lines done.exchange next.0 now done.read
+          over_next g.R.SteadyRead.seen (ReadsReply g.R.Read.remaining) c.args.replies.now c.loop.replies c.send_line.new.replies c.loop.tally.lines c.count.new.self.lines done.exchange next now done.read
           ((c.in_ok-is_bad.ensures.replies_fault now.sound).otherwise (λ e. absurd cc));
       sends = λ sound endless.
           let now = c.loop.invariant.sends sound endless in
           let told = c.in_ok-is_bad.ensures.frames_fault now.0.sound now.1 in (
-            over_next g.F.SteadyWrite.seen (WritesRequest g.F.Write.contents) c.args.frames.now c.loop.frames c.send_line.new.frames c.loop.tally.lines c.if-is_bad.tally.lines done.exchange next.0 now.0 done.frames
+            over_next g.F.SteadyWrite.seen (WritesRequest g.F.Write.contents) c.args.frames.now c.loop.frames c.send_line.new.frames c.loop.tally.lines c.count.new.self.lines done.exchange next now.0 done.frames
                 (told.0.otherwise (λ e. absurd cc)),
             told.1,
           );
       prints = λ sound endless.
           let now = c.loop.invariant.prints sound endless in
           let told = c.in_ok-is_bad.ensures.text_fault now.0.sound now.1 in (
-            over_next g.T.SteadyWrite.seen (WritesPrinted g.T.Write.contents) c.args.text.now c.loop.text c.send_line.new.text c.loop.tally.lines c.if-is_bad.tally.lines done.exchange next.0 now.0 done.text
+            over_next g.T.SteadyWrite.seen (WritesPrinted g.T.Write.contents) c.args.text.now c.loop.text c.send_line.new.text c.loop.tally.lines c.count.new.self.lines done.exchange next now.0 done.text
                 (told.0.otherwise (λ e. absurd cc)),
             told.1,
           );
