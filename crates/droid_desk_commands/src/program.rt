@@ -13,7 +13,7 @@ use crate::stream::answer_stream;
 use droid_core::Service;
 use droid_desk_arguments::{Asked, NoCommand, unread_words, what_is_asked};
 use droid_desk_sender::SendFault;
-use droid_frame::{FrameFault, NUMBER_LIMIT, SteadyRead, Unsteady};
+use droid_frame::{FrameFault, NUMBER_LIMIT, Unsteady};
 use droid_pronom::RegistryFault;
 use droid_wire::ServeFault;
 use std::fs::{self, Files};
@@ -63,12 +63,12 @@ where
 {
     match asked {
         Asked::Script { registry } => script_with(rt, registry),
-        Asked::Run { registry } => run_with(rt, registry),
+        Asked::Run { registry } => answer_with(rt, registry, None),
         Asked::Serve {
             registry,
             port,
             connections,
-        } => serve_with(rt, registry, port, connections),
+        } => answer_with(rt, registry, Some((port, connections))),
         Asked::Send {
             port,
             client,
@@ -80,40 +80,44 @@ where
 /// Runs a script from standard input to standard output, over the registry of the file at this path, or
 /// over the sample registry where there is none.
 fn script_with<R: Files + Input + Print + AllocGlobal>(rt: &R, path: Option<&str>) -> Ending {
+    let mut input = Unsteady::new(rt.reader());
+    let mut output = Unsteady::new(io::writer(rt));
     let Some(path) = path else {
-        return sample_script(rt);
+        return run_sample(rt.alloc(), &mut input, &mut output);
     };
     match fs::open(rt, path) {
-        Ok(file) => script_over(rt, &mut Unsteady::new(file)),
+        Ok(file) => run_desk(
+            rt.alloc(),
+            &mut Unsteady::new(file),
+            &mut input,
+            &mut output,
+        ),
         Err(_) => Ending::Registry(RegistryFault::Read),
     }
 }
 
-fn sample_script<R: Input + Print + AllocGlobal>(rt: &R) -> Ending {
-    run_sample(
-        rt.alloc(),
-        &mut Unsteady::new(rt.reader()),
-        &mut Unsteady::new(io::writer(rt)),
-    )
-}
-
-fn script_over<F: SteadyRead, R: Input + Print + AllocGlobal>(rt: &R, file: &mut F) -> Ending {
-    run_desk(
-        rt.alloc(),
-        file,
-        &mut Unsteady::new(rt.reader()),
-        &mut Unsteady::new(io::writer(rt)),
-    )
-}
-
-/// Answers frames from standard input to standard output.
-fn run_with<R: Files + Input + Print + AllocGlobal>(rt: &R, path: Option<&str>) -> Ending {
+/// Answers frames by a fresh service: on so many connections to a port, or those of standard input where there is none.
+fn answer_with<R>(rt: &R, path: Option<&str>, port: Option<(u16, u32)>) -> Ending
+where
+    R: Files + Input + Print + AllocGlobal + Net<Listener = TcpListener, Stream = TcpStream>,
+{
     match service_for(rt, path) {
-        Ok(mut service) => answer_input(rt, &mut service),
+        Ok(mut service) => answer(rt, &mut service, port),
         Err(ending) => ending,
     }
 }
 
+fn answer<R>(rt: &R, service: &mut Service, port: Option<(u16, u32)>) -> Ending
+where
+    R: Input + Print + AllocGlobal + Net<Listener = TcpListener, Stream = TcpStream>,
+{
+    match port {
+        Some((port, connections)) => serve_port(rt, service, port, connections),
+        None => answer_input(rt, service),
+    }
+}
+
+/// Answers frames from standard input to standard output.
 fn answer_input<R: Input + Print + AllocGlobal>(rt: &R, service: &mut Service) -> Ending {
     let Ok(input) = BufReader::new(rt.alloc(), rt.reader()) else {
         return no_memory();
@@ -126,18 +130,7 @@ fn answer_input<R: Input + Print + AllocGlobal>(rt: &R, service: &mut Service) -
     )
 }
 
-/// Answers frames on so many connections to a port, and says first that it listens.
-fn serve_with<R>(rt: &R, path: Option<&str>, port: u16, connections: u32) -> Ending
-where
-    R: Files + Print + AllocGlobal + Net<Listener = TcpListener, Stream = TcpStream>,
-{
-    match service_for(rt, path) {
-        Ok(mut service) => serve_port(rt, &mut service, port, connections),
-        Err(ending) => ending,
-    }
-}
-
-/// Serves the connections to a port, which is bound first.
+/// Serves so many connections to a port, and says first that it listens.
 fn serve_port<R>(rt: &R, service: &mut Service, port: u16, connections: u32) -> Ending
 where
     R: Print + AllocGlobal + Net<Listener = TcpListener, Stream = TcpStream>,
