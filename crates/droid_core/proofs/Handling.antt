@@ -63,9 +63,9 @@ leaves_next setting old new history frame request (Refuses refusal) asked is_new
 some_is_some : (frame : Frame) (request : Request) → command frame ≡ Some request → IsSome (command frame)
 some_is_some frame request asked = rw asked refl
 
-pub handles_malformed : (setting : Setting) (service : Parts) (history : History) (frame : Frame) → command frame ≡ None → Stand setting service history → Handles setting history frame (Refused Malformed) (Stand setting service)
-handles_malformed setting service history frame malformed stands =
-    (sym (answer_malformed setting history frame malformed), subst (Stand setting service) (sym (next_malformed setting history frame malformed)) stands)
+pub handles_malformed : (setting : Setting) (history : History) (frame : Frame) (Stands : History → Type 0) → command frame ≡ None → Stands history → Handles setting history frame (Refused Malformed) Stands
+handles_malformed setting history frame Stands malformed stands =
+    (sym (answer_malformed setting history frame malformed), subst Stands (sym (next_malformed setting history frame malformed)) stands)
 
 wanting : (b : Bool) (P Q : Type 0) → b ≡ true → P → MatchBool b P Q
 wanting true P Q is it = it

@@ -22,6 +22,8 @@ pub mod PieceTaken
 pub mod PlaceChecks
 pub mod PuidTexts
 pub mod PutJudged
+pub mod Recalling
+pub mod RecentRows
 pub mod Running
 pub mod Starting
 pub mod UnchangedFiles

@@ -19,6 +19,7 @@ pub mod KeptBytes
 pub mod LookUps
 pub mod NewAssemblies
 pub mod Places
+pub mod Recent
 pub mod Running
 pub mod Standing
 pub mod Taking

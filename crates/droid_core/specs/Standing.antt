@@ -7,6 +7,7 @@ use Rattle.droid_core_rows.specs.Replies.{KeepsReplies}
 use Rattle.droid_core_state.specs.declared.parts.Parts.{Parts}
 use Rattle.droid_core_state.specs.Standing.{IsIn}
 use Rattle.droid_core_state.specs.Standing as parts
+use Rattle.droid_core.specs.Recent.{AreKept}
 use Rattle.droid_core.specs.declared.service.Service.{Service}
 
 -- the limits that the service was made with
@@ -24,6 +25,7 @@ pub record Stand (setting : Setting) (parts : Parts) (history : History) : Type 
   pub replies : KeepsReplies history parts.store
   pub world : IsIn setting (world_of setting history) parts
 
--- the service is where the history leads
-abbrev pub StandsFor : Setting → Service → History → Type 0
-StandsFor setting service history = Stand setting service.parts history
+-- the service is where the history leads: its parts are, and each reply that it has at hand is the history's
+pub record StandsFor (setting : Setting) (service : Service) (history : History) : Type 0 where
+  pub parts : Stand setting service.parts history
+  pub recent : AreKept history service.recent.rows.entries

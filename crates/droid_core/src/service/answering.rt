@@ -1,60 +1,154 @@
-//! How a request that is spelled is answered: under a kept number again, under a new one by its kind.
+//! How a request that is spelled is answered: under a kept number again, and under a new one by its kind.
 
-ghost use Rattle.std.specs.Prelude.{◌≡◌, ◌<◌, ◌^◌, None, Some, IfOk, IfErr};
-ghost use Rattle.droid_core_state.specs.Changes.{Comes, answered, stamp_of, told_of};
-ghost use Rattle.droid_core.specs.Standing.{Stand};
+ghost use Rattle.std.specs.Prelude.{◌≡◌, ◌≢◌, ◌<◌, ◌^◌, true, false, None, Some, IfOk, IfErr};
+ghost use Rattle.droid_core_state.specs.Changes.{Comes, again, answered, stamp_of, stamped, told_of};
+ghost use Rattle.droid_core.specs.Recent.{AreKept, IsKeptRow};
+ghost use Rattle.droid_core.specs.Standing.{StandsFor, limits_of, registry_of};
 ghost use Rattle.droid_core_state.specs.Standing.{IsIn};
-ghost use Rattle.droid_frame.specs.Replies.{HasReplySpelling};
+ghost use Rattle.droid_frame.specs.Replies.{HasReplySpelling, SpellsReply};
 ghost use Rattle.droid_frame.specs.types.frame.Frame.{Frame};
+ghost use Rattle.droid_frame.specs.types.refusal.Refusal.TheVariants.{NumberReused};
+ghost use Rattle.droid_frame.specs.types.reply.Reply.{Reply as ReplyValue};
 ghost use Rattle.droid_frame.specs.types.reply.Reply.TheVariants.{Refused};
-ghost use Rattle.droid_core_spec.specs.Histories.{History, Handles, command};
+ghost use Rattle.droid_frame.specs.types.request.Request.{Request as RequestValue};
+ghost use Rattle.droid_core_spec.specs.Histories.{History, Handles, command, is_same_request};
 ghost use Rattle.droid_core_spec.specs.Judging.{judge};
 ghost use Rattle.droid_core_spec.specs.Setting.{Setting};
+ghost use Rattle.droid_core_spec.specs.Verdicts.{is_command, is_refused};
 ghost use Rattle.droid_core_spec.specs.World.{World};
 ghost use Rattle.droid_store.specs.Rows.{reply_for};
 
 use crate::requests::{
     abandon, add_file, add_folder, create_profile, export, finish, status, take_piece,
 };
+use crate::service::Service;
+use crate::service::recent::RecentReplies;
 use droid_core_state::{Parts, Stamp, answer_again, reply_from, store_refusal};
 use droid_frame::{Refusal, Reply, Request};
 use droid_store::{Entry, StoreFault};
 
-/// Answers the request of a frame: under a kept number again, and under a new one by its verdict.
-pub fn answer(parts: &mut Parts, stamp: Stamp, request: Request) -> Reply
+/// Answers the request of a frame: under a kept number again, and under a new one by its verdict. A
+/// kept reply is looked for at hand first.
+pub fn answer(service: &mut Service, stamp: Stamp, request: Request) -> Reply
     requires small { stamp.number < 2 ^ 63 }
     ensures handles { (setting : Setting) (history : History) (frame : Frame) → stamp ≡ stamp_of frame → command frame ≡ Some request
-        → Stand setting parts.old history → Handles setting history frame result (Stand setting parts.new) }
+        → StandsFor setting service.old history → Handles setting history frame result (StandsFor setting service.new) }
     ensures spelled { HasReplySpelling result }
-    ensures limits { parts.new.limits ≡ parts.old.limits }
-    ensures registry { parts.new.registry ≡ parts.old.registry }
+    ensures limits { limits_of service.new ≡ limits_of service.old }
+    ensures registry { registry_of service.new ≡ registry_of service.old }
 {
-    let found = parts.store.reply_of(stamp.client, stamp.number);
-    answer_found(parts, stamp, request, found)
+    match service.recent.find(stamp.client, stamp.number) {
+        Some(row) => answer_again(service.parts.alloc, row, stamp.mark),
+        None => answer_from_store(service, stamp, request),
+    }
+}
+
+/// The same, by what the store has.
+fn answer_from_store(service: &mut Service, stamp: Stamp, request: Request) -> Reply
+    requires small { stamp.number < 2 ^ 63 }
+    ensures handles { (setting : Setting) (history : History) (frame : Frame) → stamp ≡ stamp_of frame → command frame ≡ Some request
+        → StandsFor setting service.old history → Handles setting history frame result (StandsFor setting service.new) }
+    ensures spelled { HasReplySpelling result }
+    ensures limits { limits_of service.new ≡ limits_of service.old }
+    ensures registry { registry_of service.new ≡ registry_of service.old }
+{
+    let found = service.parts.store.reply_of(stamp.client, stamp.number);
+    answer_found(service, stamp, request, found)
 }
 
 /// Answers a request by what was found under its number: the kept reply again, and where there is
 /// none by its verdict. What the store gave up for is told as it is.
 fn answer_found(
-    parts: &mut Parts,
+    service: &mut Service,
     stamp: Stamp,
     request: Request,
     found: Result<Option<Entry>, StoreFault>,
 ) -> Reply
     requires small { stamp.number < 2 ^ 63 }
-    requires found { IfOk found (λ entry. entry ≡ reply_for stamp.client stamp.number parts.old.store) }
+    requires found { IfOk found (λ entry. entry ≡ reply_for stamp.client stamp.number service.old.parts.store) }
     ensures told { IfErr found (λ fault. result ≡ Refused (told_of fault)) }
     ensures handles { (setting : Setting) (history : History) (frame : Frame) → stamp ≡ stamp_of frame → command frame ≡ Some request
-        → Stand setting parts.old history → Handles setting history frame result (Stand setting parts.new) }
+        → StandsFor setting service.old history → Handles setting history frame result (StandsFor setting service.new) }
     ensures spelled { HasReplySpelling result }
-    ensures limits { parts.new.limits ≡ parts.old.limits }
-    ensures registry { parts.new.registry ≡ parts.old.registry }
+    ensures limits { limits_of service.new ≡ limits_of service.old }
+    ensures registry { registry_of service.new ≡ registry_of service.old }
 {
     match found {
         Err(fault) => Reply::Refused(store_refusal(fault)),
-        Ok(Some(entry)) => answer_again(parts.alloc, entry, stamp.mark),
-        Ok(None) => reply_from(apply(parts, stamp, request)),
+        Ok(Some(row)) => answer_kept(service, stamp, row),
+        Ok(None) => answer_new(service, stamp, request),
     }
+}
+
+/// Answers a request under whose number the store keeps this row, and puts the row at hand.
+fn answer_kept(service: &mut Service, stamp: Stamp, row: Entry) -> Reply
+    requires found { reply_for stamp.client stamp.number service.old.parts.store ≡ Some row }
+    ensures handles { (setting : Setting) (history : History) (frame : Frame) (request : RequestValue) → stamp ≡ stamp_of frame → command frame ≡ Some request
+        → StandsFor setting service.old history → Handles setting history frame result (StandsFor setting service.new) }
+    // No want of the copy at hand is told: another mark is never a want, and neither is any reply but a Finished.
+    ensures reused { is_same_request row.mark stamp.mark ≡ false → result ≡ Refused NumberReused }
+    ensures exact { (kept : ReplyValue) → SpellsReply row.kind row.body kept → row.kind ≢ 132 → result ≡ again row stamp.mark kept }
+    ensures spelled { HasReplySpelling result }
+    ensures limits { limits_of service.new ≡ limits_of service.old }
+    ensures registry { registry_of service.new ≡ registry_of service.old }
+{
+    service.recent.put_copy(stamp.client, stamp.number, &row);
+    answer_again(service.parts.alloc, row, stamp.mark)
+}
+
+/// Answers a request under a new number by its verdict, and puts the reply at hand where it is kept.
+fn answer_new(service: &mut Service, stamp: Stamp, request: Request) -> Reply
+    requires new { reply_for stamp.client stamp.number service.old.parts.store ≡ None }
+    requires small { stamp.number < 2 ^ 63 }
+    ensures handles { (setting : Setting) (history : History) (frame : Frame) → stamp ≡ stamp_of frame → command frame ≡ Some request
+        → StandsFor setting service.old history → Handles setting history frame result (StandsFor setting service.new) }
+    ensures spelled { HasReplySpelling result }
+    ensures limits { limits_of service.new ≡ limits_of service.old }
+    ensures registry { registry_of service.new ≡ registry_of service.old }
+{
+    let commands = asks_command(&request);
+    let outcome = apply(&mut service.parts, stamp, request);
+    tell_new(&mut service.recent, stamp, commands, outcome)
+}
+
+/// The reply that the outcome of a new request comes to. That of an accepted command, and no other, is
+/// put at hand. No want of that is told.
+fn tell_new(
+    recent: &mut RecentReplies,
+    stamp: Stamp,
+    commands: bool,
+    outcome: Result<Reply, Refusal>,
+) -> Reply
+    requires spelled { HasReplySpelling (answered outcome) }
+    ensures told { result ≡ answered outcome }
+    ensures kept { (history : History) → AreKept history recent.old.rows.entries
+        → (commands ≡ true → is_refused (answered outcome) ≡ false → IsKeptRow history (stamp.client, stamp.number) (stamped stamp (answered outcome)))
+        → AreKept history recent.new.rows.entries }
+{
+    let reply = reply_from(outcome);
+    if !commands {
+        return reply;
+    }
+    if refuses(&reply) {
+        return reply;
+    }
+    recent.put_reply(stamp, &reply);
+    reply
+}
+
+/// Whether a request is a command, which changes the service where it is accepted.
+fn asks_command(request: &Request) -> bool
+    ensures { result ≡ is_command request.now }
+{
+    // The kinds from 1 to 6 are commands; the others are queries.
+    request.kind() < 7
+}
+
+/// Whether a reply is a refusal.
+fn refuses(reply: &Reply) -> bool
+    ensures { result ≡ is_refused reply.now }
+{
+    matches!(reply, Reply::Refused(_))
 }
 
 /// Judges a request under a new number, and changes by it where it is an accepted command.

@@ -16,21 +16,47 @@ use droid_core_state::{Limits, Parts, Stamp};
 use droid_frame::{BodyFault, Frame, Refusal, Reply, mark, request_of};
 use droid_pronom::Registry;
 use droid_store::{Store, StoreFault};
+use recent::RecentReplies;
 use std::alloc::{AllocError, Global};
+use std::num::NonZeroUsize;
 
 mod answering;
+mod recent;
+
+/// How many of the latest kept replies are at hand.
+const RECENT: usize = 256;
 
 /// The submission service: it judges requests, changes by the accepted ones, and keeps their replies
-/// for good.
+/// for good. The latest of them are at hand, so that a request which comes again soon asks no database.
 #[derive(Drop)]
 pub struct Service {
     parts: Parts,
+    recent: RecentReplies,
 }
 
 impl Service {
-    /// A service with nothing in it, which identifies files by this registry. Only want of memory, or a
-    /// database that refuses its tables, refuses it.
+    /// A service with nothing in it, which identifies files by this registry. Only want of memory, for the
+    /// places of recent replies too, or a database that refuses its tables, refuses it.
     pub fn new(alloc: Global, registry: Registry, limits: Limits) -> Result<Service, StoreFault>
+        requires profiles { limits.profiles ≤ 64 }
+        requires nodes { limits.nodes ≤ 100000 }
+        requires unfinished { limits.unfinished ≤ 64 }
+        ensures empty { IfOk result (λ service. (setting : Setting) → setting.limits ≡ limits_given limits → IsOf registry setting
+            → StandsFor setting service []) }
+        ensures limits { IfOk result (λ service. limits_of service ≡ limits_given limits) }
+        ensures registry { IfOk result (λ service. registry_of service ≡ registry) }
+    {
+        let places = NonZeroUsize::new(RECENT).unwrap();
+        Service::with_places(alloc, registry, limits, places)
+    }
+
+    /// The same, with places for so many recent replies.
+    fn with_places(
+        alloc: Global,
+        registry: Registry,
+        limits: Limits,
+        places: NonZeroUsize,
+    ) -> Result<Service, StoreFault>
         requires profiles { limits.profiles ≤ 64 }
         requires nodes { limits.nodes ≤ 100000 }
         requires unfinished { limits.unfinished ≤ 64 }
@@ -46,7 +72,8 @@ impl Service {
             store: Store::in_memory(alloc)?,
             files: UnfinishedFiles::new(alloc, limits.unfinished)?,
         };
-        Ok(Service { parts })
+        let recent = RecentReplies::new(alloc, places)?;
+        Ok(Service { parts, recent })
     }
 
     /// Handles one request, and gives its one reply.
@@ -63,7 +90,7 @@ impl Service {
             mark: mark(frame.kind, frame.body.as_slice()),
         };
         match request_of(self.parts.alloc, frame) {
-            Ok(request) => answer(&mut self.parts, stamp, request),
+            Ok(request) => answer(self, stamp, request),
             Err(BodyFault::Malformed) => Reply::Refused(Refusal::Malformed),
             Err(BodyFault::Memory) => Reply::Refused(Refusal::Memory),
         }

@@ -2,6 +2,7 @@ use Rattle.std.proofs.Common.{ℕ, List, refl, ap, ◌∙◌}
 use Rattle.droid_frame.specs.Frames.{mark_of}
 use Rattle.droid_core_state.specs.declared.stamps.Stamp.{Stamp}
 use Rattle.droid_core_spec.proofs.Asked.{asked, is_asked, nothing_asked}
+use Rattle.droid_core.specs.Standing.{StandsFor}
 use Rattle.droid_core.proofs.Handling.{handles_malformed}
 use Rattle.droid_core.proofs.service.Service.handle.Goals as goal
 
@@ -15,7 +16,7 @@ returns-in-Ok-clause-handles c = λ setting history stands.
 
 pub returns-in-Err-Malformed-clause-handles : goal.returns-in-Err-Malformed-clause-handles
 returns-in-Err-Malformed-clause-handles c = λ setting history stands.
-    handles_malformed setting c.args.self.now.parts history c.args.frame (nothing_asked c.args.frame c.as_slice.ensures.bytes ((rw c.in-Err-Malformed.field-0-is at c.in-Err-Malformed.ensures.malformed).0 refl)) stands
+    handles_malformed setting history c.args.frame (StandsFor setting c.args.self.now) (nothing_asked c.args.frame c.as_slice.ensures.bytes ((rw c.in-Err-Malformed.field-0-is at c.in-Err-Malformed.ensures.malformed).0 refl)) stands
 
 pub returns-in-Err-Memory-clause-handles : goal.returns-in-Err-Memory-clause-handles
 returns-in-Err-Memory-clause-handles c = λ setting history stands.

@@ -1,9 +1,19 @@
-use Rattle.droid_core.proofs.Handling.{stands_still}
+use Rattle.std.proofs.Common.{◌≡◌}
+use Rattle.droid_core.specs.declared.service.Service.{Service}
+use Rattle.droid_core.proofs.Handling.{answers_again}
+use Rattle.droid_core.proofs.Recalling.{store_has, with_recent}
 use Rattle.droid_core.proofs.service.answering.answer.Goals as goal
 
-pub answer_found-requires-clause-found : goal.answer_found-requires-clause-found
-answer_found-requires-clause-found c = rw c.reply_of-found.ensures.same c.reply_of-found.ensures.found
+pub returns-in-Some-clause-handles : goal.returns-in-Some-clause-handles
+returns-in-Some-clause-handles c = λ setting history frame is asks stands.
+    let parts = c.args.service.now.parts in
+    let service : Service = record { parts = parts; recent = c.find.new.self } in
+    let there = rw c.in-Some.is at (c.find.ensures.found history stands.recent) in
+    let found = store_has history parts.store c.args.stamp.client c.args.stamp.number c.in-Some.row stands.parts.replies there in
+    with_recent setting history frame c.answer_again.result service
+    (answers_again setting parts history frame c.args.request c.args.stamp c.in-Some.row c.answer_again.result is asks found c.answer_again.ensures.kept stands.parts)
+    (c.find.ensures.kept history stands.recent)
 
-pub returns-clause-handles : goal.returns-clause-handles
-returns-clause-handles c = λ setting history frame is asks stands.
-    c.answer_found.ensures.handles setting history frame is asks (stands_still setting c.args.parts.now c.reply_of-found.new.self history c.reply_of-found.ensures.same stands)
+pub returns-in-None-clause-handles : goal.returns-in-None-clause-handles
+returns-in-None-clause-handles c = λ setting history frame is asks stands.
+    c.answer_from_store.ensures.handles setting history frame is asks (record { parts = stands.parts; recent = c.find.ensures.kept history stands.recent })

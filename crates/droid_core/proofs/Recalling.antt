@@ -1,0 +1,112 @@
+-- How a service that stands for a history stands for the next one, its rows at hand included.
+use Rattle.std.proofs.Common.{◌≡◌, ℕ, Bool, true, false, List, [], ◌∷◌, ◌++◌, find, Option, Some, None, Contains, option_map, refl, sym, ap, subst, ◌∙◌}
+use Rattle.std.proofs.lemmas.Bool.{eq-eqb}
+use Rattle.std.proofs.lemmas.List.Folds.{find-append}
+use Rattle.std.specs.Option.{option_or}
+use Rattle.std.specs.Prelude.{MatchBool, IsSome}
+use Rattle.droid_frame.specs.types.frame.Frame.{Frame}
+use Rattle.droid_frame.specs.types.reply.Reply.{Reply}
+use Rattle.droid_frame.specs.types.reply.Reply.TheVariants.{Refused}
+use Rattle.droid_frame.specs.types.request.Request.{Request}
+use Rattle.droid_core_spec.specs.Histories.{Entry, History, New, command, is_under, kept, world_of, entry_of, answer, next, history_with, verdict_reply, Handles}
+use Rattle.droid_core_spec.specs.Judging.{Verdict, Accepted, Answered, Refuses, judge}
+use Rattle.droid_core_spec.specs.Setting.{Setting}
+use Rattle.droid_core_spec.specs.Verdicts.{is_command, is_refused, MayCome}
+use Rattle.droid_core_spec.specs.Wants.{is_want}
+use Rattle.droid_core_spec.specs.World.{World}
+use Rattle.droid_core_spec.proofs.Judged.{judged}
+use Rattle.droid_core_spec.proofs.Meetings.{answer_new, next_new}
+use Rattle.droid_core_spec.proofs.Replied.{kept_next}
+use Rattle.droid_core_rows.specs.Replies.{entry_row, KeepsReplies}
+use Rattle.droid_core_rows.proofs.LookUps.{reply_found}
+use Rattle.droid_store.specs.declared.rows.Entry as rows
+use Rattle.droid_store.specs.Rows.{Rows, reply_for}
+use Rattle.droid_core_state.specs.declared.parts.Parts.{Parts}
+use Rattle.droid_core_state.specs.declared.stamps.Stamp.{Stamp}
+use Rattle.droid_core_state.specs.Changes.{stamp_of, stamped}
+use Rattle.droid_core.specs.Recent.{Whose, IsKeptRow, AreKept}
+use Rattle.droid_core.specs.Standing.{Stand, StandsFor}
+use Rattle.droid_core.specs.declared.service.Service.{Service}
+use Rattle.droid_core.proofs.KeptReplies.{none_kept}
+
+-- ---- a row at hand is the store's
+
+pub store_has : (history : History) (store : Rows) (client number : ℕ) (row : rows.Entry) → KeepsReplies history store → IsKeptRow history (client, number) row → reply_for client number store ≡ Some row
+store_has history store client number row keeps is = reply_found history store client number keeps ∙ is
+
+pub kept_in_store : (history : History) (store : Rows) (client number : ℕ) (row : rows.Entry) → KeepsReplies history store → reply_for client number store ≡ Some row → IsKeptRow history (client, number) row
+kept_in_store history store client number row keeps found = sym (reply_found history store client number keeps) ∙ found
+
+-- ---- the rows at hand are the next history's too
+
+row_next : (setting : Setting) (history : History) (frame : Frame) (whose : Whose) (row : rows.Entry) (o : Option Entry) → kept history whose.0 whose.1 ≡ o → option_map entry_row o ≡ Some row → IsKeptRow (next setting history frame) whose row
+row_next setting history frame whose row None there is = absurd cc
+row_next setting history frame whose row (Some entry) there is = ap (option_map entry_row) (kept_next setting history frame whose.0 whose.1 entry there) ∙ is
+
+rows_next : (setting : Setting) (history : History) (frame : Frame) (pairs : List (Whose × rows.Entry)) → AreKept history pairs → AreKept (next setting history frame) pairs
+rows_next setting history frame pairs all = λ pair there. row_next setting history frame pair.0 pair.1 (kept history pair.0.0 pair.0.1) refl (all pair there)
+
+-- ---- what handling gives, with the rows at hand
+
+each_way : (b : Bool) (P Q : Type 0) {R S T U : Type 0} → MatchBool b (P × R) (Q × S) → (R → T) → (S → U) → MatchBool b (P × T) (Q × U)
+each_way true P Q came one other = (came.0, one came.1)
+each_way false P Q came one other = (came.0, other came.1)
+
+-- rows at hand that are the history's
+pub with_recent : (setting : Setting) (history : History) (frame : Frame) (reply : Reply) (service : Service) → Handles setting history frame reply (Stand setting service.parts) → AreKept history service.recent.rows.entries
+    → Handles setting history frame reply (StandsFor setting service)
+with_recent setting history frame reply service handled all =
+    each_way (is_want reply) (IsSome (command frame)) (reply ≡ answer setting history frame) handled (λ stands. record { parts = stands; recent = all })
+    (λ stands. record { parts = stands; recent = rows_next setting history frame service.recent.rows.entries all })
+
+-- an entry that is added under a new number is what is kept there
+kept_last : (history : History) (frame : Frame) (reply : Reply) → kept history frame.client frame.number ≡ None → kept (history ++ entry_of frame reply ∷ []) frame.client frame.number ≡ Some (entry_of frame reply)
+kept_last history frame reply is_new =
+    let its = entry_of frame reply in
+    find-append (is_under frame.client frame.number) history (its ∷ [])
+    ∙ (ap (λ (o : Option Entry). option_or o (find (is_under frame.client frame.number) (its ∷ []))) is_new
+    ∙ rw (eq-eqb frame.client frame.client refl, eq-eqb frame.number frame.number refl) refl)
+
+-- what is accepted of a new command is kept as it is stamped
+accepted_row : (setting : Setting) (history : History) (frame : Frame) (request : Request) (verdict : Verdict) → kept history frame.client frame.number ≡ None → MayCome (world_of setting history) request verdict → next setting history frame ≡ history_with history frame (New verdict)
+    → is_command request ≡ true → is_refused (verdict_reply verdict) ≡ false → IsKeptRow (next setting history frame) (frame.client, frame.number) (stamped (stamp_of frame) (verdict_reply verdict))
+accepted_row setting history frame request (Accepted reply after) is_new may goes commands unrefused =
+    ap (option_map entry_row) (ap (λ (longer : History). kept longer frame.client frame.number) goes ∙ kept_last history frame reply is_new)
+accepted_row setting history frame request (Answered reply) is_new may goes commands unrefused = absurd (let query = may.query in cc)
+accepted_row setting history frame request (Refuses refusal) is_new may goes commands unrefused = absurd cc
+
+answered_row : (setting : Setting) (history : History) (frame : Frame) (request : Request) (reply : Reply) → command frame ≡ Some request → kept history frame.client frame.number ≡ None → reply ≡ answer setting history frame
+    → is_command request ≡ true → is_refused reply ≡ false → IsKeptRow (next setting history frame) (frame.client, frame.number) (stamped (stamp_of frame) reply)
+answered_row setting history frame request reply asked is_new is commands unrefused =
+    let verdict = judge setting (world_of setting history) request in
+    let its : verdict_reply verdict ≡ reply = sym (is ∙ answer_new setting history frame request asked is_new) in
+    subst (λ (r : Reply). IsKeptRow (next setting history frame) (frame.client, frame.number) (stamped (stamp_of frame) r)) its
+    (accepted_row setting history frame request verdict is_new (judged setting (world_of setting history) request) (next_new setting history frame request asked is_new) commands (ap is_refused its ∙ unrefused))
+
+no_want : (reply : Reply) → is_refused reply ≡ false → is_want reply ≡ false
+no_want (Refused refusal) is = absurd cc
+no_want _ is = refl
+
+-- what puts a reply at hand keeps the rows there those of any history that has this reply
+abbrev Keeps : List (Whose × rows.Entry) → List (Whose × rows.Entry) → Bool → Stamp → Reply → Type 0
+Keeps old new commands stamp reply = (history : History) → AreKept history old → (commands ≡ true → is_refused reply ≡ false → IsKeptRow history (stamp.client, stamp.number) (stamped stamp reply)) → AreKept history new
+
+kept_by : (b : Bool) (setting : Setting) (history : History) (frame : Frame) (request : Request) (reply : Reply) (old : List (Whose × rows.Entry)) (service : Service) → is_want reply ≡ b → command frame ≡ Some request
+    → kept history frame.client frame.number ≡ None → AreKept history old → Keeps old service.recent.rows.entries (is_command request) (stamp_of frame) reply
+    → (P : Type 0) → MatchBool b (P × Stand setting service.parts history) ((reply ≡ answer setting history frame) × Stand setting service.parts (next setting history frame))
+    → MatchBool b (P × StandsFor setting service history) ((reply ≡ answer setting history frame) × StandsFor setting service (next setting history frame))
+kept_by true setting history frame request reply old service want asked is_new all keeps P handled =
+    (handled.0, record { parts = handled.1; recent = keeps history all (λ commands unrefused. absurd (let wants_not = no_want reply unrefused in cc)) })
+kept_by false setting history frame request reply old service want asked is_new all keeps P handled =
+    (handled.0, record { parts = handled.1; recent = keeps (next setting history frame) (rows_next setting history frame old all) (answered_row setting history frame request reply asked is_new handled.0) })
+
+-- the reply to a new request, put at hand where it is kept
+pub with_new : (setting : Setting) (history : History) (frame : Frame) (request : Request) (stamp : Stamp) (reply : Reply) (commands : Bool) (before : Service) (service : Service) → stamp ≡ stamp_of frame → command frame ≡ Some request
+    → commands ≡ is_command request → StandsFor setting before history → reply_for stamp.client stamp.number before.parts.store ≡ None
+    → Keeps before.recent.rows.entries service.recent.rows.entries commands stamp reply
+    → Handles setting history frame reply (Stand setting service.parts) → Handles setting history frame reply (StandsFor setting service)
+with_new setting history frame request stamp reply commands before service is asked commands_is stands absent keeps handled =
+    let is_new = none_kept history before.parts.store frame.client frame.number stands.parts.replies (subst (λ (s : Stamp). reply_for s.client s.number before.parts.store ≡ None) is absent) in
+    let stamped_keeps = subst (λ (s : Stamp). Keeps before.recent.rows.entries service.recent.rows.entries commands s reply) is keeps in
+    let all_keep = subst (λ (b : Bool). Keeps before.recent.rows.entries service.recent.rows.entries b (stamp_of frame) reply) commands_is stamped_keeps in
+    kept_by (is_want reply) setting history frame request reply before.recent.rows.entries service refl asked is_new stands.recent all_keep (IsSome (command frame)) handled
