@@ -1,6 +1,7 @@
 #!/bin/sh
 # Runs the tests of the program's `run`, `serve` and `send`, over standard streams and 127.0.0.1 alone: run.sh PROGRAM
-# Two libraries are preloaded by some of them: streams.c, and refuse.c of tests/memory.
+# Two libraries are preloaded by some of them: streams.c, and refuse.c of tests/memory. Those of hostile clients and
+# registries (hostile_*.py) ask the model in ../model what is due.
 set -u
 case $1 in
     /*) DROID_DESK=$1 ;;
@@ -13,9 +14,11 @@ PRELOAD_STREAMS=$work/streams.so
 PRELOAD_REFUSE=$work/refuse.so
 ${CC:-cc} -shared -fPIC -o "$PRELOAD_STREAMS" ../streams.c -ldl || exit 1
 ${CC:-cc} -shared -fPIC -o "$PRELOAD_REFUSE" ../../memory/refuse.c -ldl || exit 1
-export DROID_DESK PRELOAD_STREAMS PRELOAD_REFUSE
+PYTHONPATH=../model
+export DROID_DESK PRELOAD_STREAMS PRELOAD_REFUSE PYTHONPATH
 failed=0
-for tests in run_command serve_command send_faults send_streams send_memory send_sizes two_senders waiting steady_memory; do
+for tests in run_command serve_command send_faults send_streams send_memory send_sizes two_senders waiting steady_memory \
+    hostile_rows hostile_streams hostile_registries; do
     if python3 -S -B -m unittest -q "$tests" 2>"$work/err"; then
         echo "$tests: passed"
     else

@@ -112,16 +112,16 @@ class TwoSenders(unittest.TestCase):
                 self.assertEqual(again, (0, whole, ""))
 
 
-def deposit_frames(client):
-    """The frames of DEPOSIT."""
+def deposit_frames(client, profile=1):
+    """The frames of DEPOSIT, for this profile."""
     letters = bytes(range(ord("a"), ord("z") + 1))
     bodies = [
         (1, (65536).to_bytes(4, "big") + b"\0"),
-        (2, numbers(1, 0) + bytes(8) + b"in"),
-        (3, numbers(1, 1) + bytes(8) + (26).to_bytes(8, "big") + numbers(16) + b"a.abc"),
-        (4, numbers(1, 2, 1) + letters[16:]),
-        (4, numbers(1, 2, 0) + letters[:16]),
-        (5, numbers(1, 2)),
+        (2, numbers(profile, 0) + bytes(8) + b"in"),
+        (3, numbers(profile, 1) + bytes(8) + (26).to_bytes(8, "big") + numbers(16) + b"a.abc"),
+        (4, numbers(profile, 2, 1) + letters[16:]),
+        (4, numbers(profile, 2, 0) + letters[:16]),
+        (5, numbers(profile, 2)),
     ]
     return [frame(kind, client, place + 1, body) for place, (kind, body) in enumerate(bodies)]
 

@@ -1,0 +1,161 @@
+"""What the model (../model) answers to frames (docs/FORMATS.md): requests read from bytes, and its replies as frames."""
+
+import os
+from struct import pack
+
+from harness import HEADER, frame
+from lines import KINDS, METHOD_NUMBERS, TYPE_NUMBERS
+from registry import Registry
+from service import Service
+
+LONGEST_BODY = 1_048_640
+NAMES = {number: name for name, number in KINDS.items()}
+METHODS = {number: method for method, number in METHOD_NUMBERS.items()}
+TYPES = {number: kind for kind, number in TYPE_NUMBERS.items()}
+TRUTHS = {0: False, 1: True}
+
+REPLIES = {b"made": 129, b"node": 130, b"taken": 131, b"abandoned": 133, b"progress": 134}
+FINISHED, PART, REFUSED = 132, 135, 136
+PRINTED_METHODS = {b"none": 0, b"Signature": 1, b"Extension": 2}
+LIMITS = {b"profiles": 1, b"nodes": 2, b"unfinished": 3}
+
+SAMPLE = os.path.join(os.path.dirname(os.path.abspath(__file__)), "..", "sample_registry.csv")
+
+
+def service_of_the_sample():
+    """A service of the model that identifies by the registry that the program has without a file."""
+    with open(SAMPLE, "rb") as file:
+        return Service(Registry(file.read()))
+
+
+def answer(service, stream):
+    """What is written to these bytes, and the fault with which they end, or None."""
+    frames, fault = frames_of(stream)
+    return b"".join(reply_to(service, *found) for found in frames), fault
+
+
+def frames_of(stream):
+    """The frames that lie whole in the bytes, and the fault with which these end: None where nothing is left."""
+    frames = []
+    while stream:
+        if len(stream) < HEADER.size:
+            return frames, "Truncated"
+        version, kind, client, number, length = HEADER.unpack_from(stream)
+        if version != 1:
+            return frames, "BadVersion"
+        if length > LONGEST_BODY:
+            return frames, "TooLong"
+        body = stream[HEADER.size : HEADER.size + length]
+        if len(body) < length:
+            return frames, "Truncated"
+        frames.append((kind, client, number, body))
+        stream = stream[HEADER.size + length :]
+    return frames, None
+
+
+def reply_to(service, kind, client, number, body):
+    try:
+        request = request_of(kind, body) | {"client": client, "number": number, "body": body}
+    except Malformed:
+        return frame(REFUSED, client, number, b"\1")
+    reply_kind, reply_body = reply_of(service.reply(request))
+    return frame(reply_kind, client, number, reply_body)
+
+
+class Malformed(Exception):
+    """The body is that of no request of its kind."""
+
+
+class Body:
+    """What is left of a body."""
+
+    def __init__(self, left):
+        self.left = left
+
+    def take(self, count):
+        if len(self.left) < count:
+            raise Malformed
+        taken, self.left = self.left[:count], self.left[count:]
+        return taken
+
+    def number(self, size, signed=False):
+        return int.from_bytes(self.take(size), "big", signed=signed)
+
+    def one_of(self, values):
+        number = self.number(1)
+        if number not in values:
+            raise Malformed
+        return values[number]
+
+    def text(self, count):
+        taken = self.take(count)
+        try:
+            taken.decode("utf-8")
+        except UnicodeDecodeError:
+            raise Malformed from None
+        return taken
+
+    def criterion(self):
+        """A criterion's name and its value, as a script's line has them."""
+        tag = self.number(1)
+        if tag == 1:
+            return "method", self.one_of(METHODS)
+        if tag in (2, 3):
+            return "puid" if tag == 2 else "ext", [self.text(self.number(1)) for _ in range(self.number(1))]
+        if tag == 4:
+            return "mismatch", self.one_of(TRUTHS)
+        if tag in (5, 6):
+            return "atleast" if tag == 5 else "atmost", self.number(8)
+        if tag == 7:
+            return "type", self.one_of(TYPES)
+        raise Malformed
+
+
+def request_of(kind, body):
+    """What a body of this kind asks for: it has to be used up."""
+    if kind not in NAMES:
+        raise Malformed
+    left = Body(body)
+    request = {"kind": NAMES[kind]} | fields_of(NAMES[kind], left)
+    if left.left:
+        raise Malformed
+    return request
+
+
+def fields_of(kind, left):
+    if kind == "create":
+        return {"limit": left.number(4), "match_all": left.one_of(TRUTHS)}
+    fields = {"profile": left.number(4)}
+    if kind in ("folder", "file"):
+        fields |= {"parent": left.number(4), "modified": left.number(8, signed=True)}
+        if kind == "file":
+            fields |= {"size": left.number(8), "piece_size": left.number(4)}
+        return fields | {"name": left.text(len(left.left))}
+    if kind == "export":
+        fields |= {"from": left.number(8), "max": left.number(4), "all": left.one_of(TRUTHS)}
+        return fields | {"criteria": [left.criterion() for _ in range(left.number(1))]}
+    fields |= {"file": left.number(4)}
+    if kind == "piece":
+        fields |= {"index": left.number(4)}
+        fields |= {"bytes": left.take(len(left.left))}
+    return fields
+
+
+def reply_of(printed):
+    """The kind and the body of a reply, from how it is printed."""
+    line, _, rest = printed.partition(b"\n")
+    word, *told = line.split(b" ")
+    if word in REPLIES:
+        return REPLIES[word], b"".join(pack(">I", int(number)) for number in told)
+    if word == b"part":
+        return PART, pack(">QQ", int(told[0]), int(told[1])) + rest
+    if word == b"refused":
+        return REFUSED, bytes([int(told[0])]) + b"".join(map(told_by_refusal, told[1:]))
+    method, mismatch, digest, puids = told
+    found = [] if puids == b"-" else puids.split(b",")
+    head = bytes([PRINTED_METHODS[method], mismatch == b"true"]) + bytes.fromhex(digest.decode("ascii"))
+    return FINISHED, head + pack(">H", len(found)) + b"".join(bytes([len(puid)]) + puid for puid in found)
+
+
+def told_by_refusal(word):
+    return bytes([LIMITS[word]]) if word in LIMITS else pack(">I", int(word))
