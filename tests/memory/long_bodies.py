@@ -1,0 +1,47 @@
+"""No memory is taken for a body whose length is past the limit: `run` asks for as much over such a header as over one that
+ends a byte before, whose length nobody knows. For the longest body that may come it asks for that."""
+
+import unittest
+
+from asking import COUNTS_FILE, HEADER, MADE, Counts, create, reply, run_over
+
+LONGEST_BODY = 1_048_640
+# what the fault's name may make of a difference
+ROOM = 64
+
+
+def header(length):
+    return HEADER.pack(1, 4, 1, 2, length)
+
+
+def asked_over(rest):
+    """The fault with which `run` ends over these bytes after a request, and what it asked for."""
+    ended, written, said = run_over(create(1) + rest, COUNTS=COUNTS_FILE)
+    assert (ended, written) == (4, reply(MADE, 1, 1)), (ended, written)
+    with open(COUNTS_FILE, encoding="ascii") as counts:
+        return said, Counts(*map(int, counts.read().split()))
+
+
+class LongBodies(unittest.TestCase):
+    def setUp(self):
+        said, self.without = asked_over(header(0xFFFFFFFF)[:-1])
+        self.assertEqual(said, "fault: Truncated\n")
+
+    def test_none_past_the_limit(self):
+        for length in (LONGEST_BODY + 1, 1 << 21, 1 << 31, 0xFFFFFFFF):
+            for rest in (b"", bytes(1_000)):
+                with self.subTest(length=length, rest=len(rest)):
+                    said, asked = asked_over(header(length) + rest)
+                    self.assertEqual(said, "fault: TooLong\n")
+                    self.assertEqual(asked.asked, self.without.asked)
+                    self.assertLess(abs(asked.less(self.without).bytes), ROOM)
+
+    def test_the_longest(self):
+        said, asked = asked_over(header(LONGEST_BODY))
+        self.assertEqual(said, "fault: Truncated\n")
+        self.assertEqual(asked.less(self.without).bytes, LONGEST_BODY)
+        self.assertEqual(asked.less(self.without).asked, 1)
+
+
+if __name__ == "__main__":
+    unittest.main()
