@@ -35,7 +35,8 @@ wrong: need_rt need_python
 	@RT=$(RT) python3 tools/wrong.py $(if $(BASE),--base $(BASE)) $(CRATES)
 
 # What the costly calls cost: a large registry read, files identified by it, a large export, a folder in a large
-# store, files piece by piece, and a service with its program; with the same in Python beside it.
+# store, files piece by piece, and a service with its program; with the same in Python beside it; and the dearest
+# requests that a client can make.
 bench: build
 	@RT=$(RT) python3 tools/build.py droid_desk_bench
 	@$(BENCH) times
@@ -51,6 +52,7 @@ bench: build
 	@python3 tests/bench/compare_store.py $(BENCH)
 	@python3 tests/bench/compare_run.py $(PROGRAM) $(BENCH)
 	@python3 tests/bench/memory_of_run.py $(PROGRAM)
+	@DROID_DESK=$(CURDIR)/$(PROGRAM) PYTHONPATH=tests/program/wire python3 tests/bench/attacks.py
 
 need_rt:
 	@command -v $(RT) > /dev/null 2>&1 || { \
