@@ -1,22 +1,38 @@
 //! Streams of frames over memory, and what is written for them.
 
 use crate::vectors::{CREATE, FOLDER, MADE, NODE, NUMBER_REUSED, OTHER_FOLDER, joined, service};
-use droid_frame::Unsteady;
+use droid_frame::{FrameFault, Unsteady};
 use droid_wire::{Ended, ServeFault, serve};
 use std::alloc::Global;
 use std::test::Fail;
 
-/// How a service that is empty ends over these bytes, and what it writes.
+/// A length of a body past the limit, and bytes of which none is read.
+const TOO_LONG: [u8; 20] = [
+    1, 1, 0, 0, 0, 1, 0, 0, 0, 0, 0, 0, 0, 1, 0xff, 0xff, 0xff, 0xff, 1, 1,
+];
+
+/// A profile is asked for with a truth value of 2, and with a byte too many.
+const NO_TRUTH: [u8; 23] = [
+    1, 1, 0, 0, 0, 1, 0, 0, 0, 0, 0, 0, 0, 1, 0, 0, 0, 5, 0, 1, 0, 0, 2,
+];
+
+const A_BYTE_MORE: [u8; 24] = [
+    1, 1, 0, 0, 0, 1, 0, 0, 0, 0, 0, 0, 0, 1, 0, 0, 0, 6, 0, 1, 0, 0, 0, 0,
+];
+
+const NO_PROFILE: [u8; 19] = [1, 136, 0, 0, 0, 1, 0, 0, 0, 0, 0, 0, 0, 1, 0, 0, 0, 1, 1];
+
+/// How a service that is empty ends over these bytes, what it writes, and how many of them it leaves unread.
 fn served(
     alloc: Global,
     input: &[u8],
     turns: u32,
-) -> Result<(Result<Ended, ServeFault>, Vec<u8>), Fail> {
+) -> Result<(Result<Ended, ServeFault>, Vec<u8>, usize), Fail> {
     let mut service = service(alloc)?;
     let mut reader = Unsteady::new(input);
     let mut writer = Unsteady::new(Vec::new(alloc));
     let ended = serve(alloc, &mut service, &mut reader, &mut writer, turns);
-    Ok((ended, writer.stream))
+    Ok((ended, writer.stream, reader.stream.len()))
 }
 
 #[test]
@@ -25,16 +41,30 @@ fn runs_and_streams(rt: HostRuntime) -> Result<(), Fail> {
     let input = joined(alloc, &[&CREATE, &FOLDER, &FOLDER, &OTHER_FOLDER])?;
     let three = joined(alloc, &[&MADE, &NODE, &NODE])?;
     let four = joined(alloc, &[&MADE, &NODE, &NODE, &NUMBER_REUSED])?;
-    let rows: [(u32, Ended, &[u8]); 4] = [
-        (0, Ended::Turns, &[]),
-        (3, Ended::Turns, three.as_slice()),
-        (4, Ended::Turns, four.as_slice()),
-        (9, Ended::Closed, four.as_slice()),
+    let rows: [(u32, Ended, &[u8], usize); 4] = [
+        (0, Ended::Turns, &[], input.len()),
+        (3, Ended::Turns, three.as_slice(), OTHER_FOLDER.len()),
+        (4, Ended::Turns, four.as_slice(), 0),
+        (9, Ended::Closed, four.as_slice(), 0),
     ];
-    for (turns, end, wanted) in rows {
-        let (ended, written) = served(alloc, input.as_slice(), turns)?;
+    for (turns, end, wanted, unread) in rows {
+        let (ended, written, left) = served(alloc, input.as_slice(), turns)?;
         assert!(rt; ended == Ok(end), "{turns} turns");
         assert!(rt; written.as_slice() == wanted, "{turns} turns");
+        assert!(rt; left == unread, "{turns} turns");
     }
+    Ok(())
+}
+
+/// What spells no request is answered and changes nothing; a frame that is too long is not read.
+#[test]
+fn hostile_frames(rt: HostRuntime) -> Result<(), Fail> {
+    let alloc = rt.alloc();
+    let input = joined(alloc, &[&NO_TRUTH, &A_BYTE_MORE, &CREATE, &TOO_LONG])?;
+    let wanted = joined(alloc, &[&NO_PROFILE, &NO_PROFILE, &MADE])?;
+    let (ended, written, left) = served(alloc, input.as_slice(), 9)?;
+    assert!(rt; ended == Err(ServeFault::Frame(FrameFault::TooLong)));
+    assert!(rt; written.as_slice() == wanted.as_slice());
+    assert!(rt; left == 2);
     Ok(())
 }
