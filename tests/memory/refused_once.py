@@ -1,12 +1,15 @@
-"""One allocation is refused within one request, each in turn, in a stream that sends each request twice in a row. The
-request is answered Refused 18 and changes nothing, so it is answered as it should be when it comes again, and so is all
-that follows. One refusal, one answer 18: of a program that tries a refused commit a second time there would be none.
+"""One allocation is refused within one request, each in turn, in a stream that sends each request twice in a row: after a
+session, and to a service that had no request before. The request is answered Refused 18 and changes nothing, so it is
+answered as it should be when it comes again, and so is all that follows. One refusal, one answer 18: of a program that
+tries a refused commit a second time there would be none.
 
 Where the memory for its body is refused, no request was read, and the stream ends. And these may be refused without a
 trace, the last that a request asks for:
 - the buffer in which a small reply is gathered (crates/droid_wire/src/sending.rt): without it the reply goes out in parts;
 - what the database takes when a commit stands already, to bring its second copy of the tables to the same rows: without
-  it the next change makes that copy anew. A row takes an allocation for its numbers and one for its texts and bytes."""
+  it the next change makes that copy anew. A row takes an allocation for its numbers and one for its texts and bytes.
+One more may be refused so in the first request to a service, within its first query: the list in which the database keeps
+what a query worked with for the next one, which else takes that anew."""
 
 import os
 import unittest
@@ -37,9 +40,13 @@ from asking import (
     run_over,
     status,
 )
+from out_of_order import EXPORTED, FILE_ADDED, FILE_FINISHED, PIECES, PROFILE_MADE
 from session import ALL, ALL_TEXT, CONTENT, FOUND, LETTERS, folder_row, part, replies_of, requests_of
 
 GATHERED = 1
+KEPT_FOR_THE_NEXT = 1
+# a table's or an index's list of rows, where it begins with four places or gets twice as many
+LIST = 1
 # the row of a profile, and of a reply with its entry in the index by client and number
 PROFILE = 1
 REPLY = 2 + 1
@@ -64,6 +71,19 @@ REQUESTS = [
     (export(50), part(50, 25, TEXT), 0),
 ]
 
+# requests to a service that had none before, in the same way; their first rows begin the lists, and the fifth reply has
+# no place any more
+OUT_OF_ORDER = [
+    (*PROFILE_MADE, PROFILE + REPLY + 3 * LIST),
+    (*FILE_ADDED, NEW_NODE + PROFILE + REPLY + 3 * LIST),
+    (*PIECES[0], REPLY),
+    (*PIECES[1], REPLY),
+    (*PIECES[2], REPLY + 2 * LIST),
+    (*PIECES[3], REPLY),
+    (*FILE_FINISHED, CHANGED_NODE + REPLY),
+    (*EXPORTED, 0),
+]
+
 
 class Step(NamedTuple):
     """A request of the stream with its reply, the first and the last of the allocations that are its own, and how many
@@ -84,37 +104,52 @@ class Step(NamedTuple):
         return f"request {number} of kind {kind}, allocation {allocation - self.first + 1} of {self.last - self.first + 1}"
 
 
-class RefusedOnce(unittest.TestCase):
-    def setUp(self):
-        self.stream = requests_of(ALL)
+class Stream:
+    """The steps of these requests, each sent twice, after the rows that go before."""
+
+    def __init__(self, before, requests):
+        self.bytes = requests_of(before)
+        self.replies = replies_of(before)
         self.steps = []
-        asked = counted(self.stream)[1].asked
-        for request, answer, spared in REQUESTS:
+        asked = counted(self.bytes)[1].asked
+        for request, answer, spared in requests:
             for more in (spared, 0):
-                self.stream += request
-                before, asked = asked, counted(self.stream)[1].asked
-                step = Step(request, answer, before + 1, asked, GATHERED + more)
-                self.assertLess(step.first + step.spared, step.last, "its allocations were not seen")
-                self.steps.append(step)
+                self.bytes += request
+                first, asked = asked + 1, counted(self.bytes)[1].asked
+                self.steps.append(Step(request, answer, first, asked, GATHERED + more))
 
     def due(self, place, allocation):
         """How `run` has to end where this allocation is refused, which is one of the step at this place."""
         step = self.steps[place]
         answers = [step.answer for step in self.steps]
         if allocation == step.first:
-            return 4, replies_of(ALL) + b"".join(answers[:place]), "fault: Memory\n"
+            return 4, self.replies + b"".join(answers[:place]), "fault: Memory\n"
         if allocation <= step.last - step.spared:
             answers[place] = refusal(step.number(), MEMORY)
-        return 0, replies_of(ALL) + b"".join(answers), ""
+        return 0, self.replies + b"".join(answers), ""
 
-    def test_one_refusal_one_answer(self):
-        answers = b"".join(step.answer for step in self.steps)
-        self.assertEqual(run_over(self.stream), (0, replies_of(ALL) + answers, ""))
-        rows = [(place, at) for place, step in enumerate(self.steps) for at in range(step.first, step.last + 1)]
+
+class RefusedOnce(unittest.TestCase):
+    def each_in_turn(self, stream, spared=0):
+        """So many allocations of the first request, besides the last ones, may be refused without a trace."""
+        for step in stream.steps:
+            self.assertLess(step.first + step.spared, step.last, "its allocations were not seen")
+        whole = 0, stream.replies + b"".join(step.answer for step in stream.steps), ""
+        self.assertEqual(run_over(stream.bytes), whole)
+        rows = [(place, at) for place, step in enumerate(stream.steps) for at in range(step.first, step.last + 1)]
         with ThreadPoolExecutor(os.cpu_count()) as pool:
-            told = pool.map(lambda row: run_over(self.stream, REFUSE=row[1]), rows)
-            wrong = [row for row, ended in zip(rows, told) if ended != self.due(*row)]
-        self.assertEqual(wrong, [], "\n".join(self.steps[place].place_of(at) for place, at in wrong))
+            told = list(pool.map(lambda row: run_over(stream.bytes, REFUSE=row[1]), rows))
+        others = [(row, ended) for row, ended in zip(rows, told) if ended != stream.due(*row)]
+        unseen = [row for row, ended in others if row[0] == 0 and ended == whole]
+        wrong = [row for row, _ in others if spared == 0 or row not in unseen]
+        self.assertEqual(wrong, [], "\n".join(stream.steps[place].place_of(at) for place, at in wrong))
+        self.assertEqual(len(unseen), spared)
+
+    def test_after_a_session(self):
+        self.each_in_turn(Stream(ALL, REQUESTS))
+
+    def test_in_an_empty_service(self):
+        self.each_in_turn(Stream([], OUT_OF_ORDER), KEPT_FOR_THE_NEXT)
 
 
 if __name__ == "__main__":

@@ -3,7 +3,7 @@
 # asks again where memory was wanting, so it passes whichever allocation is refused. The tests are those
 # that `rt ci` or `rt test` left in the crates' out/. Then runs the program:
 #   program.sh            its script, with each allocation refused in turn
-#   refused_once.py       a stream of frames, with each allocation refused in turn
+#   refused_once.py       streams of frames, with each allocation refused in turn
 #   limited.py            every allocation of more than so many bytes refused
 #   long_bodies.py        what a header asks for whose length is past the limit
 #   costs_of_requests.py  what a request of each kind makes it ask for, by the table costs_of_requests
