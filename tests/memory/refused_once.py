@@ -4,12 +4,16 @@ answered as it should be when it comes again, and so is all that follows. One re
 tries a refused commit a second time there would be none.
 
 Where the memory for its body is refused, no request was read, and the stream ends. And these may be refused without a
-trace, the last that a request asks for:
-- the buffer in which a small reply is gathered (crates/droid_wire/src/sending.rt): without it the reply goes out in parts;
+trace. The last that a request asks for:
+- the buffer in which a small reply is gathered (crates/droid_wire/src/sending.rt): without it the reply goes in parts;
+- what puts a kept reply at hand, after the commit (crates/droid_core/src/service/recent.rt): without it the next repeat
+  reads the reply from the database;
 - what the database takes when a commit stands already, to bring its second copy of the tables to the same rows: without
   it the next change makes that copy anew. A row takes an allocation for its numbers and one for its texts and bytes.
 One more may be refused so in the first request to a service, within its first query: the list in which the database keeps
-what a query worked with for the next one, which else takes that anew."""
+what a query worked with for the next one, which else takes that anew. And the first that a repeat asks for behind its body,
+a copy of the reply that is at hand: without it the database is read.
+"""
 
 import os
 import unittest
@@ -44,6 +48,9 @@ from out_of_order import EXPORTED, FILE_ADDED, FILE_FINISHED, PIECES, PROFILE_MA
 from session import ALL, ALL_TEXT, CONTENT, FOUND, LETTERS, folder_row, part, replies_of, requests_of
 
 GATHERED = 1
+# a kept reply's body at hand, of an Abandoned none, and its place
+BODY = 1
+PLACE = 1
 KEPT_FOR_THE_NEXT = 1
 # a table's or an index's list of rows, where it begins with four places or gets twice as many
 LIST = 1
@@ -56,43 +63,45 @@ NEW_NODE = CHANGED_NODE + 1 + 2
 
 TEXT = ALL_TEXT + folder_row(8, b"f") + LETTERS.replace(b'"2","1"', b'"9","8"').replace(b"/in/", b"/f/")
 
-# requests after the session, their replies, and how many allocations a new one may go without at its end
+# requests after the session, their replies, and how many allocations may be refused: of a new one at its end, of a
+# repeat behind its first
 REQUESTS = [
-    (create(40), reply(MADE, 40, 6), PROFILE + REPLY),
-    (folder(41, b"f"), reply(NODE, 41, 8), NEW_NODE + PROFILE + REPLY),
-    (file(42, b"a.abc", 26, 16, parent=8), reply(NODE, 42, 9), NEW_NODE + PROFILE + REPLY),
-    (piece(43, 9, 1, CONTENT[16:]), reply(TAKEN, 43, 1), REPLY),
-    (piece(44, 9, 0, CONTENT[:16]), reply(TAKEN, 44, 2), REPLY),
-    (status(45, 9), reply(PROGRESS, 45, 2, 2), 0),
-    (finish(46, 9), frame(FINISHED, CLIENT, 46, FOUND), CHANGED_NODE + REPLY),
-    (abandon(47, 4), reply(ABANDONED, 47), REPLY),
-    (status(48, 9), reply(PROGRESS, 48, 2, 2), 0),
-    (folder(49, b"f"), refusal(49, 9), 0),
-    (export(50), part(50, 25, TEXT), 0),
+    (create(40), reply(MADE, 40, 6), PROFILE + REPLY + BODY + PLACE, BODY),
+    (folder(41, b"f"), reply(NODE, 41, 8), NEW_NODE + PROFILE + REPLY + BODY + PLACE, BODY),
+    (file(42, b"a.abc", 26, 16, parent=8), reply(NODE, 42, 9), NEW_NODE + PROFILE + REPLY + BODY + PLACE, BODY),
+    (piece(43, 9, 1, CONTENT[16:]), reply(TAKEN, 43, 1), REPLY + BODY + PLACE, BODY),
+    (piece(44, 9, 0, CONTENT[:16]), reply(TAKEN, 44, 2), REPLY + BODY + PLACE, BODY),
+    (status(45, 9), reply(PROGRESS, 45, 2, 2), 0, 0),
+    (finish(46, 9), frame(FINISHED, CLIENT, 46, FOUND), CHANGED_NODE + REPLY + BODY + PLACE, BODY),
+    (abandon(47, 4), reply(ABANDONED, 47), REPLY + PLACE, 0),
+    (status(48, 9), reply(PROGRESS, 48, 2, 2), 0, 0),
+    (folder(49, b"f"), refusal(49, 9), 0, 0),
+    (export(50), part(50, 25, TEXT), 0, 0),
 ]
 
 # requests to a service that had none before, in the same way; their first rows begin the lists, and the fifth reply has
 # no place any more
 OUT_OF_ORDER = [
-    (*PROFILE_MADE, PROFILE + REPLY + 3 * LIST),
-    (*FILE_ADDED, NEW_NODE + PROFILE + REPLY + 3 * LIST),
-    (*PIECES[0], REPLY),
-    (*PIECES[1], REPLY),
-    (*PIECES[2], REPLY + 2 * LIST),
-    (*PIECES[3], REPLY),
-    (*FILE_FINISHED, CHANGED_NODE + REPLY),
-    (*EXPORTED, 0),
+    (*PROFILE_MADE, PROFILE + REPLY + 3 * LIST + BODY + PLACE, BODY),
+    (*FILE_ADDED, NEW_NODE + PROFILE + REPLY + 3 * LIST + BODY + PLACE, BODY),
+    (*PIECES[0], REPLY + BODY + PLACE, BODY),
+    (*PIECES[1], REPLY + BODY + PLACE, BODY),
+    (*PIECES[2], REPLY + 2 * LIST + BODY + PLACE, BODY),
+    (*PIECES[3], REPLY + BODY + PLACE, BODY),
+    (*FILE_FINISHED, CHANGED_NODE + REPLY + BODY + PLACE, BODY),
+    (*EXPORTED, 0, 0),
 ]
 
 
 class Step(NamedTuple):
     """A request of the stream with its reply, the first and the last of the allocations that are its own, and how many
-    of the last ones it may go without."""
+    of those behind the first and of the last ones it may go without."""
 
     request: bytes
     answer: bytes
     first: int
     last: int
+    copied: int
     spared: int
 
     def number(self):
@@ -112,11 +121,11 @@ class Stream:
         self.replies = replies_of(before)
         self.steps = []
         asked = counted(self.bytes)[1].asked
-        for request, answer, spared in requests:
-            for more in (spared, 0):
+        for request, answer, spared, copied in requests:
+            for behind, more in ((0, spared), (copied, 0)):
                 self.bytes += request
                 first, asked = asked + 1, counted(self.bytes)[1].asked
-                self.steps.append(Step(request, answer, first, asked, GATHERED + more))
+                self.steps.append(Step(request, answer, first, asked, behind, GATHERED + more))
 
     def due(self, place, allocation):
         """How `run` has to end where this allocation is refused, which is one of the step at this place."""
@@ -124,7 +133,7 @@ class Stream:
         answers = [step.answer for step in self.steps]
         if allocation == step.first:
             return 4, self.replies + b"".join(answers[:place]), "fault: Memory\n"
-        if allocation <= step.last - step.spared:
+        if step.first + step.copied < allocation <= step.last - step.spared:
             answers[place] = refusal(step.number(), MEMORY)
         return 0, self.replies + b"".join(answers), ""
 
@@ -133,7 +142,7 @@ class RefusedOnce(unittest.TestCase):
     def each_in_turn(self, stream, spared=0):
         """So many allocations of the first request, besides the last ones, may be refused without a trace."""
         for step in stream.steps:
-            self.assertLess(step.first + step.spared, step.last, "its allocations were not seen")
+            self.assertLessEqual(step.first + step.copied + step.spared, step.last, "its allocations were not seen")
         whole = 0, stream.replies + b"".join(step.answer for step in stream.steps), ""
         self.assertEqual(run_over(stream.bytes), whole)
         rows = [(place, at) for place, step in enumerate(stream.steps) for at in range(step.first, step.last + 1)]
