@@ -4,6 +4,8 @@
 #[cfg(test)]
 mod chance;
 #[cfg(test)]
+mod faults;
+#[cfg(test)]
 mod files;
 #[cfg(test)]
 mod memory;

@@ -1,9 +1,8 @@
-//! Lines of scripts as requests to a service, and its replies as they are printed. What finds no memory is
-//! tried once more.
+//! Lines of scripts as requests to a service, and its replies as they are printed. Each is asked once.
 
 use droid_core::{Limits, Service};
 use droid_desk_lines::{parse_line, print_answer};
-use droid_frame::{Frame, Refusal, Reply, request_frame};
+use droid_frame::{Frame, Reply, request_frame};
 use droid_pronom::Registry;
 use droid_pronom_sample::SAMPLE;
 use std::alloc::{AllocError, Global};
@@ -23,26 +22,12 @@ pub const LARGEST: Limits = Limits {
 /// A service that is empty.
 pub fn service(rt: &impl Abort, alloc: Global, limits: Limits) -> Result<Service, Fail> {
     assert!(rt; limits.profiles <= 64 && limits.nodes <= 100_000 && limits.unfinished <= 64);
-    if let Ok(service) = Service::new(alloc, registry(alloc)?, limits) {
-        return Ok(service);
-    }
-    Ok(Service::new(alloc, registry(alloc)?, limits)?)
-}
-
-fn registry(alloc: Global) -> Result<Registry, Fail> {
-    let sample = SAMPLE.as_bytes();
-    Ok(Registry::parse(alloc, sample).or_else(|_| Registry::parse(alloc, sample))?)
+    let registry = Registry::parse(alloc, SAMPLE.as_bytes())?;
+    Ok(Service::new(alloc, registry, limits)?)
 }
 
 /// The request of a line.
 pub fn frame(rt: &impl Abort, alloc: Global, line: &str) -> Result<Frame, AllocError> {
-    match frame_once(rt, alloc, line) {
-        Ok(frame) => Ok(frame),
-        Err(_) => frame_once(rt, alloc, line),
-    }
-}
-
-fn frame_once(rt: &impl Abort, alloc: Global, line: &str) -> Result<Frame, AllocError> {
     match parse_line(alloc, line.as_bytes())? {
         Some(line) => request_frame(alloc, line.client, line.number, &line.request),
         None => panic!(rt; "no request: {line}"),
@@ -52,15 +37,10 @@ fn frame_once(rt: &impl Abort, alloc: Global, line: &str) -> Result<Frame, Alloc
 /// What a reply prints.
 pub fn printed(alloc: Global, reply: Reply) -> Result<Vec<u8>, AllocError> {
     let answer = Some(reply);
-    print_answer(alloc, &answer).or_else(|_| print_answer(alloc, &answer))
+    print_answer(alloc, &answer)
 }
 
-/// Whether memory, or the database, was wanting.
-pub fn is_wanting(reply: &Reply) -> bool {
-    matches!(reply, Reply::Refused(Refusal::Memory | Refusal::Store))
-}
-
-/// What the reply to a line prints. The request is sent again where memory was wanting.
+/// What the reply to a line prints.
 pub fn ask(
     rt: &impl Abort,
     alloc: Global,
@@ -68,11 +48,7 @@ pub fn ask(
     line: &str,
 ) -> Result<Vec<u8>, AllocError> {
     let reply = service.handle(frame(rt, alloc, line)?);
-    if !is_wanting(&reply) {
-        return printed(alloc, reply);
-    }
-    let again = service.handle(frame(rt, alloc, line)?);
-    printed(alloc, again)
+    printed(alloc, reply)
 }
 
 /// Asks one line after the other, and compares what is printed.

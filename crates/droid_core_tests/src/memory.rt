@@ -2,10 +2,15 @@
 //! Want of memory: a refused request is answered so, and the same request again is answered as it would
 //! have been.
 
-use crate::asking::{LARGEST, Step, ask_all, frame, is_wanting, printed, service};
+use crate::asking::Step;
+use crate::asking_again::{
+    ask_again, ask_all_again, frame_again, place_of, printed_again, service_again,
+};
+use crate::running::STORED;
 use droid_core::Service;
 use droid_frame::{Frame, Reply};
 use std::alloc::{AllocError, Global};
+use std::io::Write;
 use std::process::Abort;
 use std::test::Fail;
 
@@ -34,63 +39,77 @@ const OUT_OF_ORDER: &[Step] = &[
 
 #[test]
 fn one_after_the_other(rt: HostRuntime) -> Result<(), Fail> {
-    let mut service = service(&rt, rt.alloc(), LARGEST)?;
-    ask_all(&rt, rt.alloc(), &mut service, "out of order", OUT_OF_ORDER)
+    let mut service = service_again(rt.alloc())?;
+    ask_all_again(&rt, rt.alloc(), &mut service, OUT_OF_ORDER)
 }
 
-/// The requests of the stored run: a profile, a folder, the same again, another folder under its number.
-const STORED: [Step; 4] = [
-    ("1 1 create 65536 0", "made 1\n"),
-    ("1 2 folder 1 0 0 in", "node 1\n"),
-    ("1 2 folder 1 0 0 in", "node 1\n"),
-    ("1 2 folder 1 0 0 out", "refused 2\n"),
+/// Asks for an export by its length and its first byte, which says how many requests were accepted.
+const SHOW: &str = "1 9 export 1 0 1";
+
+/// What is shown where nothing was accepted, and where the profile and a folder were.
+const NOTHING: &str = "refused 3\n";
+
+const FOLDER: &str = "part 2 296 1\n\"";
+
+/// What the stored run prints where no request is refused for memory, and where one is; and what is shown then.
+const RUNS: [(&str, &str); 5] = [
+    ("made 1\nnode 1\nnode 1\nrefused 2\n", FOLDER),
+    ("refused 18\nrefused 3\nrefused 3\nrefused 3\n", NOTHING),
+    ("made 1\nrefused 18\nnode 1\nrefused 2\n", FOLDER),
+    ("made 1\nnode 1\nrefused 18\nrefused 2\n", FOLDER),
+    ("made 1\nnode 1\nnode 1\nrefused 18\n", FOLDER),
 ];
 
 fn requests(rt: &impl Abort, alloc: Global) -> Result<Vec<Frame>, AllocError> {
     let mut frames = Vec::new(alloc);
     for (line, _) in STORED {
-        frames.push(frame(rt, alloc, line)?)?;
+        frames.push(frame_again(rt, alloc, line)?)?;
     }
     Ok(frames)
 }
 
-/// The replies to the stored run, which is run again where there was no memory for the list of replies.
-fn replies(
-    rt: &impl Abort,
-    alloc: Global,
-    service: &mut Service,
-) -> Result<Vec<Reply>, AllocError> {
-    let frames = requests(rt, alloc).or_else(|_| requests(rt, alloc))?;
-    match service.run(frames) {
-        Ok(replies) => Ok(replies),
-        Err(_) => service.run(requests(rt, alloc)?),
+/// Prints the replies into this buffer, so that gathering them takes no memory; how many bytes they have.
+fn print_all(alloc: Global, replies: Vec<Reply>, buffer: &mut [u8]) -> Result<usize, Fail> {
+    let room = buffer.len();
+    let mut left = buffer;
+    for reply in replies {
+        let printed = printed_again(alloc, reply)?;
+        left.write_all(printed.as_slice())?;
     }
+    Ok(room.saturating_sub(left.len()))
 }
 
-fn are_wanted(rt: &impl Abort, alloc: Global, replies: Vec<Reply>) -> Result<(), Fail> {
-    assert_eq!(rt; replies.len(), STORED.len());
-    for (reply, (line, wanted)) in replies.into_iter().zip(STORED) {
-        let printed = printed(alloc, reply)?;
-        assert!(rt;
-            printed.as_slice() == wanted.as_bytes(),
-            "{line}: {printed:?}"
-        );
+/// Runs the requests once, and says whether memory was refused to none. Where it was refused for the list of replies,
+/// no request was handled.
+fn runs_whole(rt: &impl Abort, alloc: Global, service: &mut Service) -> Result<bool, Fail> {
+    let mut buffer = [0; 64];
+    let frames = requests(rt, alloc).or_else(|_| requests(rt, alloc))?;
+    match service.run(frames) {
+        Ok(replies) => {
+            let count = print_all(alloc, replies, &mut buffer)?;
+            let printed = &buffer[..count.min(64)];
+            let shown = ask_again(rt, alloc, service, SHOW)?;
+            let place = place_of(&RUNS, printed, shown.as_slice());
+            assert!(rt; place.is_some(), "{printed:?} {shown:?}");
+            Ok(place == Some(0))
+        }
+        Err(_) => {
+            let shown = ask_again(rt, alloc, service, SHOW)?;
+            assert!(rt; shown.as_slice() == NOTHING.as_bytes(), "{shown:?}");
+            Ok(false)
+        }
     }
-    Ok(())
 }
 
 #[test]
 fn in_one_run(rt: HostRuntime) -> Result<(), Fail> {
     let alloc = rt.alloc();
-    let mut service = service(&rt, alloc, LARGEST)?;
-    let first = replies(&rt, alloc, &mut service)?;
-    if !first.iter().any(is_wanting) {
-        are_wanted(&rt, alloc, first)?;
+    let mut service = service_again(alloc)?;
+    if !runs_whole(&rt, alloc, &mut service)? {
+        assert!(rt;
+            runs_whole(&rt, alloc, &mut service)?,
+            "memory was refused twice"
+        );
     }
-    let again = replies(&rt, alloc, &mut service)?;
-    if !again.iter().any(is_wanting) {
-        return are_wanted(&rt, alloc, again);
-    }
-    let last = replies(&rt, alloc, &mut service)?;
-    are_wanted(&rt, alloc, last)
+    Ok(())
 }

@@ -3,6 +3,8 @@
 #![tactic(auto)]
 
 #[cfg(test)]
+mod faults;
+#[cfg(test)]
 mod memory;
 #[cfg(test)]
 mod rows;

@@ -1,8 +1,9 @@
 //! Streams that stop after each byte: each frame that came whole is answered, and the end says what the stream did.
 
-use crate::vectors::{CREATE, FOLDER, MADE, NODE, joined, service};
+use crate::vectors::{CREATE, FOLDER, MADE, NODE, NUMBER_REUSED, OTHER_FOLDER, joined, service};
+use droid_core::Service;
 use droid_frame::{FrameFault, Unsteady};
-use droid_frame_shaky::{BYTE_BY_BYTE, Manner, NOWHERE, STEADY, ShakyReader, ShakyWriter, Stop};
+use droid_frame_shaky::{BYTE_BY_BYTE, Manner, STEADY, ShakyReader, ShakyWriter, Stop};
 use droid_wire::{Ended, ServeFault, serve};
 use std::alloc::Global;
 use std::process::Abort;
@@ -15,26 +16,37 @@ enum Which {
     Replies,
 }
 
-/// How serving ends, and how many bytes of the two replies are written. The first request's frame has 23 bytes and
-/// both have 59; the replies' have 22 each.
+/// How serving ends, and how many bytes of the four replies are written. The requests' frames end behind bytes 23, 59,
+/// 95 and 132; those of the replies behind 22, 44, 66 and 85.
 type Wanted = (Result<Ended, ServeFault>, usize);
+
+/// How long all requests are together, and all replies.
+const REQUESTS: usize = 132;
+
+const REPLIES: usize = 85;
+
+const WHOLE: Wanted = (Ok(Ended::Closed), REPLIES);
 
 /// What is wanted where a stream stops so behind this byte.
 fn wanted(which: Which, count: usize, stop: Stop) -> Wanted {
     match which {
-        Which::Requests => {
-            let written = match count {
-                0..23 => 0,
-                23..59 => 22,
-                _ => 44,
-            };
-            (end_of_requests(count, stop), written)
-        }
-        Which::Replies if count < 44 => {
+        Which::Requests => (end_of_requests(count, stop), replies_to(count)),
+        Which::Replies if count < REPLIES => {
             let written = count as u64;
             (Err(ServeFault::Write { written }), count)
         }
-        Which::Replies => (Ok(Ended::Closed), 44),
+        Which::Replies => WHOLE,
+    }
+}
+
+/// How many bytes the replies have to the requests that lie whole in the first so many bytes.
+fn replies_to(count: usize) -> usize {
+    match count {
+        0..23 => 0,
+        23..59 => 22,
+        59..95 => 44,
+        95..132 => 66,
+        _ => REPLIES,
     }
 }
 
@@ -42,13 +54,22 @@ fn wanted(which: Which, count: usize, stop: Stop) -> Wanted {
 fn end_of_requests(count: usize, stop: Stop) -> Result<Ended, ServeFault> {
     match (stop, count) {
         (Stop::Fails, _) => Err(ServeFault::Frame(FrameFault::Read)),
-        (Stop::Ends, 0 | 23 | 59) => Ok(Ended::Closed),
+        (Stop::Ends, 0 | 23 | 59 | 95 | 132) => Ok(Ended::Closed),
         (Stop::Ends, _) => Err(ServeFault::Frame(FrameFault::Truncated)),
     }
 }
 
-/// Serves an empty service over two requests, where this stream behaves in this manner and stops so behind so many
-/// bytes, and asserts what comes of that.
+/// The first so many of these bytes, and then the end; or a fault, behind which the others would come.
+fn requests_to(requests: &[u8], count: usize, stop: Stop, manner: Manner) -> ShakyReader<'_> {
+    let (front, behind) = requests.split_at(count.min(requests.len()));
+    match stop {
+        Stop::Fails => ShakyReader::broken(front, behind, manner),
+        Stop::Ends => ShakyReader::new(front, stop, manner),
+    }
+}
+
+/// Serves an empty service over the requests, where this stream behaves in this manner and stops so behind so many
+/// bytes, and asserts what comes of that; and that the same service, over all of them again, gives all replies.
 fn ends(
     rt: &impl Abort,
     alloc: Global,
@@ -57,16 +78,16 @@ fn ends(
     turns: u32,
     (end, written): Wanted,
 ) -> Result<(), Fail> {
-    let requests = joined(alloc, &[&CREATE, &FOLDER])?;
-    let requests = requests.as_slice();
+    let requests = joined(alloc, &[&CREATE, &FOLDER, &FOLDER, &OTHER_FOLDER])?;
+    let replies = joined(alloc, &[&MADE, &NODE, &NODE, &NUMBER_REUSED])?;
     let space = Vec::new(alloc);
     let (reader, writer) = match which {
         Which::Requests => (
-            ShakyReader::new(&requests[..count.min(requests.len())], stop, manner),
+            requests_to(requests.as_slice(), count, stop, manner),
             ShakyWriter::new(space, usize::MAX, stop, STEADY),
         ),
         Which::Replies => (
-            ShakyReader::new(requests, Stop::Ends, STEADY),
+            ShakyReader::new(requests.as_slice(), Stop::Ends, STEADY),
             ShakyWriter::new(space, count, stop, manner),
         ),
     };
@@ -74,30 +95,57 @@ fn ends(
     let (mut reader, mut writer) = (Unsteady::new(reader), Unsteady::new(writer));
     let ended = serve(alloc, &mut service, &mut reader, &mut writer, turns);
     assert!(rt; ended == end, "{count}: {ended:?}");
-    let replies = joined(alloc, &[&MADE, &NODE])?;
     let front = &replies.as_slice()[..written.min(replies.len())];
     assert!(rt; writer.stream.taken() == front, "{count}");
+    assert!(rt;
+        gives_all(alloc, &mut service, requests.as_slice(), replies.as_slice()),
+        "{count}, served again"
+    );
     Ok(())
 }
 
-/// After the last turn nothing is read. A fault of writing counts the bytes of all replies.
-#[test]
-fn each_byte(rt: HostRuntime) -> Result<(), Fail> {
-    let alloc = rt.alloc();
-    let rows = [
-        (Which::Requests, 59, Stop::Fails, STEADY),
-        (Which::Requests, 59, Stop::Ends, BYTE_BY_BYTE),
-        (Which::Replies, 44, Stop::Ends, STEADY),
-        (Which::Replies, 44, Stop::Fails, BYTE_BY_BYTE),
-    ];
-    for (which, last, stop, manner) in rows {
-        for count in 0..=last {
-            let place = (which, count, stop);
-            ends(&rt, alloc, place, manner, 9, wanted(which, count, stop))?;
-        }
+/// Whether these requests, served whole, get these replies.
+fn gives_all(alloc: Global, service: &mut Service, requests: &[u8], replies: &[u8]) -> bool {
+    let mut input = requests;
+    let mut room = [0; REPLIES];
+    let mut left = room.as_mut_slice();
+    let ended = serve(alloc, service, &mut input, &mut left, 9);
+    let is_full = left.is_empty();
+    ended == Ok(Ended::Closed) && is_full && room.as_slice() == replies
+}
+
+/// Asserts what comes of this stream where it stops behind each byte.
+fn ends_at_each(
+    rt: &impl Abort,
+    alloc: Global,
+    (which, last, stop): (Which, usize, Stop),
+    manner: Manner,
+) -> Result<(), Fail> {
+    for count in 0..=last {
+        let place = (which, count, stop);
+        ends(rt, alloc, place, manner, 9, wanted(which, count, stop))?;
     }
-    let place = (Which::Requests, 59, Stop::Fails);
+    Ok(())
+}
+
+/// After the last turn nothing is read.
+#[test]
+fn each_byte_of_the_requests(rt: HostRuntime) -> Result<(), Fail> {
+    let alloc = rt.alloc();
+    let which = Which::Requests;
+    ends_at_each(&rt, alloc, (which, REQUESTS, Stop::Fails), STEADY)?;
+    ends_at_each(&rt, alloc, (which, REQUESTS, Stop::Ends), BYTE_BY_BYTE)?;
+    let place = (which, 59, Stop::Fails);
     ends(&rt, alloc, place, STEADY, 2, (Ok(Ended::Turns), 44))
+}
+
+/// A fault of writing counts the bytes of all replies.
+#[test]
+fn each_byte_of_the_replies(rt: HostRuntime) -> Result<(), Fail> {
+    let alloc = rt.alloc();
+    let which = Which::Replies;
+    ends_at_each(&rt, alloc, (which, REPLIES, Stop::Ends), STEADY)?;
+    ends_at_each(&rt, alloc, (which, REPLIES, Stop::Fails), BYTE_BY_BYTE)
 }
 
 /// Sixty-four interruptions are tried again; the next is a fault of the stream.
@@ -107,7 +155,7 @@ fn interruptions(rt: HostRuntime) -> Result<(), Fail> {
     let write = ServeFault::Write { written: 0 };
     for (which, fault) in [(Which::Requests, read), (Which::Replies, write)] {
         let place = (which, usize::MAX, Stop::Ends);
-        for (interruptions, wanted) in [(64, (Ok(Ended::Closed), 44)), (65, (Err(fault), 0))] {
+        for (interruptions, wanted) in [(64, WHOLE), (65, (Err(fault), 0))] {
             let manner = Manner {
                 interruptions,
                 ..STEADY
@@ -118,16 +166,19 @@ fn interruptions(rt: HostRuntime) -> Result<(), Fail> {
     Ok(())
 }
 
-/// They are counted anew for each frame, and for each reply: only the sixty-fifth within the second is a fault.
+/// They are counted anew for each frame, and for each reply: only the sixty-fifth within the third is a fault.
 #[test]
 fn interruptions_in_each(rt: HostRuntime) -> Result<(), Fail> {
     let read = ServeFault::Frame(FrameFault::Read);
-    let write = ServeFault::Write { written: 30 };
-    for (which, fault, written) in [(Which::Requests, read, 22), (Which::Replies, write, 30)] {
+    let write = ServeFault::Write { written: 50 };
+    for (which, third, fault, written) in [
+        (Which::Requests, 70, read, 44),
+        (Which::Replies, 50, write, 50),
+    ] {
         let place = (which, usize::MAX, Stop::Ends);
-        for (times, wanted) in [(64, (Ok(Ended::Closed), 44)), (65, (Err(fault), written))] {
+        for (times, wanted) in [(64, WHOLE), (65, (Err(fault), written))] {
             let manner = Manner {
-                places: [(5, 64), (30, times), NOWHERE],
+                places: [(5, 64), (30, 64), (third, times)],
                 ..STEADY
             };
             ends(&rt, rt.alloc(), place, manner, 9, wanted)?;
