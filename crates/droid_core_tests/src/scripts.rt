@@ -3,7 +3,8 @@
 
 use crate::asking_again::{ask_again, place_of, service_again};
 use droid_core::Service;
-use droid_desk_script::{ScriptFault, Tally, script};
+use droid_desk_lines::Tally;
+use droid_desk_script::{ScriptFault, script};
 use std::alloc::Global;
 use std::test::Fail;
 
