@@ -23,10 +23,11 @@ quick: need_rt need_python
 	@RT=$(RT) python3 tools/quick.py $(BASE)
 
 # The gate: every proof from nothing, the wrong bodies of must-fail/, tests, and then the built program. `rt ci` leaves
-# the program and the tests that it built in each crate's out/, and the last two lines run those.
+# the program and the tests that it built in each crate's out/, and the last three lines run those.
 test: need_rt
 	$(RT) ci
 	sh tests/program/run.sh $(CURDIR)/$(PROGRAM)
+	sh tests/registry/run.sh $(CURDIR)/$(PROGRAM)
 	sh tests/memory/run.sh
 
 # The prover refuses every wrong body, those of wrong-bodies/ too. All are tried, or those of CRATES="a b", or with

@@ -1,0 +1,129 @@
+"""`file --mime-type` says of each sample what the registry has as its format's media type, where `file` is installed in
+the version that this table is of; other versions know more or less."""
+
+import os
+import shutil
+import subprocess
+import tempfile
+import unittest
+
+from common import FORMATS, SAMPLES
+
+VERSION = "file-5.44"
+
+# it doesn't know the format, or wants more of a file than the sample has
+NOT_KNOWN = {"application/octet-stream", "text/plain"}
+NOT_KNOWN_AT_TIMES = """
+    dds emf ilbm dvi onenote caf rf64 wavpack swf mpeg-ts dex npy parquet arrow avro netcdf pcapng shp vhd vhdx vmdk
+    pbm kml gpx xslt xsd mathml musicxml plist mbox pem-certificate pem-key webvtt
+""".split()
+NOT_KNOWN_BY_PUID = {"x-fmt/384", "fmt/569", "fmt/573", "x-fmt/409", "fmt/92", "fmt/278"}
+
+# the same type by the name that it had before it was registered, or by another's
+OTHER_NAMES = {
+    "movkrin/j2c": "image/x-jp2-codestream",
+    "movkrin/qoi": "image/x-qoi",
+    "movkrin/pgm": "image/x-portable-greymap",
+    "movkrin/odb": "application/vnd.oasis.opendocument.database",
+    "movkrin/lzip": "application/x-lzip",
+    "movkrin/rar-4": "application/x-rar",
+    "fmt/613": "application/x-rar",
+    "fmt/6": "audio/x-wav",
+    "movkrin/bwf": "audio/x-wav",
+    "movkrin/rf64": "audio/x-wav",
+    "movkrin/m4a": "audio/x-m4a",
+    "fmt/569": "video/x-matroska",
+    "fmt/5": "video/x-msvideo",
+    "movkrin/swf": "application/x-shockwave-flash",
+    "movkrin/ttf": "font/sfnt",
+    "movkrin/otf": "application/vnd.ms-opentype",
+}
+
+WORD = "application/vnd.openxmlformats-officedocument."
+# it tells what the format is made of, or a wider or a narrower kind
+WIDER_OR_NARROWER = {
+    "movkrin/apng": {"image/png"},
+    "movkrin/dng": {"image/tiff"},
+    "movkrin/heic": {"image/heif"},
+    "fmt/412": {"application/zip"},
+    "fmt/214": {"application/zip"},
+    "fmt/215": {"application/zip"},
+    "movkrin/docm": {WORD + "wordprocessingml.document"},
+    "movkrin/xlsm": {WORD + "spreadsheetml.sheet"},
+    "movkrin/pptm": {WORD + "presentationml.presentation"},
+    "movkrin/xlsb": {"application/zip"},
+    "movkrin/jar": {"application/zip"},
+    "movkrin/apk": {"application/zip"},
+    "movkrin/amr-wb": {"audio/amr"},
+    "movkrin/m4a": {"video/mp4"},
+    "fmt/199": {"video/x-m4v"},
+    "movkrin/ogg": {"video/ogg"},
+    "fmt/690": {"application/x-object"},
+    "fmt/688": {"application/x-object"},
+    "fmt/689": {"application/x-object"},
+    "fmt/691": {"application/x-object"},
+    "movkrin/geopackage": {"application/vnd.sqlite3"},
+    "movkrin/ttc": {"font/ttf"},
+    "fmt/96": {"text/xml"},
+    "movkrin/xhtml": {"text/xml"},
+    "fmt/102": {"text/xml", "text/html"},
+    "fmt/103": {"text/xml", "text/html"},
+    **{"movkrin/" + name: {"text/xml"} for name in "atom rss kml gpx xslt xsd mathml musicxml plist".split()},
+}
+
+# it goes by something inside: a picture within a page, or a title as a page has one
+SOMETHING_INSIDE = {
+    "fmt/96": "image/svg+xml",
+    "movkrin/xhtml": "image/svg+xml",
+    "movkrin/xslt": "image/svg+xml",
+    "fmt/102": "image/svg+xml",
+    "fmt/103": "image/svg+xml",
+    "movkrin/atom": "text/html",
+    "movkrin/rss": "text/html",
+}
+
+
+def answers_but(puid):
+    """What it may say of a format, beside the media type that the registry has."""
+    known = {*WIDER_OR_NARROWER.get(puid, ())}
+    known |= {table[puid] for table in (OTHER_NAMES, SOMETHING_INSIDE) if puid in table}
+    if puid in NOT_KNOWN_BY_PUID or puid.removeprefix("movkrin/") in NOT_KNOWN_AT_TIMES:
+        known |= NOT_KNOWN
+    return known
+
+
+def installed():
+    if shutil.which("file") is None:
+        return False
+    return subprocess.run(["file", "--version"], capture_output=True, text=True).stdout.startswith(VERSION + "\n")
+
+
+def said_of(samples):
+    """What `file` says of each sample."""
+    with tempfile.TemporaryDirectory() as folder:
+        paths = []
+        for number, (_, name, content) in enumerate(samples):
+            paths.append(os.path.join(folder, f"{number}-{name}"))
+            with open(paths[-1], "wb") as file:
+                file.write(content)
+        done = subprocess.run(["file", "--brief", "--mime-type", *paths], capture_output=True, text=True, check=True)
+    return done.stdout.splitlines()
+
+
+@unittest.skipUnless(installed(), f"{VERSION} is not installed")
+class MediaTypes(unittest.TestCase):
+    def test_file_agrees(self):
+        said = said_of(SAMPLES)
+        self.assertEqual(len(said), len(SAMPLES))
+        others = {puid: set() for puid in FORMATS}
+        for (puid, name, content), media_type in zip(SAMPLES, said):
+            if media_type.lower() != FORMATS[puid].media_type.lower():
+                self.assertIn(media_type, answers_but(puid), (puid, name, content[:80]))
+                others[puid].add(media_type)
+        for puid, seen in others.items():
+            self.assertLessEqual(answers_but(puid) - NOT_KNOWN, seen, (puid, "agrees by now"))
+            self.assertEqual(bool(answers_but(puid) & NOT_KNOWN), bool(seen & NOT_KNOWN), (puid, "is known by now"))
+
+
+if __name__ == "__main__":
+    unittest.main()
