@@ -14,7 +14,7 @@ VERSION = "file-5.44"
 # it doesn't know the format, or wants more of a file than the sample has
 NOT_KNOWN = {"application/octet-stream", "text/plain"}
 NOT_KNOWN_AT_TIMES = """
-    dds emf ilbm dvi onenote caf rf64 wavpack swf mpeg-ts dex npy parquet arrow avro netcdf pcapng shp vhd vhdx vmdk
+    dds emf ilbm dvi tzif onenote caf rf64 wavpack swf mpeg-ts dex npy parquet arrow avro netcdf pcapng shp vhd vhdx vmdk
     pbm kml gpx xslt xsd mathml musicxml plist mbox pem-certificate pem-key webvtt
 """.split()
 NOT_KNOWN_BY_PUID = {"x-fmt/384", "fmt/569", "fmt/573", "x-fmt/409", "fmt/92", "fmt/278"}
