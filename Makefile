@@ -50,6 +50,7 @@ bench: build
 	@$(BENCH) memory 61 '*' ''
 	@$(BENCH) service
 	@python3 tests/bench/compare_export.py $(BENCH)
+	@python3 tests/bench/compare_folders_export.py $(PROGRAM)
 	@python3 tests/bench/compare_store.py $(BENCH)
 	@python3 tests/bench/compare_run.py $(PROGRAM) $(BENCH)
 	@python3 tests/bench/memory_of_run.py $(PROGRAM)
