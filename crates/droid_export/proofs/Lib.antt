@@ -3,6 +3,8 @@ pub mod CsvText
 pub mod Escapes
 pub mod Examples
 pub mod Growing
+pub mod Indexing
+pub mod Marking
 pub mod Places
 pub mod ReadingBack
 pub mod Stopping

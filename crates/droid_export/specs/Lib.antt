@@ -2,6 +2,7 @@ pub mod Civil
 pub mod Csv
 pub mod Exporting
 pub mod Filters
+pub mod Index
 pub mod Moments
 pub mod Rows
 pub mod Text

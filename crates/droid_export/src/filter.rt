@@ -52,8 +52,9 @@ fn meets_any(criteria: &Criteria, node: &Record) -> bool
     false
 }
 
+/// Whether a record meets a criterion. It goes through the criterion's list.
 #[tactic(auto, unfolding(crate::specs::Filters::is_met))]
-fn is_met(criterion: &Criterion, node: &Record) -> bool
+pub(crate) fn is_met(criterion: &Criterion, node: &Record) -> bool
     ensures { result ≡ is_met node.now criterion.now }
 {
     match criterion {

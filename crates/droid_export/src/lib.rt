@@ -1,10 +1,13 @@
 //! The export: the records of a profile as CSV, after DROID's.
 #![tactic(auto)]
 
+mod choosing;
 mod common;
 mod extension;
 mod fault;
 mod filter;
+mod flags;
+mod index;
 mod laws;
 mod moment;
 mod node_uri;

@@ -19,11 +19,13 @@ const ESCAPED: AsciiSet = ascii_set!(
 
 /// The URI of a node with this path: `file:` and the path, with each byte as `%` and two upper-case digits
 /// except ASCII letters, digits, `-`, `.`, `_`, `~` and `/` (RFC 3986, section 2). A folder's ends in `/`.
-/// Only want of memory refuses it.
+/// Only want of memory refuses it. Room for a path of which each byte is escaped is taken at once.
 pub fn uri(alloc: Global, path: &str, kind: NodeKind) -> Result<Text, AllocError>
     ensures { IfOk result (λ text. text ≡ uris.uri path.now kind) }
 {
-    let mut text = String::from_str(alloc, "file:")?;
+    let room = path.len().saturating_mul(3).saturating_add(6);
+    let mut text = String::with_capacity(alloc, room)?;
+    text.push_str("file:")?;
     percent_encode(path.as_bytes(), ESCAPED).append_to(&mut text)?;
     text.push_str(uri_end(kind))?;
     Ok(Text::from(text))

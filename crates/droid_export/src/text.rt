@@ -2,10 +2,12 @@
 
 ghost use Rattle.std.specs.Prelude.{◌≡◌, ◌++◌, ℕ, List, IfOk, OnOk};
 ghost use Rattle.std.specs.List.{flat_map};
+ghost use Rattle.droid_export.specs.Index.{IsIndex};
 ghost use Rattle.droid_export.specs.Text.{HaveMoments, chosen_rows, row_text, text};
 ghost use Rattle.droid_export.specs.Writing.{Holds};
 
-use crate::filter::meets;
+use crate::choosing::is_chosen;
+use crate::index::Index;
 use crate::rows::{write_header, write_rows};
 use crate::table::{finish, new_writer};
 use csv::Writer;
@@ -30,9 +32,10 @@ pub fn export_text(
     requires { HaveMoments records.now }
     ensures { IfOk result (λ bytes. bytes ≡ text registry.now filter.now records.now) }
 {
+    let index = Index::build(alloc, &filter.criteria)?;
     let mut writer = new_writer(alloc);
     write_header(&mut writer)?;
-    write_records(alloc, &mut writer, records, registry, filter)?;
+    write_records(alloc, &mut writer, records, registry, filter, &index)?;
     Ok(Blob::from(finish(writer)?))
 }
 
@@ -43,12 +46,15 @@ fn write_records(
     records: &[Record],
     registry: &Registry,
     filter: &Filter,
+    index: &Index,
 ) -> Result<(), AllocError>
-    requires { HaveMoments records.now }
+    requires moments { HaveMoments records.now }
+    requires index { IsIndex filter.now.criteria index.now }
     ensures { OnOk result ((before : List ℕ) → Holds writer.old before → Holds writer.new (before ++ flat_map row_text (chosen_rows registry.now filter.now records.now))) }
 {
     for node in records {
-        if meets(filter, node) {
+        let chosen = is_chosen(alloc, filter, index, node)?;
+        if chosen {
             write_rows(alloc, writer, registry, node)?;
         }
     }

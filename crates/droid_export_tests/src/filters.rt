@@ -1,8 +1,13 @@
 //! Which records a filter lets through.
 
+ghost use Rattle.std.specs.Prelude.{IfOk};
+ghost use Rattle.droid_export.specs.Text.{HaveMoments};
+
 use crate::nodes::{Identified, MD5_OF_NOTHING, everything, file, folder, message, texts};
-use droid_export::meets;
+use droid_export::{export_text, meets};
 use droid_frame::{Criteria, Criterion, Filter, Method, NodeKind, Record};
+use droid_pronom::Registry;
+use droid_pronom_sample::SAMPLE;
 use std::alloc::{AllocError, Global};
 use std::test::Fail;
 
@@ -44,8 +49,28 @@ const CRITERIA: [(Only, (bool, bool, bool)); 20] = [
     (Only::Ext(&[""]), (true, false, false)),
 ];
 
-/// A filter of one criterion.
-fn filter_of(alloc: Global, only: Only) -> Result<Filter, AllocError> {
+/// What several criteria let through, joined by all and by any.
+#[rattlefmt::skip]
+const JOINED: [(&[Only], (bool, bool, bool), (bool, bool, bool)); 7] = [
+    (&[], (true, true, true), (true, true, true)),
+    (&[Only::Ext(&["msg"]), Only::Puid(&["dev/3"])], (false, true, false), (false, true, false)),
+    (&[Only::Ext(&["b", "msg"]), Only::Ext(&["MSG"])], (false, true, false), (false, true, true)),
+    (&[Only::Puid(&["dev/1"]), Only::Puid(&["dev/3"])], (false, true, false), (false, true, false)),
+    (&[Only::Puid(&["dev/1"]), Only::Puid(&["dev/2"])], (false, false, false), (false, true, false)),
+    (&[Only::Ext(&[]), Only::Kind(NodeKind::Folder)], (false, false, false), (true, false, false)),
+    (&[Only::Ext(&["a", "a", "B"]), Only::AtMost(0), Only::Kind(NodeKind::File)], (false, false, true), (false, true, true)),
+];
+
+/// A filter of some criteria.
+fn filter_of(alloc: Global, onlies: &[Only], all: bool) -> Result<Filter, AllocError> {
+    let mut criteria = Criteria::new(alloc);
+    for only in onlies {
+        criteria.push(criterion_of(alloc, *only)?)?;
+    }
+    Ok(Filter { all, criteria })
+}
+
+fn criterion_of(alloc: Global, only: Only) -> Result<Criterion, AllocError> {
     let criterion = match only {
         Only::Method(method) => Criterion::MethodIs(method),
         Only::Mismatch(mismatch) => Criterion::MismatchIs(mismatch),
@@ -55,16 +80,13 @@ fn filter_of(alloc: Global, only: Only) -> Result<Filter, AllocError> {
         Only::Puid(puids) => Criterion::PuidIn(texts(alloc, puids)?),
         Only::Ext(extensions) => Criterion::ExtIn(texts(alloc, extensions)?),
     };
-    let mut criteria = Criteria::new(alloc);
-    criteria.push(criterion)?;
-    Ok(Filter {
-        all: true,
-        criteria,
-    })
+    Ok(criterion)
 }
 
 /// The folder, the file of two formats, and the file of no bytes.
-fn three_records(alloc: Global) -> Result<[Record; 3], AllocError> {
+fn three_records(alloc: Global) -> Result<[Record; 3], AllocError>
+    ensures { IfOk result (λ it. HaveMoments it) }
+{
     let nothing = Identified {
         method: Method::Unidentified,
         mismatch: false,
@@ -77,42 +99,53 @@ fn three_records(alloc: Global) -> Result<[Record; 3], AllocError> {
     ])
 }
 
-/// Whether the criterion lets these through as it should.
+/// Whether a filter lets these through as it should, asked one by one and in an export.
 fn is_right(
     alloc: Global,
     records: &[Record; 3],
-    only: Only,
+    filter: &Filter,
     wanted: (bool, bool, bool),
-) -> Result<bool, AllocError> {
-    let filter = filter_of(alloc, only)?;
+) -> Result<bool, Fail>
+    requires { HaveMoments records.now }
+{
+    let registry = Registry::parse(alloc, SAMPLE.as_bytes())?;
+    let bytes = export_text(alloc, records, &registry, filter)?;
+    let text = str::from_utf8(bytes.as_slice())?;
+    let shown = (
+        text.contains("\"/in\""),
+        text.contains("\"/m.MSG\""),
+        text.contains("\"/a.b\""),
+    );
     let [folder, message, empty] = records;
     let met = (
-        meets(&filter, folder),
-        meets(&filter, message),
-        meets(&filter, empty),
+        meets(filter, folder),
+        meets(filter, message),
+        meets(filter, empty),
     );
-    Ok(met == wanted)
-}
-
-/// The place of the first row that isn't as it should be, where there is one.
-fn wrong_row(
-    alloc: Global,
-    records: &[Record; 3],
-    rows: &[(Only, (bool, bool, bool))],
-) -> Result<Option<usize>, AllocError> {
-    for (place, (only, wanted)) in rows.iter().enumerate() {
-        if !is_right(alloc, records, *only, *wanted)? {
-            return Ok(Some(place));
-        }
-    }
-    Ok(None)
+    Ok(met == wanted && shown == wanted)
 }
 
 #[test]
 fn each_criterion(rt: HostRuntime) -> Result<(), Fail> {
     let alloc = rt.alloc();
     let records = three_records(alloc)?;
-    assert_eq!(rt; wrong_row(alloc, &records, &CRITERIA)?, None);
+    for (place, (only, wanted)) in CRITERIA.iter().enumerate() {
+        let filter = filter_of(alloc, &[*only], true)?;
+        assert!(rt; is_right(alloc, &records, &filter, *wanted)?, "{place}");
+    }
+    Ok(())
+}
+
+#[test]
+fn several_criteria(rt: HostRuntime) -> Result<(), Fail> {
+    let alloc = rt.alloc();
+    let records = three_records(alloc)?;
+    for (place, (onlies, by_all, by_any)) in JOINED.iter().enumerate() {
+        let filter = filter_of(alloc, onlies, true)?;
+        assert!(rt; is_right(alloc, &records, &filter, *by_all)?, "{place}");
+        let filter = filter_of(alloc, onlies, false)?;
+        assert!(rt; is_right(alloc, &records, &filter, *by_any)?, "{place}");
+    }
     Ok(())
 }
 

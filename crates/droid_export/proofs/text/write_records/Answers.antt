@@ -6,17 +6,17 @@ use Rattle.droid_export.specs.Text.{chosen_rows, row_text}
 use Rattle.droid_export.specs.Writing.{Holds}
 use Rattle.droid_export.proofs.Growing.{kept, passed_over}
 use Rattle.droid_export.proofs.text.write_records.Goals as goal
-use Rattle.droid_export.proofs.text.write_records.Goals.{then-meets+in_ok-write_rows, else-meets}
+use Rattle.droid_export.proofs.text.write_records.Goals.{then-chosen+in_ok-write_rows, else-chosen}
 
 pub loop-node-preserved : goal.loop-node-preserved
-loop-node-preserved c = elim c.if-meets.branch [
-  | then-meets+in_ok-write_rows w ↦ λ before holds.
+loop-node-preserved c = elim c.if-chosen.branch [
+  | then-chosen+in_ok-write_rows w ↦ λ before holds.
       let written = w.in_ok-write_rows.ensures _ (c.loop-node.invariant before holds) in
-      let more = kept c.args.registry.now c.args.filter.now c.args.records.now c.loop-node.node-index c.node-item.result (omega arith) c.node-item.is (sym c.meets.ensures ∙ w.if-meets.true) in
+      let more = kept c.args.registry.now c.args.filter.now c.args.records.now c.loop-node.node-index c.node-item.result (omega arith) c.node-item.is (sym c.in_ok-chosen.ensures ∙ w.if-chosen.true) in
       rw w.writer-is (subst (λ (t : List ℕ). Holds w.write_rows.new.writer t)
       (append_assoc before _ _ ∙ ap (λ (t : List ℕ). before ++ t) more) written)
-  | else-meets w ↦ λ before holds.
-      let same = passed_over c.args.registry.now c.args.filter.now c.args.records.now c.loop-node.node-index c.node-item.result (omega arith) c.node-item.is (sym c.meets.ensures ∙ w.if-meets.false) in
+  | else-chosen w ↦ λ before holds.
+      let same = passed_over c.args.registry.now c.args.filter.now c.args.records.now c.loop-node.node-index c.node-item.result (omega arith) c.node-item.is (sym c.in_ok-chosen.ensures ∙ w.if-chosen.false) in
       rw w.writer-is (subst (λ (t : List ℕ). Holds c.loop-node.writer (before ++ t)) same (c.loop-node.invariant before holds))
 ]
 
