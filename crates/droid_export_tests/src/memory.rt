@@ -26,6 +26,8 @@ fn each_growth_of_small_texts(rt: HostRuntime) -> Result<(), Fail> {
         NodeKind::Folder,
     ))?;
     assert_eq!(rt; text.as_str(), "file:/in/");
+    let text = uri(alloc, "/a b", NodeKind::File).or_else(|_| uri(alloc, "/a b", NodeKind::File))?;
+    assert_eq!(rt; text.as_str(), "file:/a%20b");
     let text = moment_text(alloc, 0).or_else(|_| moment_text(alloc, 0))?;
     assert_eq!(rt; text.as_str(), "1970-01-01T00:00:00");
     Ok(())
