@@ -15,7 +15,7 @@ use Rattle.droid_core_spec.specs.Wants.{is_want, is_want_of}
 use Rattle.droid_core_spec.specs.World.{World}
 use Rattle.droid_core_spec.proofs.Legal.{world_next, GoesOn-push}
 use Rattle.droid_core_spec.proofs.Meetings.{answer_malformed, next_malformed, answer_kept, next_kept, answer_new, next_new}
-use Rattle.droid_core_rows.proofs.Replying.{kept_one_more}
+use Rattle.droid_core_state.proofs.Replying.{kept_one_more}
 use Rattle.droid_store.specs.declared.rows.Entry as rows
 use Rattle.droid_store.specs.Rows.{Rows, reply_for}
 use Rattle.droid_core_state.specs.declared.parts.Parts.{Parts}

@@ -3,8 +3,8 @@ use Rattle.std.proofs.Common.{◌≡◌, ℕ, Bool, true, false, cond, [], ◌�
 use Rattle.std.specs.List.{AllByRecursion}
 use Rattle.droid_frame.specs.Replies.{HasReplySpelling}
 use Rattle.droid_core_spec.specs.Histories.{Entry, History, is_under, kept}
-use Rattle.droid_core_rows.specs.Replies.{entry_row, KeepsReplies}
-use Rattle.droid_core_rows.proofs.LookUps.{reply_found}
+use Rattle.droid_core_state.specs.Replies.{entry_row, KeepsReplies}
+use Rattle.droid_core_state.proofs.LookUps.{reply_found}
 use Rattle.droid_store.specs.declared.rows.Entry as rows
 use Rattle.droid_store.specs.Rows.{Rows, reply_for}
 

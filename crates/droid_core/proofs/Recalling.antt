@@ -17,8 +17,8 @@ use Rattle.droid_core_spec.specs.World.{World}
 use Rattle.droid_core_spec.proofs.Judged.{judged}
 use Rattle.droid_core_spec.proofs.Meetings.{answer_new, next_new}
 use Rattle.droid_core_spec.proofs.Replied.{kept_next}
-use Rattle.droid_core_rows.specs.Replies.{entry_row, KeepsReplies}
-use Rattle.droid_core_rows.proofs.LookUps.{reply_found}
+use Rattle.droid_core_state.specs.Replies.{entry_row, KeepsReplies}
+use Rattle.droid_core_state.proofs.LookUps.{reply_found}
 use Rattle.droid_store.specs.declared.rows.Entry as rows
 use Rattle.droid_store.specs.Rows.{Rows, reply_for}
 use Rattle.droid_core_state.specs.declared.parts.Parts.{Parts}

@@ -4,8 +4,8 @@ use Rattle.droid_core_spec.specs.Histories.{world_of}
 use Rattle.droid_core_state.specs.Identified.{IsOf}
 use Rattle.droid_core_spec.specs.Setting.{Setting}
 use Rattle.droid_core_spec.specs.World.{Profile, empty_world, numbered}
-use Rattle.droid_core_rows.specs.Rows.{KeepsWorld}
-use Rattle.droid_core_rows.proofs.Made.{world_empty}
+use Rattle.droid_core_state.specs.Rows.{KeepsWorld}
+use Rattle.droid_core_state.proofs.Made.{world_empty}
 use Rattle.droid_store.specs.Rows.{Rows, no_rows}
 use Rattle.droid_core_files.specs.Files.{OpenFiles, open_at}
 use Rattle.droid_core_state.specs.Assemblies.{HasAssemblies, HasItsAssemblyIn}

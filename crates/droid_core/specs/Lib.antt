@@ -14,12 +14,7 @@ pub use Rattle.droid_core_spec.specs.World
 -- Which setting a registry makes.
 pub use Rattle.droid_core_state.specs.Identified
 -- What the service stands for, and what a list of requests gives.
-pub mod Causes
 pub mod KeptBytes
-pub mod LookUps
-pub mod NewAssemblies
-pub mod Places
 pub mod Recent
 pub mod Running
 pub mod Standing
-pub mod Taking

@@ -3,7 +3,7 @@ use Rattle.droid_core_spec.specs.Histories.{History, IsLegal, world_of}
 use Rattle.droid_core_spec.specs.Limits.{Limits}
 use Rattle.droid_core_spec.specs.Setting.{Setting}
 use Rattle.droid_pronom.specs.Registry.{Contents}
-use Rattle.droid_core_rows.specs.Replies.{KeepsReplies}
+use Rattle.droid_core_state.specs.Replies.{KeepsReplies}
 use Rattle.droid_core_state.specs.declared.parts.Parts.{Parts}
 use Rattle.droid_core_state.specs.Standing.{IsIn}
 use Rattle.droid_core_state.specs.Standing as parts

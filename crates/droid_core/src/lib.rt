@@ -2,7 +2,6 @@
 //! their replies for good.
 #![tactic(auto)]
 
-mod requests;
 mod service;
 
 pub use droid_core_state::Limits;

@@ -4,8 +4,8 @@ use Rattle.droid_core_spec.specs.Setting.{Setting}
 use Rattle.droid_core_spec.specs.World.{Profile, World, numbered}
 use Rattle.droid_store.specs.declared.rows.ProfileRow.{ProfileRow}
 use Rattle.droid_store.specs.Rows.{Rows, profile_at}
-use Rattle.droid_core_rows.specs.Rows.{profile_row, KeepsWorld}
-use Rattle.droid_core_rows.proofs.LookUps.{profile_found}
+use Rattle.droid_core_state.specs.Rows.{profile_row, KeepsWorld}
+use Rattle.droid_core_state.proofs.LookUps.{profile_found}
 use Rattle.droid_core_state.specs.LookUps.{HasProfile}
 
 of_row : (world : World) (number : ℕ) (row : ProfileRow) (one : Option Profile) → numbered world.profiles number ≡ one → Some row ≡ option_map profile_row one → HasProfile world number row

@@ -3,4 +3,7 @@ pub mod Changes
 pub mod Checks
 pub mod Identified
 pub mod LookUps
+pub mod Replies
+pub mod Rows
+pub mod Sound
 pub mod Standing

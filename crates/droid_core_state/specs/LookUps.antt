@@ -4,7 +4,7 @@ use Rattle.droid_frame.specs.types.refusal.Refusal.{Refusal}
 use Rattle.droid_frame.specs.types.refusal.Refusal.TheVariants.{NoSuchProfile}
 use Rattle.droid_core_spec.specs.Wants.{is_want_of}
 use Rattle.droid_core_spec.specs.World.{Profile, World, numbered}
-use Rattle.droid_core_rows.specs.Rows.{profile_row}
+use Rattle.droid_core_state.specs.Rows.{profile_row}
 use Rattle.droid_store.specs.declared.fault.StoreFault.{StoreFault}
 use Rattle.droid_store.specs.declared.rows.ProfileRow.{ProfileRow}
 use Rattle.droid_core_state.specs.Changes.{told_of}

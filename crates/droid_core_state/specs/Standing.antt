@@ -4,8 +4,8 @@ use Rattle.droid_core_state.specs.Identified.{IsOf}
 use Rattle.droid_core_spec.specs.Limits.{Limits}
 use Rattle.droid_core_spec.specs.Setting.{Setting}
 use Rattle.droid_core_spec.specs.World.{World}
-use Rattle.droid_core_rows.specs.Rows.{KeepsWorld}
-use Rattle.droid_core_rows.specs.Sound.{IsSound}
+use Rattle.droid_core_state.specs.Rows.{KeepsWorld}
+use Rattle.droid_core_state.specs.Sound.{IsSound}
 use Rattle.droid_core_state.specs.Assemblies.{HasAssemblies}
 use Rattle.droid_core_state.specs.declared.limits.Limits as given
 use Rattle.droid_core_state.specs.declared.parts.Parts.{Parts}

@@ -1,5 +1,6 @@
 //! What the service keeps, and what all its requests have in common: whose a request is, the row of its reply, the
-//! profile that it names, and the conditions under which it is refused.
+//! profile that it names, and the conditions under which it is refused. Which rows of the store stand for which world and
+//! history stands here too, in definitions, with lemmas on what the look-ups find and what each commit makes of it.
 #![tactic(auto)]
 
 mod first;

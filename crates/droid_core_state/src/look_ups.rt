@@ -5,7 +5,7 @@ ghost use Rattle.droid_frame.specs.types.refusal.Refusal.TheVariants.{NoSuchProf
 ghost use Rattle.droid_core_spec.specs.Setting.{Setting};
 ghost use Rattle.droid_core_spec.specs.World.{World};
 ghost use Rattle.droid_core_state.specs.LookUps.{FindsProfile, profile_in};
-ghost use Rattle.droid_core_rows.specs.Rows.{KeepsWorld};
+ghost use Rattle.droid_core_state.specs.Rows.{KeepsWorld};
 ghost use Rattle.droid_store.specs.Rows.{Rows, profile_at};
 
 use crate::refusals::store_refusal;

@@ -18,11 +18,11 @@ ghost use Rattle.droid_core_spec.specs.Verdicts.{is_command, is_refused};
 ghost use Rattle.droid_core_spec.specs.World.{World};
 ghost use Rattle.droid_store.specs.Rows.{reply_for};
 
-use crate::requests::{
-    abandon, add_file, add_folder, create_profile, export, finish, status, take_piece,
-};
 use crate::service::Service;
 use crate::service::recent::RecentReplies;
+use droid_core_requests::{
+    abandon, add_file, add_folder, create_profile, export, finish, status, take_piece,
+};
 use droid_core_state::{Parts, Stamp, answer_again, reply_from, store_refusal};
 use droid_frame::{Refusal, Reply, Request};
 use droid_store::{Entry, StoreFault};

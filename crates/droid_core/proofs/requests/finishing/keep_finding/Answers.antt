@@ -1,5 +1,0 @@
-use Rattle.droid_core.proofs.PuidTexts.{are_words}
-use Rattle.droid_core.proofs.requests.finishing.keep_finding.Goals as goal
-
-pub commit_finish-requires-clause-puids : goal.commit_finish-requires-clause-puids
-commit_finish-requires-clause-puids c = are_words c.args.finding.found.puids c.requires.puids

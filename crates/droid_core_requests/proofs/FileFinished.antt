@@ -1,0 +1,173 @@
+-- What comes of finishing a file that was found.
+use Rattle.std.proofs.Common.{◌≡◌, ℕ, ◌+◌, List, length, slice_get, true, false, Option, Some, None, refl, sym, ap, subst, ◌∙◌}
+use Rattle.std.specs.Prelude.{ℤ, Bool, MatchBool, ⊤}
+use Rattle.md5.specs.Md5.{md5}
+use Rattle.droid_assembly.specs.State.{IsUnchanged}
+use Rattle.droid_frame.specs.types.refusal.Refusal.{Refusal}
+use Rattle.droid_frame.specs.types.refusal.Refusal.TheVariants.{AlreadyFinished}
+use Rattle.droid_frame.specs.types.reply.Reply.{Reply}
+use Rattle.droid_frame.specs.types.reply.Reply.TheVariants as replies
+use Rattle.droid_frame.specs.types.request.Request.TheVariants.{Finish}
+use Rattle.droid_core_spec.specs.Files.{as_finished, bytes_of, finding_of, finished_reply}
+use Rattle.droid_core_spec.specs.Histories.{verdict_reply}
+use Rattle.droid_core_state.specs.Identified.{IsOf, found_in}
+use Rattle.droid_core_spec.specs.Judging.{Verdict, Accepted, Refuses, unless_refused, refusal_of, finish_checks, judge, world_set, node_set}
+use Rattle.droid_core_spec.specs.Setting.{Setting, Finding}
+use Rattle.droid_core_spec.specs.Wants.{is_want, is_want_of}
+use Rattle.droid_core_spec.specs.World.{Content, File, Profile, World}
+use Rattle.droid_pronom.specs.Found.{Hits, IsFound}
+use Rattle.droid_pronom.specs.types.found.Found.{Found}
+use Rattle.droid_pronom.proofs.FoundOnce.{found_once}
+use Rattle.droid_core_state.specs.Rows.{KeepsWorld}
+use Rattle.droid_core_state.proofs.Finished.{file_finished}
+use Rattle.droid_core_state.proofs.Soundness.{sound_file_set}
+use Rattle.droid_store.specs.Changes.{with_reply, with_finished}
+use Rattle.droid_store.specs.declared.rows.ProfileRow.{ProfileRow}
+use Rattle.droid_store.specs.Rows.{Rows, is_unfinished}
+use Rattle.droid_core_files.specs.Files.{OpenFile, OpenFiles, IsAt, At, Turns, IsAlikeBut, is_of, open_at}
+use Rattle.droid_core_state.specs.Assemblies.{IsAssemblyOf, IsOpenFor, HasAssemblies}
+use Rattle.droid_core_state.specs.Changes.{Stays, Leaves, Comes, stamped}
+use Rattle.droid_core_state.specs.declared.parts.Parts.{Parts}
+use Rattle.droid_core_requests.specs.declared.file_rows.FileRow.{FileRow}
+use Rattle.droid_core_state.specs.declared.stamps.Stamp.{Stamp}
+use Rattle.droid_core_requests.specs.LookUps.{HasFile, for_file}
+use Rattle.droid_core_state.specs.Standing.{IsIn}
+use Rattle.droid_core_requests.proofs.Assembled.{assembly_of, assemblies_finished}
+use Rattle.droid_core_requests.proofs.FileVerdicts.{judged_there, unfinished_there, finished_there}
+use Rattle.droid_core_state.proofs.Staying.{comes_refused, of_any}
+use Rattle.droid_core_requests.proofs.UnchangedFiles.{assemblies_unchanged, place_still}
+
+-- what comes of finishing this file
+abbrev pub finish_there : Setting → World → ℕ → ℕ → Profile → ℕ → ℤ → List ℕ → Content → Verdict
+finish_there setting world number id profile parent modified name content =
+    unless_refused (refusal_of (finish_checks content))
+    (Accepted (finished_reply (finding_of setting profile name content) (bytes_of content)) (world_set world number (node_set profile id (File parent modified name (as_finished content)))))
+
+pub judge_finish : (setting : Setting) (world : World) (number id : ℕ) → judge setting world (Finish number id) ≡ for_file world number id (finish_there setting world number id)
+unfolding judge
+judge_finish setting world number id = refl
+
+-- ---- where a file was only looked at
+
+pub only_looked : (setting : Setting) (world : World) (old : Parts) (place : ℕ) (store : Rows) (files : OpenFiles) → store ≡ old.store → IsAlikeBut place old.files files → Turns old.files files place IsUnchanged → IsIn setting world old
+    → Stays setting world old (record old { store = store; files = files })
+only_looked setting world old place store files same alike unchanged is_in = rw same (record {
+  world_is = record {
+    is_setting = record { limits = is_in.is_setting.limits; allowed = is_in.is_setting.allowed; registry = is_in.is_setting.registry };
+    rows = is_in.rows;
+    sound = is_in.sound;
+    files = assemblies_unchanged world old.files files place is_in.files alike unchanged;
+    room = alike.limit ∙ is_in.room;
+  };
+  replies = refl;
+})
+
+wanting_or : (wanting : Bool) (P Q R : Type 0) → MatchBool wanting ⊤ P → Q → (P → MatchBool wanting Q R) → MatchBool wanting Q R
+wanting_or true P Q R it wants turn = wants
+wanting_or false P Q R it wants turn = turn it
+
+unwanted : (wanting : Bool) (P Q : Type 0) → wanting ≡ false → Q → MatchBool wanting P Q
+unwanted true P Q is it = absurd cc
+unwanted false P Q is it = it
+
+-- ---- what is found
+
+-- what the registry finds is what the setting does
+found_is : (setting : Setting) (world : World) (old : Parts) (name bytes : List ℕ) (limit : ℕ) (match_all : Bool) (found : Found) → IsIn setting world old → IsFound old.registry name bytes limit match_all found
+    → found ≡ found_in (setting.identify name bytes limit match_all)
+found_is setting world old name bytes limit match_all found is_in is =
+    found_once (Hits bytes limit) old.registry name match_all found (found_in (setting.identify name bytes limit match_all)) is (is_in.is_setting.registry.identifies name bytes limit match_all)
+
+module _ (setting : Setting) (world : World) (number id : ℕ) (row : FileRow) (has : HasFile world number id row) where
+  judged : judge setting world (Finish number id) ≡ finish_there setting world number id has.profile has.parent has.modified has.name has.content
+  judged = judge_finish setting world number id ∙ judged_there world number id row has (finish_there setting world number id)
+
+  pub refused_finished : is_unfinished row.node.state ≡ false → judge setting world (Finish number id) ≡ Refuses AlreadyFinished
+  refused_finished isnt =
+      let finished = finished_there world number id row has isnt in
+      judged ∙ rw finished refl
+
+  -- where nothing refuses it
+  abbrev reply_and_world : Verdict
+  reply_and_world = Accepted (finished_reply (finding_of setting has.profile has.name has.content) (bytes_of has.content)) (world_set world number (node_set has.profile id (File has.parent has.modified has.name (as_finished has.content))))
+
+  refused : (refusal : Refusal) → refusal_of (finish_checks has.content) ≡ Some refusal → judge setting world (Finish number id) ≡ Refuses refusal
+  refused refusal is = judged ∙ ap (λ found. unless_refused found reply_and_world) is
+
+  accepted : refusal_of (finish_checks has.content) ≡ None → judge setting world (Finish number id) ≡ reply_and_world
+  accepted is = judged ∙ ap (λ found. unless_refused found reply_and_world) is
+
+  module _ (old : Parts) (place : ℕ) (is_in : IsIn setting world old) (is : is_unfinished row.node.state ≡ true) (at_place : slice_get old.files.files place ≡ open_at number id old.files.files) where
+    unfinished : has.content.finished ≡ false
+    unfinished = unfinished_there world number id row has is
+
+    its : IsOpenFor has.profile has.content (open_at number id old.files.files)
+    its = assembly_of world old.files is_in.files number has.profile id has.parent has.modified has.name has.content has.there has.at unfinished
+
+    -- it is not identified
+    pub comes_unfinished : (stamp : Stamp) (new : Parts) (refusal : Refusal) → Stays setting world old new
+        → At old.files place (λ file. (profile : Profile) (content : Content) → IsAssemblyOf profile content file → content.finished ≡ false → MatchBool (is_want_of refusal) ⊤ (refusal_of (finish_checks content) ≡ Some refusal))
+        → Comes setting world old new stamp (judge setting world (Finish number id)) (replies.Refused refusal)
+    comes_unfinished stamp new refusal stays said =
+        wanting_or (is_want_of refusal) _ _ _ (said its.file (at_place ∙ its.there) has.profile has.content its.assembled unfinished) stays
+        (λ refuses. comes_refused setting world old new stamp (judge setting world (Finish number id)) refusal (of_any _ (refused refusal refuses)) stays)
+
+    -- what is found is the setting's
+    pub finds : (found : Found) → At old.files place (λ file. (profile : Profile) (content : Content) → IsAssemblyOf profile content file
+        → IsFound old.registry row.node.item.name (bytes_of content) profile.scan_limit row.profile.match_all found)
+        → found ≡ found_in (finding_of setting has.profile has.name has.content)
+    finds found said =
+        let told = said its.file (at_place ∙ its.there) has.profile has.content its.assembled in
+        let named = subst (λ (name : List ℕ). IsFound old.registry name (bytes_of has.content) has.profile.scan_limit row.profile.match_all found) has.name_is told in
+        let of_profile = subst (λ (p : ProfileRow). IsFound old.registry has.name (bytes_of has.content) has.profile.scan_limit p.match_all found) has.profile_is named in
+        found_is setting world old has.name (bytes_of has.content) has.profile.scan_limit has.profile.match_all found is_in of_profile
+
+    pub digest_is : (digest : List ℕ) → At old.files place (λ file. (profile : Profile) (content : Content) → IsAssemblyOf profile content file → digest ≡ md5 (bytes_of content)) → digest ≡ md5 (bytes_of has.content)
+    digest_is digest said = said its.file (at_place ∙ its.there) has.profile has.content its.assembled
+
+    pub allowed_there : At old.files place (λ file. (profile : Profile) (content : Content) → IsAssemblyOf profile content file → content.finished ≡ false → refusal_of (finish_checks content) ≡ None) → refusal_of (finish_checks has.content) ≡ None
+    allowed_there said = said its.file (at_place ∙ its.there) has.profile has.content its.assembled unfinished
+
+    -- the reply, and the rows with it, as the verdict has them
+    abbrev finding : Finding
+    finding = finding_of setting has.profile has.name has.content
+
+    abbrev reply : Reply
+    reply = finished_reply finding (bytes_of has.content)
+
+    abbrev finished_rows : Stamp → Rows
+    finished_rows stamp = with_reply (stamped stamp reply) (with_finished number id finding.method finding.mismatch (md5 (bytes_of has.content)) finding.puids old.store)
+
+    pub finished : (stamp : Stamp) (given : Reply) (store : Rows) (mid new : OpenFiles) (found : Found) (digest : List ℕ) → refusal_of (finish_checks has.content) ≡ None
+        → found ≡ found_in finding → digest ≡ md5 (bytes_of has.content)
+        → given ≡ replies.Finished found.method found.mismatch digest found.puids
+        → store ≡ with_reply (stamped stamp given) (with_finished number id found.method found.mismatch digest found.puids old.store)
+        → IsAlikeBut place old.files mid → Turns old.files mid place IsUnchanged
+        → ((one : OpenFile) → IsAt mid.files place one → open_at one.profile one.file new.files ≡ None)
+        → ((one : OpenFile) (that_number that_id : ℕ) → IsAt mid.files place one → is_of that_number that_id one ≡ false → open_at that_number that_id new.files ≡ open_at that_number that_id mid.files)
+        → length new.files + 1 ≡ length mid.files → new.limit ≡ mid.limit
+        → Comes setting world old (record old { store = store; files = new }) stamp (judge setting world (Finish number id)) given
+    finished stamp given store mid new found digest allowed same_found same_digest gives stored alike unchanged gone others count limit =
+        let after = world_set world number (node_set has.profile id (File has.parent has.modified has.name (as_finished has.content))) in
+        let replied : given ≡ reply = gives ∙ ap (λ (it : Found). replies.Finished it.method it.mismatch digest it.puids) same_found ∙ ap (λ (d : List ℕ). replies.Finished finding.method finding.mismatch d finding.puids) same_digest in
+        let kept : store ≡ finished_rows stamp =
+        stored
+        ∙ ap (λ (it : Reply). with_reply (stamped stamp it) (with_finished number id found.method found.mismatch digest found.puids old.store)) replied
+        ∙ ap (λ (it : Found). with_reply (stamped stamp reply) (with_finished number id it.method it.mismatch digest it.puids old.store)) same_found
+        ∙ ap (λ (d : List ℕ). with_reply (stamped stamp reply) (with_finished number id finding.method finding.mismatch d finding.puids old.store)) same_digest in
+        let rows = file_finished setting world old.store (stamped stamp reply) number has.profile id has.parent has.modified has.name has.content is_in.rows has.there has.at unfinished in
+        let looked = assemblies_unchanged world old.files mid place is_in.files alike unchanged in
+        let still = place_still world old.files mid place is_in.files alike unchanged number id at_place in
+        unwanted (is_want given) _ _ (ap is_want gives) (rw (accepted allowed) (
+          replied,
+          record {
+            world_is = record {
+              is_setting = record { limits = is_in.is_setting.limits; allowed = is_in.is_setting.allowed; registry = is_in.is_setting.registry };
+              rows = subst (KeepsWorld setting after) (sym kept) rows;
+              sound = sound_file_set world number has.profile id has.parent has.modified has.name has.content is_in.sound has.there has.at (as_finished has.content);
+              files = assemblies_finished world number has.profile id has.parent has.modified has.name has.content mid new place looked has.there has.at unfinished still gone others count;
+              room = limit ∙ alike.limit ∙ is_in.room;
+            };
+            replies = ap (λ (rows : Rows). rows.replies) kept;
+          },
+        ))

@@ -1,0 +1,74 @@
+-- What comes of asking how far a file is, where it was found.
+use Rattle.std.proofs.Common.{◌≡◌, ℕ, List, Bool, true, false, Some, refl, sym, ap, ◌∙◌}
+use Rattle.std.specs.Prelude.{ℤ, MatchBool, IfOk, IfErr, Result, Ok, Err}
+use Rattle.droid_assembly.specs.Pieces.{piece_count}
+use Rattle.droid_frame.specs.types.refusal.Refusal.{Refusal}
+use Rattle.droid_frame.specs.types.refusal.Refusal.TheVariants as refusals
+use Rattle.droid_frame.specs.types.reply.Reply.{Reply}
+use Rattle.droid_frame.specs.types.reply.Reply.TheVariants.{Progress}
+use Rattle.droid_frame.specs.types.request.Request.TheVariants.{Status}
+use Rattle.droid_core_spec.specs.Files.{progress_of}
+use Rattle.droid_core_spec.specs.Histories.{verdict_reply}
+use Rattle.droid_core_spec.specs.Judging.{Verdict, Answered, judge}
+use Rattle.droid_core_spec.specs.Setting.{Setting}
+use Rattle.droid_core_spec.specs.Wants.{is_want}
+use Rattle.droid_core_spec.specs.World.{Content, File, Profile, World, numbered, node_at}
+use Rattle.droid_store.specs.Rows.{is_unfinished}
+use Rattle.droid_core_files.specs.Files.{OpenFiles}
+use Rattle.droid_core_state.specs.Assemblies.{HasAssemblies}
+use Rattle.droid_core_state.specs.Changes.{Stays, Leaves, Comes, answered}
+use Rattle.droid_core_state.specs.declared.parts.Parts.{Parts}
+use Rattle.droid_core_requests.specs.declared.file_rows.FileRow.{FileRow}
+use Rattle.droid_core_state.specs.declared.stamps.Stamp.{Stamp}
+use Rattle.droid_core_requests.specs.LookUps.{HasFile, for_file}
+use Rattle.droid_core_requests.proofs.FileVerdicts.{judged_there, unfinished_there, finished_there}
+
+-- what comes of asking for this file
+abbrev pub status_there : Profile → ℕ → ℤ → List ℕ → Content → Verdict
+status_there profile parent modified name content = Answered (progress_of content)
+
+pub judge_status : (setting : Setting) (world : World) (number id : ℕ) → judge setting world (Status number id) ≡ for_file world number id status_there
+unfolding judge
+judge_status setting world number id = refl
+
+module _ (setting : Setting) (world : World) (old new : Parts) (stamp : Stamp) (verdict : Verdict) (stays : Stays setting world old new) where
+  one_of : (wanting : Bool) (P Q : Type 0) → P → Q → MatchBool wanting P Q
+  one_of true P Q p q = p
+  one_of false P Q p q = q
+
+  -- the verdict's answer, or a want
+  comes_told : (told : Result Reply Refusal) → IfOk told (λ reply. verdict ≡ Answered reply) → IfErr told (λ refusal. refusal ≡ refusals.Store) → Comes setting world old new stamp verdict (answered told)
+  comes_told (Ok reply) is wants = one_of (is_want reply) _ _ stays (rw is (refl, stays))
+  comes_told (Err refusal) is wants = rw wants stays
+
+module _ (setting : Setting) (world : World) (number id : ℕ) (row : FileRow) (has : HasFile world number id row) where
+  told_there : judge setting world (Status number id) ≡ Answered (progress_of has.content)
+  told_there = judge_status setting world number id ∙ judged_there world number id row has status_there
+
+  abbrev TellsProgress : OpenFiles → Reply → Type 0
+  TellsProgress files reply = (world : World) (profile : Profile) (parent : ℕ) (modified : ℤ) (name : List ℕ) (content : Content) → HasAssemblies world files
+      → numbered world.profiles number ≡ Some profile → node_at profile.nodes id ≡ Some (File parent modified name content) → content.finished ≡ false
+      → reply ≡ progress_of content
+
+  of_progress : (files : OpenFiles) → HasAssemblies world files → is_unfinished row.node.state ≡ true → (told : Result Reply Refusal) → IfOk told (TellsProgress files)
+      → IfOk told (λ reply. judge setting world (Status number id) ≡ Answered reply)
+  of_progress files assembled is (Ok reply) tells =
+      told_there ∙ ap Answered (sym (tells world has.profile has.parent has.modified has.name has.content assembled has.there has.at (unfinished_there world number id row has is)))
+  of_progress files assembled is (Err refusal) tells = tt
+
+  -- of an unfinished file its assembly tells
+  pub unfinished_told : (old new : Parts) (stamp : Stamp) → Stays setting world old new → HasAssemblies world old.files → is_unfinished row.node.state ≡ true
+      → (told : Result Reply Refusal) → IfOk told (TellsProgress old.files) → IfErr told (λ refusal. refusal ≡ refusals.Store)
+      → Comes setting world old new stamp (judge setting world (Status number id)) (answered told)
+  unfinished_told old new stamp stays assembled is told tells wants = comes_told setting world old new stamp _ stays told (of_progress old.files assembled is told tells) wants
+
+  finished_progress : (content : Content) → content.finished ≡ true → progress_of content ≡ Progress (piece_count content.size content.piece_size) (piece_count content.size content.piece_size)
+  finished_progress content finished = rw finished refl
+
+  -- of a finished file its row does
+  pub finished_told : (old new : Parts) (stamp : Stamp) (count : ℕ) → Stays setting world old new → is_unfinished row.node.state ≡ false → count ≡ piece_count row.node.item.size row.node.piece_size
+      → (Progress count count ≡ verdict_reply (judge setting world (Status number id))) × Leaves setting world old new stamp (judge setting world (Status number id))
+  finished_told old new stamp count stays isnt counted =
+      let finished = finished_progress has.content (finished_there world number id row has isnt) in
+      let counts : count ≡ piece_count has.content.size has.content.piece_size = rw (counted, has.size_is, has.piece_size_is) refl in
+      rw told_there (ap (λ n. Progress n n) counts ∙ sym finished, stays)

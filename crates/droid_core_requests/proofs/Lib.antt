@@ -1,0 +1,21 @@
+-- What is shown of each kind of request.
+pub mod AddedFiles
+pub mod AddedFolders
+pub mod AddedNodes
+pub mod Assembled
+pub mod ExportedParts
+pub mod FileAbandoned
+pub mod FileFinished
+pub mod FileProgress
+pub mod FileVerdicts
+pub mod FilesFound
+pub mod FinishJudged
+pub mod FolderRows
+pub mod MadeProfiles
+pub mod Moments
+pub mod PieceAssemblies
+pub mod PieceTaken
+pub mod PlaceChecks
+pub mod PuidTexts
+pub mod PutJudged
+pub mod UnchangedFiles

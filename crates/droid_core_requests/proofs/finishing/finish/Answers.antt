@@ -1,0 +1,52 @@
+use Rattle.std.proofs.Common.{refl, sym, subst, ◌∙◌}
+use Rattle.std.proofs.lemmas.Result.{err_from_is_err_and}
+use Rattle.droid_frame.specs.types.request.Request.TheVariants.{Finish}
+use Rattle.droid_core_spec.specs.Judging.{judge}
+use Rattle.droid_store.specs.Rows.{Rows}
+use Rattle.droid_core_requests.proofs.FileFinished.{finish_there, judge_finish, only_looked, refused_finished, comes_unfinished, finds, digest_is, allowed_there, finished}
+use Rattle.droid_core_requests.proofs.FileVerdicts.{comes_nowhere}
+use Rattle.droid_core_requests.proofs.PieceTaken.{comes_wanting}
+use Rattle.droid_core_state.proofs.Staying.{read_only}
+use Rattle.droid_core_requests.proofs.finishing.finish.Goals as goal
+
+pub returns-in_err-row-clause-comes : goal.returns-in_err-row-clause-comes
+returns-in_err-row-clause-comes c = λ setting world is_in.
+    let fault = err_from_is_err_and c.from_residual.result c.from_residual.ensures.1 in
+    rw (fault.1, fault.2) (comes_nowhere setting world c.args.parts.now _ c.args.stamp c.args.number c.args.file (finish_there setting world c.args.number c.args.file) _ _
+    (judge_finish setting world c.args.number c.args.file) (c.in_err-row.ensures.found setting world is_in.rows) (read_only setting world c.args.parts.now c.file_of.new.store c.file_of.ensures.same is_in))
+
+pub returns-then-not-is_unfinished-clause-comes : goal.returns-then-not-is_unfinished-clause-comes
+returns-then-not-is_unfinished-clause-comes c = λ setting world is_in.
+    let has = c.in_ok-row.ensures.found setting world is_in.rows in
+    let refused = refused_finished setting world c.args.number c.args.file c.in_ok-row.row has (sym c.if-not-is_unfinished.ensures) in
+    rw refused (refl, read_only setting world c.args.parts.now c.file_of.new.store c.file_of.ensures.same is_in)
+
+pub returns-in_err-finding-clause-comes : goal.returns-in_err-finding-clause-comes
+returns-in_err-finding-clause-comes c = λ setting world is_in.
+    let fault = err_from_is_err_and c.from_residual-in_err-finding.result c.from_residual-in_err-finding.ensures.1 in
+    let has = c.in_ok-row.ensures.found setting world is_in.rows in
+    rw (fault.1, fault.2)
+    (comes_unfinished setting world c.args.number c.args.file c.in_ok-row.row has c.args.parts.now c.in_ok-place.place is_in (sym c.if-not-is_unfinished.ensures) c.in_ok-place.ensures.place c.args.stamp _ _
+    (only_looked setting world c.args.parts.now c.in_ok-place.place c.file_of.new.store c.identify_file.new.files c.file_of.ensures.same c.identify_file.ensures.others c.identify_file.ensures.unchanged is_in)
+    c.in_err-finding.ensures.refused)
+
+pub returns-in_err-reply-clause-comes : goal.returns-in_err-reply-clause-comes
+returns-in_err-reply-clause-comes c = λ setting world is_in.
+    let fault = err_from_is_err_and c.from_residual-in_err-reply.result c.from_residual-in_err-reply.ensures.1 in
+    rw (fault.1, fault.2)
+    (comes_wanting setting world c.args.parts.now _ c.args.stamp (judge setting world (Finish c.args.number c.args.file)) _ c.in_err-reply.ensures.want
+    (rw c.in_err-reply.ensures.same (only_looked setting world c.args.parts.now c.in_ok-place.place c.keep_finding.new.store c.identify_file.new.files (c.in_err-reply.ensures.not_kept ∙ c.file_of.ensures.same) c.identify_file.ensures.others c.identify_file.ensures.unchanged is_in)))
+
+pub returns-clause-comes : goal.returns-clause-comes
+returns-clause-comes c = λ setting world is_in.
+    let has = c.in_ok-row.ensures.found setting world is_in.rows in
+    let is = sym c.if-not-is_unfinished.ensures in
+    let at_place = c.in_ok-place.ensures.place in
+    let found = finds setting world c.args.number c.args.file c.in_ok-row.row has c.args.parts.now c.in_ok-place.place is_in is at_place _ c.in_ok-finding.ensures.found in
+    let digest = digest_is setting world c.args.number c.args.file c.in_ok-row.row has c.args.parts.now c.in_ok-place.place is_in is at_place _ c.in_ok-finding.ensures.digest in
+    let allowed = allowed_there setting world c.args.number c.args.file c.in_ok-row.row has c.args.parts.now c.in_ok-place.place is_in is at_place c.in_ok-finding.ensures.allowed in
+    let stored = c.in_ok-reply.ensures.kept ∙ (rw c.file_of.ensures.same refl) in
+    finished setting world c.args.number c.args.file c.in_ok-row.row has c.args.parts.now c.in_ok-place.place is_in is at_place
+    c.args.stamp c.in_ok-reply.reply c.keep_finding.new.store c.identify_file.new.files c.keep_finding.new.files c.in_ok-finding.finding.found c.in_ok-finding.finding.sealed.md5
+    allowed found digest c.in_ok-reply.ensures.reply stored c.identify_file.ensures.others c.identify_file.ensures.unchanged
+    c.in_ok-reply.ensures.gone c.in_ok-reply.ensures.others c.in_ok-reply.ensures.count c.keep_finding.ensures.limit

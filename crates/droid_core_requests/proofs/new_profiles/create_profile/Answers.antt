@@ -1,0 +1,54 @@
+use Rattle.std.proofs.Common.{◌+◌, sym, ap, ◌∙◌}
+use Rattle.droid_core_spec.specs.Limits.{Limits}
+use Rattle.droid_core_requests.proofs.MadeProfiles.{create_refused, refused_alone, never_refused, profile_count, comes_made}
+use Rattle.droid_core_state.proofs.Staying.{of_any, stays, comes_refused}
+use Rattle.droid_core_requests.proofs.new_profiles.create_profile.Goals as goal
+
+pub returns-in-Some-clause-comes : goal.returns-in-Some-clause-comes
+returns-in-Some-clause-comes c = λ setting world is.
+    let room = c.profile_room-profiles.ensures in
+    let limit = room.limit ∙ sym (ap (λ (limits : Limits). limits.profiles) is.is_setting.limits) in
+    let count = room.count ∙ profile_count setting world c.args.parts.now.store is.rows in
+    let refused = sym (c.in-Some.ensures.first setting.limits world limit count) in
+    let verdict = create_refused setting world c.args.scan_limit c.args.match_all c.in-Some.refusal refused in
+    comes_refused setting world _ _ c.args.stamp _ c.in-Some.refusal (of_any _ verdict)
+    (stays setting world _ _ room.limits room.registry room.store room.files is)
+
+pub returns-in-Some-clause-refused : goal.returns-in-Some-clause-refused
+returns-in-Some-clause-refused c = λ setting world refusal is judged.
+    let room = c.profile_room-profiles.ensures in
+    let limit = room.limit ∙ sym (ap (λ (limits : Limits). limits.profiles) is.is_setting.limits) in
+    let count = room.count ∙ profile_count setting world c.args.parts.now.store is.rows in
+    let refused = sym (c.in-Some.ensures.first setting.limits world limit count) in
+    refused_alone setting world c.args.scan_limit c.args.match_all c.in-Some.refusal refusal refused judged
+
+pub returns-in_err-entry-clause-refused : goal.returns-in_err-entry-clause-refused
+returns-in_err-entry-clause-refused c = λ setting world refusal is judged.
+    let room = c.profile_room-profiles.ensures in
+    let limit = room.limit ∙ sym (ap (λ (limits : Limits). limits.profiles) is.is_setting.limits) in
+    let count = room.count ∙ profile_count setting world c.args.parts.now.store is.rows in
+    absurd (never_refused setting world c.args.scan_limit c.args.match_all refusal (sym (c.in_default.ensures.first setting.limits world limit count)) judged)
+
+pub returns-in-Ok-clause-refused : goal.returns-in-Ok-clause-refused
+returns-in-Ok-clause-refused c = λ setting world refusal is judged.
+    let room = c.profile_room-profiles.ensures in
+    let limit = room.limit ∙ sym (ap (λ (limits : Limits). limits.profiles) is.is_setting.limits) in
+    let count = room.count ∙ profile_count setting world c.args.parts.now.store is.rows in
+    absurd (never_refused setting world c.args.scan_limit c.args.match_all refusal (sym (c.in_default.ensures.first setting.limits world limit count)) judged)
+
+pub returns-in-Err-clause-refused : goal.returns-in-Err-clause-refused
+returns-in-Err-clause-refused c = λ setting world refusal is judged.
+    let room = c.profile_room-profiles.ensures in
+    let limit = room.limit ∙ sym (ap (λ (limits : Limits). limits.profiles) is.is_setting.limits) in
+    let count = room.count ∙ profile_count setting world c.args.parts.now.store is.rows in
+    absurd (never_refused setting world c.args.scan_limit c.args.match_all refusal (sym (c.in_default.ensures.first setting.limits world limit count)) judged)
+
+pub returns-in-Ok-clause-comes : goal.returns-in-Ok-clause-comes
+returns-in-Ok-clause-comes c = λ setting world is.
+    let room = c.profile_room-profiles.ensures in
+    let limit = room.limit ∙ sym (ap (λ (limits : Limits). limits.profiles) is.is_setting.limits) in
+    let count = room.count ∙ profile_count setting world c.args.parts.now.store is.rows in
+    let allowed = sym (c.in_default.ensures.first setting.limits world limit count) in
+    let store = rw (c.in_ok-entry.ensures.row, room.store) at c.in-Ok.ensures.ok in
+    comes_made setting world _ _ c.args.stamp c.args.scan_limit c.args.match_all (c.profile_room-profiles.result.count + 1) is allowed (ap (λ n. n + 1) count)
+    room.limits room.registry room.files store

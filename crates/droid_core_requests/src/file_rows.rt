@@ -1,0 +1,97 @@
+//! The rows and the assembly of the file that a request names, looked up.
+
+ghost use Rattle.std.specs.Prelude.{◌≡◌, ◌<◌, length, false, Ok, Some, None, MatchBool, ⊤, IsSome, IfOk, IfErr, OnOk, OnErr};
+ghost use Rattle.std.specs.List.{slice_get};
+ghost use Rattle.droid_core_requests.specs.LookUps.{FindsFile, node_in};
+ghost use Rattle.droid_core_spec.specs.Setting.{Setting};
+ghost use Rattle.droid_core_spec.specs.Wants.{is_want_of};
+ghost use Rattle.droid_core_spec.specs.World.{World};
+ghost use Rattle.droid_core_state.specs.Rows.{KeepsWorld};
+ghost use Rattle.droid_store.specs.Changes.{IsOpen};
+ghost use Rattle.droid_store.specs.Rows.{is_unfinished};
+ghost use Rattle.droid_store.specs.declared.rows.NodeState.TheVariants.{Unfinished};
+ghost use Rattle.droid_core_files.specs.Files.{At, open_at};
+
+use droid_core_files::UnfinishedFiles;
+use droid_core_state::{profile_of, store_refusal};
+use droid_frame::Refusal;
+use droid_store::{NodeRow, NodeState, ProfileRow, Store, StoreFault};
+
+/// A file's row, and that of its profile.
+#[derive(Debug, Drop)]
+pub struct FileRow {
+    /// The profile.
+    pub profile: ProfileRow,
+    /// The file.
+    pub node: NodeRow,
+}
+
+impl FileRow {
+    /// Whether pieces of the file still come.
+    pub fn is_unfinished(&self) -> bool
+        ensures { result ≡ is_unfinished self.now.node.state }
+    {
+        let state = self.node.state;
+        match state {
+            NodeState::Folder => false,
+            NodeState::Unfinished => true,
+            NodeState::Finished => false,
+        }
+    }
+}
+
+/// The file with this number in this profile.
+pub fn file_of(store: &mut Store, number: u32, file: u32) -> Result<FileRow, Refusal>
+    ensures same { store.new ≡ store.old }
+    ensures open { IfOk result (λ row. row.node.state ≡ Unfinished → IsOpen number file store.old) }
+    ensures found { (setting : Setting) (world : World) → KeepsWorld setting world store.old → FindsFile world number file result }
+{
+    let profile = profile_of(store.profile(number))?;
+    let node = node_of(store.node(number, file))?;
+    let state = node.state;
+    match state {
+        NodeState::Folder => Err(Refusal::NotAFile),
+        NodeState::Unfinished => Ok(FileRow { profile, node }),
+        NodeState::Finished => Ok(FileRow { profile, node }),
+    }
+}
+
+/// The node that was looked up in the store: one that isn't there, or was abandoned, is refused, and
+/// what the store gave up for is told as it is.
+pub fn node_of(found: Result<Option<NodeRow>, StoreFault>) -> Result<NodeRow, Refusal>
+    ensures told { result ≡ node_in found }
+    ensures found { IfOk result (λ row. found ≡ Ok (Some row)) }
+    ensures none { IfErr result (λ refusal. MatchBool (is_want_of refusal) ⊤ ((refusal ≡ Refusal.NoSuchNode) × (found ≡ Ok None))) }
+{
+    match found {
+        Ok(Some(row)) => Ok(row),
+        Ok(None) => Err(Refusal::NoSuchNode),
+        Err(fault) => Err(store_refusal(fault)),
+    }
+}
+
+/// The place of a file's assembly, counted from 0. An unfinished file has one.
+pub fn place_of_file(files: &UnfinishedFiles, number: u32, file: u32) -> Result<usize, Refusal>
+    ensures place { IfOk result (λ place. slice_get files.now.files place ≡ open_at number file files.now.files) }
+    ensures within { IfOk result (λ place. place < length files.now.files) }
+    ensures none { OnErr result (open_at number file files.now.files ≡ None) }
+    ensures want { IfErr result (λ refusal. refusal ≡ Refusal.Store) }
+{
+    match files.place_of(number, file) {
+        Some(place) => Ok(place),
+        None => Err(Refusal::Store),
+    }
+}
+
+/// No piece of the file at this place is pending between two requests.
+pub fn none_is_pending(files: &UnfinishedFiles, place: usize) -> Result<(), Refusal>
+    requires { place < length files.now.files }
+    ensures none_pending { OnOk result (At files.now place (λ file. file.pending ≡ None)) }
+    ensures pending { OnErr result (At files.now place (λ file. IsSome file.pending)) }
+    ensures want { IfErr result (λ refusal. refusal ≡ Refusal.Store) }
+{
+    if files.has_pending(place) {
+        return Err(Refusal::Store);
+    }
+    Ok(())
+}

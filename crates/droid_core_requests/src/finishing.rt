@@ -1,0 +1,175 @@
+//! The end of a file whose pieces are all there.
+
+ghost use Rattle.std.specs.Prelude.{◌≡◌, ◌<◌, ◌≤◌, ◌^◌, ◌+◌, ℕ, length, false, None, Some, IsTrue, MatchBool, ⊤, IfOk, IfErr, OnOk, OnErr};
+ghost use Rattle.std.specs.List.{AllByRecursion};
+ghost use Rattle.md5.specs.Md5.{md5};
+ghost use Rattle.droid_assembly.specs.State.{IsUnchanged};
+ghost use Rattle.droid_core_state.specs.Assemblies.{IsAssemblyOf};
+ghost use Rattle.droid_core_state.specs.Changes.{Comes, answered, stamped};
+ghost use Rattle.droid_core_state.specs.Standing.{IsIn};
+ghost use Rattle.droid_core_requests.specs.Causes.{says_store};
+ghost use Rattle.droid_frame.specs.Replies.{HasReplySpelling, IsDigest};
+ghost use Rattle.droid_frame.specs.types.reply.Reply.TheVariants as replies;
+ghost use Rattle.droid_frame.specs.types.request.Request.TheVariants.{Finish};
+ghost use Rattle.droid_core_spec.specs.Files.{bytes_of};
+ghost use Rattle.droid_core_spec.specs.Judging.{judge, refusal_of, finish_checks};
+ghost use Rattle.droid_core_spec.specs.Setting.{Setting};
+ghost use Rattle.droid_core_spec.specs.Wants.{is_want_of};
+ghost use Rattle.droid_core_spec.specs.World.{Content, Profile, World};
+ghost use Rattle.droid_pronom.specs.Found.{IsFound};
+ghost use Rattle.droid_pronom.specs.RegistryFields.{is_puid};
+ghost use Rattle.droid_store.specs.Changes.{IsOpen, with_finished, with_reply};
+ghost use Rattle.droid_store.specs.Rows.{reply_for};
+ghost use Rattle.droid_core_files.specs.Files.{OpenFile, IsAt, At, Turns, IsAlikeBut, is_of, open_at};
+
+use crate::file_rows::{FileRow, file_of, none_is_pending, place_of_file};
+use droid_assembly::Sealed;
+use droid_core_files::{Finding, IdentifyFault, UnfinishedFiles};
+use droid_core_state::{Parts, Stamp, entry_of, store_refusal};
+use droid_frame::{Method, Refusal, Reply, Texts};
+use droid_pronom::Registry;
+use droid_store::Store;
+use std::alloc::Global;
+
+/// Finishes a file: it is identified, and its pieces are dropped.
+pub fn finish(parts: &mut Parts, stamp: Stamp, number: u32, file: u32) -> Result<Reply, Refusal>
+    requires new { reply_for stamp.client stamp.number parts.old.store ≡ None }
+    requires small { stamp.number < 2 ^ 63 }
+    ensures comes { (setting : Setting) (world : World) → IsIn setting world parts.old
+        → Comes setting world parts.old parts.new stamp (judge setting world (Finish number file)) (answered result) }
+    ensures spelled { HasReplySpelling (answered result) }
+    ensures limits { parts.new.limits ≡ parts.old.limits }
+    ensures registry { parts.new.registry ≡ parts.old.registry }
+{
+    let row = file_of(&mut parts.store, number, file)?;
+    if !row.is_unfinished() {
+        return Err(Refusal::AlreadyFinished);
+    }
+    let place = place_of_file(&parts.files, number, file)?;
+    none_is_pending(&parts.files, place)?;
+    let finding = identify_file(parts.alloc, &mut parts.files, place, &parts.registry, &row)?;
+    let reply = keep_finding(
+        parts.alloc,
+        &mut parts.store,
+        &mut parts.files,
+        place,
+        stamp,
+        number,
+        file,
+        finding,
+    )?;
+    Ok(reply)
+}
+
+/// Identifies the file at this place, of which no piece is pending, by its name and its profile's mode.
+fn identify_file(
+    alloc: Global,
+    files: &mut UnfinishedFiles,
+    place: usize,
+    registry: &Registry,
+    row: &FileRow,
+) -> Result<Finding, Refusal>
+    requires within { place < length files.old.files }
+    requires none_pending { At files.old place (λ file. file.pending ≡ None) }
+    ensures refused { IfErr result (λ refusal. At files.old place (λ file. (profile : Profile) (content : Content) → IsAssemblyOf profile content file → content.finished ≡ false
+        → MatchBool (is_want_of refusal) ⊤ (refusal_of (finish_checks content) ≡ Some refusal))) }
+    ensures allowed { OnOk result (At files.old place (λ file. (profile : Profile) (content : Content) → IsAssemblyOf profile content file → content.finished ≡ false
+        → refusal_of (finish_checks content) ≡ None)) }
+    ensures digest { IfOk result (λ finding. At files.old place (λ file. (profile : Profile) (content : Content) → IsAssemblyOf profile content file
+        → finding.sealed.md5 ≡ md5 (bytes_of content))) }
+    ensures found { IfOk result (λ finding. At files.old place (λ file. (profile : Profile) (content : Content) → IsAssemblyOf profile content file
+        → IsFound registry.now row.now.node.item.name (bytes_of content) profile.scan_limit row.now.profile.match_all finding.found)) }
+    ensures sixteen { IfOk result (λ finding. IsDigest finding.sealed.md5) }
+    ensures few { IfOk result (λ finding. length finding.found.puids ≤ 4096) }
+    ensures puids { IfOk result (λ finding. AllByRecursion (λ puid. IsTrue (is_puid puid)) finding.found.puids) }
+    ensures unchanged { Turns files.old files.new place IsUnchanged }
+    ensures others { IsAlikeBut place files.old files.new }
+    ensures memory { IfErr result (λ refusal. says_store refusal ≡ false) }
+    ensures spelled { IfErr result (λ refusal. HasReplySpelling (replies.Refused refusal)) }
+{
+    let name = row.node.item.name.as_str();
+    match files.identify(alloc, place, registry, name, row.profile.match_all) {
+        Ok(finding) => Ok(finding),
+        Err(IdentifyFault::Incomplete { missing }) => Err(Refusal::Incomplete { missing }),
+        Err(IdentifyFault::Memory) => Err(Refusal::Memory),
+    }
+}
+
+/// Keeps what was found in the file at this place, and drops the file's pieces. Nothing changes where
+/// it isn't kept.
+fn keep_finding(
+    alloc: Global,
+    store: &mut Store,
+    files: &mut UnfinishedFiles,
+    place: usize,
+    stamp: Stamp,
+    number: u32,
+    file: u32,
+    finding: Finding,
+) -> Result<Reply, Refusal>
+    requires new { reply_for stamp.client stamp.number store.old ≡ None }
+    requires small { stamp.number < 2 ^ 63 }
+    requires within { place < length files.old.files }
+    requires file { IsOpen number file store.old }
+    requires digest { IsDigest finding.sealed.md5 }
+    requires few { length finding.found.puids ≤ 4096 }
+    requires puids { AllByRecursion (λ puid. IsTrue (is_puid puid)) finding.found.puids }
+    ensures reply { IfOk result (λ reply. reply ≡ replies.Finished finding.found.method finding.found.mismatch finding.sealed.md5 finding.found.puids) }
+    ensures kept { IfOk result (λ reply. store.new ≡ with_reply (stamped stamp reply)
+        (with_finished number file finding.found.method finding.found.mismatch finding.sealed.md5 finding.found.puids store.old)) }
+    ensures spelled { HasReplySpelling (answered result) }
+    ensures gone { OnOk result ((one : OpenFile) → IsAt files.old.files place one → open_at one.profile one.file files.new.files ≡ None) }
+    ensures others { OnOk result ((one : OpenFile) (that_number that_id : ℕ) → IsAt files.old.files place one → is_of that_number that_id one ≡ false
+        → open_at that_number that_id files.new.files ≡ open_at that_number that_id files.old.files) }
+    ensures count { OnOk result (length files.new.files + 1 ≡ length files.old.files) }
+    ensures limit { files.new.limit ≡ files.old.limit }
+    ensures not_kept { OnErr result (store.new ≡ store.old) }
+    ensures same { OnErr result (files.new ≡ files.old) }
+    ensures want { IfErr result (λ refusal. IsTrue (is_want_of refusal)) }
+{
+    let Finding { sealed, found } = finding;
+    let md5 = sealed.md5;
+    let reply = finished_reply(alloc, found.method, found.mismatch, md5, &found.puids)?;
+    let entry = entry_of(alloc, stamp, &reply)?;
+    match store.commit_finish(
+        &entry,
+        number,
+        file,
+        found.method,
+        found.mismatch,
+        md5,
+        &found.puids,
+    ) {
+        Ok(()) => {
+            files.remove(place);
+            Ok(reply)
+        }
+        Err(fault) => Err(store_refusal(fault)),
+    }
+}
+
+/// The reply that says what was found, with a copy of the identifiers: the store is given the others.
+fn finished_reply(
+    alloc: Global,
+    method: Method,
+    mismatch: bool,
+    md5: [u8; 16],
+    puids: &Texts,
+) -> Result<Reply, Refusal>
+    requires digest { IsDigest md5 }
+    requires few { length puids.now ≤ 4096 }
+    requires puids { AllByRecursion (λ puid. IsTrue (is_puid puid)) puids.now }
+    ensures reply { IfOk result (λ reply. reply ≡ replies.Finished method mismatch md5 puids.now) }
+    ensures spelled { IfOk result (λ reply. HasReplySpelling reply) }
+    ensures want { IfErr result (λ refusal. refusal ≡ Refusal.Memory) }
+{
+    match puids.try_clone(alloc) {
+        Ok(puids) => Ok(Reply::Finished {
+            method,
+            mismatch,
+            md5,
+            puids,
+        }),
+        Err(_) => Err(Refusal::Memory),
+    }
+}

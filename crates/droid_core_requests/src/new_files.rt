@@ -1,0 +1,121 @@
+//! New files, whose pieces are still to come.
+
+ghost use Rattle.std.specs.Prelude.{◌≡◌, ◌<◌, ◌^◌, ℕ, None, IfOk, IfErr, OnOk, IsOk, IsTrue, length};
+ghost use Rattle.droid_assembly.specs.Pieces.{AreSizes};
+ghost use Rattle.droid_core_state.specs.Changes.{Comes, answered};
+ghost use Rattle.droid_core_requests.specs.NewAssemblies.{IsNew};
+ghost use Rattle.droid_core_state.specs.Standing.{IsIn};
+ghost use Rattle.droid_frame.specs.Replies.{HasReplySpelling};
+ghost use Rattle.droid_frame.specs.types.request.Request.TheVariants.{AddFile};
+ghost use Rattle.droid_core_spec.specs.Conditions.{is_scan_limit};
+ghost use Rattle.droid_core_spec.specs.Judging.{judge};
+ghost use Rattle.droid_core_spec.specs.Setting.{Setting};
+ghost use Rattle.droid_core_spec.specs.Wants.{is_want_of};
+ghost use Rattle.droid_core_spec.specs.World.{World};
+ghost use Rattle.droid_store.specs.Rows.{reply_for};
+ghost use Rattle.droid_core_files.specs.Files.{open_at};
+
+use crate::new_places::{node_room, place_of};
+use droid_assembly::Assembly;
+use droid_core_files::UnfinishedFiles;
+use droid_core_state::{
+    Parts, Room, Stamp, entry_of, file_refusal, is_scan_limit, profile_of, store_refusal,
+};
+use droid_frame::{Refusal, Reply, Text};
+use std::alloc::Global;
+
+/// Adds a file to a profile, whose pieces are still to come.
+pub fn add_file(
+    parts: &mut Parts,
+    stamp: Stamp,
+    number: u32,
+    parent: u32,
+    modified: i64,
+    size: u64,
+    piece_size: u32,
+    name: Text,
+) -> Result<Reply, Refusal>
+    requires new { reply_for stamp.client stamp.number parts.old.store ≡ None }
+    requires small { stamp.number < 2 ^ 63 }
+    ensures comes { (setting : Setting) (world : World) → IsIn setting world parts.old
+        → Comes setting world parts.old parts.new stamp (judge setting world (AddFile number parent modified size piece_size name)) (answered result) }
+    ensures spelled { HasReplySpelling (answered result) }
+    ensures limits { parts.new.limits ≡ parts.old.limits }
+    ensures registry { parts.new.registry ≡ parts.old.registry }
+{
+    let row = profile_of(parts.store.profile(number))?;
+    let path = place_of(parts.alloc, &mut parts.store, number, parent, name.as_str())?;
+    let nodes = node_room(parts, row);
+    let unfinished = unfinished_room(parts);
+    if let Some(refusal) = file_refusal(modified, size, piece_size, nodes, unfinished) {
+        return Err(refusal);
+    }
+    let id = row.nodes + 1;
+    let assembly = new_assembly(parts.alloc, size, piece_size, row.scan_limit)?;
+    has_room(&parts.files, number, id)?;
+    let reply = Reply::Node { id };
+    let entry = entry_of(parts.alloc, stamp, &reply)?;
+    match parts.store.commit_file(
+        &entry,
+        number,
+        id,
+        parent,
+        modified,
+        size,
+        piece_size,
+        name.as_str(),
+        path.as_str(),
+    ) {
+        Ok(()) => {
+            parts.files.add(number, id, assembly);
+            Ok(reply)
+        }
+        Err(fault) => Err(store_refusal(fault)),
+    }
+}
+
+/// How many files are unfinished, over all profiles, and how many may be.
+fn unfinished_room(parts: &Parts) -> Room
+    ensures count { result.count ≡ length parts.now.files.files }
+    ensures limit { result.limit ≡ parts.now.limits.unfinished }
+{
+    Room {
+        count: u64::from(parts.files.len()),
+        limit: parts.limits.unfinished,
+    }
+}
+
+/// The assembly of a new file, of sizes that are in range. Only want of memory refuses it, or a scan
+/// limit out of range, which no profile has: that is answered as if the database had refused.
+fn new_assembly(alloc: Global, size: u64, piece_size: u32, limit: u32) -> Result<Assembly, Refusal>
+    requires sizes { (any : ℕ) → IsTrue (is_scan_limit any) → AreSizes size piece_size any }
+    ensures new { IfOk result (λ assembly. IsNew assembly size piece_size limit) }
+    ensures small { OnOk result (size < 2 ^ 63) }
+    ensures memory { IsTrue (is_scan_limit limit) → IfErr result (λ refusal. refusal ≡ Refusal.Memory) }
+    ensures want { IfErr result (λ refusal. IsTrue (is_want_of refusal)) }
+{
+    if !is_scan_limit(limit) {
+        return Err(Refusal::Store);
+    }
+    match Assembly::new(alloc, size, piece_size, limit) {
+        Ok(assembly) => Ok(assembly),
+        Err(_) => Err(Refusal::Memory),
+    }
+}
+
+/// Finds that one unfinished file more has room, and that none is kept under its number: both hold
+/// of each service, and where one failed, the request would be refused as by the database.
+fn has_room(files: &UnfinishedFiles, number: u32, file: u32) -> Result<(), Refusal>
+    ensures room { OnOk result (length files.now.files < files.now.limit) }
+    ensures fresh { OnOk result (open_at number file files.now.files ≡ None) }
+    ensures fits { length files.now.files < files.now.limit → open_at number file files.now.files ≡ None → IsOk result }
+    ensures want { IfErr result (λ refusal. refusal ≡ Refusal.Store) }
+{
+    if files.is_full() {
+        return Err(Refusal::Store);
+    }
+    if files.place_of(number, file).is_some() {
+        return Err(Refusal::Store);
+    }
+    Ok(())
+}

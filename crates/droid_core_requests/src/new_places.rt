@@ -1,0 +1,93 @@
+//! The place of a new node, and the room that its profile has for one, looked up in the store.
+
+ghost use Rattle.std.specs.Prelude.{◌≡◌, ◌≢◌, Some, None, IfOk, IfErr, OnOk, IsTrue};
+ghost use Rattle.droid_core_spec.specs.Setting.{Setting};
+ghost use Rattle.droid_core_spec.specs.Wants.{is_want_of};
+ghost use Rattle.droid_core_spec.specs.World.{Profile, World, numbered};
+ghost use Rattle.droid_core_state.specs.Rows.{KeepsWorld};
+ghost use Rattle.droid_core_state.specs.Sound.{IsSound};
+ghost use Rattle.droid_core_requests.specs.Places.{FindsFolder, FindsPlace, taken_in};
+ghost use Rattle.droid_store.specs.Rows.{child_at};
+
+use crate::file_rows::node_of;
+use droid_core_state::{Parts, Room, is_bad_name, is_too_deep_below, new_path, store_refusal};
+use droid_frame::{Refusal, Text};
+use droid_store::{NodeRow, NodeState, ProfileRow, Store, StoreFault};
+use std::alloc::Global;
+
+/// The path of a new node of this folder, where its place and its name allow one.
+pub fn place_of(
+    alloc: Global,
+    store: &mut Store,
+    number: u32,
+    parent: u32,
+    name: &str,
+) -> Result<Text, Refusal>
+    ensures same { store.new ≡ store.old }
+    ensures free { OnOk result (child_at number parent name.now store.old ≡ None) }
+    ensures found { (setting : Setting) (world : World) (profile : Profile) → KeepsWorld setting world store.old → IsSound world
+        → numbered world.profiles number ≡ Some profile → FindsPlace profile parent name.now result }
+{
+    let folder = folder_path(alloc, store, number, parent)?;
+    if is_bad_name(name) {
+        return Err(Refusal::BadName);
+    }
+    if is_too_deep_below(folder.as_str(), name) {
+        return Err(Refusal::PathTooLong);
+    }
+    if is_taken(store.child(number, parent, name))? {
+        return Err(Refusal::NameTaken);
+    }
+    match new_path(alloc, folder.as_str(), name) {
+        Ok(path) => Ok(path),
+        Err(_) => Err(Refusal::Memory),
+    }
+}
+
+/// The path of a folder. The top's is empty.
+fn folder_path(alloc: Global, store: &mut Store, number: u32, parent: u32) -> Result<Text, Refusal>
+    ensures same { store.new ≡ store.old }
+    ensures found { (setting : Setting) (world : World) (profile : Profile) → KeepsWorld setting world store.old
+        → numbered world.profiles number ≡ Some profile → FindsFolder profile parent result }
+{
+    if parent == 0 {
+        return Ok(Text::from(String::new(alloc)));
+    }
+    let row = node_of(store.node(number, parent))?;
+    path_of(row)
+}
+
+/// The path of a node that is a folder.
+fn path_of(row: NodeRow) -> Result<Text, Refusal>
+    ensures folder { IfOk result (λ path. (row.state ≡ NodeState.Folder) × (path ≡ row.item.path)) }
+    ensures file { IfErr result (λ refusal. (row.state ≢ NodeState.Folder) × (refusal ≡ Refusal.NotAFolder)) }
+{
+    match row.state {
+        NodeState::Folder => Ok(row.item.path),
+        NodeState::Unfinished => Err(Refusal::NotAFolder),
+        NodeState::Finished => Err(Refusal::NotAFolder),
+    }
+}
+
+/// Whether the node that was looked up in the store is there. What the store gave up for is told as
+/// it is.
+fn is_taken(found: Result<Option<u32>, StoreFault>) -> Result<bool, Refusal>
+    ensures told { result ≡ taken_in found }
+    ensures want { IfErr result (λ refusal. IsTrue (is_want_of refusal)) }
+{
+    match found {
+        Ok(found) => Ok(found.is_some()),
+        Err(fault) => Err(store_refusal(fault)),
+    }
+}
+
+/// How many nodes a profile has had, and how many it may have.
+pub fn node_room(parts: &Parts, profile: ProfileRow) -> Room
+    ensures count { result.count ≡ profile.nodes }
+    ensures limit { result.limit ≡ parts.now.limits.nodes }
+{
+    Room {
+        count: u64::from(profile.nodes),
+        limit: parts.limits.nodes,
+    }
+}

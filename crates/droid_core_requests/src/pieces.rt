@@ -1,0 +1,139 @@
+//! Pieces of files.
+
+ghost use Rattle.std.specs.Prelude.{◌≡◌, ◌<◌, ◌^◌, ◌+◌, ◌++◌, ◌∷◌, [], List, length, false, None, Some, IsSome, IsTrue, IfOk, IfErr, OnOk, OnErr};
+ghost use Rattle.droid_assembly.specs.Pieces.{Piece};
+ghost use Rattle.droid_assembly.specs.State.{StandsFor, IsOfSameFile, with_pending};
+ghost use Rattle.droid_core_state.specs.Assemblies.{IsAssemblyOf};
+ghost use Rattle.droid_core_state.specs.Changes.{Comes, answered};
+ghost use Rattle.droid_core_state.specs.Standing.{IsIn};
+ghost use Rattle.droid_core_requests.specs.Taking.{put_refusal, refusal_in};
+ghost use Rattle.droid_frame.specs.Replies.{HasReplySpelling};
+ghost use Rattle.droid_frame.specs.types.reply.Reply.TheVariants.{Refused};
+ghost use Rattle.droid_frame.specs.types.request.Request.TheVariants as requests;
+ghost use Rattle.droid_core_spec.specs.Judging.{judge, refusal_of, piece_checks};
+ghost use Rattle.droid_core_spec.specs.Setting.{Setting};
+ghost use Rattle.droid_core_spec.specs.Wants.{is_want_of};
+ghost use Rattle.droid_core_spec.specs.World.{Content, Profile, World};
+ghost use Rattle.droid_store.specs.Changes.{with_reply};
+ghost use Rattle.droid_store.specs.Rows.{reply_for};
+ghost use Rattle.droid_core_files.specs.Files.{At, Turns, IsAlikeBut};
+
+use crate::file_rows::{file_of, none_is_pending, place_of_file};
+use droid_assembly::PutFault;
+use droid_core_files::UnfinishedFiles;
+use droid_core_state::{Parts, Stamp, entry_of, store_refusal};
+use droid_frame::{Blob, Refusal, Reply};
+use droid_store::{Entry, Store};
+
+/// Takes a piece of a file.
+pub fn take_piece(
+    parts: &mut Parts,
+    stamp: Stamp,
+    number: u32,
+    file: u32,
+    index: u32,
+    bytes: Blob,
+) -> Result<Reply, Refusal>
+    requires new { reply_for stamp.client stamp.number parts.old.store ≡ None }
+    requires small { stamp.number < 2 ^ 63 }
+    ensures comes { (setting : Setting) (world : World) → IsIn setting world parts.old
+        → Comes setting world parts.old parts.new stamp (judge setting world (requests.Piece number file index bytes)) (answered result) }
+    ensures spelled { HasReplySpelling (answered result) }
+    ensures limits { parts.new.limits ≡ parts.old.limits }
+    ensures registry { parts.new.registry ≡ parts.old.registry }
+{
+    let row = file_of(&mut parts.store, number, file)?;
+    if !row.is_unfinished() {
+        return Err(Refusal::AlreadyFinished);
+    }
+    let place = place_of_file(&parts.files, number, file)?;
+    let held = held_with_one_more(&parts.files, place)?;
+    let reply = Reply::Taken { held };
+    let entry = entry_of(parts.alloc, stamp, &reply)?;
+    put_piece(&mut parts.files, place, index, bytes)?;
+    keep_piece(&mut parts.store, &mut parts.files, place, &entry)?;
+    Ok(reply)
+}
+
+/// How many pieces of the file at this place are taken with one more. No piece of it is pending
+/// between two requests.
+fn held_with_one_more(files: &UnfinishedFiles, place: usize) -> Result<u32, Refusal>
+    requires { place < length files.now.files }
+    ensures held { IfOk result (λ held. At files.now place (λ file. (pieces : List Piece) → StandsFor file pieces → held ≡ length pieces + 1)) }
+    ensures none_pending { OnOk result (At files.now place (λ file. file.pending ≡ None)) }
+    ensures pending { OnErr result (At files.now place (λ file. IsSome file.pending)) }
+    ensures want { IfErr result (λ refusal. refusal ≡ Refusal.Store) }
+{
+    none_is_pending(files, place)?;
+    Ok(files.held(place) + 1)
+}
+
+/// Makes the piece the pending one of the file at this place, or refuses it.
+fn put_piece(
+    files: &mut UnfinishedFiles,
+    place: usize,
+    index: u32,
+    bytes: Blob,
+) -> Result<(), Refusal>
+    requires within { place < length files.old.files }
+    requires none_pending { At files.old place (λ file. file.pending ≡ None) }
+    ensures judged { At files.old place (λ file. (profile : Profile) (content : Content) → IsAssemblyOf profile content file → content.finished ≡ false
+        → refusal_in result ≡ refusal_of (piece_checks content index bytes)) }
+    ensures spelled { IfErr result (λ refusal. HasReplySpelling (Refused refusal)) }
+    ensures pending { OnOk result (Turns files.old files.new place (λ before after. after ≡ with_pending before (Some (index, bytes)))) }
+    ensures stands { Turns files.old files.new place (λ before after. (pieces : List Piece) → StandsFor before pieces → StandsFor after pieces) }
+    ensures others { IsAlikeBut place files.old files.new }
+    ensures same { OnErr result (files.new ≡ files.old) }
+{
+    match files.put(place, index, bytes) {
+        Ok(()) => Ok(()),
+        Err(fault) => Err(piece_refusal(&fault)),
+    }
+}
+
+/// Which refusal it comes to that a piece was not taken.
+fn piece_refusal(fault: &PutFault) -> Refusal
+    ensures refusal { result ≡ put_refusal fault.now }
+    ensures spelled { HasReplySpelling (Refused result) }
+{
+    match fault {
+        PutFault::BadPiece { .. } => Refusal::BadPiece,
+        PutFault::PieceHeld { .. } => Refusal::PieceHeld,
+        PutFault::TooFarAhead { missing, .. } => Refusal::TooFarAhead { missing: *missing },
+    }
+}
+
+/// Keeps the reply to the pending piece of the file at this place, and then takes the piece for good.
+/// Where the reply isn't kept, the piece is taken back.
+fn keep_piece(
+    store: &mut Store,
+    files: &mut UnfinishedFiles,
+    place: usize,
+    entry: &Entry,
+) -> Result<(), Refusal>
+    requires new { reply_for entry.now.client entry.now.number store.old ≡ None }
+    requires small { entry.now.number < 2 ^ 63 }
+    requires within { place < length files.old.files }
+    requires pending { At files.old place (λ file. IsSome file.pending) }
+    ensures kept { OnOk result (store.new ≡ with_reply entry.now store.old) }
+    ensures stands { OnOk result (Turns files.old files.new place (λ before after. (pieces : List Piece) (piece : Piece) → StandsFor before pieces
+        → before.pending ≡ Some piece → StandsFor after (pieces ++ piece ∷ []))) }
+    ensures same_file { OnOk result (Turns files.old files.new place IsOfSameFile) }
+    ensures none_pending { OnOk result (Turns files.old files.new place (λ before after. after.pending ≡ None)) }
+    ensures not_kept { OnErr result (store.new ≡ store.old) }
+    ensures taken_back { OnErr result (Turns files.old files.new place (λ before after. after ≡ with_pending before None)) }
+    ensures others { IsAlikeBut place files.old files.new }
+    ensures want { IfErr result (λ refusal. IsTrue (is_want_of refusal)) }
+    ensures spelled { IfErr result (λ refusal. HasReplySpelling (Refused refusal)) }
+{
+    match store.commit_piece(entry) {
+        Ok(()) => {
+            files.settle(place);
+            Ok(())
+        }
+        Err(fault) => {
+            files.take_back(place);
+            Err(store_refusal(fault))
+        }
+    }
+}

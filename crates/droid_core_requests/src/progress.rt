@@ -1,0 +1,73 @@
+//! How far a file is.
+
+ghost use Rattle.std.specs.Prelude.{◌≡◌, ◌<◌, ◌^◌, ℕ, ℤ, List, false, Some, None, IsOk, IfOk, IfErr, OnErr};
+ghost use Rattle.droid_assembly.specs.Pieces.{piece_count};
+ghost use Rattle.droid_core_state.specs.Assemblies.{HasAssemblies};
+ghost use Rattle.droid_core_state.specs.Changes.{Comes, answered};
+ghost use Rattle.droid_core_state.specs.declared.stamps.Stamp.{Stamp};
+ghost use Rattle.droid_core_state.specs.Standing.{IsIn};
+ghost use Rattle.droid_frame.specs.Replies.{HasReplySpelling};
+ghost use Rattle.droid_frame.specs.types.request.Request.TheVariants.{Status};
+ghost use Rattle.droid_core_spec.specs.Files.{progress_of};
+ghost use Rattle.droid_core_spec.specs.Judging.{judge};
+ghost use Rattle.droid_core_spec.specs.Setting.{Setting};
+ghost use Rattle.droid_core_spec.specs.World.{Content, File, Profile, World, numbered, node_at as node_there};
+ghost use Rattle.droid_store.specs.Rows.{is_unfinished};
+ghost use Rattle.droid_core_files.specs.Files.{open_at};
+
+use crate::file_rows::{file_of, place_of_file};
+use droid_core_files::UnfinishedFiles;
+use droid_core_state::Parts;
+use droid_frame::{Refusal, Reply};
+
+/// Tells how far a file is.
+pub fn status(parts: &mut Parts, number: u32, file: u32) -> Result<Reply, Refusal>
+    ensures comes { (setting : Setting) (world : World) (stamp : Stamp) → IsIn setting world parts.old
+        → Comes setting world parts.old parts.new stamp (judge setting world (Status number file)) (answered result) }
+    ensures spelled { HasReplySpelling (answered result) }
+    ensures limits { parts.new.limits ≡ parts.old.limits }
+    ensures registry { parts.new.registry ≡ parts.old.registry }
+{
+    let row = file_of(&mut parts.store, number, file)?;
+    if row.is_unfinished() {
+        return progress_of(&parts.files, number, file);
+    }
+    let pieces = count_of(row.node.item.size, row.node.piece_size)?;
+    Ok(Reply::Progress {
+        held: pieces,
+        missing: pieces,
+    })
+}
+
+/// How far an unfinished file is.
+fn progress_of(files: &UnfinishedFiles, number: u32, file: u32) -> Result<Reply, Refusal>
+    ensures progress { IfOk result (λ reply. (world : World) (profile : Profile) (parent : ℕ) (modified : ℤ) (name : List ℕ) (content : Content) → HasAssemblies world files.now
+        → numbered world.profiles number ≡ Some profile → node_there profile.nodes file ≡ Some (File parent modified name content) → content.finished ≡ false
+        → reply ≡ progress_of content) }
+    ensures spelled { HasReplySpelling (answered result) }
+    ensures none { OnErr result (open_at number file files.now.files ≡ None) }
+    ensures want { IfErr result (λ refusal. refusal ≡ Refusal.Store) }
+{
+    let place = place_of_file(files, number, file)?;
+    Ok(Reply::Progress {
+        held: files.held(place),
+        missing: files.missing(place),
+    })
+}
+
+/// How many pieces a file of this size has. No file is accepted with pieces of no bytes, or with 2^32
+/// pieces or more: a row that says so answers that the database was wanting.
+fn count_of(size: u64, piece_size: u32) -> Result<u32, Refusal>
+    ensures count { IfOk result (λ count. count ≡ piece_count size piece_size) }
+    ensures fits { 0 < piece_size → piece_count size piece_size < 2 ^ 32 → IsOk result }
+    ensures want { IfErr result (λ refusal. refusal ≡ Refusal.Store) }
+{
+    if piece_size == 0 {
+        return Err(Refusal::Store);
+    }
+    let count = size.div_ceil(u64::from(piece_size));
+    if u64::from(u32::MAX) < count {
+        return Err(Refusal::Store);
+    }
+    Ok(count as u32)
+}

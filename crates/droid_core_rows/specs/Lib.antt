@@ -1,3 +1,0 @@
-pub mod Replies
-pub mod Rows
-pub mod Sound
