@@ -15,7 +15,7 @@ use Rattle.droid_store.specs.Rows as rows
 use Rattle.droid_store.specs.Rows.{Rows}
 use Rattle.droid_core_state.specs.Rows.{profile_row, node_row, node_rows_from, rows_in, KeepsWorld}
 use Rattle.droid_core_state.proofs.Made.{one_more_reply}
-use Rattle.droid_core_state.proofs.Paths.{path_kept, path_last}
+use Rattle.droid_core_state.proofs.NodePaths.{path_kept, path_last}
 use Rattle.droid_core_state.proofs.RowsOfNodes.{same_stored, rows_changed, rows_last, keeps_set}
 
 -- the new node's path: of a folder or a file its folder's path, then `/` and its name

@@ -6,7 +6,7 @@ use Rattle.std.specs.Prelude.{IsTrue, ℤ, fold, nat_lt}
 use Rattle.droid_core_spec.specs.World.{Content, Node, Folder, File, Abandoned, node_at, path_among, path_below, path}
 use Rattle.droid_core_state.specs.Sound.{is_folder, IsPlace, IsSoundNode}
 use Rattle.droid_core_state.proofs.Items.{numbered_before, numbered_last, numbered_past}
-use Rattle.droid_core_state.proofs.Paths.{step}
+use Rattle.droid_core_state.proofs.NodePaths.{step}
 
 -- the node doesn't lie in the one with this number
 abbrev IsApart : ℕ → Node → Type 0

@@ -18,7 +18,7 @@ use Rattle.droid_core_state.proofs.InPlace.{at_file, profiles_set, rows_set}
 use Rattle.droid_core_state.proofs.Items.{filter_changed, filter_unchanged}
 use Rattle.droid_core_state.proofs.Made.{one_more_reply}
 use Rattle.droid_core_state.proofs.NodeTests.{not_of_number, not_of_profile, this_node}
-use Rattle.droid_core_state.proofs.Paths.{paths_of_file}
+use Rattle.droid_core_state.proofs.NodePaths.{paths_of_file}
 use Rattle.droid_core_state.proofs.RowsOfNodes.{keeps_set}
 
 -- one node is finished

@@ -8,8 +8,8 @@ pub mod Lists
 pub mod LookUps
 pub mod Made
 pub mod Meanings
+pub mod NodePaths
 pub mod NodeTests
-pub mod Paths
 pub mod ProfileRows
 pub mod Replying
 pub mod RowsOfNodes

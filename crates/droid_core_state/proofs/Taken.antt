@@ -11,7 +11,7 @@ use Rattle.droid_store.specs.Rows.{Rows}
 use Rattle.droid_core_state.specs.Rows.{profile_row, KeepsWorld}
 use Rattle.droid_core_state.proofs.InPlace.{at_file, profiles_set, rows_set}
 use Rattle.droid_core_state.proofs.Made.{one_more_reply}
-use Rattle.droid_core_state.proofs.Paths.{paths_of_file}
+use Rattle.droid_core_state.proofs.NodePaths.{paths_of_file}
 use Rattle.droid_core_state.proofs.RowsOfNodes.{keeps_set}
 
 pub piece_taken : (setting : Setting) (world : World) (before : Rows) (e : Entry) (number : ℕ) (profile : Profile) (id parent : ℕ) (modified : ℤ) (name : List ℕ) (content : Content) (index : ℕ) (bytes : List ℕ)
