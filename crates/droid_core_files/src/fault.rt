@@ -13,7 +13,7 @@ pub enum IdentifyFault {
     #[error("piece {missing} is missing")]
     Incomplete { missing: u32 },
     /// There was no memory for what is found.
-    #[error("out of memory")]
+    #[error("memory was refused")]
     Memory,
 }
 

@@ -38,7 +38,7 @@ fault_of faults.UnknownPuid = record_fault.UnknownPuid
 fault_of faults.DuplicatePuid = record_fault.DuplicatePuid
 fault_of faults.TooMany = record_fault.TooMany
 
--- what a call gave, seen by view, is what it had to be, unless memory ran out
+-- what a call gave, seen by view, is what it had to be, unless memory was refused
 abbrev pub Refuses : {Y : Type 0} → Refusal → Result Y RecordFault → Type 0
 Refuses refusals.Memory expected = ⊤
 Refuses (refusals.Fault fault) expected = expected ≡ Err (fault_of fault)

@@ -12,8 +12,8 @@ pub enum PatternFault {
     /// The text is no pattern of the grammar.
     #[error("the text is no pattern")]
     BadPattern,
-    /// Memory ran out.
-    #[error("memory ran out")]
+    /// Memory was refused.
+    #[error("memory was refused")]
     Memory,
 }
 

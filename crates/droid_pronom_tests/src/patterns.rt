@@ -145,7 +145,7 @@ fn matches_at_other_places(rt: HostRuntime) -> Result<(), Fail> {
 fn texts_of_faults(rt: HostRuntime) -> Result<(), Fail> {
     for (fault, want) in &[
         (PatternFault::BadPattern, "the text is no pattern"),
-        (PatternFault::Memory, "memory ran out"),
+        (PatternFault::Memory, "memory was refused"),
     ] {
         let text = format!(in rt.alloc(); "{fault}")?;
         assert_eq!(rt; text.as_str(), *want);

@@ -9,8 +9,8 @@ use thiserror::Error;
 /// Why a call of the store gave up. Each leaves the rows as they were.
 #[derive(Clone, Copy, Debug, PartialEq, Eq, Error)]
 pub enum StoreFault {
-    /// Memory ran out, or the numbers of rows did, of which there are more than any memory has room for.
-    #[error("out of memory")]
+    /// Memory was refused, or no number is left for a row: there are more of them than any memory has room for.
+    #[error("memory was refused")]
     Memory,
     /// The database refused for another cause.
     #[error("the database refused")]

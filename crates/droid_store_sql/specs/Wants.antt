@@ -18,7 +18,7 @@ use Rattle.sqlite.specs.Schema.{Schema}
 use Rattle.sqlite.specs.State.{State, IsMisplaced, Escapes, is_pragma}
 use Rattle.sqlite.specs.Tree.{Trees, with_tree}
 
--- memory ran out, or the numbers of rows did, of which there are more than any memory has room for
+-- memory was refused, or no number is left for a row: there are more of them than any memory has room for
 abbrev pub IsWant : Error → Type 0
 IsWant e = (e ≡ SqliteFailure OutOfMemory) ⊎ (e ≡ SqliteFailure NoRowid)
 

@@ -17,7 +17,7 @@ pub enum RegistryFault {
     /// The reader failed, or was interrupted more than 64 times.
     #[error("Read")]
     Read,
-    /// Memory ran out.
+    /// Memory was refused.
     #[error("Memory")]
     Memory,
     /// A field isn't UTF-8.
@@ -54,7 +54,7 @@ pub(crate) enum Fault {
 /// Why one record was not taken.
 #[derive(Debug, Drop)]
 pub(crate) enum Refusal {
-    /// Memory ran out.
+    /// Memory was refused.
     Memory,
     /// The record is at fault.
     Fault(Fault),
