@@ -42,6 +42,10 @@ extension node = if is_file node.kind then extension_of node.name else []
 unfoldable pub mismatch : Record → Bool
 mismatch node = is_file node.kind && node.mismatch
 
+-- the method by which a record's formats were found: a folder's by none, whatever the record says
+unfoldable pub found_by : Record → Method
+found_by node = if is_file node.kind then node.method else Unidentified
+
 -- whether one of the texts is this one, byte for byte
 abbrev pub is_among : List (List ℕ) → List ℕ → Bool
 is_among texts text = list_any (λ other. bytes_eq text other) texts
@@ -52,7 +56,7 @@ is_among_in_any_case texts text = list_any (λ other. str_eq_ignore_ascii_case t
 
 -- whether a record meets a criterion
 unfoldable pub is_met : Record → Criterion → Bool
-is_met node (MethodIs method) = same_method method node.method
+is_met node (MethodIs wanted) = same_method wanted (found_by node)
 is_met node (PuidIn texts) = list_any (λ puid. is_among texts puid) node.puids
 is_met node (ExtIn texts) = is_among_in_any_case texts (extension node)
 is_met node (MismatchIs wanted) = same_truth wanted (mismatch node)

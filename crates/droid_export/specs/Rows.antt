@@ -9,7 +9,7 @@ use Rattle.droid_frame.specs.types.node_kind.NodeKind.{NodeKind}
 use Rattle.droid_frame.specs.types.record.Record.{Record}
 use Rattle.droid_pronom.specs.Registry.{Contents, place_of}
 use Rattle.droid_pronom.specs.types.format.Format.{Format}
-use Rattle.droid_export.specs.Filters.{extension, is_file, mismatch}
+use Rattle.droid_export.specs.Filters.{extension, found_by, is_file, mismatch}
 use Rattle.droid_export.specs.Moments.{moment_text}
 use Rattle.droid_export.specs.Uris.{uri}
 
@@ -126,7 +126,7 @@ row node format = record {
   uri = uri node.path node.kind;
   file_path = node.path;
   name = node.name;
-  method = method_name node.method;
+  method = method_name (found_by node);
   status = codes "Done";
   size = of_file node (decimal node.size);
   kind = kind_name node.kind;

@@ -2,7 +2,7 @@
 
 ghost use Rattle.std.specs.Prelude.{◌≡◌};
 ghost use Rattle.std.specs.List.{list_any, list_all};
-ghost use Rattle.droid_export.specs.Filters.{is_among, is_among_in_any_case, is_file, is_met, mismatch, same_method, same_truth};
+ghost use Rattle.droid_export.specs.Filters.{found_by, is_among, is_among_in_any_case, is_file, is_met, mismatch, same_method, same_truth};
 ghost use Rattle.droid_export.specs.Filters as filters;
 
 use crate::extension::extension;
@@ -58,7 +58,7 @@ pub(crate) fn is_met(criterion: &Criterion, node: &Record) -> bool
     ensures { result ≡ is_met node.now criterion.now }
 {
     match criterion {
-        Criterion::MethodIs(method) => is_same_method(*method, node.method),
+        Criterion::MethodIs(wanted) => is_same_method(*wanted, found_by(node)),
         Criterion::PuidIn(texts) => shares_one(texts, &node.puids),
         Criterion::ExtIn(texts) => is_among_in_any_case(texts, extension(node)),
         Criterion::MismatchIs(wanted) => *wanted == mismatch(node),
@@ -90,6 +90,18 @@ pub(crate) fn mismatch(node: &Record) -> bool
     ensures { result ≡ mismatch node.now }
 {
     is_file(node.kind) && node.mismatch
+}
+
+/// The method by which a record's formats were found: a folder's by none, whatever the record says.
+#[tactic(auto, unfolding(crate::specs::Filters::found_by))]
+pub(crate) fn found_by(node: &Record) -> Method
+    ensures { result ≡ found_by node.now }
+{
+    if is_file(node.kind) {
+        node.method
+    } else {
+        Method::Unidentified
+    }
 }
 
 /// Whether one of the identifiers is among the texts, byte for byte.

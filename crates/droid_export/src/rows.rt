@@ -3,7 +3,7 @@
 ghost use Rattle.std.specs.Prelude.{◌≡◌, ◌++◌, ℕ, List, OnOk, codes, map};
 ghost use Rattle.std.specs.List.{flat_map};
 ghost use Rattle.std.specs.Option.{option_copied};
-ghost use Rattle.droid_export.specs.Filters.{mismatch};
+ghost use Rattle.droid_export.specs.Filters.{found_by, mismatch};
 ghost use Rattle.droid_export.specs.Moments.{IsMoment};
 ghost use Rattle.droid_export.specs.Rows.{header, of_format, row, rows, shown, shown_by};
 ghost use Rattle.droid_export.specs.Rows as spec;
@@ -12,7 +12,7 @@ ghost use Rattle.droid_export.specs.Writing.{Holds, IsCommon};
 
 use crate::common::Common;
 use crate::extension::extension;
-use crate::filter::mismatch;
+use crate::filter::{found_by, mismatch};
 use crate::table::write_record;
 use csv::Writer;
 use droid_frame::{Method, NodeKind, Record};
@@ -154,9 +154,9 @@ fn format_version(format: Option<&Format>) -> &str
 }
 
 fn method_name(node: &Record) -> &str
-    ensures { result.now ≡ spec.method_name node.now.method }
+    ensures { result.now ≡ spec.method_name (found_by node.now) }
 {
-    match node.method {
+    match found_by(node) {
         Method::Unidentified => "",
         Method::Signature => "Signature",
         Method::Extension => "Extension",

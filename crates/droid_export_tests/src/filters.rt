@@ -165,3 +165,17 @@ fn joined_by_all_and_by_any(rt: HostRuntime) -> Result<(), Fail> {
     assert!(rt; !meets(&filter, &node));
     Ok(())
 }
+
+/// A folder whose record says that it was found by a signature, which no service's does.
+#[test]
+fn method_of_a_folder(rt: HostRuntime) -> Result<(), Fail> {
+    let alloc = rt.alloc();
+    let mut node = folder(alloc, 1, "in")?;
+    node.method = Method::Signature;
+    assert!(rt; !meets(&filter_of(alloc, &[Only::Method(Method::Signature)], true)?, &node));
+    assert!(rt; meets(&filter_of(alloc, &[Only::Method(Method::Unidentified)], true)?, &node));
+    let registry = Registry::parse(alloc, SAMPLE.as_bytes())?;
+    let bytes = export_text(alloc, &[node], &registry, &everything(alloc))?;
+    assert!(rt; !str::from_utf8(bytes.as_slice())?.contains("Signature"));
+    Ok(())
+}
