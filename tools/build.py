@@ -22,6 +22,10 @@ from standing import RT, Sums, note, stands
 SECONDS = os.path.join(TOP, "tools", "seconds.txt")
 # what one crate in work may take of the memory, in bytes: most take a fifth of it
 EACH = 4 << 30
+# a library whose chain is shorter than this part of the longest waits, so that there is work beside the chain's end
+NEAR_HALF = 0.5
+# a chain that is at least this part of the longest is treated as the longest
+NEAR_ALL = 0.95
 # how nice to others what the longest chain waits for is, and how nice the rest
 FIRST = os.getpriority(os.PRIO_PROCESS, 0)
 BEHIND = min(FIRST + 10, 19)
@@ -113,10 +117,12 @@ class Build:
         return chains
 
     def ready(self):
-        """Those whose libraries below stand, the longest chain first."""
+        """Those whose libraries below stand and that needn't wait for later, the longest chain first."""
         unbuilt = {*self.waiting, *self.work}
         found = [it for it in self.waiting if not unbuilt.intersection(below(it))]
-        return sorted(found, key=lambda crate: -self.chains[crate])
+        longest = max([*map(self.left, found), *map(self.left, self.work)], default=0)
+        near = [it for it in found if self.chains[it] >= NEAR_HALF * longest]
+        return sorted(near, key=lambda crate: -self.chains[crate])
 
     def fits(self):
         return not self.work or (len(self.work) < self.cores and memory() > EACH)
@@ -127,8 +133,8 @@ class Build:
         return self.chains[crate] - min(used, self.seconds[crate])
 
     def is_longest(self, crate):
-        """Whether the longest chain waits for this one, of those in work and itself."""
-        return all(self.left(crate) >= self.left(it) for it in self.work)
+        """Whether the longest chain waits for this one, of those in work and itself, or one nearly as long."""
+        return all(self.left(crate) >= NEAR_ALL * self.left(it) for it in self.work)
 
     def look_again(self):
         """Puts what the longest chain waits for before the others in work."""
@@ -139,8 +145,11 @@ class Build:
             running[crate].be_nice(FIRST if self.is_longest(crate) else BEHIND)
 
     def jobs_for(self, crate, ready):
-        """All processors for what the longest chain waits for, and else a share of them."""
-        return self.cores if self.is_longest(crate) else max(1, self.cores // (len(ready) + len(self.work)))
+        """A share of the processors: what the longest chain waits for shares them with its like alone."""
+        others = [*self.work, *(it for it in ready if it != crate)]
+        if self.is_longest(crate):
+            others = [it for it in others if self.left(it) >= NEAR_ALL * self.left(crate)]
+        return max(1, self.cores // (1 + len(others)))
 
     def tell(self, what):
         print(f"  {time.time() - self.begun:4.0f} s: {what}", file=sys.stderr, flush=True)
