@@ -172,8 +172,18 @@ fn method_of_a_folder(rt: HostRuntime) -> Result<(), Fail> {
     let alloc = rt.alloc();
     let mut node = folder(alloc, 1, "in")?;
     node.method = Method::Signature;
-    assert!(rt; !meets(&filter_of(alloc, &[Only::Method(Method::Signature)], true)?, &node));
-    assert!(rt; meets(&filter_of(alloc, &[Only::Method(Method::Unidentified)], true)?, &node));
+    assert!(rt;
+        !meets(
+            &filter_of(alloc, &[Only::Method(Method::Signature)], true)?,
+            &node
+        )
+    );
+    assert!(rt;
+        meets(
+            &filter_of(alloc, &[Only::Method(Method::Unidentified)], true)?,
+            &node
+        )
+    );
     let registry = Registry::parse(alloc, SAMPLE.as_bytes())?;
     let bytes = export_text(alloc, &[node], &registry, &everything(alloc))?;
     assert!(rt; !str::from_utf8(bytes.as_slice())?.contains("Signature"));
