@@ -1,20 +1,21 @@
 -- How a service that stands for a history stands for the next one.
-use Rattle.std.proofs.Common.{◌≡◌, Bool, true, false, [], ◌∷◌, ◌++◌, Some, None, IsTrue, refl, sym, ap, subst, ◌∙◌}
+use Rattle.std.proofs.Common.{◌≡◌, ◌≢◌, Bool, true, false, [], ◌∷◌, ◌++◌, Some, None, IsTrue, refl, sym, ap, subst, ◌∙◌}
 use Rattle.std.specs.Prelude.{MatchBool, IsSome, ⊤}
 use Rattle.droid_frame.specs.types.frame.Frame.{Frame}
 use Rattle.droid_frame.specs.types.refusal.Refusal.{Refusal}
-use Rattle.droid_frame.specs.types.refusal.Refusal.TheVariants.{Malformed}
+use Rattle.droid_frame.specs.types.refusal.Refusal.TheVariants.{Malformed, Store}
 use Rattle.droid_frame.specs.types.reply.Reply.{Reply}
 use Rattle.droid_frame.specs.types.reply.Reply.TheVariants.{Refused}
 use Rattle.droid_frame.specs.types.request.Request.{Request}
 use Rattle.droid_frame.specs.Replies.{HasReplySpelling, SpellsReply}
-use Rattle.droid_core_spec.specs.Histories.{History, IsNext, New, command, frame_mark, kept, world_of, entry_of, history_with, verdict_reply, Handles}
+use Rattle.droid_core_spec.specs.Histories.{History, IsLegal, IsNext, New, command, frame_mark, kept, world_of, entry_of, history_with, verdict_reply, Handles}
 use Rattle.droid_core_spec.specs.Judging.{Verdict, Accepted, Answered, Refuses, judge}
 use Rattle.droid_core_spec.specs.Setting.{Setting}
 use Rattle.droid_core_spec.specs.Wants.{is_want, is_want_of}
 use Rattle.droid_core_spec.specs.World.{World}
 use Rattle.droid_core_spec.proofs.Legal.{world_next, GoesOn-push}
 use Rattle.droid_core_spec.proofs.Meetings.{answer_malformed, next_malformed, answer_kept, next_kept, answer_new, next_new}
+use Rattle.droid_core_spec.proofs.Replied.{answer_no_store}
 use Rattle.droid_core_state.proofs.Replying.{kept_one_more}
 use Rattle.droid_store.specs.declared.rows.Entry as rows
 use Rattle.droid_store.specs.Rows.{Rows, reply_for}
@@ -71,10 +72,16 @@ wanting : (b : Bool) (P Q : Type 0) → b ≡ true → P → MatchBool b P Q
 wanting true P Q is it = it
 wanting false P Q is it = absurd cc
 
--- memory or the database was wanting, and nothing is changed
+-- memory was wanting, and nothing is changed
 pub handles_want : (setting : Setting) (service : Parts) (history : History) (frame : Frame) (refusal : Refusal) → IsSome (command frame) → IsTrue (is_want_of refusal) → Stand setting service history
     → Handles setting history frame (Refused refusal) (Stand setting service)
 handles_want setting service history frame refusal asked want stands = wanting (is_want_of refusal) _ _ want (asked, stands)
+
+-- that the database refused is no answer, and no want
+pub never_store : (setting : Setting) (history : History) (frame : Frame) (reply : Reply) (Stands : History → Type 0) → IsLegal setting history → Handles setting history frame reply Stands → reply ≢ Refused Store
+never_store setting history frame reply Stands legal handled same =
+    let answered = subst (λ (r : Reply). Handles setting history frame r Stands) same handled in
+    answer_no_store setting history frame legal (sym answered.0)
 
 -- want of memory, or else what follows from an answer
 unless_wanting : (b : Bool) {P Q R : Type 0} → MatchBool b ⊤ P → Q → (P → R) → MatchBool b Q R

@@ -1,5 +1,5 @@
 -- How a service that stands for a history stands for the next one, its rows at hand included.
-use Rattle.std.proofs.Common.{◌≡◌, ℕ, Bool, true, false, List, [], ◌∷◌, ◌++◌, find, Option, Some, None, Contains, option_map, refl, sym, ap, subst, ◌∙◌}
+use Rattle.std.proofs.Common.{◌≡◌, ℕ, Bool, true, false, List, [], ◌∷◌, ◌++◌, find, Option, Some, None, option_map, refl, sym, ap, subst, ◌∙◌}
 use Rattle.std.proofs.lemmas.Bool.{eq-eqb}
 use Rattle.std.proofs.lemmas.List.Folds.{find-append}
 use Rattle.std.specs.Option.{option_or}
@@ -13,7 +13,6 @@ use Rattle.droid_core_spec.specs.Judging.{Verdict, Accepted, Answered, Refuses, 
 use Rattle.droid_core_spec.specs.Setting.{Setting}
 use Rattle.droid_core_spec.specs.Verdicts.{is_command, is_refused, MayCome}
 use Rattle.droid_core_spec.specs.Wants.{is_want}
-use Rattle.droid_core_spec.specs.World.{World}
 use Rattle.droid_core_spec.proofs.Judged.{judged}
 use Rattle.droid_core_spec.proofs.Meetings.{answer_new, next_new}
 use Rattle.droid_core_spec.proofs.Replied.{kept_next}
@@ -21,7 +20,6 @@ use Rattle.droid_core_state.specs.Replies.{entry_row, KeepsReplies}
 use Rattle.droid_core_state.proofs.LookUps.{reply_found}
 use Rattle.droid_store.specs.declared.rows.Entry as rows
 use Rattle.droid_store.specs.Rows.{Rows, reply_for}
-use Rattle.droid_core_state.specs.declared.parts.Parts.{Parts}
 use Rattle.droid_core_state.specs.declared.stamps.Stamp.{Stamp}
 use Rattle.droid_core_state.specs.Changes.{stamp_of, stamped}
 use Rattle.droid_core.specs.Recent.{Whose, IsKeptRow, AreKept}

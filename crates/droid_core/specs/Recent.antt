@@ -1,5 +1,5 @@
 -- The latest kept replies, which are looked for before the store is asked (this project's own).
-use Rattle.std.specs.Prelude.{◌≡◌, ℕ, List, Option, Some, option_map}
+use Rattle.std.specs.Prelude.{◌≡◌, ℕ, List, Some, option_map}
 use Rattle.std.specs.List.{Contains}
 use Rattle.droid_core_spec.specs.Histories.{History, kept}
 use Rattle.droid_core_state.specs.Replies.{entry_row}

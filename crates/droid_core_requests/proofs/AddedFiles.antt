@@ -1,5 +1,5 @@
 -- What a request for a new file comes to.
-use Rattle.std.proofs.Common.{◌≡◌, ℕ, ℤ, ◌+◌, List, [], ◌∷◌, ◌++◌, ◌||◌, length, Option, Some, None, not, Err, refl, ap, ◌∙◌}
+use Rattle.std.proofs.Common.{◌≡◌, ℕ, ℤ, ◌+◌, List, [], ◌∷◌, ◌++◌, ◌||◌, length, Option, Some, None, not, Err, refl, ap, subst, ◌∙◌}
 use Rattle.std.specs.Prelude.{nat_le, MatchBool, ⊤}
 use Rattle.droid_assembly.specs.State.{State}
 use Rattle.droid_frame.specs.types.refusal.Limit.TheVariants as reached
@@ -21,6 +21,7 @@ use Rattle.droid_core_state.specs.declared.parts.Parts.{Parts}
 use Rattle.droid_core_state.specs.declared.stamps.Stamp.{Stamp}
 use Rattle.droid_core_state.specs.Changes.{stamped, Comes}
 use Rattle.droid_core_state.specs.LookUps.{FindsProfile}
+use Rattle.droid_core_state.specs.Rows.{AreShort}
 use Rattle.droid_core_requests.specs.Places.{FindsPlace}
 use Rattle.droid_core_requests.specs.NewAssemblies.{IsNew}
 use Rattle.droid_core_state.specs.Standing.{IsIn}
@@ -66,12 +67,12 @@ module _ (setting : Setting) (world : World) (number parent : ℕ) (modified : �
     file_accepted is = rw (found, is) refl
 
     pub comes_file : (old new : Parts) (stamp : Stamp) (id : ℕ) (way : List ℕ) (assembly : State) → IsIn setting world old → first_refusal ≡ None
-        → id ≡ length profile.nodes + 1 → way ≡ path profile.nodes parent ++ 47 ∷ name → IsNew assembly size piece_size profile.scan_limit
+        → id ≡ length profile.nodes + 1 → way ≡ path profile.nodes parent ++ 47 ∷ name → AreShort name way → IsNew assembly size piece_size profile.scan_limit
         → new.limits ≡ old.limits → new.registry ≡ old.registry
         → new.store ≡ with_reply (stamped stamp (replies.Node id)) (with_node (new_file number id parent modified size piece_size name way) old.store)
         → new.files.files ≡ old.files.files ++ record { profile = number; file = id; assembly = assembly } ∷ [] → new.files.limit ≡ old.files.limit
         → Comes setting world old new stamp verdict (replies.Node id)
-    comes_file old new stamp id way assembly is allowed id_is way_is new_assembly limits registry store files room =
+    comes_file old new stamp id way assembly is allowed id_is way_is short new_assembly limits registry store files room =
         let made = store ∙ rw (id_is, way_is) refl in
         let added = files ∙ rw id_is refl in
         rw (file_accepted allowed) (
@@ -79,8 +80,8 @@ module _ (setting : Setting) (world : World) (number parent : ℕ) (modified : �
           record {
             world_is = record {
               is_setting = still_of setting old new limits registry is.is_setting;
-              rows = rw made (file_added setting world old.store (stamped stamp (replies.Node (length profile.nodes + 1))) number profile is.rows found parent modified size piece_size name);
-              sound = sound_added world number profile node is.sound found (file_of_checks setting.limits world profile.nodes parent modified size piece_size name (new_content size piece_size) allowed);
+              rows = rw made (file_added setting world old.store (stamped stamp (replies.Node (length profile.nodes + 1))) number profile is.rows found parent modified size piece_size name (subst (AreShort name) way_is short));
+              sound = sound_added world number profile node is.sound found (file_of_checks setting.limits world profile.nodes parent modified size piece_size name (new_content size piece_size) refl refl allowed);
               files = assemblies_with_file world number profile parent modified size piece_size name old.files new.files assembly found is.files added new_assembly;
               room = room ∙ is.room;
             };

@@ -1,5 +1,5 @@
 -- What a request for a new folder comes to.
-use Rattle.std.proofs.Common.{◌≡◌, ℕ, ℤ, ◌+◌, List, [], ◌∷◌, ◌++◌, length, Some, None, not, Err, refl, ap, ◌∙◌}
+use Rattle.std.proofs.Common.{◌≡◌, ℕ, ℤ, ◌+◌, List, [], ◌∷◌, ◌++◌, length, Some, None, not, Err, refl, ap, subst, ◌∙◌}
 use Rattle.std.specs.Prelude.{nat_le, MatchBool, ⊤}
 use Rattle.droid_frame.specs.types.refusal.Limit.TheVariants as reached
 use Rattle.droid_frame.specs.types.refusal.Refusal.{Refusal}
@@ -19,6 +19,7 @@ use Rattle.droid_core_state.specs.declared.parts.Parts.{Parts}
 use Rattle.droid_core_state.specs.declared.stamps.Stamp.{Stamp}
 use Rattle.droid_core_state.specs.Changes.{stamped, Comes}
 use Rattle.droid_core_state.specs.LookUps.{FindsProfile}
+use Rattle.droid_core_state.specs.Rows.{AreShort}
 use Rattle.droid_core_requests.specs.Places.{FindsPlace}
 use Rattle.droid_core_state.specs.Standing.{IsIn}
 use Rattle.droid_core_requests.proofs.AddedNodes.{assemblies_with_folder}
@@ -53,10 +54,10 @@ module _ (setting : Setting) (world : World) (number parent : ℕ) (modified : �
     folder_accepted is = rw (found, is) refl
 
     pub comes_folder : (old new : Parts) (stamp : Stamp) (id : ℕ) (way : List ℕ) → IsIn setting world old → refusal_of (folder_checks setting.limits profile.nodes parent modified name) ≡ None
-        → id ≡ length profile.nodes + 1 → way ≡ path profile.nodes parent ++ 47 ∷ name → new.limits ≡ old.limits → new.registry ≡ old.registry → new.files ≡ old.files
+        → id ≡ length profile.nodes + 1 → way ≡ path profile.nodes parent ++ 47 ∷ name → AreShort name way → new.limits ≡ old.limits → new.registry ≡ old.registry → new.files ≡ old.files
         → new.store ≡ with_reply (stamped stamp (replies.Node id)) (with_node (new_folder number id parent modified name way) old.store)
         → Comes setting world old new stamp verdict (replies.Node id)
-    comes_folder old new stamp id way is allowed id_is way_is limits registry files store =
+    comes_folder old new stamp id way is allowed id_is way_is short limits registry files store =
         let node = Folder parent modified name in
         let made = store ∙ rw (id_is, way_is) refl in
         rw (folder_accepted allowed) (
@@ -64,7 +65,7 @@ module _ (setting : Setting) (world : World) (number parent : ℕ) (modified : �
           record {
             world_is = record {
               is_setting = still_of setting old new limits registry is.is_setting;
-              rows = rw made (folder_added setting world old.store (stamped stamp (replies.Node (length profile.nodes + 1))) number profile is.rows found parent modified name);
+              rows = rw made (folder_added setting world old.store (stamped stamp (replies.Node (length profile.nodes + 1))) number profile is.rows found parent modified name (subst (AreShort name) way_is short));
               sound = sound_added world number profile node is.sound found (folder_of_checks setting.limits profile.nodes parent modified name allowed);
               files = rw files (assemblies_with_folder world number profile parent modified name old.files found is.files);
               room = rw files is.room;

@@ -1,5 +1,5 @@
 -- What comes of finishing a file that was found.
-use Rattle.std.proofs.Common.{◌≡◌, ℕ, ◌+◌, List, length, slice_get, true, false, Option, Some, None, refl, sym, ap, subst, ◌∙◌}
+use Rattle.std.proofs.Common.{◌≡◌, ℕ, ◌+◌, List, length, slice_get, true, false, Some, None, refl, sym, ap, subst, ◌∙◌}
 use Rattle.std.specs.Prelude.{ℤ, Bool, MatchBool, ⊤}
 use Rattle.md5.specs.Md5.{md5}
 use Rattle.droid_assembly.specs.State.{IsUnchanged}
@@ -9,8 +9,7 @@ use Rattle.droid_frame.specs.types.reply.Reply.{Reply}
 use Rattle.droid_frame.specs.types.reply.Reply.TheVariants as replies
 use Rattle.droid_frame.specs.types.request.Request.TheVariants.{Finish}
 use Rattle.droid_core_spec.specs.Files.{as_finished, bytes_of, finding_of, finished_reply}
-use Rattle.droid_core_spec.specs.Histories.{verdict_reply}
-use Rattle.droid_core_state.specs.Identified.{IsOf, found_in}
+use Rattle.droid_core_state.specs.Identified.{found_in}
 use Rattle.droid_core_spec.specs.Judging.{Verdict, Accepted, Refuses, unless_refused, refusal_of, finish_checks, judge, world_set, node_set}
 use Rattle.droid_core_spec.specs.Setting.{Setting, Finding}
 use Rattle.droid_core_spec.specs.Wants.{is_want, is_want_of}
@@ -25,8 +24,8 @@ use Rattle.droid_store.specs.Changes.{with_reply, with_finished}
 use Rattle.droid_store.specs.declared.rows.ProfileRow.{ProfileRow}
 use Rattle.droid_store.specs.Rows.{Rows, is_unfinished}
 use Rattle.droid_core_files.specs.Files.{OpenFile, OpenFiles, IsAt, At, Turns, IsAlikeBut, is_of, open_at}
-use Rattle.droid_core_state.specs.Assemblies.{IsAssemblyOf, IsOpenFor, HasAssemblies}
-use Rattle.droid_core_state.specs.Changes.{Stays, Leaves, Comes, stamped}
+use Rattle.droid_core_state.specs.Assemblies.{IsAssemblyOf, IsOpenFor}
+use Rattle.droid_core_state.specs.Changes.{Stays, Comes, stamped}
 use Rattle.droid_core_state.specs.declared.parts.Parts.{Parts}
 use Rattle.droid_core_requests.specs.declared.file_rows.FileRow.{FileRow}
 use Rattle.droid_core_state.specs.declared.stamps.Stamp.{Stamp}
@@ -164,7 +163,7 @@ module _ (setting : Setting) (world : World) (number id : ℕ) (row : FileRow) (
             world_is = record {
               is_setting = record { limits = is_in.is_setting.limits; allowed = is_in.is_setting.allowed; registry = is_in.is_setting.registry };
               rows = subst (KeepsWorld setting after) (sym kept) rows;
-              sound = sound_file_set world number has.profile id has.parent has.modified has.name has.content is_in.sound has.there has.at (as_finished has.content);
+              sound = sound_file_set world number has.profile id has.parent has.modified has.name has.content is_in.sound has.there has.at (as_finished has.content) refl refl;
               files = assemblies_finished world number has.profile id has.parent has.modified has.name has.content mid new place looked has.there has.at unfinished still gone others count;
               room = limit ∙ alike.limit ∙ is_in.room;
             };

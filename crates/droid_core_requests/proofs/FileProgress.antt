@@ -1,9 +1,8 @@
 -- What comes of asking how far a file is, where it was found.
 use Rattle.std.proofs.Common.{◌≡◌, ℕ, List, Bool, true, false, Some, refl, sym, ap, ◌∙◌}
-use Rattle.std.specs.Prelude.{ℤ, MatchBool, IfOk, IfErr, Result, Ok, Err}
+use Rattle.std.specs.Prelude.{ℤ, MatchBool, IfOk, IsOk, OnErr, Result, Ok, Err}
 use Rattle.droid_assembly.specs.Pieces.{piece_count}
 use Rattle.droid_frame.specs.types.refusal.Refusal.{Refusal}
-use Rattle.droid_frame.specs.types.refusal.Refusal.TheVariants as refusals
 use Rattle.droid_frame.specs.types.reply.Reply.{Reply}
 use Rattle.droid_frame.specs.types.reply.Reply.TheVariants.{Progress}
 use Rattle.droid_frame.specs.types.request.Request.TheVariants.{Status}
@@ -23,6 +22,11 @@ use Rattle.droid_core_state.specs.declared.stamps.Stamp.{Stamp}
 use Rattle.droid_core_requests.specs.LookUps.{HasFile, for_file}
 use Rattle.droid_core_requests.proofs.FileVerdicts.{judged_there, unfinished_there, finished_there}
 
+-- a call that tells nothing only where something is so that isn't
+pub told_at_all : {P : Type 0} (told : Result Reply Refusal) → OnErr told P → (P → ⊥) → IsOk told
+told_at_all (Ok reply) none isnt = refl
+told_at_all (Err refusal) none isnt = absurd (isnt none)
+
 -- what comes of asking for this file
 abbrev pub status_there : Profile → ℕ → ℤ → List ℕ → Content → Verdict
 status_there profile parent modified name content = Answered (progress_of content)
@@ -36,10 +40,10 @@ module _ (setting : Setting) (world : World) (old new : Parts) (stamp : Stamp) (
   one_of true P Q p q = p
   one_of false P Q p q = q
 
-  -- the verdict's answer, or a want
-  comes_told : (told : Result Reply Refusal) → IfOk told (λ reply. verdict ≡ Answered reply) → IfErr told (λ refusal. refusal ≡ refusals.Store) → Comes setting world old new stamp verdict (answered told)
-  comes_told (Ok reply) is wants = one_of (is_want reply) _ _ stays (rw is (refl, stays))
-  comes_told (Err refusal) is wants = rw wants stays
+  -- the verdict's answer, where there is one
+  comes_told : (told : Result Reply Refusal) → IfOk told (λ reply. verdict ≡ Answered reply) → IsOk told → Comes setting world old new stamp verdict (answered told)
+  comes_told (Ok reply) is told = one_of (is_want reply) _ _ stays (rw is (refl, stays))
+  comes_told (Err refusal) is told = absurd cc
 
 module _ (setting : Setting) (world : World) (number id : ℕ) (row : FileRow) (has : HasFile world number id row) where
   told_there : judge setting world (Status number id) ≡ Answered (progress_of has.content)
@@ -58,9 +62,9 @@ module _ (setting : Setting) (world : World) (number id : ℕ) (row : FileRow) (
 
   -- of an unfinished file its assembly tells
   pub unfinished_told : (old new : Parts) (stamp : Stamp) → Stays setting world old new → HasAssemblies world old.files → is_unfinished row.node.state ≡ true
-      → (told : Result Reply Refusal) → IfOk told (TellsProgress old.files) → IfErr told (λ refusal. refusal ≡ refusals.Store)
+      → (told : Result Reply Refusal) → IfOk told (TellsProgress old.files) → IsOk told
       → Comes setting world old new stamp (judge setting world (Status number id)) (answered told)
-  unfinished_told old new stamp stays assembled is told tells wants = comes_told setting world old new stamp _ stays told (of_progress old.files assembled is told tells) wants
+  unfinished_told old new stamp stays assembled is told tells tells_it = comes_told setting world old new stamp _ stays told (of_progress old.files assembled is told tells) tells_it
 
   finished_progress : (content : Content) → content.finished ≡ true → progress_of content ≡ Progress (piece_count content.size content.piece_size) (piece_count content.size content.piece_size)
   finished_progress content finished = rw finished refl

@@ -16,7 +16,6 @@ use Rattle.droid_core_state.specs.declared.parts.Parts.{Parts}
 use Rattle.droid_core_requests.specs.declared.file_rows.FileRow.{FileRow}
 use Rattle.droid_core_state.specs.declared.stamps.Stamp.{Stamp}
 use Rattle.droid_core_requests.specs.LookUps.{HasFile, FindsFile, for_file, state_of}
-use Rattle.droid_core_state.specs.Standing.{IsIn}
 use Rattle.droid_core_state.proofs.Staying.{if_refused, comes_refused}
 
 -- ---- where it was not found

@@ -1,5 +1,5 @@
 -- What is answered to who finishes a file: which piece is missing first, or nothing refuses it.
-use Rattle.std.proofs.Common.{◌≡◌, ℕ, ◌<◌, ◌↔◌, false, Some, None, Result, Err, IsErrOf, refl, sym, ap, ◌∙◌, arith}
+use Rattle.std.proofs.Common.{◌≡◌, ℕ, ◌<◌, false, Some, None, refl, sym, ap, arith}
 use Rattle.std.proofs.lemmas.Bool.{lt-ltb, le-ltb}
 use Rattle.droid_frame.specs.types.refusal.Refusal.TheVariants.{Incomplete}
 use Rattle.droid_core_spec.specs.Files.{count_of, missing_of}

@@ -3,6 +3,7 @@ pub mod AddedFiles
 pub mod AddedFolders
 pub mod AddedNodes
 pub mod Assembled
+pub mod CannotBe
 pub mod ExportedParts
 pub mod FileAbandoned
 pub mod FileFinished

@@ -1,11 +1,10 @@
 -- What comes of a piece of a file that was found.
 use Rattle.std.proofs.Common.{◌≡◌, ℕ, ◌+◌, ◌++◌, ◌∷◌, [], List, length, slice_get, true, false, Some, None, Option, refl, sym, ap, subst, ◌∙◌}
-use Rattle.std.specs.Prelude.{ℤ, Bool, IsTrue, MatchBool}
-use Rattle.droid_core_spec.specs.Wants.{is_want_of}
+use Rattle.std.specs.Prelude.{ℤ}
 use Rattle.droid_assembly.specs.Pieces as pieces
 use Rattle.droid_assembly.specs.State.{StandsFor, IsOfSameFile, with_pending}
 use Rattle.droid_frame.specs.types.refusal.Refusal.{Refusal}
-use Rattle.droid_frame.specs.types.refusal.Refusal.TheVariants.{AlreadyFinished}
+use Rattle.droid_frame.specs.types.refusal.Refusal.TheVariants.{AlreadyFinished, Memory}
 use Rattle.droid_frame.specs.types.reply.Reply.TheVariants as replies
 use Rattle.droid_frame.specs.types.request.Request.TheVariants.{Piece}
 use Rattle.droid_core_spec.specs.Files.{with_piece}
@@ -46,13 +45,9 @@ pub stays_as : (setting : Setting) (world : World) (old : Parts) (store : Rows) 
 stays_as setting world old store files same_store same_files is_in = rw (same_store, same_files) (record { world_is = is_in; replies = refl })
 
 -- a want, and nothing changed
-pub comes_wanting : (setting : Setting) (world : World) (old new : Parts) (stamp : Stamp) (verdict : Verdict) (refusal : Refusal) → IsTrue (is_want_of refusal) → Stays setting world old new
+pub comes_wanting : (setting : Setting) (world : World) (old new : Parts) (stamp : Stamp) (verdict : Verdict) (refusal : Refusal) → refusal ≡ Memory → Stays setting world old new
     → Comes setting world old new stamp verdict (replies.Refused refusal)
-comes_wanting setting world old new stamp verdict refusal want stays = by_wanting (is_want_of refusal) _ _ want stays
-  where
-    by_wanting : (wanting : Bool) (P Q : Type 0) → IsTrue wanting → P → MatchBool wanting P Q
-    by_wanting true P Q want it = it
-    by_wanting false P Q want it = absurd cc
+comes_wanting setting world old new stamp verdict refusal memory stays = rw memory stays
 
 pub same_files : (old new : OpenFiles) → new.limit ≡ old.limit → new.files ≡ old.files → new ≡ old
 same_files old new limit files =
@@ -116,7 +111,7 @@ module _ (setting : Setting) (world : World) (number id : ℕ) (row : FileRow) (
               world_is = record {
                 is_setting = record { limits = is_in.is_setting.limits; allowed = is_in.is_setting.allowed; registry = is_in.is_setting.registry };
                 rows = subst (KeepsWorld setting after) (sym kept) rows;
-                sound = sound_file_set world number has.profile id has.parent has.modified has.name has.content is_in.sound has.there has.at (with_piece has.content index bytes);
+                sound = sound_file_set world number has.profile id has.parent has.modified has.name has.content is_in.sound has.there has.at (with_piece has.content index bytes) refl refl;
                 files = assemblies_grown world old.files mid new place first second index bytes put is_in.files number has.profile id has.parent has.modified has.name has.content has.there has.at unfinished at_place stood settled same_file none_pending;
                 room = second.limit ∙ first.limit ∙ is_in.room;
               };

@@ -1,10 +1,10 @@
 -- The assemblies of the files where one was only looked at.
-use Rattle.std.proofs.Common.{◌≡◌, inl, inr, ℕ, slice_get, Bool, true, false, Option, Some, None, refl, sym, ap, ap₂, subst, ◌∙◌}
+use Rattle.std.proofs.Common.{◌≡◌, inl, inr, ℕ, slice_get, Bool, true, false, Option, Some, None, refl, sym, ap₂, subst, ◌∙◌}
 use Rattle.std.proofs.lemmas.Bool.{cases_Bool}
 use Rattle.std.specs.Prelude.{MatchBool}
 use Rattle.droid_assembly.specs.State.{State, IsUnchanged}
 use Rattle.droid_core_spec.specs.World.{Content, Node, Folder, File, Abandoned, Profile, World, numbered}
-use Rattle.droid_core_files.specs.Files.{OpenFile, OpenFiles, IsAt, Turns, IsAlikeBut, IsStillOpen, is_of, open_at, with_assembly}
+use Rattle.droid_core_files.specs.Files.{OpenFile, OpenFiles, Turns, IsAlikeBut, IsStillOpen, is_of, open_at, with_assembly}
 use Rattle.droid_core_files.proofs.Lookups.{key_of, key_found, found_at, still_open, others_open, same_count}
 use Rattle.droid_core_state.specs.Assemblies.{IsAssemblyOf, IsOpenFor, HasItsAssembly, HasItsAssemblyIn, HasAssemblies}
 

@@ -1,7 +1,7 @@
 -- What the look-up of a file finds of a world. No public clause of the service names these: they only serve proofs.
 use Rattle.std.specs.Prelude.{◌≡◌, ℕ, ℤ, if◌then◌else◌, List, Option, None, Some, MatchBool, ⊤, Result, Ok, Err}
 use Rattle.droid_frame.specs.types.refusal.Refusal.{Refusal}
-use Rattle.droid_frame.specs.types.refusal.Refusal.TheVariants.{NoSuchNode}
+use Rattle.droid_frame.specs.types.refusal.Refusal.TheVariants.{Memory, NoSuchNode}
 use Rattle.droid_core_spec.specs.Judging.{Verdict, Refuses, in_profile, in_file}
 use Rattle.droid_core_spec.specs.Wants.{is_want_of}
 use Rattle.droid_core_spec.specs.World.{Content, File, Profile, World, numbered, node_at}
@@ -10,14 +10,13 @@ use Rattle.droid_store.specs.declared.fault.StoreFault.{StoreFault}
 use Rattle.droid_store.specs.declared.rows.NodeRow.{NodeRow}
 use Rattle.droid_store.specs.declared.rows.NodeState.{NodeState}
 use Rattle.droid_store.specs.declared.rows.NodeState.TheVariants.{Unfinished, Finished}
-use Rattle.droid_core_state.specs.Changes.{told_of}
 use Rattle.droid_core_requests.specs.declared.file_rows.FileRow.{FileRow}
 
--- by what the store answered: the node's row, or that there is no such node, or what its fault is told as
+-- by what the store answered: the node's row, or that there is no such node, or want of memory
 abbrev pub node_in : Result (Option NodeRow) StoreFault → Result NodeRow Refusal
 node_in (Ok (Some row)) = Ok row
 node_in (Ok None) = Err NoSuchNode
-node_in (Err fault) = Err (told_of fault)
+node_in (Err fault) = Err Memory
 
 abbrev pub state_of : Content → NodeState
 state_of content = if content.finished then Finished else Unfinished
@@ -41,7 +40,7 @@ pub record HasFile (world : World) (number id : ℕ) (row : FileRow) : Type 0 wh
 abbrev pub for_file : World → ℕ → ℕ → (Profile → ℕ → ℤ → List ℕ → Content → Verdict) → Verdict
 for_file world number id judge_there = in_profile (numbered world.profiles number) (λ profile. in_file (node_at profile.nodes id) (judge_there profile))
 
--- the file's row; or whatever is asked of it is refused so, or memory or the database was wanting
+-- the file's row; or whatever is asked of it is refused so, or memory was wanting
 abbrev pub FindsFile : World → ℕ → ℕ → Result FileRow Refusal → Type 0
 FindsFile world number id (Ok row) = HasFile world number id row
 FindsFile world number id (Err refusal) =

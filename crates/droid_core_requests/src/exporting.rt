@@ -10,11 +10,10 @@ ghost use Rattle.droid_frame.specs.types.request.Request.TheVariants.{Export};
 ghost use Rattle.droid_core_spec.specs.Exported.{part};
 ghost use Rattle.droid_core_spec.specs.Judging.{judge};
 ghost use Rattle.droid_core_spec.specs.Setting.{Setting};
-ghost use Rattle.droid_core_spec.specs.Wants.{is_want_of};
 ghost use Rattle.droid_core_spec.specs.World.{World};
 ghost use Rattle.droid_store.specs.Rows.{records_of};
 
-use droid_core_state::{Parts, export_refusal, is_moment, profile_of, store_refusal};
+use droid_core_state::{Parts, export_refusal, is_moment, profile_of};
 use droid_export::export_text;
 use droid_frame::{Blob, Filter, Record, Refusal, Reply};
 use droid_pronom::Registry;
@@ -51,10 +50,10 @@ fn records_in(store: &mut Store, number: u32) -> Result<Vec<Record>, Refusal>
     ensures same { store.new ≡ store.old }
     ensures found { IfOk result (λ records. records.items ≡ records_of number store.old) }
     ensures moments { IfOk result (λ records. HaveMoments records.items) }
-    ensures want { IfErr result (λ refusal. IsTrue (is_want_of refusal)) }
+    ensures memory { HaveMoments (records_of number store.old) → IfErr result (λ refusal. refusal ≡ Refusal.Memory) }
 {
     match store.records(number) {
-        Err(fault) => Err(store_refusal(fault)),
+        Err(_) => Err(Refusal::Memory),
         Ok(records) => {
             let written = with_moments(records)?;
             Ok(written)

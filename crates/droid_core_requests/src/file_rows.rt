@@ -13,7 +13,7 @@ ghost use Rattle.droid_store.specs.declared.rows.NodeState.TheVariants.{Unfinish
 ghost use Rattle.droid_core_files.specs.Files.{At, open_at};
 
 use droid_core_files::UnfinishedFiles;
-use droid_core_state::{profile_of, store_refusal};
+use droid_core_state::profile_of;
 use droid_frame::Refusal;
 use droid_store::{NodeRow, NodeState, ProfileRow, Store, StoreFault};
 
@@ -56,9 +56,10 @@ pub fn file_of(store: &mut Store, number: u32, file: u32) -> Result<FileRow, Ref
     }
 }
 
-/// The node that was looked up in the store: one that isn't there, or was abandoned, is refused, and
-/// what the store gave up for is told as it is.
+/// The node that was looked up in the store, which gives up for want of memory alone. One that isn't
+/// there, or was abandoned, is refused.
 pub fn node_of(found: Result<Option<NodeRow>, StoreFault>) -> Result<NodeRow, Refusal>
+    requires memory { IfErr found (λ fault. fault ≡ StoreFault.Memory) }
     ensures told { result ≡ node_in found }
     ensures found { IfOk result (λ row. found ≡ Ok (Some row)) }
     ensures none { IfErr result (λ refusal. MatchBool (is_want_of refusal) ⊤ ((refusal ≡ Refusal.NoSuchNode) × (found ≡ Ok None))) }
@@ -66,7 +67,7 @@ pub fn node_of(found: Result<Option<NodeRow>, StoreFault>) -> Result<NodeRow, Re
     match found {
         Ok(Some(row)) => Ok(row),
         Ok(None) => Err(Refusal::NoSuchNode),
-        Err(fault) => Err(store_refusal(fault)),
+        Err(_) => Err(Refusal::Memory),
     }
 }
 

@@ -6,6 +6,7 @@ ghost use Rattle.md5.specs.Md5.{md5};
 ghost use Rattle.droid_assembly.specs.State.{IsUnchanged};
 ghost use Rattle.droid_core_state.specs.Assemblies.{IsAssemblyOf};
 ghost use Rattle.droid_core_state.specs.Changes.{Comes, answered, stamped};
+ghost use Rattle.droid_core_state.specs.Rows.{IsShort};
 ghost use Rattle.droid_core_state.specs.Standing.{IsIn};
 ghost use Rattle.droid_core_requests.specs.Causes.{says_store};
 ghost use Rattle.droid_frame.specs.Replies.{HasReplySpelling, IsDigest};
@@ -125,7 +126,7 @@ fn keep_finding(
     ensures limit { files.new.limit ≡ files.old.limit }
     ensures not_kept { OnErr result (store.new ≡ store.old) }
     ensures same { OnErr result (files.new ≡ files.old) }
-    ensures want { IfErr result (λ refusal. IsTrue (is_want_of refusal)) }
+    ensures memory { AllByRecursion IsShort store.old.nodes → IfErr result (λ refusal. refusal ≡ Refusal.Memory) }
 {
     let Finding { sealed, found } = finding;
     let md5 = sealed.md5;

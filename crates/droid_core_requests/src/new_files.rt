@@ -10,7 +10,6 @@ ghost use Rattle.droid_frame.specs.types.request.Request.TheVariants.{AddFile};
 ghost use Rattle.droid_core_spec.specs.Conditions.{is_scan_limit};
 ghost use Rattle.droid_core_spec.specs.Judging.{judge};
 ghost use Rattle.droid_core_spec.specs.Setting.{Setting};
-ghost use Rattle.droid_core_spec.specs.Wants.{is_want_of};
 ghost use Rattle.droid_core_spec.specs.World.{World};
 ghost use Rattle.droid_store.specs.Rows.{reply_for};
 ghost use Rattle.droid_core_files.specs.Files.{open_at};
@@ -92,7 +91,6 @@ fn new_assembly(alloc: Global, size: u64, piece_size: u32, limit: u32) -> Result
     ensures new { IfOk result (λ assembly. IsNew assembly size piece_size limit) }
     ensures small { OnOk result (size < 2 ^ 63) }
     ensures memory { IsTrue (is_scan_limit limit) → IfErr result (λ refusal. refusal ≡ Refusal.Memory) }
-    ensures want { IfErr result (λ refusal. IsTrue (is_want_of refusal)) }
 {
     if !is_scan_limit(limit) {
         return Err(Refusal::Store);

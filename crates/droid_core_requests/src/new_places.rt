@@ -1,16 +1,15 @@
 //! The place of a new node, and the room that its profile has for one, looked up in the store.
 
-ghost use Rattle.std.specs.Prelude.{◌≡◌, ◌≢◌, Some, None, IfOk, IfErr, OnOk, IsTrue};
+ghost use Rattle.std.specs.Prelude.{◌≡◌, ◌≢◌, Some, None, IfOk, IfErr, OnOk};
 ghost use Rattle.droid_core_spec.specs.Setting.{Setting};
-ghost use Rattle.droid_core_spec.specs.Wants.{is_want_of};
 ghost use Rattle.droid_core_spec.specs.World.{Profile, World, numbered};
-ghost use Rattle.droid_core_state.specs.Rows.{KeepsWorld};
+ghost use Rattle.droid_core_state.specs.Rows.{AreShort, KeepsWorld};
 ghost use Rattle.droid_core_state.specs.Sound.{IsSound};
 ghost use Rattle.droid_core_requests.specs.Places.{FindsFolder, FindsPlace, taken_in};
 ghost use Rattle.droid_store.specs.Rows.{child_at};
 
 use crate::file_rows::node_of;
-use droid_core_state::{Parts, Room, is_bad_name, is_too_deep_below, new_path, store_refusal};
+use droid_core_state::{Parts, Room, is_bad_name, is_too_deep_below, new_path};
 use droid_frame::{Refusal, Text};
 use droid_store::{NodeRow, NodeState, ProfileRow, Store, StoreFault};
 use std::alloc::Global;
@@ -25,6 +24,7 @@ pub fn place_of(
 ) -> Result<Text, Refusal>
     ensures same { store.new ≡ store.old }
     ensures free { OnOk result (child_at number parent name.now store.old ≡ None) }
+    ensures short { IfOk result (λ path. AreShort name.now path) }
     ensures found { (setting : Setting) (world : World) (profile : Profile) → KeepsWorld setting world store.old → IsSound world
         → numbered world.profiles number ≡ Some profile → FindsPlace profile parent name.now result }
 {
@@ -69,15 +69,15 @@ fn path_of(row: NodeRow) -> Result<Text, Refusal>
     }
 }
 
-/// Whether the node that was looked up in the store is there. What the store gave up for is told as
-/// it is.
+/// Whether the node that was looked up in the store, which gives up for want of memory alone, is there.
 fn is_taken(found: Result<Option<u32>, StoreFault>) -> Result<bool, Refusal>
+    requires memory { IfErr found (λ fault. fault ≡ StoreFault.Memory) }
     ensures told { result ≡ taken_in found }
-    ensures want { IfErr result (λ refusal. IsTrue (is_want_of refusal)) }
+    ensures memory { IfErr result (λ refusal. refusal ≡ Refusal.Memory) }
 {
     match found {
         Ok(found) => Ok(found.is_some()),
-        Err(fault) => Err(store_refusal(fault)),
+        Err(_) => Err(Refusal::Memory),
     }
 }
 

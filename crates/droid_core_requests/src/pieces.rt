@@ -1,6 +1,6 @@
 //! Pieces of files.
 
-ghost use Rattle.std.specs.Prelude.{◌≡◌, ◌<◌, ◌^◌, ◌+◌, ◌++◌, ◌∷◌, [], List, length, false, None, Some, IsSome, IsTrue, IfOk, IfErr, OnOk, OnErr};
+ghost use Rattle.std.specs.Prelude.{◌≡◌, ◌<◌, ◌^◌, ◌+◌, ◌++◌, ◌∷◌, [], List, length, false, None, Some, IsSome, IfOk, IfErr, OnOk, OnErr};
 ghost use Rattle.droid_assembly.specs.Pieces.{Piece};
 ghost use Rattle.droid_assembly.specs.State.{StandsFor, IsOfSameFile, with_pending};
 ghost use Rattle.droid_core_state.specs.Assemblies.{IsAssemblyOf};
@@ -12,10 +12,10 @@ ghost use Rattle.droid_frame.specs.types.reply.Reply.TheVariants.{Refused};
 ghost use Rattle.droid_frame.specs.types.request.Request.TheVariants as requests;
 ghost use Rattle.droid_core_spec.specs.Judging.{judge, refusal_of, piece_checks};
 ghost use Rattle.droid_core_spec.specs.Setting.{Setting};
-ghost use Rattle.droid_core_spec.specs.Wants.{is_want_of};
 ghost use Rattle.droid_core_spec.specs.World.{Content, Profile, World};
 ghost use Rattle.droid_store.specs.Changes.{with_reply};
 ghost use Rattle.droid_store.specs.Rows.{reply_for};
+ghost use Rattle.droid_store.specs.Sizes.{entry_size, FitsARow};
 ghost use Rattle.droid_core_files.specs.Files.{At, Turns, IsAlikeBut};
 
 use crate::file_rows::{file_of, none_is_pending, place_of_file};
@@ -115,6 +115,7 @@ fn keep_piece(
     requires small { entry.now.number < 2 ^ 63 }
     requires within { place < length files.old.files }
     requires pending { At files.old place (λ file. IsSome file.pending) }
+    requires fits { FitsARow (entry_size entry.now) }
     ensures kept { OnOk result (store.new ≡ with_reply entry.now store.old) }
     ensures stands { OnOk result (Turns files.old files.new place (λ before after. (pieces : List Piece) (piece : Piece) → StandsFor before pieces
         → before.pending ≡ Some piece → StandsFor after (pieces ++ piece ∷ []))) }
@@ -123,7 +124,7 @@ fn keep_piece(
     ensures not_kept { OnErr result (store.new ≡ store.old) }
     ensures taken_back { OnErr result (Turns files.old files.new place (λ before after. after ≡ with_pending before None)) }
     ensures others { IsAlikeBut place files.old files.new }
-    ensures want { IfErr result (λ refusal. IsTrue (is_want_of refusal)) }
+    ensures memory { IfErr result (λ refusal. refusal ≡ Refusal.Memory) }
     ensures spelled { IfErr result (λ refusal. HasReplySpelling (Refused refusal)) }
 {
     match store.commit_piece(entry) {

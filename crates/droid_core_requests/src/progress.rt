@@ -56,7 +56,7 @@ fn progress_of(files: &UnfinishedFiles, number: u32, file: u32) -> Result<Reply,
 }
 
 /// How many pieces a file of this size has. No file is accepted with pieces of no bytes, or with 2^32
-/// pieces or more: a row that says so answers that the database was wanting.
+/// pieces or more: no row says so, and one that did would be answered as if the database had refused.
 fn count_of(size: u64, piece_size: u32) -> Result<u32, Refusal>
     ensures count { IfOk result (λ count. count ≡ piece_count size piece_size) }
     ensures fits { 0 < piece_size → piece_count size piece_size < 2 ^ 32 → IsOk result }

@@ -1,5 +1,5 @@
 -- What is answered in a history: never want of memory, nothing new after a refusal, and an accepted reply for ever.
-use Rattle.std.proofs.Common.{◌≡◌, ℕ, ◌==◌, Bool, true, false, cond, List, [], ◌∷◌, ◌++◌, find, Option, Some, None, IsSome, refl, sym, ap, subst, ◌∙◌, append-nil}
+use Rattle.std.proofs.Common.{◌≡◌, ◌≢◌, ℕ, ◌==◌, Bool, true, false, cond, List, [], ◌∷◌, ◌++◌, find, Option, Some, None, IsSome, refl, sym, ap, subst, ◌∙◌, append-nil}
 use Rattle.std.specs.Option.{option_or}
 use Rattle.std.proofs.lemmas.Bool.{and_parts, eq-eqb, eqb-true}
 use Rattle.std.proofs.lemmas.List.Folds.{find-append}
@@ -38,6 +38,23 @@ no_verdict_wants world request (Accepted reply after) may = no_want reply may.no
 no_verdict_wants world request (Answered reply) may = no_want reply may.no_refusal
 no_verdict_wants world request (Refuses refusal) may = no_want_of refusal may
 
+-- ---- no database that refused
+
+no_store_of : (refusal : Refusal) → is_of_judging refusal ≡ true → Refused refusal ≢ Refused Store
+no_store_of refusal is same =
+    let it : refusal ≡ Store = cc in
+    absurd (let wrong = ap is_of_judging it in cc)
+
+no_store : (reply : Reply) → is_refused reply ≡ false → reply ≢ Refused Store
+no_store reply is same = absurd (let wrong = ap is_refused same in cc)
+
+no_verdict_stores : (world : World) (request : Request) (verdict : Verdict) → MayCome world request verdict → verdict_reply verdict ≢ Refused Store
+no_verdict_stores world request (Accepted reply after) may = no_store reply may.no_refusal
+no_verdict_stores world request (Answered reply) may = no_store reply may.no_refusal
+no_verdict_stores world request (Refuses refusal) may = no_store_of refusal may
+
+-- ---- no answer is either
+
 -- a kept reply of a legal history is no refusal
 pub kept_unrefused : (setting : Setting) (history : History) (client number : ℕ) (entry : Entry) → IsLegal setting history → kept history client number ≡ Some entry → is_refused entry.reply ≡ false
 kept_unrefused setting history client number entry legal there =
@@ -50,6 +67,13 @@ answer_no_want setting history frame legal =
     whatever_meets setting history frame (λ (met : Meeting). is_want (reply_to met) ≡ false) refl
     (λ entry there. no_want entry.reply (kept_unrefused setting history frame.client frame.number entry legal there)) refl
     (λ request asked is_new. no_verdict_wants (world_of setting history) request (judge setting (world_of setting history) request) (judged setting (world_of setting history) request))
+
+pub answer_no_store : (setting : Setting) (history : History) (frame : Frame) → IsLegal setting history → answer setting history frame ≢ Refused Store
+unfolding answer
+answer_no_store setting history frame legal =
+    whatever_meets setting history frame (λ (met : Meeting). reply_to met ≢ Refused Store) (λ same. absurd cc)
+    (λ entry there. no_store entry.reply (kept_unrefused setting history frame.client frame.number entry legal there)) (λ same. absurd cc)
+    (λ request asked is_new. no_verdict_stores (world_of setting history) request (judge setting (world_of setting history) request) (judged setting (world_of setting history) request))
 
 -- ---- a refusal changes nothing
 

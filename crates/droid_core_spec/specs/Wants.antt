@@ -1,14 +1,14 @@
--- Which refusals say that memory or the database was wanting.
+-- Which refusals say that memory was wanting.
 use Rattle.std.specs.Prelude.{Bool, true, false}
 use Rattle.droid_frame.specs.types.refusal.Refusal.{Refusal}
 use Rattle.droid_frame.specs.types.refusal.Refusal.TheVariants as refusals
 use Rattle.droid_frame.specs.types.reply.Reply.{Reply}
 use Rattle.droid_frame.specs.types.reply.Reply.TheVariants.{Made, Node, Refused}
 
--- memory or the database was wanting
+-- Memory was wanting. That a database refused for another cause (Store) is no want: no service answers it.
 abbrev pub is_want_of : Refusal → Bool
 is_want_of refusals.Memory = true
-is_want_of refusals.Store = true
+is_want_of refusals.Store = false
 is_want_of refusals.Malformed = false
 is_want_of refusals.NumberReused = false
 is_want_of refusals.NoSuchProfile = false

@@ -1,13 +1,13 @@
 //! Laws of histories: each stands on a function that does nothing, and is proved with it.
 
-ghost use Rattle.std.specs.Prelude.{◌≡◌, ◌+◌, ◌↔◌, ℕ, true, false, List, length, None, Some, IsSome};
+ghost use Rattle.std.specs.Prelude.{◌≡◌, ◌≢◌, ◌+◌, ◌↔◌, ℕ, true, false, List, length, None, Some, IsSome};
 ghost use Rattle.std.specs.List.{Contains};
 ghost use Rattle.droid_frame.specs.Fields.{IsBytes};
 ghost use Rattle.droid_frame.specs.types.filter.Filter.{Filter};
 ghost use Rattle.droid_frame.specs.types.frame.Frame.{Frame};
 ghost use Rattle.droid_frame.specs.types.record.Record.{Record};
 ghost use Rattle.droid_frame.specs.types.refusal.Refusal.{Refusal};
-ghost use Rattle.droid_frame.specs.types.refusal.Refusal.TheVariants.{Malformed, NumberReused};
+ghost use Rattle.droid_frame.specs.types.refusal.Refusal.TheVariants.{Malformed, NumberReused, Store};
 ghost use Rattle.droid_frame.specs.types.reply.Reply.{Reply};
 ghost use Rattle.droid_frame.specs.types.reply.Reply.TheVariants.{Part, Refused};
 ghost use Rattle.droid_frame.specs.types.request.Request.{Request};
@@ -35,9 +35,10 @@ pub fn judging_goes_by_kind()
     ensures { (setting : Setting) (world : World) (request : Request) → MayCome world request (judge setting world request) }
 {}
 
-/// After a legal history no answer is want of memory or of the database.
+/// After a legal history no answer is want of memory, and none is that the database refused.
 pub fn answers_are_no_wants()
-    ensures { (setting : Setting) (history : History) (frame : Frame) → IsLegal setting history → is_want (answer setting history frame) ≡ false }
+    ensures memory { (setting : Setting) (history : History) (frame : Frame) → IsLegal setting history → is_want (answer setting history frame) ≡ false }
+    ensures store { (setting : Setting) (history : History) (frame : Frame) → IsLegal setting history → answer setting history frame ≢ Refused Store }
 {}
 
 /// A request that is refused leaves the history as it is.

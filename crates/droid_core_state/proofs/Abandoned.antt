@@ -18,6 +18,7 @@ use Rattle.droid_core_state.proofs.Items.{filter_turned, filter_kept}
 use Rattle.droid_core_state.proofs.Made.{one_more_reply}
 use Rattle.droid_core_state.proofs.NodeTests.{not_of_number, not_of_profile, this_node}
 use Rattle.droid_core_state.proofs.RowsOfNodes.{keeps_set}
+use Rattle.droid_core_state.proofs.ShortRows.{short_left}
 use Rattle.droid_core_state.proofs.Soundness.{sound_profile}
 
 -- one node's row is taken out
@@ -52,4 +53,5 @@ file_abandoned setting world before e number profile id parent modified name con
           (path_elsewhere profile.nodes id parent modified name content Abandoned at_id (sound_profile world number profile sound found).nodes)
           (rw unfinished (rw (this_node number id row refl refl) refl)));
       accepted = one_more_reply world before e has.accepted;
+      short = short_left (stays number id) before.nodes has.short;
     }

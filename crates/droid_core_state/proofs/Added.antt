@@ -13,7 +13,8 @@ use Rattle.droid_store.specs.Changes.{counted, new_folder, new_file, with_reply}
 use Rattle.droid_store.specs.declared.rows.Entry.{Entry}
 use Rattle.droid_store.specs.Rows as rows
 use Rattle.droid_store.specs.Rows.{Rows}
-use Rattle.droid_core_state.specs.Rows.{profile_row, node_row, node_rows_from, rows_in, KeepsWorld}
+use Rattle.droid_core_state.specs.Rows.{profile_row, node_row, node_rows_from, rows_in, AreShort, IsShort, KeepsWorld}
+use Rattle.droid_core_spec.proofs.Each.{each_with_one_more}
 use Rattle.droid_core_state.proofs.Made.{one_more_reply}
 use Rattle.droid_core_state.proofs.NodePaths.{path_kept, path_last}
 use Rattle.droid_core_state.proofs.RowsOfNodes.{same_stored, rows_changed, rows_last, keeps_set}
@@ -41,7 +42,7 @@ counted_set (suc place) count profiles profile after found row =
 -- the new row stands for the new node
 module _ (setting : Setting) (world : World) (before : Rows) (e : Entry) (number : ℕ) (profile : Profile) (has : KeepsWorld setting world before) (found : numbered world.profiles number ≡ Some profile)
     (node : Node) (row : rows.Node) (of_profile : row.profile ≡ number) (next : row.id ≡ length profile.nodes + 1)
-    (stands : node_row setting number (with_node profile node) (length profile.nodes + 1) node ≡ Some row) where
+    (stands : node_row setting number (with_node profile node) (length profile.nodes + 1) node ≡ Some row) (short : IsShort row) where
   others_stay : (other : ℕ) → (other ≡ number → ⊥) → filter (λ (n : rows.Node). n.profile == other) (before.nodes ++ row ∷ []) ≡ rows_in other before
   others_stay other apart =
       let not_here : (row.profile == other) ≡ false = ne_eqb row.profile other (λ same. apart (sym same ∙ of_profile)) in
@@ -69,22 +70,23 @@ module _ (setting : Setting) (world : World) (before : Rows) (e : Entry) (number
         (ap (λ count. record (profile_row profile) { nodes = count }) (sym (length-append profile.nodes (node ∷ []))));
     nodes = keeps_set setting world number profile (with_node profile node) before (with_reply e (changes.with_node row before)) found has.nodes others_stay this_grows;
     accepted = one_more_reply world before e has.accepted;
+    short = each_with_one_more IsShort before.nodes row has.short short;
   }
 
 module _ (setting : Setting) (world : World) (before : Rows) (e : Entry) (number : ℕ) (profile : Profile) (has : KeepsWorld setting world before) (found : numbered world.profiles number ≡ Some profile) where
-  pub folder_added : (parent : ℕ) (modified : ℤ) (name : List ℕ)
+  pub folder_added : (parent : ℕ) (modified : ℤ) (name : List ℕ) → AreShort name (path profile.nodes parent ++ 47 ∷ name)
       → KeepsWorld setting (world_set world number (with_node profile (Folder parent modified name)))
       (with_reply e (changes.with_node (new_folder number (length profile.nodes + 1) parent modified name (path profile.nodes parent ++ 47 ∷ name)) before))
-  folder_added parent modified name =
+  folder_added parent modified name short =
       let id = length profile.nodes + 1 in
       node_added setting world before e number profile has found (Folder parent modified name) (new_folder number id parent modified name (path profile.nodes parent ++ 47 ∷ name)) refl refl
-      (ap (λ way. Some (new_folder number id parent modified name way)) (path_below_added profile (Folder parent modified name)))
+      (ap (λ way. Some (new_folder number id parent modified name way)) (path_below_added profile (Folder parent modified name))) short
 
-  pub file_added : (parent : ℕ) (modified : ℤ) (size piece_size : ℕ) (name : List ℕ)
+  pub file_added : (parent : ℕ) (modified : ℤ) (size piece_size : ℕ) (name : List ℕ) → AreShort name (path profile.nodes parent ++ 47 ∷ name)
       → KeepsWorld setting (world_set world number (with_node profile (File parent modified name (record { size = size; piece_size = piece_size; pieces = []; finished = false }))))
       (with_reply e (changes.with_node (new_file number (length profile.nodes + 1) parent modified size piece_size name (path profile.nodes parent ++ 47 ∷ name)) before))
-  file_added parent modified size piece_size name =
+  file_added parent modified size piece_size name short =
       let id = length profile.nodes + 1 in
       let content : Content = record { size = size; piece_size = piece_size; pieces = []; finished = false } in
       node_added setting world before e number profile has found (File parent modified name content) (new_file number id parent modified size piece_size name (path profile.nodes parent ++ 47 ∷ name)) refl refl
-      (ap (λ way. Some (new_file number id parent modified size piece_size name way)) (path_below_added profile (File parent modified name content)))
+      (ap (λ way. Some (new_file number id parent modified size piece_size name way)) (path_below_added profile (File parent modified name content))) short

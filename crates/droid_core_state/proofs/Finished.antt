@@ -20,6 +20,7 @@ use Rattle.droid_core_state.proofs.Made.{one_more_reply}
 use Rattle.droid_core_state.proofs.NodeTests.{not_of_number, not_of_profile, this_node}
 use Rattle.droid_core_state.proofs.NodePaths.{paths_of_file}
 use Rattle.droid_core_state.proofs.RowsOfNodes.{keeps_set}
+use Rattle.droid_core_state.proofs.ShortRows.{short_changed}
 
 -- one node is finished
 module _ (number id : ℕ) (method : Method) (mismatch : Bool) (digest : List ℕ) (puids : List (List ℕ)) where
@@ -28,6 +29,18 @@ module _ (number id : ℕ) (method : Method) (mismatch : Bool) (digest : List �
 
   profile_stays : (other : ℕ) (n : rows.Node) → ((finish n).profile == other) ≡ (n.profile == other)
   profile_stays other n = elim (cases_Bool (is_node number id n)) [
+    | inl is ↦ rw is refl
+    | inr isnt ↦ rw isnt refl
+  ]
+
+  same_name : (n : rows.Node) → (finish n).name ≡ n.name
+  same_name n = elim (cases_Bool (is_node number id n)) [
+    | inl is ↦ rw is refl
+    | inr isnt ↦ rw isnt refl
+  ]
+
+  same_path : (n : rows.Node) → (finish n).path ≡ n.path
+  same_path n = elim (cases_Bool (is_node number id n)) [
     | inl is ↦ rw is refl
     | inr isnt ↦ rw isnt refl
   ]
@@ -68,4 +81,5 @@ file_finished setting world before e number profile id parent modified name cont
           (λ other apart. ap (λ all. path_among all other) (sym ways))
           (rw unfinished (rw (this_node number id row refl refl) (ap (λ all. finished finding.method finding.mismatch digest finding.puids (plain all) ∷ []) (sym ways)))));
       accepted = one_more_reply world before e has.accepted;
+      short = short_changed change (same_name number id finding.method finding.mismatch digest finding.puids) (same_path number id finding.method finding.mismatch digest finding.puids) before.nodes has.short;
     }

@@ -14,6 +14,7 @@ pub mod ProfileRows
 pub mod Replying
 pub mod RowsOfNodes
 pub mod Sizes
+pub mod ShortRows
 pub mod Soundness
 pub mod Staying
 pub mod Taken

@@ -16,7 +16,7 @@ no_profile setting zero = refl
 no_profile setting (suc place) = refl
 
 pub world_empty : (setting : Setting) → KeepsWorld setting empty_world no_rows
-world_empty setting = record { profiles = refl; nodes = no_profile setting; accepted = refl }
+world_empty setting = record { profiles = refl; nodes = no_profile setting; accepted = refl; short = tt }
 
 -- a reply row more for each command
 pub one_more_reply : (world : World) (rows : Rows) (e : Entry) → length rows.replies ≡ world.accepted → length (rows.replies ++ e ∷ []) ≡ world.accepted + 1
@@ -47,4 +47,5 @@ profile_made setting world rows e scan_limit match_all has =
       profiles = ap (λ these. these ++ profile_row fresh ∷ []) has.profiles ∙ sym (map-append profile_row world.profiles (fresh ∷ []));
       nodes = λ number. has.nodes number ∙ fresh_nodes setting world.profiles fresh number refl;
       accepted = one_more_reply world rows e has.accepted;
+      short = has.short;
     }

@@ -8,11 +8,11 @@ limit_within : (limit : ℕ) → IsTrue (is_scan_limit limit) → (1 ≤ limit) 
 unfolding is_scan_limit
 limit_within limit is = grind (arith)
 
-piece_size_within : (size : ℕ) → IsTrue (is_piece_size size) → (1 ≤ size) × (size ≤ 1048576)
+pub piece_size_within : (size : ℕ) → IsTrue (is_piece_size size) → (1 ≤ size) × (size ≤ 1048576)
 unfolding is_piece_size
 piece_size_within size is = grind (arith)
 
-size_within : (size piece_size : ℕ) → is_too_large size piece_size ≡ false → (size ≤ 1099511627776) × (piece_count size piece_size ≤ 1048576)
+pub size_within : (size piece_size : ℕ) → is_too_large size piece_size ≡ false → (size ≤ 1099511627776) × (piece_count size piece_size ≤ 1048576)
 unfolding is_too_large
 size_within size piece_size within = grind (arith)
 

@@ -6,7 +6,7 @@ use Rattle.droid_core_spec.specs.Conditions.{is_moment, is_piece_size, is_scan_l
 use Rattle.droid_core_spec.specs.Judging.{Check, refusal_of, create_checks, place_checks, folder_checks, file_checks, world_set, with_node, node_set}
 use Rattle.droid_core_spec.specs.Limits.{Limits}
 use Rattle.droid_core_spec.specs.World.{Content, Node, Folder, File, Abandoned, Profile, World, empty_world, world_with, numbered, node_at, unless_abandoned}
-use Rattle.droid_core_state.specs.Sound.{is_folder, IsPlace, IsSoundNode, IsSoundProfile, IsSound}
+use Rattle.droid_core_state.specs.Sound.{is_folder, IsPlace, IsSized, IsSoundNode, IsSoundProfile, IsSound}
 use Rattle.droid_core_spec.proofs.Each.{each_at, each_with_one_more, each_with_one_set}
 use Rattle.droid_core_state.proofs.Lists.{each_weaker}
 
@@ -36,7 +36,7 @@ module _ (old new : List Node) (still : AreFoldersStill old new) where
 
   node_still : (node : Node) → IsSoundNode old node → IsSoundNode new node
   node_still (Folder parent modified name) it = (place_still parent it.0, it.1)
-  node_still (File parent modified name content) it = (place_still parent it.0, it.1)
+  node_still (File parent modified name content) it = (place_still parent it.0, it.1, it.2)
   node_still Abandoned it = tt
 
   nodes_still : (nodes : List Node) → AllByRecursion (IsSoundNode old) nodes → AllByRecursion (IsSoundNode new) nodes
@@ -98,9 +98,15 @@ module _ (world : World) (number : ℕ) (profile : Profile) (id parent : ℕ) (m
         nodes = each_with_one_set (IsSoundNode now) profile.nodes place node (nodes_still profile.nodes now still profile.nodes old.nodes) (node_still profile.nodes now still node it);
       })
 
-  pub sound_file_set : (after : Content) → IsSound (world_set world number (node_set profile id (File parent modified name after)))
-  sound_file_set after = sound_set (File parent modified name after)
-      (each_at (IsSoundNode profile.nodes) profile.nodes (id - 1) (File parent modified name content) (sound_profile world number profile sound is).nodes (file_place profile.nodes id parent modified name content there))
+  its_soundness : IsSoundNode profile.nodes (File parent modified name content)
+  its_soundness = each_at (IsSoundNode profile.nodes) profile.nodes (id - 1) (File parent modified name content) (sound_profile world number profile sound is).nodes (file_place profile.nodes id parent modified name content there)
+
+  pub sound_sizes : IsSized content.size content.piece_size
+  sound_sizes = its_soundness.2
+
+  -- another content of the same sizes
+  pub sound_file_set : (after : Content) → after.size ≡ content.size → after.piece_size ≡ content.piece_size → IsSound (world_set world number (node_set profile id (File parent modified name after)))
+  sound_file_set after size piece_size = sound_set (File parent modified name after) (its_soundness.0, its_soundness.1, rw (size, piece_size) its_soundness.2)
 
   pub sound_abandoned : IsSound (world_set world number (node_set profile id Abandoned))
   sound_abandoned = sound_set Abandoned tt
@@ -142,8 +148,8 @@ folder_of_checks limits nodes parent modified name none =
     (place_of nodes parent all.0 all.1.0, not-false (is_moment modified) all.1.1.1.1.1.0)
 
 pub file_of_checks : (limits : Limits) (world : World) (nodes : List Node) (parent : ℕ) (modified : ℤ) (size piece_size : ℕ) (name : List ℕ) (content : Content)
-    → refusal_of (file_checks limits world nodes parent modified size piece_size name) ≡ None → IsSoundNode nodes (File parent modified name content)
-file_of_checks limits world nodes parent modified size piece_size name content none =
+    → content.size ≡ size → content.piece_size ≡ piece_size → refusal_of (file_checks limits world nodes parent modified size piece_size name) ≡ None → IsSoundNode nodes (File parent modified name content)
+file_of_checks limits world nodes parent modified size piece_size name content size_is piece_size_is none =
     let all = none_holds (file_checks limits world nodes parent modified size piece_size name) none in
     let fits = or_parts (not (is_moment modified)) (not (is_piece_size piece_size)) all.1.1.1.1.1.0 in
-    (place_of nodes parent all.0 all.1.0, not-false (is_moment modified) fits.0)
+    (place_of nodes parent all.0 all.1.0, not-false (is_moment modified) fits.0, rw (size_is, piece_size_is) (record { pieces = not-false (is_piece_size piece_size) fits.1; whole = all.1.1.1.1.1.1.0 }))

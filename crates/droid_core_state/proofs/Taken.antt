@@ -29,4 +29,5 @@ piece_taken setting world before e number profile id parent modified name conten
           (λ known. known ∙ rows_set (λ these. these) refl (λ these those. refl) id (λ row apart. refl) setting number profile old new here (λ other apart. ap (λ all. path_among all other) (sym ways))
           (rw (ways, unfinished) refl));
       accepted = one_more_reply world before e has.accepted;
+      short = has.short;
     }

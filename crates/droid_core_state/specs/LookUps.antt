@@ -1,19 +1,18 @@
 -- What the look-up of a profile comes to, and what it finds of a world.
 use Rattle.std.specs.Prelude.{◌≡◌, ℕ, Option, Some, None, MatchBool, ⊤, Result, Ok, Err}
 use Rattle.droid_frame.specs.types.refusal.Refusal.{Refusal}
-use Rattle.droid_frame.specs.types.refusal.Refusal.TheVariants.{NoSuchProfile}
+use Rattle.droid_frame.specs.types.refusal.Refusal.TheVariants.{Memory, NoSuchProfile}
 use Rattle.droid_core_spec.specs.Wants.{is_want_of}
 use Rattle.droid_core_spec.specs.World.{Profile, World, numbered}
 use Rattle.droid_core_state.specs.Rows.{profile_row}
 use Rattle.droid_store.specs.declared.fault.StoreFault.{StoreFault}
 use Rattle.droid_store.specs.declared.rows.ProfileRow.{ProfileRow}
-use Rattle.droid_core_state.specs.Changes.{told_of}
 
--- by what the store answered: the row, or that there is no such profile, or what its fault is told as
+-- by what the store answered: the row, or that there is no such profile, or want of memory
 abbrev pub profile_in : Result (Option ProfileRow) StoreFault → Result ProfileRow Refusal
 profile_in (Ok (Some row)) = Ok row
 profile_in (Ok None) = Err NoSuchProfile
-profile_in (Err fault) = Err (told_of fault)
+profile_in (Err fault) = Err Memory
 
 -- the world has the profile, and this is its row
 pub record HasProfile (world : World) (number : ℕ) (row : ProfileRow) : Type 0 where
@@ -21,7 +20,7 @@ pub record HasProfile (world : World) (number : ℕ) (row : ProfileRow) : Type 0
   pub there : numbered world.profiles number ≡ Some profile
   pub row_is : row ≡ profile_row profile
 
--- the profile's row; or it is missing, or memory or the database was wanting
+-- the profile's row; or it is missing, or memory was wanting
 abbrev pub FindsProfile : World → ℕ → Result ProfileRow Refusal → Type 0
 FindsProfile world number (Ok row) = HasProfile world number row
 FindsProfile world number (Err refusal) = MatchBool (is_want_of refusal) ⊤ ((refusal ≡ NoSuchProfile) × (numbered world.profiles number ≡ None))

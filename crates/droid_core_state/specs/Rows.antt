@@ -1,5 +1,6 @@
 -- The rows of profiles and nodes that stand for a world.
-use Rattle.std.specs.Prelude.{◌≡◌, ℕ, ◌+◌, ◌==◌, if◌then◌else◌, List, [], ◌∷◌, ◌++◌, length, map, filter, Option, Some, None}
+use Rattle.std.specs.Prelude.{◌≡◌, ℕ, ◌+◌, ◌≤◌, ◌==◌, if◌then◌else◌, List, [], ◌∷◌, ◌++◌, length, map, filter, Option, Some, None}
+use Rattle.std.specs.List.{AllByRecursion}
 use Rattle.md5.specs.Md5.{md5}
 use Rattle.droid_core_spec.specs.Files.{bytes_of, finding_of}
 use Rattle.droid_core_spec.specs.Records.{option_list}
@@ -54,11 +55,21 @@ KeepsProfiles world rows = rows.profiles ≡ map profile_row world.profiles
 abbrev pub KeepsNodes : Setting → World → Rows → Type 0
 KeepsNodes setting world rows = (number : ℕ) → rows_in number rows ≡ node_rows setting number (numbered world.profiles number)
 
--- the rows stand for the world, of which each accepted command has a reply row
+-- a name of 255 bytes at most, and a path of 4,096 at most
+pub record AreShort (called way : List ℕ) : Type 0 where
+  pub name : length called ≤ 255
+  pub path : length way ≤ 4096
+
+abbrev pub IsShort : rows.Node → Type 0
+IsShort node = AreShort node.name node.path
+
+-- The rows stand for the world, of which each accepted command has a reply row. The name and the path of each
+-- node are short, so that its row fits whatever is found of it.
 pub record KeepsWorld (setting : Setting) (world : World) (rows : Rows) : Type 0 where
   pub profiles : KeepsProfiles world rows
   pub nodes : KeepsNodes setting world rows
   pub accepted : length rows.replies ≡ world.accepted
+  pub short : AllByRecursion IsShort rows.nodes
 
 -- ---- what is found of a node
 

@@ -1,7 +1,7 @@
--- What every world has that accepted commands made: nodes lie in folders, moments and scan limits are in range.
-use Rattle.std.specs.Prelude.{ℕ, zero, suc, Bool, true, false, IsTrue, List, Option, Some, None}
+-- What every world has that accepted commands made: nodes lie in folders, moments, sizes and scan limits are in range.
+use Rattle.std.specs.Prelude.{◌≡◌, ℕ, zero, suc, Bool, true, false, IsTrue, List, Option, Some, None}
 use Rattle.std.specs.List.{AllByRecursion}
-use Rattle.droid_core_spec.specs.Conditions.{is_moment, is_scan_limit}
+use Rattle.droid_core_spec.specs.Conditions.{is_moment, is_piece_size, is_scan_limit, is_too_large}
 use Rattle.droid_core_spec.specs.World.{Node, Folder, File, Abandoned, Profile, World, node_at}
 
 abbrev pub is_folder : Option Node → Bool
@@ -15,10 +15,15 @@ abbrev pub IsPlace : List Node → ℕ → Type 0
 IsPlace nodes zero = Unit {0}
 IsPlace nodes (suc place) = IsTrue (is_folder (node_at nodes (suc place)))
 
--- it lies in a folder or at the top, and its moment is in range
+-- the sizes of a file are in range
+pub record IsSized (size piece_size : ℕ) : Type 0 where
+  pub pieces : IsTrue (is_piece_size piece_size)
+  pub whole : is_too_large size piece_size ≡ false
+
+-- it lies in a folder or at the top, and its moment and its sizes are in range
 abbrev pub IsSoundNode : List Node → Node → Type 0
 IsSoundNode nodes (Folder parent modified name) = IsPlace nodes parent × IsTrue (is_moment modified)
-IsSoundNode nodes (File parent modified name content) = IsPlace nodes parent × IsTrue (is_moment modified)
+IsSoundNode nodes (File parent modified name content) = IsPlace nodes parent × IsTrue (is_moment modified) × IsSized content.size content.piece_size
 IsSoundNode nodes Abandoned = Unit {0}
 
 pub record IsSoundProfile (profile : Profile) : Type 0 where

@@ -1,7 +1,6 @@
 //! Which refusal a fault of the layers below comes to.
 
-ghost use Rattle.std.specs.Prelude.{◌≡◌, IsTrue};
-ghost use Rattle.droid_core_spec.specs.Wants.{is_want_of};
+ghost use Rattle.std.specs.Prelude.{◌≡◌};
 ghost use Rattle.droid_core_state.specs.Changes.{told_of};
 
 use droid_frame::Refusal;
@@ -9,7 +8,6 @@ use droid_store::StoreFault;
 
 /// The refusal that a fault of the store comes to.
 pub fn store_refusal(fault: StoreFault) -> Refusal
-    ensures want { IsTrue (is_want_of result) }
     ensures told { result ≡ told_of fault }
 {
     match fault {

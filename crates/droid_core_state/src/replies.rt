@@ -7,6 +7,7 @@ ghost use Rattle.droid_frame.specs.types.refusal.Refusal.TheVariants as refusals
 ghost use Rattle.droid_frame.specs.types.reply.Reply.TheVariants.{Refused};
 ghost use Rattle.droid_core_spec.specs.Histories.{is_same_request};
 ghost use Rattle.droid_core_spec.specs.Wants.{is_want};
+ghost use Rattle.droid_store.specs.Sizes.{entry_size, FitsARow};
 
 use crate::stamps::Stamp;
 use droid_frame::{BodyFault, Frame, Refusal, Reply, VERSION, reply_body, reply_of};
@@ -17,6 +18,7 @@ use std::alloc::Global;
 pub fn entry_of(alloc: Global, stamp: Stamp, reply: &Reply) -> Result<Entry, Refusal>
     requires { HasReplySpelling reply.now }
     ensures row { IfOk result (λ entry. entry ≡ stamped stamp reply.now) }
+    ensures fits { IfOk result (λ entry. FitsARow (entry_size entry)) }
     ensures want { IfErr result (λ refusal. refusal ≡ Refusal.Memory) }
 {
     let Ok(body) = reply_body(alloc, reply) else {

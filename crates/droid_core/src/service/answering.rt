@@ -1,13 +1,13 @@
 //! How a request that is spelled is answered: under a kept number again, and under a new one by its kind.
 
 ghost use Rattle.std.specs.Prelude.{◌≡◌, ◌≢◌, ◌<◌, ◌^◌, true, false, None, Some, IfOk, IfErr};
-ghost use Rattle.droid_core_state.specs.Changes.{Comes, again, answered, stamp_of, stamped, told_of};
+ghost use Rattle.droid_core_state.specs.Changes.{Comes, again, answered, stamp_of, stamped};
 ghost use Rattle.droid_core.specs.Recent.{AreKept, IsKeptRow};
 ghost use Rattle.droid_core.specs.Standing.{StandsFor, limits_of, registry_of};
 ghost use Rattle.droid_core_state.specs.Standing.{IsIn};
 ghost use Rattle.droid_frame.specs.Replies.{HasReplySpelling, SpellsReply};
 ghost use Rattle.droid_frame.specs.types.frame.Frame.{Frame};
-ghost use Rattle.droid_frame.specs.types.refusal.Refusal.TheVariants.{NumberReused};
+ghost use Rattle.droid_frame.specs.types.refusal.Refusal.TheVariants.{Memory, NumberReused};
 ghost use Rattle.droid_frame.specs.types.reply.Reply.{Reply as ReplyValue};
 ghost use Rattle.droid_frame.specs.types.reply.Reply.TheVariants.{Refused};
 ghost use Rattle.droid_frame.specs.types.request.Request.{Request as RequestValue};
@@ -23,7 +23,7 @@ use crate::service::recent::RecentReplies;
 use droid_core_requests::{
     abandon, add_file, add_folder, create_profile, export, finish, status, take_piece,
 };
-use droid_core_state::{Parts, Stamp, answer_again, reply_from, store_refusal};
+use droid_core_state::{Parts, Stamp, answer_again, reply_from};
 use droid_frame::{Refusal, Reply, Request};
 use droid_store::{Entry, StoreFault};
 
@@ -57,7 +57,7 @@ fn answer_from_store(service: &mut Service, stamp: Stamp, request: Request) -> R
 }
 
 /// Answers a request by what was found under its number: the kept reply again, and where there is
-/// none by its verdict. What the store gave up for is told as it is.
+/// none by its verdict. The store gives up for want of memory alone.
 fn answer_found(
     service: &mut Service,
     stamp: Stamp,
@@ -66,7 +66,8 @@ fn answer_found(
 ) -> Reply
     requires small { stamp.number < 2 ^ 63 }
     requires found { IfOk found (λ entry. entry ≡ reply_for stamp.client stamp.number service.old.parts.store) }
-    ensures told { IfErr found (λ fault. result ≡ Refused (told_of fault)) }
+    requires memory { IfErr found (λ fault. fault ≡ StoreFault.Memory) }
+    ensures told { IfErr found (λ fault. result ≡ Refused Memory) }
     ensures handles { (setting : Setting) (history : History) (frame : Frame) → stamp ≡ stamp_of frame → command frame ≡ Some request
         → StandsFor setting service.old history → Handles setting history frame result (StandsFor setting service.new) }
     ensures spelled { HasReplySpelling result }
@@ -74,7 +75,7 @@ fn answer_found(
     ensures registry { registry_of service.new ≡ registry_of service.old }
 {
     match found {
-        Err(fault) => Reply::Refused(store_refusal(fault)),
+        Err(_) => Reply::Refused(Refusal::Memory),
         Ok(Some(row)) => answer_kept(service, stamp, row),
         Ok(None) => answer_new(service, stamp, request),
     }

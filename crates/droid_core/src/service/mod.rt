@@ -1,11 +1,14 @@
 //! The service: what it keeps, and how it answers.
 
-ghost use Rattle.std.specs.Prelude.{◌≡◌, ◌≤◌, [], IfOk, OnErr, vec_len};
+ghost use Rattle.std.specs.Prelude.{◌≡◌, ◌≢◌, ◌≤◌, [], IfOk, IfErr, OnErr, vec_len};
+ghost use Rattle.std.specs.List.{AllByRecursion};
 ghost use Rattle.droid_core.specs.KeptBytes.{IsAtMost, kept_bytes_of, most_bytes_of};
 ghost use Rattle.droid_core.specs.Running.{Runs};
 ghost use Rattle.droid_core.specs.Standing.{StandsFor, limits_of, registry_of};
 ghost use Rattle.droid_core_state.specs.Standing.{limits_given};
 ghost use Rattle.droid_frame.specs.Replies.{HasReplySpelling};
+ghost use Rattle.droid_frame.specs.types.refusal.Refusal.TheVariants as refusals;
+ghost use Rattle.droid_frame.specs.types.reply.Reply.TheVariants.{Refused};
 ghost use Rattle.droid_core_spec.specs.Histories.{History, Handles, world_of};
 ghost use Rattle.droid_core_state.specs.Identified.{IsOf};
 ghost use Rattle.droid_core_spec.specs.Setting.{Setting};
@@ -45,13 +48,14 @@ impl Drop for Service {
 
 impl Service {
     /// A service with nothing in it, which identifies files by this registry. Only want of memory, for the
-    /// places of recent replies too, or a database that refuses its tables, refuses it.
+    /// places of recent replies too, refuses it.
     pub fn new(alloc: Global, registry: Registry, limits: Limits) -> Result<Service, StoreFault>
         requires profiles { limits.profiles ≤ 64 }
         requires nodes { limits.nodes ≤ 100000 }
         requires unfinished { limits.unfinished ≤ 64 }
         ensures empty { IfOk result (λ service. (setting : Setting) → setting.limits ≡ limits_given limits → IsOf registry setting
             → StandsFor setting service []) }
+        ensures memory { IfErr result (λ fault. fault ≡ StoreFault.Memory) }
         ensures limits { IfOk result (λ service. limits_of service ≡ limits_given limits) }
         ensures registry { IfOk result (λ service. registry_of service ≡ registry) }
     {
@@ -71,6 +75,7 @@ impl Service {
         requires unfinished { limits.unfinished ≤ 64 }
         ensures empty { IfOk result (λ service. (setting : Setting) → setting.limits ≡ limits_given limits → IsOf registry setting
             → StandsFor setting service []) }
+        ensures memory { IfErr result (λ fault. fault ≡ StoreFault.Memory) }
         ensures limits { IfOk result (λ service. limits_of service ≡ limits_given limits) }
         ensures registry { IfOk result (λ service. registry_of service ≡ registry) }
     {
@@ -85,10 +90,12 @@ impl Service {
         Ok(Service { parts, recent })
     }
 
-    /// Handles one request, and gives its one reply.
+    /// Handles one request, and gives its one reply. That the database refused for another cause than
+    /// memory it never answers.
     pub fn handle(&mut self, frame: Frame) -> Reply
         ensures handles { (setting : Setting) (history : History) → StandsFor setting self.old history →
             Handles setting history frame result (StandsFor setting self.new) }
+        ensures no_store { (setting : Setting) (history : History) → StandsFor setting self.old history → result ≢ Refused refusals.Store }
         ensures spelled { HasReplySpelling result }
         ensures limits { limits_of self.new ≡ limits_of self.old }
         ensures registry { registry_of self.new ≡ registry_of self.old }
@@ -110,6 +117,8 @@ impl Service {
     pub fn run(&mut self, frames: Vec<Frame>) -> Result<Vec<Reply>, AllocError>
         ensures runs { IfOk result (λ replies. (setting : Setting) (history : History) → StandsFor setting self.old history →
             Runs setting history frames.items replies.items self.new) }
+        ensures no_store { IfOk result (λ replies. (setting : Setting) (history : History) → StandsFor setting self.old history →
+            AllByRecursion (λ reply. reply ≢ Refused refusals.Store) replies.items) }
         ensures count { IfOk result (λ replies. vec_len replies ≡ vec_len frames) }
         ensures unchanged { OnErr result (self.new ≡ self.old) }
         ensures limits { limits_of self.new ≡ limits_of self.old }

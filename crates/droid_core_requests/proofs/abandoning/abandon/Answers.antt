@@ -3,6 +3,7 @@ use Rattle.std.proofs.lemmas.Result.{err_from_is_err_and}
 use Rattle.droid_core_requests.proofs.FileAbandoned.{abandon_there, judge_abandon, refused_finished, abandoned}
 use Rattle.droid_core_requests.proofs.FileVerdicts.{comes_nowhere}
 use Rattle.droid_core_state.proofs.Staying.{read_only}
+use Rattle.droid_core_requests.proofs.CannotBe.{no_assembly}
 use Rattle.droid_core_requests.proofs.abandoning.abandon.Goals as goal
 
 pub returns-in_err-row-clause-comes : goal.returns-in_err-row-clause-comes
@@ -23,3 +24,8 @@ returns-in-Ok-clause-comes c = λ setting world is_in.
     let stored = c.in-Ok.ensures.ok ∙ (rw (c.in_ok-entry.ensures.row, c.file_of.ensures.same) refl) in
     abandoned setting world c.args.number c.args.file c.in_ok-row.row has c.args.parts.now c.args.stamp c.in_ok-place.place c.commit_abandon.new.self c.remove.new.self is_in (sym c.if-not-is_unfinished.ensures)
     stored c.in_ok-place.ensures.place c.remove.ensures.gone c.remove.ensures.others c.remove.ensures.count c.remove.ensures.limit
+
+pub returns-in_err-place-clause-comes : goal.returns-in_err-place-clause-comes
+returns-in_err-place-clause-comes c = λ setting world is_in.
+    let has = c.in_ok-row.ensures.found setting world is_in.rows in
+    absurd (no_assembly setting world c.args.number c.args.file c.in_ok-row.row has c.args.parts.now is_in (sym c.if-not-is_unfinished.ensures) c.in_err-place.ensures.none)

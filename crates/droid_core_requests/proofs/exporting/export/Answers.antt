@@ -9,6 +9,8 @@ use Rattle.droid_core_spec.specs.World.{numbered}
 use Rattle.droid_store.specs.Rows.{Rows, records_of}
 use Rattle.droid_core_requests.proofs.ExportedParts.{export_nowhere, export_refused, export_shown, part_within, part_shown}
 use Rattle.droid_core_state.proofs.Staying.{read_only, if_refused, of_any, comes_refused}
+use Rattle.droid_core_requests.proofs.CannotBe.{moments_written}
+use Rattle.droid_core_requests.proofs.PieceTaken.{comes_wanting}
 use Rattle.droid_core_requests.proofs.exporting.export.Goals as goal
 
 pub returns-in_err-profile_of-clause-comes : goal.returns-in_err-profile_of-clause-comes
@@ -52,3 +54,12 @@ returns-clause-comes c = λ setting world stamp is_in.
 
 pub returns-clause-spelled : goal.returns-clause-spelled
 returns-clause-spelled c = c.in_ok-reply.ensures.spelled (part_within c.args.max c.in_default.ensures.first)
+
+pub returns-in_err-records-clause-comes : goal.returns-in_err-records-clause-comes
+returns-in_err-records-clause-comes c = λ setting world stamp is_in.
+    let service = c.args.parts.now in
+    let found = c.in_ok-profile_of.ensures.found setting world c.args.number service.store is_in.rows c.profile.ensures.found in
+    let fault = err_from_is_err_and c.from_residual-in_err-records.result c.from_residual-in_err-records.ensures.1 in
+    let memory = c.in_err-records.ensures.memory (moments_written setting world service c.profile.new.self c.args.number found.profile is_in c.profile.ensures.same found.there) in
+    rw (fault.1, fault.2) (comes_wanting setting world service _ stamp (judge setting world (Export c.args.number c.args.from c.args.max c.args.filter)) _ memory
+    (read_only setting world service c.records_in.new.store (c.records_in.ensures.same ∙ c.profile.ensures.same) is_in))

@@ -1,12 +1,12 @@
-use Rattle.std.proofs.Common.{refl, sym, subst, ◌∙◌}
+use Rattle.std.proofs.Common.{refl, sym, ◌∙◌}
 use Rattle.std.proofs.lemmas.Result.{err_from_is_err_and}
 use Rattle.droid_frame.specs.types.request.Request.TheVariants.{Finish}
 use Rattle.droid_core_spec.specs.Judging.{judge}
-use Rattle.droid_store.specs.Rows.{Rows}
 use Rattle.droid_core_requests.proofs.FileFinished.{finish_there, judge_finish, only_looked, refused_finished, comes_unfinished, finds, digest_is, allowed_there, finished}
 use Rattle.droid_core_requests.proofs.FileVerdicts.{comes_nowhere}
 use Rattle.droid_core_requests.proofs.PieceTaken.{comes_wanting}
 use Rattle.droid_core_state.proofs.Staying.{read_only}
+use Rattle.droid_core_requests.proofs.CannotBe.{no_assembly, one_pending}
 use Rattle.droid_core_requests.proofs.finishing.finish.Goals as goal
 
 pub returns-in_err-row-clause-comes : goal.returns-in_err-row-clause-comes
@@ -33,8 +33,9 @@ returns-in_err-finding-clause-comes c = λ setting world is_in.
 pub returns-in_err-reply-clause-comes : goal.returns-in_err-reply-clause-comes
 returns-in_err-reply-clause-comes c = λ setting world is_in.
     let fault = err_from_is_err_and c.from_residual-in_err-reply.result c.from_residual-in_err-reply.ensures.1 in
+    let memory = c.in_err-reply.ensures.memory (rw c.file_of.ensures.same is_in.rows.short) in
     rw (fault.1, fault.2)
-    (comes_wanting setting world c.args.parts.now _ c.args.stamp (judge setting world (Finish c.args.number c.args.file)) _ c.in_err-reply.ensures.want
+    (comes_wanting setting world c.args.parts.now _ c.args.stamp (judge setting world (Finish c.args.number c.args.file)) _ memory
     (rw c.in_err-reply.ensures.same (only_looked setting world c.args.parts.now c.in_ok-place.place c.keep_finding.new.store c.identify_file.new.files (c.in_err-reply.ensures.not_kept ∙ c.file_of.ensures.same) c.identify_file.ensures.others c.identify_file.ensures.unchanged is_in)))
 
 pub returns-clause-comes : goal.returns-clause-comes
@@ -50,3 +51,13 @@ returns-clause-comes c = λ setting world is_in.
     c.args.stamp c.in_ok-reply.reply c.keep_finding.new.store c.identify_file.new.files c.keep_finding.new.files c.in_ok-finding.finding.found c.in_ok-finding.finding.sealed.md5
     allowed found digest c.in_ok-reply.ensures.reply stored c.identify_file.ensures.others c.identify_file.ensures.unchanged
     c.in_ok-reply.ensures.gone c.in_ok-reply.ensures.others c.in_ok-reply.ensures.count c.keep_finding.ensures.limit
+
+pub returns-in_err-place-clause-comes : goal.returns-in_err-place-clause-comes
+returns-in_err-place-clause-comes c = λ setting world is_in.
+    let has = c.in_ok-row.ensures.found setting world is_in.rows in
+    absurd (no_assembly setting world c.args.number c.args.file c.in_ok-row.row has c.args.parts.now is_in (sym c.if-not-is_unfinished.ensures) c.in_err-place.ensures.none)
+
+pub returns-in_err-none_is_pending-clause-comes : goal.returns-in_err-none_is_pending-clause-comes
+returns-in_err-none_is_pending-clause-comes c = λ setting world is_in.
+    let has = c.in_ok-row.ensures.found setting world is_in.rows in
+    absurd (one_pending setting world c.args.number c.args.file c.in_ok-row.row has c.args.parts.now is_in (sym c.if-not-is_unfinished.ensures) c.in_ok-place.place c.in_ok-place.ensures.place c.in_err-none_is_pending.ensures.pending)

@@ -44,7 +44,8 @@ returns-in-Ok-clause-comes c = λ setting world is.
     let finds = c.in_ok-path.ensures.found setting world has.profile (rw c.profile.ensures.same is.rows) is.sound has.there in
     let place = rw c.as_str.ensures.value at finds.0 in
     let way = rw c.as_str.ensures.value at finds.1 in
+    let short = rw c.as_str.ensures.value at c.in_ok-path.ensures.short in
     let allowed = sym (c.in_default.ensures.first setting.limits has.profile.nodes c.args.parent c.args.name limit (c.node_room-nodes.ensures.count ∙ counted) place) in
     let made = rw (c.in_ok-entry.ensures.row, c.as_str-2.ensures.value, c.as_str-3.ensures.value, to_z-of_z w64 c.args.modified c.ranges.modified, store) at c.in-Ok.ensures.ok in
     comes_folder setting world c.args.number c.args.parent c.args.modified c.args.name has.profile has.there _ _ c.args.stamp (c.in_ok-row.row.nodes + 1) c.in_ok-path.path is
-    (rw (to_z-of_z w64 c.args.modified c.ranges.modified) at allowed) (ap (λ n. n + 1) counted) way refl refl refl made
+    (rw (to_z-of_z w64 c.args.modified c.ranges.modified) at allowed) (ap (λ n. n + 1) counted) way short refl refl refl made

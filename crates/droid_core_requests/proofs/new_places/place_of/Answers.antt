@@ -1,6 +1,7 @@
 use Rattle.std.proofs.Common.{sym, ap, ◌∙◌, ℕ, List, ◌∷◌, ◌++◌}
 use Rattle.std.proofs.lemmas.Result.{err_from_is_err_and}
 use Rattle.droid_core_state.proofs.LookUps.{child_found}
+use Rattle.droid_core_state.proofs.ShortRows.{place_is_short}
 use Rattle.droid_store.specs.Rows.{child_at}
 use Rattle.droid_core_requests.proofs.PlaceChecks.{child_told, no_child, folder_refused, bad_name, too_deep, taken, allowed}
 use Rattle.droid_core_requests.proofs.new_places.place_of.Goals as goal
@@ -34,6 +35,11 @@ pub returns-in-Ok-clause-free : goal.returns-in-Ok-clause-free
 returns-in-Ok-clause-free c =
     let there = rw c.folder_path.ensures.same at (child_told c.child.result (child_at c.args.number c.args.parent c.args.name.now c.folder_path.new.store) _ c.child.ensures.found c.in_ok-is_taken.ensures.told) in
     no_child (child_at c.args.number c.args.parent c.args.name.now c.args.store.now) (sym there ∙ c.if-branch.false)
+
+pub returns-in-Ok-clause-short : goal.returns-in-Ok-clause-short
+returns-in-Ok-clause-short c =
+    let short = rw c.as_str.ensures.value at c.if-is_too_deep_below.ensures in
+    place_is_short c.in_ok-folder.folder c.args.name.now c.in-Ok.path (sym c.if-is_bad_name.ensures) (sym short) (rw c.as_str-2.ensures.value at c.in-Ok.ensures)
 
 pub returns-in-Ok-clause-found : goal.returns-in-Ok-clause-found
 returns-in-Ok-clause-found c = λ setting world profile keeps sound found.

@@ -6,6 +6,7 @@ use Rattle.droid_core_spec.specs.Judging.{judge}
 use Rattle.droid_core_requests.proofs.FileVerdicts.{comes_nowhere}
 use Rattle.droid_core_state.proofs.Staying.{read_only, comes_refused, of_any}
 use Rattle.droid_core_requests.proofs.PieceAssemblies.{is_pending}
+use Rattle.droid_core_requests.proofs.CannotBe.{no_assembly, one_pending}
 use Rattle.droid_core_requests.proofs.pieces.take_piece.Goals as goal
 
 pub returns-in_err-row-clause-comes : goal.returns-in_err-row-clause-comes
@@ -39,7 +40,7 @@ returns-in_err-keep_piece-clause-comes c = λ setting world is_in.
     let has = c.in_ok-row.ensures.found setting world is_in.rows in
     let stays = not_kept setting world c.args.number c.args.file c.in_ok-row.row has c.args.index c.args.bytes c.args.parts.now c.in_ok-place.place is_in (sym c.if-not-is_unfinished.ensures) c.in_ok-place.ensures.place
     c.keep_piece.new.store c.put_piece.new.files c.keep_piece.new.files c.put_piece.ensures.others c.keep_piece.ensures.others c.in_ok-put_piece.ensures.pending (c.in_err-keep_piece.ensures.not_kept ∙ c.file_of.ensures.same) c.in_err-keep_piece.ensures.taken_back in
-    rw (fault.1, fault.2) (comes_wanting setting world c.args.parts.now _ c.args.stamp (judge setting world (Piece c.args.number c.args.file c.args.index c.args.bytes)) _ c.in_err-keep_piece.ensures.want stays)
+    rw (fault.1, fault.2) (comes_wanting setting world c.args.parts.now _ c.args.stamp (judge setting world (Piece c.args.number c.args.file c.args.index c.args.bytes)) _ c.in_err-keep_piece.ensures.memory stays)
 
 pub returns-clause-comes : goal.returns-clause-comes
 returns-clause-comes c = λ setting world is_in.
@@ -52,3 +53,13 @@ returns-clause-comes c = λ setting world is_in.
     taken setting world c.args.number c.args.file c.in_ok-row.row has c.args.index c.args.bytes c.args.parts.now c.in_ok-place.place is_in is at_place
     c.keep_piece.new.store c.put_piece.new.files c.keep_piece.new.files c.put_piece.ensures.others c.keep_piece.ensures.others c.in_ok-put_piece.ensures.pending
     c.args.stamp _ counted stored told c.put_piece.ensures.stands c.in_ok-keep_piece.ensures.stands c.in_ok-keep_piece.ensures.same_file c.in_ok-keep_piece.ensures.none_pending
+
+pub returns-in_err-place-clause-comes : goal.returns-in_err-place-clause-comes
+returns-in_err-place-clause-comes c = λ setting world is_in.
+    let has = c.in_ok-row.ensures.found setting world is_in.rows in
+    absurd (no_assembly setting world c.args.number c.args.file c.in_ok-row.row has c.args.parts.now is_in (sym c.if-not-is_unfinished.ensures) c.in_err-place.ensures.none)
+
+pub returns-in_err-held-clause-comes : goal.returns-in_err-held-clause-comes
+returns-in_err-held-clause-comes c = λ setting world is_in.
+    let has = c.in_ok-row.ensures.found setting world is_in.rows in
+    absurd (one_pending setting world c.args.number c.args.file c.in_ok-row.row has c.args.parts.now is_in (sym c.if-not-is_unfinished.ensures) c.in_ok-place.place c.in_ok-place.ensures.place c.in_err-held.ensures.pending)

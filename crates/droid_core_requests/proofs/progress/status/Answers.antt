@@ -1,8 +1,9 @@
 use Rattle.std.proofs.Common.{sym}
 use Rattle.std.proofs.lemmas.Result.{err_from_is_err_and}
-use Rattle.droid_core_requests.proofs.FileProgress.{status_there, judge_status, unfinished_told, finished_told}
+use Rattle.droid_core_requests.proofs.FileProgress.{status_there, judge_status, told_at_all, unfinished_told, finished_told}
 use Rattle.droid_core_requests.proofs.FileVerdicts.{comes_nowhere}
 use Rattle.droid_core_state.proofs.Staying.{read_only}
+use Rattle.droid_core_requests.proofs.CannotBe.{no_assembly, no_count}
 use Rattle.droid_core_requests.proofs.progress.status.Goals as goal
 
 pub returns-in_err-row-clause-comes : goal.returns-in_err-row-clause-comes
@@ -15,10 +16,16 @@ pub returns-then-is_unfinished-clause-comes : goal.returns-then-is_unfinished-cl
 returns-then-is_unfinished-clause-comes c = λ setting world stamp is_in.
     let has = c.in_ok-row.ensures.found setting world is_in.rows in
     unfinished_told setting world c.args.number c.args.file c.in_ok-row.row has c.args.parts.now _ stamp (read_only setting world c.args.parts.now c.file_of.new.store c.file_of.ensures.same is_in)
-    is_in.files (sym c.if-is_unfinished.ensures) c.progress_of.result c.progress_of.ensures.progress c.progress_of.ensures.want
+    is_in.files (sym c.if-is_unfinished.ensures) c.progress_of.result c.progress_of.ensures.progress
+    (told_at_all c.progress_of.result c.progress_of.ensures.none (no_assembly setting world c.args.number c.args.file c.in_ok-row.row has c.args.parts.now is_in (sym c.if-is_unfinished.ensures)))
 
 pub returns-clause-comes : goal.returns-clause-comes
 returns-clause-comes c = λ setting world stamp is_in.
     let has = c.in_ok-row.ensures.found setting world is_in.rows in
     finished_told setting world c.args.number c.args.file c.in_ok-row.row has c.args.parts.now _ stamp c.in_ok-pieces.pieces (read_only setting world c.args.parts.now c.file_of.new.store c.file_of.ensures.same is_in)
     (sym c.if-is_unfinished.ensures) c.in_ok-pieces.ensures.count
+
+pub returns-in_err-pieces-clause-comes : goal.returns-in_err-pieces-clause-comes
+returns-in_err-pieces-clause-comes c = λ setting world stamp is_in.
+    let has = c.in_ok-row.ensures.found setting world is_in.rows in
+    absurd (no_count setting world c.args.number c.args.file c.in_ok-row.row has c.args.parts.now is_in (λ some few. absurd (let told = c.in_err-pieces.ensures.fits some few in cc)))

@@ -3,7 +3,7 @@ use Rattle.droid_frame.specs.Frames.{mark_of}
 use Rattle.droid_core_state.specs.declared.stamps.Stamp.{Stamp}
 use Rattle.droid_core_spec.proofs.Asked.{asked, is_asked, nothing_asked}
 use Rattle.droid_core.specs.Standing.{StandsFor}
-use Rattle.droid_core.proofs.Handling.{handles_malformed}
+use Rattle.droid_core.proofs.Handling.{handles_malformed, never_store}
 use Rattle.droid_core.proofs.service.Service.handle.Goals as goal
 
 pub returns-in-Ok-clause-handles : goal.returns-in-Ok-clause-handles
@@ -22,3 +22,15 @@ pub returns-in-Err-Memory-clause-handles : goal.returns-in-Err-Memory-clause-han
 returns-in-Err-Memory-clause-handles c = λ setting history stands.
     let spelled = (rw c.in-Err-Memory.field-0-is at c.in-Err-Memory.ensures.memory) refl in
     (is_asked c.args.frame spelled.2 spelled.1 spelled.3, stands)
+
+pub returns-in-Ok-clause-no_store : goal.returns-in-Ok-clause-no_store
+returns-in-Ok-clause-no_store c = λ setting history stands.
+    never_store setting history c.args.frame _ (StandsFor setting c.answer.new.service) stands.parts.legal (returns-in-Ok-clause-handles c setting history stands)
+
+pub returns-in-Err-Malformed-clause-no_store : goal.returns-in-Err-Malformed-clause-no_store
+returns-in-Err-Malformed-clause-no_store c = λ setting history stands.
+    never_store setting history c.args.frame _ (StandsFor setting c.args.self.now) stands.parts.legal (returns-in-Err-Malformed-clause-handles c setting history stands)
+
+pub returns-in-Err-Memory-clause-no_store : goal.returns-in-Err-Memory-clause-no_store
+returns-in-Err-Memory-clause-no_store c = λ setting history stands.
+    never_store setting history c.args.frame _ (StandsFor setting c.args.self.now) stands.parts.legal (returns-in-Err-Memory-clause-handles c setting history stands)

@@ -1,7 +1,11 @@
-use Rattle.std.proofs.Common.{◌≡◌, ◌++◌, ◌∷◌, [], cond, is_ok, map-id, sym, ap, ◌∙◌, arith}
+use Rattle.std.proofs.Common.{◌≡◌, ◌≢◌, ◌++◌, ◌∷◌, [], cond, is_ok, map-id, sym, ap, ◌∙◌, arith}
 use Rattle.std.proofs.lemmas.Grind.{common_steps}
 use Rattle.std.proofs.lemmas.Iterator.Adapters.{YieldsList-from_vec}
 use Rattle.std.proofs.lemmas.Iterator.Consumers.{YieldsList-turn, YieldsList-end}
+use Rattle.droid_frame.specs.types.refusal.Refusal.TheVariants.{Store}
+use Rattle.droid_frame.specs.types.reply.Reply.{Reply}
+use Rattle.droid_frame.specs.types.reply.Reply.TheVariants.{Refused}
+use Rattle.droid_core_spec.proofs.Each.{each_with_one_more}
 use Rattle.droid_core.proofs.Running.{Runs-push}
 use Rattle.droid_core.proofs.service.Service.run.Goals as goal
 
@@ -19,6 +23,9 @@ loop-frame-preserved c =
       runs = λ setting history stands.
           let runs = c.loop-frame.invariant.runs setting history stands in
           rw replies (Runs-push setting history c.loop-frame.yielded c.loop-frame.replies.items c.loop-frame.self c.handle-reply.new.self c.in-Some.frame c.handle-reply.result runs (c.handle-reply.ensures.handles setting _ runs.stands) c.handle-reply.ensures.spelled);
+      no_store = λ setting history stands.
+          let runs = c.loop-frame.invariant.runs setting history stands in
+          rw replies (each_with_one_more (λ (reply : Reply). reply ≢ Refused Store) c.loop-frame.replies.items c.handle-reply.result (c.loop-frame.invariant.no_store setting history stands) (c.handle-reply.ensures.no_store setting _ runs.stands));
       limits = c.handle-reply.ensures.limits ∙ c.loop-frame.invariant.limits;
       registry = c.handle-reply.ensures.registry ∙ c.loop-frame.invariant.registry;
       count = grind (arith, common_steps);
@@ -32,6 +39,7 @@ returns c =
     let yielded : c.loop-frame.yielded ≡ c.args.frames.items = sym (map-id c.loop-frame.yielded) ∙ end.0 in
     record {
       runs = λ setting history stands. rw (← yielded) (c.loop-frame.invariant.runs setting history stands);
+      no_store = c.loop-frame.invariant.no_store;
       count = omega (arith, c.loop-frame.invariant.count, end.1, c.args.frames.ok.0);
       unchanged = tt;
       limits = c.loop-frame.invariant.limits;

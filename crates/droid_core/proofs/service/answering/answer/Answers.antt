@@ -1,4 +1,3 @@
-use Rattle.std.proofs.Common.{◌≡◌}
 use Rattle.droid_core.specs.declared.service.Service.{Service}
 use Rattle.droid_core.proofs.Handling.{answers_again}
 use Rattle.droid_core.proofs.Recalling.{store_has, with_recent}
