@@ -1,10 +1,11 @@
 //! Measures what a large registry costs: reading it once, and identifying a file with it; what a large export
 //! costs; what one folder more costs in a store that has many; what a file costs piece by piece; and what a large
-//! file and many folders cost a service.
+//! file, many folders and repeats cost a service.
 //!
 //! Without a word on the command line it prints what came out; with the word `times` how long it took too; with the
-//! word `text` the text of the export alone; with the words `store`, `assembly`, `patterns` and `service` the times of
-//! those alone; with the word `memory` and the three parts of a pattern, the memory of a registry of such patterns.
+//! word `text` the text of the export alone; with the words `store`, `assembly`, `patterns`, `service` and `repeats`
+//! the times of those alone; with the word `memory` and the three parts of a pattern, the memory of a registry of such
+//! patterns.
 //! With the words `frames folders`, `frames status` and `frames pieces` it writes such frames, and with the word
 //! `answer` it answers the frames on its input in memory, and prints how long that took.
 #![tactic(auto)]
@@ -16,6 +17,7 @@ mod files;
 mod generated;
 mod memory;
 mod patterns;
+mod repeats;
 mod requests;
 mod service;
 mod store;
@@ -50,6 +52,9 @@ fn main(rt: HostRuntime) -> Result<(), Error> {
     }
     if wants(&rt, "service")? {
         return service::measure(&rt);
+    }
+    if wants(&rt, "repeats")? {
+        return repeats::measure(&rt);
     }
     if wants(&rt, "answer")? {
         return streams::answer(&rt);

@@ -11,6 +11,13 @@ pub const PIECE: u32 = 1 << 20;
 /// How many pieces the file has.
 pub const PIECES: u32 = 256;
 
+/// How many repeats there are.
+pub const REPEATS: u32 = 10_000;
+
+/// How far apart the numbers of two repeats are, one after the other: neither 256, 257 nor 100,000 has a factor with
+/// it in common, so that all their numbers come in turn.
+const STEP: u32 = 61_803;
+
 /// The frames that make a profile and a file, send all pieces of it, and finish it.
 pub fn of_file(alloc: Global) -> Result<Vec<Frame>, Error> {
     let mut frames = Vec::new(alloc);
@@ -47,15 +54,29 @@ pub fn of_profile(alloc: Global) -> Result<Frame, Error> {
 pub fn of_folders(alloc: Global, from: u32, to: u32) -> Result<Vec<Frame>, Error> {
     let mut frames = Vec::new(alloc);
     for number in from..to {
-        let request = Request::AddFolder {
-            profile: 1,
-            parent: 0,
-            modified: i64::from(number),
-            name: Text::from(format!(in alloc; "folder {number}")?),
-        };
-        frames.push(frame(alloc, u64::from(number), &request)?)?;
+        frames.push(of_folder(alloc, number)?)?;
     }
     Ok(frames)
+}
+
+/// The frames that add folders once more, in turn over so many numbers from this one on.
+pub fn of_repeats(alloc: Global, first: u32, numbers: u32) -> Result<Vec<Frame>, Error> {
+    let mut frames = Vec::new(alloc);
+    for turn in 0..REPEATS {
+        let place = turn.wrapping_mul(STEP) % numbers.max(1);
+        frames.push(of_folder(alloc, first.saturating_add(place))?)?;
+    }
+    Ok(frames)
+}
+
+fn of_folder(alloc: Global, number: u32) -> Result<Frame, Error> {
+    let request = Request::AddFolder {
+        profile: 1,
+        parent: 0,
+        modified: i64::from(number),
+        name: Text::from(format!(in alloc; "folder {number}")?),
+    };
+    frame(alloc, u64::from(number), &request)
 }
 
 /// The frames that ask for the state of the first profile's file, under the numbers from one to before another.

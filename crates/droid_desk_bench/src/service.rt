@@ -122,18 +122,28 @@ fn measure_folders<R: Print + Clock + AllocGlobal>(rt: &R) -> Result<(), Error> 
 }
 
 /// How many nanoseconds the service takes for the folders under the numbers from one to before another.
-fn add_folders<R: Clock + AllocGlobal>(
+pub fn add_folders<R: Clock + AllocGlobal>(
     rt: &R,
     service: &mut Service,
     from: u32,
     to: u32,
 ) -> Result<u128, Error> {
-    let frames = requests::of_folders(rt.alloc(), from, to)?;
+    time_of_folders(rt, service, requests::of_folders(rt.alloc(), from, to)?)
+}
+
+/// How many nanoseconds the service takes for these requests, the last of which adds the folder with its number, or
+/// added it before.
+pub fn time_of_folders<R: Clock>(
+    rt: &R,
+    service: &mut Service,
+    frames: Vec<Frame>,
+) -> Result<u128, Error> {
+    let number = frames.as_slice().last().context("no folder")?.number;
     let start = Instant::now(rt)?;
     let replies = service.run(frames)?;
     let took = start.elapsed(rt)?;
     match replies.as_slice().last() {
-        Some(Reply::Node { id }) if id.saturating_add(1) == to => Ok(took.as_nanos()),
+        Some(Reply::Node { id }) if u64::from(*id) == number => Ok(took.as_nanos()),
         _ => None.context("a folder was refused"),
     }
 }
