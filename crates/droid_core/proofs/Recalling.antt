@@ -1,4 +1,4 @@
--- How a service that stands for a history stands for the next one, its rows at hand included.
+-- How a service that stands for a history stands for the next one, its rows at hand and its last text included.
 use Rattle.std.proofs.Common.{◌≡◌, ℕ, Bool, true, false, List, [], ◌∷◌, ◌++◌, find, Option, Some, None, option_map, refl, sym, ap, subst, ◌∙◌}
 use Rattle.std.proofs.lemmas.Bool.{eq-eqb}
 use Rattle.std.proofs.lemmas.List.Folds.{find-append}
@@ -13,8 +13,9 @@ use Rattle.droid_core_spec.specs.Judging.{Verdict, Accepted, Answered, Refuses, 
 use Rattle.droid_core_spec.specs.Setting.{Setting}
 use Rattle.droid_core_spec.specs.Verdicts.{is_command, is_refused, MayCome}
 use Rattle.droid_core_spec.specs.Wants.{is_want}
+use Rattle.droid_core_spec.specs.World.{World}
 use Rattle.droid_core_spec.proofs.Judged.{judged}
-use Rattle.droid_core_spec.proofs.Meetings.{answer_new, next_new}
+use Rattle.droid_core_spec.proofs.Meetings.{next_kept, answer_new, next_new}
 use Rattle.droid_core_spec.proofs.Replied.{kept_next}
 use Rattle.droid_core_state.specs.Replies.{entry_row, KeepsReplies}
 use Rattle.droid_core_state.proofs.LookUps.{reply_found}
@@ -22,10 +23,12 @@ use Rattle.droid_store.specs.declared.rows.Entry as rows
 use Rattle.droid_store.specs.Rows.{Rows, reply_for}
 use Rattle.droid_core_state.specs.declared.stamps.Stamp.{Stamp}
 use Rattle.droid_core_state.specs.Changes.{stamp_of, stamped}
+use Rattle.droid_core_requests.specs.KeptTexts.{IsLastText}
+use Rattle.droid_core_requests.specs.declared.kept_text.KeptText.{KeptText}
 use Rattle.droid_core.specs.Recent.{Whose, IsKeptRow, AreKept}
 use Rattle.droid_core.specs.Standing.{Stand, StandsFor}
 use Rattle.droid_core.specs.declared.service.Service.{Service}
-use Rattle.droid_core.proofs.KeptReplies.{none_kept}
+use Rattle.droid_core.proofs.KeptReplies.{entry_kept, none_kept}
 
 -- ---- a row at hand is the store's
 
@@ -50,12 +53,20 @@ each_way : (b : Bool) (P Q : Type 0) {R S T U : Type 0} → MatchBool b (P × R)
 each_way true P Q came one other = (came.0, one came.1)
 each_way false P Q came one other = (came.0, other came.1)
 
--- rows at hand that are the history's
-pub with_recent : (setting : Setting) (history : History) (frame : Frame) (reply : Reply) (service : Service) → Handles setting history frame reply (Stand setting service.parts) → AreKept history service.recent.rows.entries
-    → Handles setting history frame reply (StandsFor setting service)
-with_recent setting history frame reply service handled all =
-    each_way (is_want reply) (IsSome (command frame)) (reply ≡ answer setting history frame) handled (λ stands. record { parts = stands; recent = all })
-    (λ stands. record { parts = stands; recent = rows_next setting history frame service.recent.rows.entries all })
+-- the reply to a request under a kept number, which changes no history
+pub with_recent : (setting : Setting) (history : History) (frame : Frame) (request : Request) (row : rows.Entry) (reply : Reply) (before service : Service) → command frame ≡ Some request
+    → reply_for frame.client frame.number before.parts.store ≡ Some row → StandsFor setting before history → service.last ≡ before.last → Handles setting history frame reply (Stand setting service.parts)
+    → AreKept history service.recent.rows.entries → Handles setting history frame reply (StandsFor setting service)
+with_recent setting history frame request row reply before service asked found stands same handled all =
+    let there = entry_kept history before.parts.store frame.client frame.number row stands.parts.replies found in
+    let stays = next_kept setting history frame request asked there.0 there.1 in
+    let last = subst (IsLastText setting (world_of setting history)) (sym same) stands.last in
+    each_way (is_want reply) (IsSome (command frame)) (reply ≡ answer setting history frame) handled (λ parts. record { parts = parts; recent = all; last = last })
+    (λ parts. record {
+      parts = parts;
+      recent = rows_next setting history frame service.recent.rows.entries all;
+      last = subst (λ (h : History). IsLastText setting (world_of setting h) service.last) (sym stays) last;
+    })
 
 -- an entry that is added under a new number is what is kept there
 kept_last : (history : History) (frame : Frame) (reply : Reply) → kept history frame.client frame.number ≡ None → kept (history ++ entry_of frame reply ∷ []) frame.client frame.number ≡ Some (entry_of frame reply)
@@ -89,22 +100,51 @@ no_want _ is = refl
 abbrev Keeps : List (Whose × rows.Entry) → List (Whose × rows.Entry) → Bool → Stamp → Reply → Type 0
 Keeps old new commands stamp reply = (history : History) → AreKept history old → (commands ≡ true → is_refused reply ≡ false → IsKeptRow history (stamp.client, stamp.number) (stamped stamp reply)) → AreKept history new
 
+-- ---- and the text of the last export
+
+-- a text of the world that is forgotten with it
+abbrev Forgets : Setting → World → Option KeptText → Bool → Reply → Type 0
+Forgets setting world last commands reply = IsLastText setting world last × (commands ≡ true → is_refused reply ≡ false → last ≡ None)
+
+last_after : (setting : Setting) (history : History) (frame : Frame) (request : Request) (verdict : Verdict) (last : Option KeptText) → MayCome (world_of setting history) request verdict
+    → Forgets setting (world_of setting history) last (is_command request) (verdict_reply verdict) → IsLastText setting (world_of setting (history_with history frame (New verdict))) last
+last_after setting history frame request (Accepted reply after) last may is = rw (is.1 may.command may.no_refusal) tt
+last_after setting history frame request (Answered reply) last may is = is.0
+last_after setting history frame request (Refuses refusal) last may is = is.0
+
+last_next : (setting : Setting) (history : History) (frame : Frame) (request : Request) (reply : Reply) (last : Option KeptText) → command frame ≡ Some request → kept history frame.client frame.number ≡ None
+    → reply ≡ answer setting history frame → Forgets setting (world_of setting history) last (is_command request) reply → IsLastText setting (world_of setting (next setting history frame)) last
+last_next setting history frame request reply last asked is_new is forgets =
+    let verdict = judge setting (world_of setting history) request in
+    let its : reply ≡ verdict_reply verdict = is ∙ answer_new setting history frame request asked is_new in
+    subst (λ (h : History). IsLastText setting (world_of setting h) last) (sym (next_new setting history frame request asked is_new))
+    (last_after setting history frame request verdict last (judged setting (world_of setting history) request) (subst (Forgets setting (world_of setting history) last (is_command request)) its forgets))
+
 kept_by : (b : Bool) (setting : Setting) (history : History) (frame : Frame) (request : Request) (reply : Reply) (old : List (Whose × rows.Entry)) (service : Service) → is_want reply ≡ b → command frame ≡ Some request
     → kept history frame.client frame.number ≡ None → AreKept history old → Keeps old service.recent.rows.entries (is_command request) (stamp_of frame) reply
+    → Forgets setting (world_of setting history) service.last (is_command request) reply
     → (P : Type 0) → MatchBool b (P × Stand setting service.parts history) ((reply ≡ answer setting history frame) × Stand setting service.parts (next setting history frame))
     → MatchBool b (P × StandsFor setting service history) ((reply ≡ answer setting history frame) × StandsFor setting service (next setting history frame))
-kept_by true setting history frame request reply old service want asked is_new all keeps P handled =
-    (handled.0, record { parts = handled.1; recent = keeps history all (λ commands unrefused. absurd (let wants_not = no_want reply unrefused in cc)) })
-kept_by false setting history frame request reply old service want asked is_new all keeps P handled =
-    (handled.0, record { parts = handled.1; recent = keeps (next setting history frame) (rows_next setting history frame old all) (answered_row setting history frame request reply asked is_new handled.0) })
+kept_by true setting history frame request reply old service want asked is_new all keeps forgets P handled =
+    (handled.0, record { parts = handled.1; recent = keeps history all (λ commands unrefused. absurd (let wants_not = no_want reply unrefused in cc)); last = forgets.0 })
+kept_by false setting history frame request reply old service want asked is_new all keeps forgets P handled = (
+  handled.0,
+  record {
+    parts = handled.1;
+    recent = keeps (next setting history frame) (rows_next setting history frame old all) (answered_row setting history frame request reply asked is_new handled.0);
+    last = last_next setting history frame request reply service.last asked is_new handled.0 forgets;
+  },
+)
 
 -- the reply to a new request, put at hand where it is kept
 pub with_new : (setting : Setting) (history : History) (frame : Frame) (request : Request) (stamp : Stamp) (reply : Reply) (commands : Bool) (before : Service) (service : Service) → stamp ≡ stamp_of frame → command frame ≡ Some request
     → commands ≡ is_command request → StandsFor setting before history → reply_for stamp.client stamp.number before.parts.store ≡ None
     → Keeps before.recent.rows.entries service.recent.rows.entries commands stamp reply
+    → Forgets setting (world_of setting history) service.last commands reply
     → Handles setting history frame reply (Stand setting service.parts) → Handles setting history frame reply (StandsFor setting service)
-with_new setting history frame request stamp reply commands before service is asked commands_is stands absent keeps handled =
+with_new setting history frame request stamp reply commands before service is asked commands_is stands absent keeps forgets handled =
     let is_new = none_kept history before.parts.store frame.client frame.number stands.parts.replies (subst (λ (s : Stamp). reply_for s.client s.number before.parts.store ≡ None) is absent) in
     let stamped_keeps = subst (λ (s : Stamp). Keeps before.recent.rows.entries service.recent.rows.entries commands s reply) is keeps in
     let all_keep = subst (λ (b : Bool). Keeps before.recent.rows.entries service.recent.rows.entries b (stamp_of frame) reply) commands_is stamped_keeps in
-    kept_by (is_want reply) setting history frame request reply before.recent.rows.entries service refl asked is_new stands.recent all_keep (IsSome (command frame)) handled
+    kept_by (is_want reply) setting history frame request reply before.recent.rows.entries service refl asked is_new stands.recent all_keep
+    (subst (λ (b : Bool). Forgets setting (world_of setting history) service.last b reply) commands_is forgets) (IsSome (command frame)) handled

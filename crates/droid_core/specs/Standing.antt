@@ -7,6 +7,7 @@ use Rattle.droid_core_state.specs.Replies.{KeepsReplies}
 use Rattle.droid_core_state.specs.declared.parts.Parts.{Parts}
 use Rattle.droid_core_state.specs.Standing.{IsIn}
 use Rattle.droid_core_state.specs.Standing as parts
+use Rattle.droid_core_requests.specs.KeptTexts.{IsLastText}
 use Rattle.droid_core.specs.Recent.{AreKept}
 use Rattle.droid_core.specs.declared.service.Service.{Service}
 
@@ -25,7 +26,9 @@ pub record Stand (setting : Setting) (parts : Parts) (history : History) : Type 
   pub replies : KeepsReplies history parts.store
   pub world : IsIn setting (world_of setting history) parts
 
--- the service is where the history leads: its parts are, and each reply that it has at hand is the history's
+-- the service is where the history leads: its parts are, each reply that it has at hand is the history's, and where it has
+-- kept the text of an export, that is the export's text of its profile by its filter in the history's world
 pub record StandsFor (setting : Setting) (service : Service) (history : History) : Type 0 where
   pub parts : Stand setting service.parts history
   pub recent : AreKept history service.recent.rows.entries
+  pub last : IsLastText setting (world_of setting history) service.last

@@ -12,6 +12,7 @@ pub mod FileVerdicts
 pub mod FilesFound
 pub mod FinishJudged
 pub mod FolderRows
+pub mod KeptParts
 pub mod MadeProfiles
 pub mod Moments
 pub mod PieceAssemblies
@@ -19,4 +20,5 @@ pub mod PieceTaken
 pub mod PlaceChecks
 pub mod PuidTexts
 pub mod PutJudged
+pub mod SameLists
 pub mod UnchangedFiles

@@ -7,12 +7,14 @@ ghost use Rattle.droid_core_state.specs.declared.stamps.Stamp.{Stamp};
 ghost use Rattle.droid_export.specs.Text.{HaveMoments, text};
 ghost use Rattle.droid_frame.specs.Replies.{HasReplySpelling};
 ghost use Rattle.droid_frame.specs.types.request.Request.TheVariants.{Export};
+ghost use Rattle.droid_core_requests.specs.KeptTexts.{IsFor, IsLastText, is_followed};
 ghost use Rattle.droid_core_spec.specs.Exported.{part};
 ghost use Rattle.droid_core_spec.specs.Judging.{judge};
 ghost use Rattle.droid_core_spec.specs.Setting.{Setting};
 ghost use Rattle.droid_core_spec.specs.World.{World};
 ghost use Rattle.droid_store.specs.Rows.{records_of};
 
+use crate::kept_text::{KeptText, forget_text, keep_text, text_for};
 use droid_core_state::{Parts, export_refusal, is_moment, profile_of};
 use droid_export::export_text;
 use droid_frame::{Blob, Filter, Record, Refusal, Reply};
@@ -20,16 +22,21 @@ use droid_pronom::Registry;
 use droid_store::Store;
 use std::alloc::Global;
 
-/// A part of the export of a profile's records that meet the filter.
+/// A part of the export of a profile's records that meet the filter. The text is kept for its further parts, and one
+/// that was kept for them is read.
 pub fn export(
     parts: &mut Parts,
+    last: &mut Option<KeptText>,
     number: u32,
     from: u64,
     max: u32,
     filter: Filter,
 ) -> Result<Reply, Refusal>
-    ensures comes { (setting : Setting) (world : World) (stamp : Stamp) → IsIn setting world parts.old
+    ensures comes { (setting : Setting) (world : World) (stamp : Stamp) → IsIn setting world parts.old → IsLastText setting world last.old
         → Comes setting world parts.old parts.new stamp (judge setting world (Export number from max filter)) (answered result) }
+    ensures last { (setting : Setting) (world : World) → IsIn setting world parts.old → IsLastText setting world last.old → IsLastText setting world last.new }
+    // It costs nothing anew where it is the last text, and it is the last text where something is left.
+    ensures kept { IfOk result (λ reply. IsTrue (is_followed from max reply) → IsFor number filter last.new) }
     ensures spelled { HasReplySpelling (answered result) }
     ensures limits { parts.new.limits ≡ parts.old.limits }
     ensures registry { parts.new.registry ≡ parts.old.registry }
@@ -38,10 +45,16 @@ pub fn export(
     if let Some(refusal) = export_refusal(max) {
         return Err(refusal);
     }
+    let accepted = accepted_by(&mut parts.store);
+    if let Some(text) = text_for(last, number, &filter) {
+        let reply = part_of(parts.alloc, accepted, text, from, max)?;
+        return Ok(reply);
+    }
+    forget_text(last);
     let records = records_in(&mut parts.store, number)?;
     let text = text_of(parts.alloc, records.as_slice(), &parts.registry, &filter)?;
-    let accepted = accepted_by(&mut parts.store);
     let reply = part_of(parts.alloc, accepted, &text, from, max)?;
+    keep_text(last, number, filter, text, from, max);
     Ok(reply)
 }
 
@@ -114,7 +127,7 @@ fn accepted_by(store: &mut Store) -> u64
     counts.accepted
 }
 
-/// The part of a text from a place on. The text is dropped, so its bytes are copied once.
+/// The part of a text from a place on. Its bytes alone are copied, once.
 fn part_of(alloc: Global, accepted: u64, text: &Blob, from: u64, max: u32) -> Result<Reply, Refusal>
     ensures part { IfOk result (λ reply. reply ≡ part accepted text.now from max) }
     ensures spelled { max ≤ 1048576 → HasReplySpelling (answered result) }

@@ -4,6 +4,7 @@ ghost use Rattle.std.specs.Prelude.{◌≡◌, ◌≢◌, ◌<◌, ◌^◌, true
 ghost use Rattle.droid_core_state.specs.Changes.{Comes, again, answered, stamp_of, stamped};
 ghost use Rattle.droid_core.specs.Recent.{AreKept, IsKeptRow};
 ghost use Rattle.droid_core.specs.Standing.{StandsFor, limits_of, registry_of};
+ghost use Rattle.droid_core_requests.specs.KeptTexts.{IsLastText};
 ghost use Rattle.droid_core_state.specs.Standing.{IsIn};
 ghost use Rattle.droid_frame.specs.Replies.{HasReplySpelling, SpellsReply};
 ghost use Rattle.droid_frame.specs.types.frame.Frame.{Frame};
@@ -21,7 +22,8 @@ ghost use Rattle.droid_store.specs.Rows.{reply_for};
 use crate::service::Service;
 use crate::service::recent::RecentReplies;
 use droid_core_requests::{
-    abandon, add_file, add_folder, create_profile, export, finish, status, take_piece,
+    KeptText, abandon, add_file, add_folder, create_profile, export, finish, forget_text, status,
+    take_piece,
 };
 use droid_core_state::{Parts, Stamp, answer_again, reply_from};
 use droid_frame::{Refusal, Reply, Request};
@@ -108,14 +110,21 @@ fn answer_new(service: &mut Service, stamp: Stamp, request: Request) -> Reply
     ensures registry { registry_of service.new ≡ registry_of service.old }
 {
     let commands = asks_command(&request);
-    let outcome = apply(&mut service.parts, stamp, request);
-    tell_new(&mut service.recent, stamp, commands, outcome)
+    let outcome = apply(&mut service.parts, &mut service.last, stamp, request);
+    tell_new(
+        &mut service.recent,
+        &mut service.last,
+        stamp,
+        commands,
+        outcome,
+    )
 }
 
 /// The reply that the outcome of a new request comes to. That of an accepted command, and no other, is
-/// put at hand. No want of that is told.
+/// put at hand. No want of that is told. The text of the last export is forgotten with the world that it shows.
 fn tell_new(
     recent: &mut RecentReplies,
+    last: &mut Option<KeptText>,
     stamp: Stamp,
     commands: bool,
     outcome: Result<Reply, Refusal>,
@@ -125,6 +134,8 @@ fn tell_new(
     ensures kept { (history : History) → AreKept history recent.old.rows.entries
         → (commands ≡ true → is_refused (answered outcome) ≡ false → IsKeptRow history (stamp.client, stamp.number) (stamped stamp (answered outcome)))
         → AreKept history recent.new.rows.entries }
+    ensures still { (setting : Setting) (world : World) → IsLastText setting world last.old → IsLastText setting world last.new }
+    ensures forgotten { commands ≡ true → is_refused (answered outcome) ≡ false → last.new ≡ None }
 {
     let reply = reply_from(outcome);
     if !commands {
@@ -133,6 +144,7 @@ fn tell_new(
     if refuses(&reply) {
         return reply;
     }
+    forget_text(last);
     recent.put_reply(stamp, &reply);
     reply
 }
@@ -153,11 +165,17 @@ fn refuses(reply: &Reply) -> bool
 }
 
 /// Judges a request under a new number, and changes by it where it is an accepted command.
-fn apply(parts: &mut Parts, stamp: Stamp, request: Request) -> Result<Reply, Refusal>
+fn apply(
+    parts: &mut Parts,
+    last: &mut Option<KeptText>,
+    stamp: Stamp,
+    request: Request,
+) -> Result<Reply, Refusal>
     requires new { reply_for stamp.client stamp.number parts.old.store ≡ None }
     requires small { stamp.number < 2 ^ 63 }
-    ensures comes { (setting : Setting) (world : World) → IsIn setting world parts.old
+    ensures comes { (setting : Setting) (world : World) → IsIn setting world parts.old → IsLastText setting world last.old
         → Comes setting world parts.old parts.new stamp (judge setting world request) (answered result) }
+    ensures last { (setting : Setting) (world : World) → IsIn setting world parts.old → IsLastText setting world last.old → IsLastText setting world last.new }
     ensures spelled { HasReplySpelling (answered result) }
     ensures limits { parts.new.limits ≡ parts.old.limits }
     ensures registry { parts.new.registry ≡ parts.old.registry }
@@ -197,6 +215,6 @@ fn apply(parts: &mut Parts, stamp: Stamp, request: Request) -> Result<Reply, Ref
             from,
             max,
             filter,
-        } => export(parts, profile, from, max, filter),
+        } => export(parts, last, profile, from, max, filter),
     }
 }

@@ -15,6 +15,7 @@ ghost use Rattle.droid_core_spec.specs.Setting.{Setting};
 
 use answering::answer;
 use droid_core_files::UnfinishedFiles;
+use droid_core_requests::KeptText;
 use droid_core_state::{Limits, Parts, Stamp};
 use droid_frame::{BodyFault, Frame, Refusal, Reply, mark, request_of};
 use droid_pronom::Registry;
@@ -30,10 +31,12 @@ mod recent;
 const RECENT: usize = 256;
 
 /// The submission service: it judges requests, changes by the accepted ones, and keeps their replies
-/// for good. The latest of them are at hand, so that a request which comes again soon asks no database.
+/// for good. The latest of them are at hand, so that a request which comes again soon asks no database, and so is the
+/// text of the last export, for its further parts.
 pub struct Service {
     parts: Parts,
     recent: RecentReplies,
+    last: Option<KeptText>,
 }
 
 // by hand, so that crates above needn't prove again how each part is dropped
@@ -42,6 +45,7 @@ impl Drop for Service {
         let Service {
             parts: _parts,
             recent: _recent,
+            last: _last,
         } = self;
     }
 }
@@ -87,7 +91,11 @@ impl Service {
             files: UnfinishedFiles::new(alloc, limits.unfinished)?,
         };
         let recent = RecentReplies::new(alloc, places)?;
-        Ok(Service { parts, recent })
+        Ok(Service {
+            parts,
+            recent,
+            last: None,
+        })
     }
 
     /// Handles one request, and gives its one reply. That the database refused for another cause than

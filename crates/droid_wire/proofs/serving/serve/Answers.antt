@@ -9,7 +9,7 @@ use Rattle.droid_wire.specs.Turns.{ReadsFrame, WritesReply}
 use Rattle.droid_wire.specs.declared.ended.Ended.{Ended}
 use Rattle.droid_wire.specs.declared.fault.ServeFault.{ServeFault}
 use Rattle.droid_wire.specs.Serving.{Outcome}
-use Rattle.droid_wire.proofs.Ends.{stopped, stream_closed}
+use Rattle.droid_wire.proofs.Ends.{stopped, stream_closed, turns_done}
 use Rattle.droid_wire.proofs.GoingOn.{goes_further, goes_nowhere, goes_within}
 use Rattle.droid_frame.proofs.InTurn.{over_next, over_none, told_idle, told_next}
 use Rattle.droid_wire.proofs.Passing.{if_err_same, same_fault}
@@ -117,6 +117,11 @@ returns-in-None-clause-write_fault g c = λ sound endless.
     let now = c.loop.invariant.writes sound endless in
     told_next g.W.SteadyWrite.seen (WritesReply g.W.Write.contents) (λ count. count ≤ c.args.turns) c.args.writer.now c.loop.writer c.answer_next.new.writer c.loop.counter _ _ now.0 (omega (arith, c.loop-test.true))
     (c.in_ok-size.ensures.write_fault now.0.sound now.1).0 (λ e. absurd e) (λ e. absurd e)
+
+pub returns-clause-outcome : goal.returns-clause-outcome
+returns-clause-outcome g c = λ setting history stands.
+    turns_done setting history (g.R.Read.remaining c.args.reader.now) (g.R.Read.remaining c.loop.reader) (g.W.Write.contents c.args.writer.now) (g.W.Write.contents c.loop.writer)
+    c.loop.service c.loop.counter c.args.turns c.loop.written (omega (arith, c.loop-test.false, c.loop.invariant.within)) (c.loop.invariant.so_far setting history stands)
 
 pub returns-clause-read_fault : goal.returns-clause-read_fault
 returns-clause-read_fault g c = λ sound.

@@ -12,4 +12,5 @@ returns-clause-empty c = λ setting limits registry.
       parts = starts setting parts limits (record { profiles = c.requires.profiles; nodes = c.requires.nodes; unfinished = c.requires.unfinished }) registry
           c.in_ok-in_memory.ensures.empty c.in_ok-new.ensures.none (c.in_ok-new.ensures.limit ∙ sym (ap (λ (given : Limits). given.unfinished) limits));
       recent = none_kept_yet [] c.in_ok-recent.recent.rows.entries c.in_ok-recent.ensures.none;
+      last = tt;
     }

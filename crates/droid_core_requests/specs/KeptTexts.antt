@@ -1,0 +1,41 @@
+-- The text of the last export, which is kept for its further parts (this project's own).
+use Rattle.std.specs.Prelude.{◌≡◌, ◌≤◌, ◌^◌, ◌-◌, ◌&&◌, ℕ, Bool, false, nat_lt, nat_le, List, [], length, Option, None, Some, ⊤}
+use Rattle.droid_frame.specs.types.filter.Filter.{Filter}
+use Rattle.droid_frame.specs.types.reply.Reply.{Reply}
+use Rattle.droid_frame.specs.types.reply.Reply.TheVariants.{Part}
+use Rattle.droid_core_spec.specs.Records.{records}
+use Rattle.droid_core_spec.specs.Setting.{Setting}
+use Rattle.droid_core_spec.specs.World.{Profile, World, numbered}
+use Rattle.droid_core_requests.specs.declared.kept_text.KeptText.{KeptText}
+
+-- the text is that of an export of its profile by its filter in this world, and no longer than may be kept
+pub record IsTextIn (setting : Setting) (world : World) (kept : KeptText) : Type 0 where
+  pub profile : Profile
+  pub there : numbered world.profiles kept.profile ≡ Some profile
+  pub text : kept.text ≡ setting.export_text (records setting profile) kept.filter
+  pub size : length kept.text ≤ 2 ^ 28
+
+-- where a text is kept, it is one of this world
+abbrev pub IsLastText : Setting → World → Option KeptText → Type 0
+IsLastText setting world None = ⊤
+IsLastText setting world (Some kept) = IsTextIn setting world kept
+
+-- the text is kept of this profile and by this filter
+abbrev pub IsFor : ℕ → Filter → Option KeptText → Type 0
+IsFor number filter None = ⊥
+IsFor number filter (Some kept) = (kept.profile ≡ number) × (kept.filter ≡ filter)
+
+-- the bytes of the text, where one is kept
+abbrev pub bytes_in : Option KeptText → List ℕ
+bytes_in None = []
+bytes_in (Some kept) = kept.text
+
+-- whether a part of so many bytes at most, from this place on, leaves something unread of a text of this length, and
+-- the text is no longer than may be kept
+abbrev pub leaves_more : ℕ → ℕ → ℕ → Bool
+leaves_more total from max = nat_lt max (total - from) && nat_le total (2 ^ 28)
+
+-- whether the reply is such a part
+abbrev pub is_followed : ℕ → ℕ → Reply → Bool
+is_followed from max (Part as_of total bytes) = leaves_more total from max
+is_followed from max _ = false
