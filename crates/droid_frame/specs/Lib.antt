@@ -3,6 +3,7 @@ pub use Rattle.droid_frame_values.specs.Bodies
 pub use Rattle.droid_frame_values.specs.Fields
 pub use Rattle.droid_frame_values.specs.Filters
 pub use Rattle.droid_frame_values.specs.Frames
+pub use Rattle.droid_frame_values.specs.Hashes
 pub use Rattle.droid_frame_values.specs.Limits
 pub use Rattle.droid_frame_values.specs.Refusals
 pub use Rattle.droid_frame_values.specs.Replies

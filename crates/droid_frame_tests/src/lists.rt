@@ -1,7 +1,8 @@
 //! Values: copies, lists and numbers.
 
 use droid_frame::{
-    Blob, Criteria, Criterion, Filter, Limit, Method, NodeKind, Refusal, Text, Texts,
+    Blob, Criteria, Criterion, Filter, HashKind, HashValue, Limit, Method, NodeKind, Refusal, Text,
+    Texts,
 };
 use std::alloc::{AllocError, Global};
 use std::test::Fail;
@@ -71,4 +72,9 @@ fn numbers(rt: HostRuntime) {
     assert!(rt; Limit::Nodes.number() == 2);
     assert!(rt; Method::Extension.number() == 2);
     assert!(rt; NodeKind::Folder.number() == 1);
+    assert!(rt; HashKind::Nothing.number() == 0 && HashKind::Md5.number() == 1);
+    assert!(rt; HashKind::Sha256.number() == 2);
+    assert!(rt; HashValue::Nothing.kind().number() == 0);
+    assert!(rt; HashValue::Md5([0; 16]).kind().number() == 1);
+    assert!(rt; HashValue::Sha256([0; 32]).kind().number() == 2);
 }

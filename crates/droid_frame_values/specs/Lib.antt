@@ -3,6 +3,7 @@ pub mod Ends
 pub mod Fields
 pub mod Filters
 pub mod Frames
+pub mod Hashes
 pub mod Limits
 pub mod Refusals
 pub mod Replies

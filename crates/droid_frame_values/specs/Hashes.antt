@@ -1,0 +1,33 @@
+-- The hash that a profile's files get, by its kind: none, MD5 (RFC 1321) or SHA-256 (FIPS 180-4).
+use Rattle.std.specs.Prelude.{◌≡◌, ℕ, List, length}
+use Rattle.md5.specs.Md5.{md5}
+use Rattle.sha2.specs.Sha256.{sha256}
+use Rattle.droid_frame_values.specs.Fields.{IsBytes}
+use Rattle.droid_frame_values.specs.declared.hash_kind.HashKind.{HashKind}
+use Rattle.droid_frame_values.specs.declared.hash_kind.HashKind.TheVariants as kinds
+use Rattle.droid_frame_values.specs.declared.hash_value.HashValue.{HashValue}
+use Rattle.droid_frame_values.specs.declared.hash_value.HashValue.TheVariants as values
+
+-- a kind's number, 0 to 2 (this project's own)
+abbrev pub hash_kind_number : HashKind → ℕ
+hash_kind_number kinds.Nothing = 0
+hash_kind_number kinds.Md5 = 1
+hash_kind_number kinds.Sha256 = 2
+
+-- which hash a value is of
+abbrev pub hash_value_kind : HashValue → HashKind
+hash_value_kind values.Nothing = kinds.Nothing
+hash_value_kind (values.Md5 digest) = kinds.Md5
+hash_value_kind (values.Sha256 digest) = kinds.Sha256
+
+-- an MD5 has 16 bytes, and a SHA-256 has 32
+abbrev pub IsHashValue : HashValue → Type 0
+IsHashValue values.Nothing = Unit {0}
+IsHashValue (values.Md5 digest) = (length digest ≡ 16) × IsBytes digest
+IsHashValue (values.Sha256 digest) = (length digest ≡ 32) × IsBytes digest
+
+-- the hash of bytes: nothing, or the digest of the whole list
+abbrev pub hash : HashKind → List ℕ → HashValue
+hash kinds.Nothing bytes = values.Nothing
+hash kinds.Md5 bytes = values.Md5 (md5 bytes)
+hash kinds.Sha256 bytes = values.Sha256 (sha256 bytes)
