@@ -12,7 +12,7 @@ pub of_assembly : (parts : Inside) → parts ≡ record {
   missing = parts.missing;
   settled_bytes = parts.settled_bytes;
   front = parts.front;
-  digest = parts.digest;
+  hashed = parts.hashed;
   waiting = parts.waiting;
   pending = parts.pending;
 }

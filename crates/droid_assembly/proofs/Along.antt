@@ -142,8 +142,8 @@ along-within size piece_size from pieces due there =
     ]
 
 -- an assembly that keeps this of the pieces stands for them
-pub along-stands : (a : State) (front : Front) (pieces : List Piece) (total count : ℕ) → IsAlong front a.waiting a.first_missing pieces total count → front.width ≡ width_of a → slot a.waiting a.first_missing ≡ None → a.first ≡ front.first.items → a.last ≡ ring_items front.last → a.hash ≡ front.hash → a.digest ≡ None → All (IsDue a.size a.piece_size) pieces → AllPairs (λ one other. one.0 ≢ other.0) pieces → a.held_count ≡ held pieces → a.settled_bytes ≡ bytes_held pieces → StandsFor a pieces
-along-stands a front pieces total count along width stopped first last hash digest due distinct counted weighed =
+pub along-stands : (a : State) (front : Front) (pieces : List Piece) (total count : ℕ) → IsAlong front a.waiting a.first_missing pieces total count → front.width ≡ width_of a → slot a.waiting a.first_missing ≡ None → a.first ≡ front.first.items → a.last ≡ ring_items front.last → a.running ≡ front.hash → a.hashed ≡ None → All (IsDue a.size a.piece_size) pieces → AllPairs (λ one other. one.0 ≢ other.0) pieces → a.held_count ≡ held pieces → a.settled_bytes ≡ bytes_held pieces → StandsFor a pieces
+along-stands a front pieces total count along width stopped first last running hashed due distinct counted weighed =
     record {
       are_due = due;
       are_distinct = distinct;
@@ -153,7 +153,7 @@ along-stands a front pieces total count along width stopped first last hash dige
       weighed = weighed;
       begun = rw (first, ← width) along.knows.begun;
       ended = rw (last, ← width) along.knows.ended;
-      hashed = rw (digest, hash) along.knows.hashed;
+      is_hash = rw (hashed, running) along.knows.hashed;
       waits = along.placed.waits;
       none_beyond = along.placed.none_beyond;
     }

@@ -6,7 +6,8 @@ use Rattle.std.specs.Bool.{⊤}
 use Rattle.std.proofs.lemmas.List.Elements.{All-push, All-from_recursion}
 use Rattle.std.proofs.lemmas.List.Quantifiers.{all_pairs_push}
 use Rattle.std.proofs.lemmas.List.Sums.{sum_by_push}
-use Rattle.md5.specs.Md5.{Holds}
+use Rattle.droid_frame.specs.types.hash_value.HashValue.{HashValue}
+use Rattle.droid_assembly.specs.Hashing.{HoldsAll}
 use Rattle.droid_assembly.specs.Pieces.{Piece, LacksIndex, IsDue, missing, file_bytes}
 use Rattle.droid_assembly.specs.Rings.{ring_items}
 use Rattle.droid_assembly.specs.Fronts.{IsFront, FrontKnows}
@@ -20,26 +21,26 @@ use Rattle.droid_assembly.proofs.Along.{along-begin, along-stands, along-within}
 pub record IsOf (a : State) (front : Front) : Type 0 where
   pub first : a.first ≡ front.first.items
   pub last : a.last ≡ ring_items front.last
-  pub hash : a.hash ≡ front.hash
+  pub hash : a.running ≡ front.hash
   pub width : front.width ≡ width_of a
 
--- before a digest is kept, the front knows the bytes before the first missing piece
-known : (a : State) (front : Front) (pieces : List Piece) → IsOf a front → a.digest ≡ None → StandsFor a pieces → FrontKnows front (file_bytes a.first_missing pieces)
+-- before a hash is kept, the front knows the bytes before the first missing piece
+known : (a : State) (front : Front) (pieces : List Piece) → IsOf a front → a.hashed ≡ None → StandsFor a pieces → FrontKnows front (file_bytes a.first_missing pieces)
 known a front pieces same none stands =
-    let holds : Holds a.hash (file_bytes a.first_missing pieces) = rw none at stands.hashed in
+    let holds : HoldsAll a.running (file_bytes a.first_missing pieces) = rw none at stands.is_hash in
     record {
       begun = rw (← same.first, same.width) stands.begun;
       ended = rw (← same.last, same.width) stands.ended;
       hashed = rw (← same.hash) holds;
     }
 
--- no digest is kept while a piece is missing
-unsealed : (a : State) (digest : Option (List ℕ)) → (IsSome digest → IsComplete a) → a.first_missing < count_of a → digest ≡ None
+-- no hash is kept while a piece is missing
+unsealed : (a : State) (hashed : Option HashValue) → (IsSome hashed → IsComplete a) → a.first_missing < count_of a → hashed ≡ None
 unsealed a None sealed low = refl
-unsealed a (Some digest) sealed low = let complete : IsComplete a = sealed refl in absurd (omega (arith, complete, low))
+unsealed a (Some value) sealed low = let complete : IsComplete a = sealed refl in absurd (omega (arith, complete, low))
 
-pub no_digest : (a : State) (front : Front) (piece : Piece) → IsSound a front → IsFree a piece → a.digest ≡ None
-no_digest a front piece sound free = unsealed a a.digest sound.sealed (omega (arith, free.is_due.0, free.not_passed))
+pub no_hash : (a : State) (front : Front) (piece : Piece) → IsSound a front → IsFree a piece → a.hashed ≡ None
+no_hash a front piece sound free = unsealed a a.hashed sound.sealed (omega (arith, free.is_due.0, free.not_passed))
 
 -- an assembly after a piece was settled, with this front, waiting pieces, first missing one and room
 abbrev pub settled : State → Piece → Front → List (Option (List ℕ)) → ℕ → Room → State
@@ -52,8 +53,8 @@ settled a piece front waiting from reserved = record {
   settled_bytes = a.settled_bytes + length piece.1;
   first = front.first.items;
   last = ring_items front.last;
-  hash = front.hash;
-  digest = a.digest;
+  running = front.hash;
+  hashed = a.hashed;
   waiting = waiting;
   pending = None;
   reserved = reserved;
@@ -74,7 +75,7 @@ module _ (a : State) (old new : Front) (waiting : List (Option (List ℕ))) (k :
   pub begun : (pieces : List Piece) (total count : ℕ) → Went → StandsFor a pieces → total ≡ length (file_bytes a.first_missing pieces) + sum_by weight a.waiting + length piece.1 → count ≡ a.first_missing + count_by is_some a.waiting + 1 → IsAlong old (set a.waiting (piece.0 % 16) (Some piece.1)) a.first_missing (pieces ++ piece ∷ []) total count
   begun pieces total count went stands weighed counted =
       along-begin a old pieces piece total count went.sound.places went.free stands
-      (known a old pieces went.same (no_digest a old piece went.sound went.free) stands) weighed counted
+      (known a old pieces went.same (no_hash a old piece went.sound went.free) stands) weighed counted
 
   -- it stands for the pieces before and this one
   pub settled-stands : (reserved : Room) (pieces : List Piece) → Went → StandsFor a pieces → StandsFor (settled a piece new waiting (a.first_missing + k) reserved) (pieces ++ piece ∷ [])
@@ -84,7 +85,7 @@ module _ (a : State) (old new : Front) (waiting : List (Option (List ℕ))) (k :
       let along = went.along (pieces ++ piece ∷ []) total count (begun pieces total count went stands refl refl) in
       let lacks : LacksIndex pieces piece.0 = sym (stands.waits piece.0 went.free.not_passed went.free.near) ∙ went.free.free in
       along-stands (settled a piece new waiting (a.first_missing + k) reserved) new (pieces ++ piece ∷ []) total count along
-      (went.width ∙ went.same.width) went.stopped refl refl refl (no_digest a old piece went.sound went.free)
+      (went.width ∙ went.same.width) went.stopped refl refl refl (no_hash a old piece went.sound went.free)
       (All-push (IsDue a.size a.piece_size) pieces piece stands.are_due went.free.is_due)
       (all_pairs_push (λ one other. one.0 ≢ other.0) pieces piece stands.are_distinct (λ i d h. All-from_recursion (λ q. q.0 ≢ piece.0) pieces (lacks_each pieces piece.0 lacks) i d h))
       (omega (arith, stands.counted, length-append pieces (piece ∷ [])))
@@ -110,7 +111,7 @@ module _ (a : State) (old new : Front) (waiting : List (Option (List ℕ))) (k :
         weighed = along.placed.weighed;
         counted = along.placed.counted;
         pending = tt;
-        sealed = rw (no_digest a old piece sound went.free) (λ some. absurd (cc));
+        sealed = rw (no_hash a old piece sound went.free) (λ some. absurd (cc));
       }
 
 -- what was handed back, said by the first missing piece before and after

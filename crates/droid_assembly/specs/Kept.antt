@@ -56,4 +56,4 @@ pub record IsSound (assembly : State) (kept : Front) : Type 0 where
   pub weighed : assembly.settled_bytes ≡ length (file_bytes assembly.first_missing pieces) + sum_by weight assembly.waiting
   pub counted : assembly.held_count ≡ assembly.first_missing + count_by is_some assembly.waiting
   pub pending : MatchOption assembly.pending ⊤ (IsFree assembly)
-  pub sealed : IsSome assembly.digest → IsComplete assembly
+  pub sealed : IsSome assembly.hashed → IsComplete assembly

@@ -1,5 +1,6 @@
 pub mod Fronts
 pub mod Handed
+pub mod Hashing
 pub mod Kept
 pub mod Lending
 pub mod Parts

@@ -3,10 +3,10 @@
 ghost use Rattle.std.specs.Prelude.{◌≡◌, ◌+◌, ◌-◌, ◌*◌, ◌^◌, ◌<◌, ◌≤◌, ◌↔◌, ◌++◌, ◌∷◌, [], ℕ, List, length, min, IsOk, IfOk, IfErr, OnOk, OnErr, IsErrOf, IsTrue, IsSome, None, Some, option_map, MatchBool};
 ghost use Rattle.std.specs.Bool.{OnFalse};
 ghost use Rattle.droid_assembly.specs.Pieces.{Piece, AreSizes, IsDue, HasIndex, LacksIndex, held as held_of, missing as missing_of, kept_bytes as kept_of, file_bytes, first_window, last_window};
-ghost use Rattle.droid_assembly.specs.State.{StandsFor, IsComplete, IsOfSameFile, IsUnchanged, IsDigestOf, count_of, with_pending, pending_bytes as pending_len, slot};
+ghost use Rattle.droid_assembly.specs.State.{StandsFor, IsComplete, IsOfSameFile, IsUnchanged, IsHashOf, count_of, hash_kind_of, with_pending, pending_bytes as pending_len, slot};
 ghost use Rattle.droid_assembly.specs.Kept.{pieces_from};
-ghost use Rattle.droid_frame.specs.Replies.{IsDigest};
-ghost use Rattle.md5.specs.Md5.{md5};
+ghost use Rattle.droid_assembly.specs.Hashing.{running_kind};
+ghost use Rattle.droid_frame.specs.Hashes.{hash, IsHashValue};
 ghost use Rattle.std.specs.Borrow.{sem};
 
 use crate::fault::{Incomplete, PutFault};
@@ -15,7 +15,7 @@ use crate::places::{AHEAD, arrive, empty_places};
 use crate::sealed::Sealed;
 use crate::spent::Spent;
 use crate::windows::Windows;
-use droid_frame::Blob;
+use droid_frame::{Blob, HashKind, HashValue};
 use std::alloc::{AllocError, Global};
 use std::marker::Model;
 
@@ -23,7 +23,7 @@ use std::marker::Model;
 ///
 /// One piece at a time is pending: a caller that has to commit elsewhere first settles it
 /// afterwards, or takes it back. No piece before the first missing one is kept: of these the two
-/// windows and a running MD5 remain.
+/// windows and a running hash remain.
 #[derive(Debug, Drop)]
 pub struct Assembly {
     size: u64,
@@ -33,7 +33,7 @@ pub struct Assembly {
     missing: u32,
     settled_bytes: u64,
     front: Front,
-    digest: Option<[u8; 16]>,
+    hashed: Option<HashValue>,
     // The settled pieces past the first missing one, each at the rest of its index by their number.
     waiting: Vec<Option<Blob>>,
     pending: Option<(u32, Blob)>,
@@ -56,18 +56,21 @@ impl Assembly {
     ghost use Rattle.droid_assembly.specs.Lending.{StaysUnchanged};
 
     /// An assembly of no piece, for a file of `size` bytes in pieces of `piece_size` bytes, of which
-    /// `limit` bytes are scanned from each end. What these can be is this project's own. Only want of
-    /// memory refuses it, and no later call takes any: two windows are reserved, and sixteen places.
+    /// `limit` bytes are scanned from each end, and which gets this hash. What the sizes can be is this
+    /// project's own. Only want of memory refuses it, and no later call takes any: two windows are
+    /// reserved, and sixteen places.
     pub fn new(
         alloc: Global,
         size: u64,
         piece_size: u32,
         limit: u32,
+        hash: HashKind,
     ) -> Result<Assembly, AllocError>
         requires { AreSizes size piece_size limit }
         ensures size { IfOk result (λ assembly. assembly.size ≡ size) }
         ensures piece_size { IfOk result (λ assembly. assembly.piece_size ≡ piece_size) }
         ensures limit { IfOk result (λ assembly. assembly.limit ≡ limit) }
+        ensures hash { IfOk result (λ assembly. hash_kind_of assembly ≡ hash) }
         ensures none_pending { IfOk result (λ assembly. assembly.pending ≡ None) }
         ensures reserved { IfOk result (λ assembly. assembly.reserved
             ≡ record { first = min size limit; last = min size limit; waiting = 16 }) }
@@ -81,8 +84,8 @@ impl Assembly {
             held: 0,
             missing: 0,
             settled_bytes: 0,
-            front: Front::with_room(alloc, width)?,
-            digest: None,
+            front: Front::with_room(alloc, width, hash)?,
+            hashed: None,
             waiting: empty_places(alloc)?,
             pending: None,
         })
@@ -199,8 +202,8 @@ impl Assembly {
         windows + (self.settled_bytes - passed) + self.pending_bytes()
     }
 
-    /// The size and the MD5 (RFC 1321) of the whole file, or which piece is missing first. It may be
-    /// asked for again.
+    /// The size and the hash of the whole file, or which piece is missing first. It may be asked for
+    /// again.
     pub fn seal(&mut self) -> Result<Sealed, Incomplete>
         requires { self.old.pending ≡ None }
         ensures complete { IsOk result ↔ IsComplete self.old }
@@ -209,9 +212,9 @@ impl Assembly {
         ensures size { (pieces : List Piece) → StandsFor self.old pieces
             → IfOk result (λ sealed. sealed.size ≡ length (file_bytes (count_of self.old) pieces)) }
         ensures same_size { IfOk result (λ sealed. sealed.size ≡ self.old.size) }
-        ensures digest { (pieces : List Piece) → StandsFor self.old pieces
-            → IfOk result (λ sealed. sealed.md5 ≡ md5 (file_bytes (count_of self.old) pieces)) }
-        ensures sixteen { IfOk result (λ sealed. IsDigest sealed.md5) }
+        ensures hash { (pieces : List Piece) → StandsFor self.old pieces
+            → IfOk result (λ sealed. sealed.hash ≡ hash (hash_kind_of self.old) (file_bytes (count_of self.old) pieces)) }
+        ensures length { IfOk result (λ sealed. IsHashValue sealed.hash) }
         ensures incomplete { (pieces : List Piece) → StandsFor self.old pieces
             → IfErr result (λ fault. fault.missing ≡ missing_of (count_of self.old) pieces) }
         ensures some_missing { (pieces : List Piece) → StandsFor self.old pieces
@@ -229,7 +232,7 @@ impl Assembly {
         }
         Ok(Sealed {
             size: self.size,
-            md5: digest_of(&mut self.digest, &mut self.front),
+            hash: hash_of(&mut self.hashed, &mut self.front),
         })
     }
 
@@ -294,18 +297,19 @@ impl Assembly {
     }
 }
 
-// The digest of the bytes so far, which is kept from then on.
-fn digest_of(kept: &mut Option<[u8; 16]>, front: &mut Front) -> [u8; 16]
-    ensures digest { (before : List ℕ) → IsDigestOf kept.old front.old.hash before → result ≡ md5 before }
+// The hash of the bytes so far, which is kept from then on.
+fn hash_of(kept: &mut Option<HashValue>, front: &mut Front) -> HashValue
+    ensures value { (before : List ℕ) → IsHashOf kept.old front.old.hash before → result ≡ hash (running_kind front.old.hash) before }
+    ensures kind { running_kind front.new.hash ≡ running_kind front.old.hash }
     ensures kept { kept.new ≡ Some result }
     ensures first { front.new.first ≡ front.old.first }
     ensures last { front.new.last ≡ front.old.last }
     ensures width { front.new.width ≡ front.old.width }
 {
-    if let Some(digest) = *kept {
-        return digest;
+    if let Some(value) = *kept {
+        return value;
     }
-    let digest = front.finish();
-    *kept = Some(digest);
-    digest
+    let value = front.finish();
+    *kept = Some(value);
+    value
 }

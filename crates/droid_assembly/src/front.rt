@@ -3,37 +3,44 @@
 ghost use Rattle.std.specs.Prelude.{◌≡◌, ◌++◌, [], ℕ, List, IfOk, vec_capacity};
 ghost use Rattle.droid_assembly.specs.Fronts.{IsFront, FrontKnows};
 ghost use Rattle.droid_assembly.specs.Rings.{ring_items};
-ghost use Rattle.md5.specs.Md5.{md5, Holds};
+ghost use Rattle.droid_assembly.specs.Hashing.{running_kind, HoldsAll};
+ghost use Rattle.droid_frame.specs.Hashes.{hash};
 
 use crate::ring::{Ring, append};
+use crate::running_hash::RunningHash;
 use crate::windows::Windows;
-use md5::{Digest, Md5};
+use droid_frame::{HashKind, HashValue};
 use std::alloc::{AllocError, Global};
 
 /// What is kept of the bytes before the first missing piece: the first and the last of them, and a
-/// running digest of all.
+/// running hash of all.
 #[derive(Debug, Drop)]
 pub(crate) struct Front {
     first: Vec<u8>,
     last: Ring,
-    hash: Md5,
+    hash: RunningHash,
     width: usize,
 }
 
 impl Front {
     /// What is kept of no byte, with room for `width` bytes in each window. Only want of memory
     /// refuses it.
-    pub(crate) fn with_room(alloc: Global, width: usize) -> Result<Front, AllocError>
+    pub(crate) fn with_room(
+        alloc: Global,
+        width: usize,
+        kind: HashKind,
+    ) -> Result<Front, AllocError>
         ensures sound { IfOk result IsFront }
         ensures width { IfOk result (λ front. front.width ≡ width) }
         ensures first_reserved { IfOk result (λ front. vec_capacity front.first ≡ width) }
         ensures last_reserved { IfOk result (λ front. vec_capacity front.last.bytes ≡ width) }
+        ensures kind { IfOk result (λ front. running_kind front.hash ≡ kind) }
         ensures knows { IfOk result (λ front. FrontKnows front []) }
     {
         Ok(Front {
             first: Vec::with_capacity(alloc, width)?,
             last: Ring::with_room(alloc, width)?,
-            hash: Md5::new(),
+            hash: RunningHash::of(kind),
             width,
         })
     }
@@ -43,6 +50,7 @@ impl Front {
         requires { IsFront self.old }
         ensures sound { IsFront self.new }
         ensures width { self.new.width ≡ self.old.width }
+        ensures kind { running_kind self.new.hash ≡ running_kind self.old.hash }
         ensures knows { (before : List ℕ) → FrontKnows self.old before → FrontKnows self.new (before ++ bytes.now) }
     {
         let count = bytes.len().min(self.width - self.first.len());
@@ -51,14 +59,15 @@ impl Front {
         self.hash.update(bytes);
     }
 
-    /// The digest of the bytes so far. What is kept no longer holds them afterwards.
-    pub(crate) fn finish(&mut self) -> [u8; 16]
-        ensures digest { (before : List ℕ) → Holds self.old.hash before → result ≡ md5 before }
+    /// The hash of the bytes so far. What is kept no longer holds them afterwards.
+    pub(crate) fn finish(&mut self) -> HashValue
+        ensures value { (before : List ℕ) → HoldsAll self.old.hash before → result ≡ hash (running_kind self.old.hash) before }
+        ensures kind { running_kind self.new.hash ≡ running_kind self.old.hash }
         ensures first { self.new.first ≡ self.old.first }
         ensures last { self.new.last ≡ self.old.last }
         ensures width { self.new.width ≡ self.old.width }
     {
-        self.hash.finalize_reset()
+        self.hash.finish()
     }
 
     /// Turns the last bytes so that they lie in order.

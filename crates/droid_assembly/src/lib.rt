@@ -7,6 +7,7 @@ mod front;
 mod joined;
 mod places;
 mod ring;
+mod running_hash;
 mod sealed;
 mod several;
 mod showing;

@@ -6,6 +6,7 @@ ghost use Rattle.std.specs.List.{concat};
 ghost use Rattle.droid_assembly.specs.Pieces.{Piece};
 ghost use Rattle.droid_assembly.specs.State.{slot};
 ghost use Rattle.droid_assembly.specs.Fronts.{IsFront};
+ghost use Rattle.droid_assembly.specs.Hashing.{running_kind};
 ghost use Rattle.droid_assembly.specs.Kept.{IsAlong, ArePlaced, pieces_from};
 
 use crate::front::Front;
@@ -48,6 +49,7 @@ pub(crate) fn arrive(
     requires free { slot waiting.old index ≡ None }
     ensures sound { IsFront front.new }
     ensures width { front.new.width ≡ front.old.width }
+    ensures kind { running_kind front.new.hash ≡ running_kind front.old.hash }
     ensures along { (pieces : List Piece) (total count : ℕ)
         → IsAlong front.old (slice_set waiting.old (index % 16) (Some bytes)) from.old pieces total count
         → IsAlong front.new waiting.new from.new pieces total count }
@@ -81,6 +83,7 @@ fn pass(waiting: &mut [Option<Blob>], front: &mut Front, from: &mut u32) -> Spen
     requires small { from.old + 16 < 2 ^ 32 }
     ensures sound { IsFront front.new }
     ensures width { front.new.width ≡ front.old.width }
+    ensures kind { running_kind front.new.hash ≡ running_kind front.old.hash }
     ensures along { (pieces : List Piece) (total count : ℕ) → IsAlong front.old waiting.old from.old pieces total count
         → IsAlong front.new waiting.new from.new pieces total count }
     ensures passed { (pieces : List Piece) (total count : ℕ) → IsAlong front.old waiting.old from.old pieces total count
@@ -104,6 +107,7 @@ fn pass_several(waiting: &mut [Option<Blob>], front: &mut Front, from: u32, seve
     requires none { several.old ≡ [] }
     ensures sound { IsFront front.new }
     ensures width { front.new.width ≡ front.old.width }
+    ensures kind { running_kind front.new.hash ≡ running_kind front.old.hash }
     ensures along { (pieces : List Piece) (total count : ℕ) → IsAlong front.old waiting.old from pieces total count
         → IsAlong front.new waiting.new (from + length several.new) pieces total count }
     ensures passed { (pieces : List Piece) (total count : ℕ) → IsAlong front.old waiting.old from pieces total count

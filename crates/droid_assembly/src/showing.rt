@@ -3,6 +3,7 @@
 ghost use Rattle.std.specs.Prelude.{◌≡◌, ◌≤◌, ◌++◌, ℕ, List, length};
 ghost use Rattle.std.specs.List.{concat};
 ghost use Rattle.droid_assembly.specs.Fronts.{IsFront, FrontKnows};
+ghost use Rattle.droid_assembly.specs.Hashing.{running_kind};
 
 use crate::front::Front;
 use crate::joined::Joined;
@@ -16,6 +17,7 @@ pub(crate) fn show_joined(front: &mut Front, several: &Several)
     requires fits { length (concat several.now) ≤ 512 }
     ensures sound { IsFront front.new }
     ensures width { front.new.width ≡ front.old.width }
+    ensures kind { running_kind front.new.hash ≡ running_kind front.old.hash }
     ensures knows { (before : List ℕ) → FrontKnows front.old before → FrontKnows front.new (before ++ concat several.now) }
 {
     let mut joined = Joined::none();
@@ -33,6 +35,7 @@ pub(crate) fn show_each(front: &mut Front, several: &Several)
     requires sound { IsFront front.old }
     ensures sound { IsFront front.new }
     ensures width { front.new.width ≡ front.old.width }
+    ensures kind { running_kind front.new.hash ≡ running_kind front.old.hash }
     ensures knows { (before : List ℕ) → FrontKnows front.old before → FrontKnows front.new (before ++ concat several.now) }
 {
     for place in 0..several.len() {

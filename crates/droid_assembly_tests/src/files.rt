@@ -3,7 +3,7 @@
 ghost use Rattle.std.specs.Prelude.{◌≡◌, IfOk, IsSome, OnErr, OnOk, None};
 
 use droid_assembly::{Assembly, Incomplete, PutFault, Sealed, Spent};
-use droid_frame::Blob;
+use droid_frame::{Blob, HashKind};
 use std::alloc::Global;
 use std::process::Abort;
 use std::test::Fail;
@@ -97,7 +97,7 @@ pub fn take_back(assembly: &mut Assembly)
     assembly.take_back();
 }
 
-/// The size and the digest, or what is missing.
+/// The size and the hash, or what is missing.
 pub fn seal(assembly: &mut Assembly) -> Result<Sealed, Incomplete>
     requires { assembly.old.pending ≡ None }
     ensures { assembly.new.pending ≡ None }
@@ -139,6 +139,7 @@ pub fn assembled(
     message: &[u8],
     piece_size: u32,
     limit: u32,
+    hash: HashKind,
     order: Order,
 ) -> Result<Assembly, Fail>
     ensures { IfOk result (λ assembly. assembly.pending ≡ None) }
@@ -147,7 +148,7 @@ pub fn assembled(
     assert!(rt; size <= 1 << 40 && 1 <= piece_size && piece_size <= 1 << 20);
     assert!(rt; size.div_ceil(u64::from(piece_size)) <= 1 << 20);
     assert!(rt; 1 <= limit && limit <= 1 << 16);
-    let mut assembly = Assembly::new(alloc, size, piece_size, limit)?;
+    let mut assembly = Assembly::new(alloc, size, piece_size, limit, hash)?;
     let count = message.chunks(piece_size as usize).count();
     for turn in 0..count {
         let index = index_at(order, turn, count);

@@ -16,4 +16,6 @@ mod pieces;
 #[cfg(test)]
 mod plain;
 #[cfg(test)]
+mod sha256;
+#[cfg(test)]
 mod steps;

@@ -4,7 +4,7 @@ ghost use Rattle.std.specs.Prelude.{◌≡◌, IfOk, None};
 
 use crate::files::{SUITE, Views, expect_file, put, seal, settle, take, take_back, views_of};
 use droid_assembly::{Assembly, Sealed};
-use droid_frame::Blob;
+use droid_frame::{Blob, HashKind, HashValue};
 use std::alloc::{AllocError, Global};
 use std::process::Abort;
 use std::test::Fail;
@@ -17,7 +17,13 @@ fn blob(alloc: Global, bytes: &[u8]) -> Result<Blob, AllocError> {
 fn empty_assembly(alloc: Global) -> Result<Assembly, AllocError>
     ensures { IfOk result (λ assembly. assembly.pending ≡ None) }
 {
-    Assembly::new(alloc, 3, 2, 2).or_else(|_| Assembly::new(alloc, 3, 2, 2))
+    Assembly::new(alloc, 3, 2, 2, HashKind::Md5).or_else(|_| Assembly::new(
+        alloc,
+        3,
+        2,
+        2,
+        HashKind::Md5,
+    ))
 }
 
 /// Every call after `new`, on pieces that are there already.
@@ -46,7 +52,7 @@ fn call_each(
     assert_eq!(rt; views_of(assembly), told);
     let sealed = Sealed {
         size: 3,
-        md5: SUITE[2].1,
+        hash: HashValue::Md5(SUITE[2].1),
     };
     expect_file(rt, assembly, sealed, b"ab", b"bc");
     expect_file(rt, assembly, sealed, b"ab", b"bc");
@@ -77,7 +83,7 @@ fn growths_without_calls(rt: HostRuntime) -> Result<(), Fail> {
 #[test]
 fn files_of_many_pieces(rt: HostRuntime) -> Result<(), Fail> {
     for (size, piece_size) in [(1 << 20, 1), (1 << 40, 1 << 20), ((1 << 40) - 1, 1 << 20)] {
-        let assembly = Assembly::new(rt.alloc(), size, piece_size, 65_536)?;
+        let assembly = Assembly::new(rt.alloc(), size, piece_size, 65_536, HashKind::Md5)?;
         assert_eq!(rt; views_of(&assembly).missing, 0);
     }
     Ok(())

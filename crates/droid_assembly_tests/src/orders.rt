@@ -4,9 +4,9 @@ ghost use Rattle.std.specs.Prelude.{◌≡◌, OnOk, None};
 
 use crate::chance::Chance;
 use crate::files::{expect_file, put, seal, settle, take_back, views_of};
-use crate::plain::{Plain, Put, md5_of};
+use crate::plain::{Plain, Put, hash_of};
 use droid_assembly::{Assembly, Incomplete, PutFault, Sealed, Spent};
-use droid_frame::Blob;
+use droid_frame::{Blob, HashKind};
 use std::alloc::Global;
 use std::process::Abort;
 use std::test::Fail;
@@ -105,7 +105,7 @@ fn same_end(
     let bytes = plain.joined(alloc)?;
     let sealed = Sealed {
         size: bytes.len() as u64,
-        md5: md5_of(&bytes),
+        hash: hash_of(plain.hash(), &bytes),
     };
     let width = bytes.len().min(limit);
     let start = bytes.len() - width;
@@ -198,12 +198,13 @@ fn same_file(
     size: usize,
     piece_size: usize,
     limit: usize,
+    hash: HashKind,
 ) -> Result<(), Fail> {
     assert!(rt; size <= 480 && 1 <= piece_size && piece_size <= 8 && 1 <= limit && limit <= 500);
     let count = size.div_ceil(piece_size);
     assert!(rt; count <= 60);
-    let mut assembly = Assembly::new(alloc, size as u64, piece_size as u32, limit as u32)?;
-    let mut plain = Plain::new(alloc, size, piece_size, limit, count)?;
+    let mut assembly = Assembly::new(alloc, size as u64, piece_size as u32, limit as u32, hash)?;
+    let mut plain = Plain::new(alloc, size, piece_size, limit, hash, count)?;
     same_calls(
         rt,
         alloc,
@@ -263,7 +264,12 @@ fn as_a_plain_program(rt: HostRuntime) -> Result<(), Fail> {
         };
         let size = whole.saturating_sub(less).min(480);
         let limit = limit_for(&mut chance, size);
-        same_file(&rt, rt.alloc(), &mut chance, size, piece_size, limit)?;
+        let hash = match chance.below(3) {
+            0 => HashKind::Nothing,
+            1 => HashKind::Md5,
+            _ => HashKind::Sha256,
+        };
+        same_file(&rt, rt.alloc(), &mut chance, size, piece_size, limit, hash)?;
     }
     Ok(())
 }

@@ -3,9 +3,10 @@
 ghost use Rattle.std.specs.Prelude.{◌≡◌, OnOk, None};
 
 use crate::files::{Order, SUITE, assembled, expect_file, take};
+use crate::sha256::SHA256;
 use crate::steps::{Comes, Step, expect_incomplete, expect_whole};
 use droid_assembly::{Assembly, Sealed};
-use droid_frame::Blob;
+use droid_frame::{Blob, HashKind, HashValue};
 use std::alloc::Global;
 use std::test::Fail;
 
@@ -19,8 +20,22 @@ const ALONE: [Step; 3] = [
 #[test]
 fn assembly_alone(rt: HostRuntime) -> Result<(), Fail> {
     let file = ("abc", 2, 2);
-    expect_whole(&rt, rt.alloc(), file, &ALONE, SUITE[2].1, ("ab", "bc"))?;
-    expect_whole(&rt, rt.alloc(), ("", 1, 5), &[], SUITE[0].1, ("", ""))
+    let empty = ("", 1, 5);
+    for hash in [
+        HashValue::Nothing,
+        HashValue::Md5(SUITE[2].1),
+        HashValue::Sha256(SHA256[1].1),
+    ] {
+        expect_whole(&rt, rt.alloc(), file, &ALONE, hash, ("ab", "bc"))?;
+    }
+    for hash in [
+        HashValue::Nothing,
+        HashValue::Md5(SUITE[0].1),
+        HashValue::Sha256(SHA256[0].1),
+    ] {
+        expect_whole(&rt, rt.alloc(), empty, &[], hash, ("", ""))?;
+    }
+    Ok(())
 }
 
 #[test]
@@ -29,11 +44,12 @@ fn suite_in_any_order(rt: HostRuntime) -> Result<(), Fail> {
         let message = text.as_bytes();
         let sealed = Sealed {
             size: message.len() as u64,
-            md5,
+            hash: HashValue::Md5(md5),
         };
         for piece_size in [1, 2, 26] {
             for order in [Order::Forward, Order::Backward, Order::Swapped] {
-                let mut assembly = assembled(&rt, rt.alloc(), message, piece_size, 5, order)?;
+                let hash = HashKind::Md5;
+                let mut assembly = assembled(&rt, rt.alloc(), message, piece_size, 5, hash, order)?;
                 let width = message.len().min(5);
                 let last = &message[message.len() - width..];
                 expect_file(&rt, &mut assembly, sealed, &message[..width], last);
@@ -89,7 +105,7 @@ fn pieces_are_handed_back(rt: HostRuntime) -> Result<(), Fail> {
         rt.alloc(),
         file,
         &HANDED_BACK,
-        SUITE[3].1,
+        HashValue::Md5(SUITE[3].1),
         ("mes", "est"),
     )
 }
@@ -142,10 +158,10 @@ fn take_all(alloc: Global, assembly: &mut Assembly, order: [u32; 4]) -> Result<(
 fn every_order_of_four_pieces(rt: HostRuntime) -> Result<(), Fail> {
     let sealed = Sealed {
         size: 14,
-        md5: SUITE[3].1,
+        hash: HashValue::Md5(SUITE[3].1),
     };
     for order in ORDERS {
-        let mut assembly = Assembly::new(rt.alloc(), 14, 4, 5)?;
+        let mut assembly = Assembly::new(rt.alloc(), 14, 4, 5, HashKind::Md5)?;
         take_all(rt.alloc(), &mut assembly, order)?;
         expect_file(&rt, &mut assembly, sealed, b"messa", b"igest");
     }

@@ -1,6 +1,8 @@
 //! The assembly as a plain program: it keeps every piece, and joins them when it is asked.
 
-use md5::{Digest, Md5};
+use droid_frame::{HashKind, HashValue};
+use md5::{Digest as Md5Digest, Md5};
+use sha2::{Digest as Sha2Digest, Sha256};
 use std::alloc::{AllocError, Global};
 
 /// How a piece was taken.
@@ -13,11 +15,12 @@ pub enum Put {
 }
 
 /// The pieces of one file, each at its index.
-#[derive(Debug, Drop)]
+#[derive(Drop)]
 pub struct Plain {
     size: usize,
     piece_size: usize,
     limit: usize,
+    hash: HashKind,
     pieces: Vec<Option<Vec<u8>>>,
     pending: Option<(usize, Vec<u8>)>,
 }
@@ -28,6 +31,7 @@ impl Plain {
         size: usize,
         piece_size: usize,
         limit: usize,
+        hash: HashKind,
         count: usize,
     ) -> Result<Plain, AllocError> {
         let mut pieces = Vec::new(alloc);
@@ -38,9 +42,15 @@ impl Plain {
             size,
             piece_size,
             limit,
+            hash,
             pieces,
             pending: None,
         })
+    }
+
+    /// Which hash the file gets.
+    pub fn hash(&self) -> HashKind {
+        self.hash
     }
 
     /// How long the piece of this index is.
@@ -127,7 +137,11 @@ impl Plain {
     }
 }
 
-/// The MD5 of some bytes.
-pub fn md5_of(bytes: &[u8]) -> [u8; 16] {
-    Md5::digest(bytes)
+/// The hash of some bytes.
+pub fn hash_of(kind: HashKind, bytes: &[u8]) -> HashValue {
+    match kind {
+        HashKind::Nothing => HashValue::Nothing,
+        HashKind::Md5 => HashValue::Md5(Md5::digest(bytes)),
+        HashKind::Sha256 => HashValue::Sha256(Sha256::digest(bytes)),
+    }
 }

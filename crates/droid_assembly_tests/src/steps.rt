@@ -4,7 +4,7 @@ ghost use Rattle.std.specs.Prelude.{◌≡◌, IfOk, OnOk, None};
 
 use crate::files::{Views, expect_file, put, seal, settle, take_back, views_of};
 use droid_assembly::{Assembly, Incomplete, PutFault, Sealed, Spent};
-use droid_frame::Blob;
+use droid_frame::{Blob, HashKind, HashValue};
 use std::alloc::Global;
 use std::process::Abort;
 use std::test::Fail;
@@ -148,14 +148,19 @@ fn take_steps(
     Ok(())
 }
 
-fn new_assembly(rt: &impl Abort, alloc: Global, file: File) -> Result<Assembly, Fail>
+fn new_assembly(
+    rt: &impl Abort,
+    alloc: Global,
+    file: File,
+    hash: HashKind,
+) -> Result<Assembly, Fail>
     ensures { IfOk result (λ assembly. assembly.pending ≡ None) }
 {
     let (text, piece_size, limit) = file;
     let size = text.len() as u64;
     assert!(rt; size <= 1 << 20 && 1 <= piece_size && piece_size <= 1 << 20);
     assert!(rt; 1 <= limit && limit <= 1 << 16);
-    Ok(Assembly::new(alloc, size, piece_size, limit)?)
+    Ok(Assembly::new(alloc, size, piece_size, limit, hash)?)
 }
 
 /// The steps of a file, of which this piece is missing at the end.
@@ -166,26 +171,26 @@ pub fn expect_incomplete(
     steps: &[Step],
     missing: u32,
 ) -> Result<(), Fail> {
-    let mut assembly = new_assembly(rt, alloc, file)?;
+    let mut assembly = new_assembly(rt, alloc, file, HashKind::Md5)?;
     take_steps(rt, alloc, &mut assembly, file, steps)?;
     assert!(rt; seal(&mut assembly) == Err(Incomplete { missing }));
     Ok(())
 }
 
-/// The steps of a file that is whole at the end, its digest and its windows; sealed twice.
+/// The steps of a file that is whole at the end, its hash and its windows; sealed twice.
 pub fn expect_whole(
     rt: &impl Abort,
     alloc: Global,
     file: File,
     steps: &[Step],
-    md5: [u8; 16],
+    hash: HashValue,
     windows: (&str, &str),
 ) -> Result<(), Fail> {
-    let mut assembly = new_assembly(rt, alloc, file)?;
+    let mut assembly = new_assembly(rt, alloc, file, hash.kind())?;
     take_steps(rt, alloc, &mut assembly, file, steps)?;
     let sealed = Sealed {
         size: file.0.len() as u64,
-        md5,
+        hash,
     };
     let (first, last) = (windows.0.as_bytes(), windows.1.as_bytes());
     expect_file(rt, &mut assembly, sealed, first, last);

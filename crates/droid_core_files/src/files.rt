@@ -3,10 +3,9 @@
 ghost use Rattle.std.specs.Prelude.{◌≡◌, ◌≢◌, ◌+◌, ◌*◌, ◌^◌, ◌<◌, ◌≤◌, ◌↔◌, ◌++◌, ◌∷◌, [], ℕ, List, length, min, Ok, Err, Some, None, IsTrue, IsOk, IfOk, IfSome, OnOk, OnErr, IsErrOf, IsSome, is_some, false};
 ghost use Rattle.std.specs.Bool.{OnFalse};
 ghost use Rattle.std.specs.List.{slice_get, remove, AllByRecursion};
-ghost use Rattle.md5.specs.Md5.{md5};
 ghost use Rattle.droid_assembly.specs.Pieces.{Piece, IsDue, HasIndex, LacksIndex, held as held_of, missing as missing_of, kept_bytes as kept_of, file_bytes};
-ghost use Rattle.droid_assembly.specs.State.{StandsFor, IsComplete, IsOfSameFile, IsUnchanged, count_of, with_pending, pending_bytes};
-ghost use Rattle.droid_frame.specs.Replies.{IsDigest};
+ghost use Rattle.droid_assembly.specs.State.{StandsFor, IsComplete, IsOfSameFile, IsUnchanged, count_of, hash_kind_of, with_pending, pending_bytes};
+ghost use Rattle.droid_frame.specs.Hashes.{hash, IsHashValue};
 ghost use Rattle.droid_pronom.specs.Found.{IsFound};
 ghost use Rattle.droid_pronom.specs.RegistryFields.{is_puid};
 
@@ -226,7 +225,7 @@ impl UnfinishedFiles {
     }
 
     /// Identifies the file at this place by its name and its first and last bytes, where no piece of
-    /// it is missing: its size, its MD5 and what the registry finds. It may be asked for again, and
+    /// it is missing: its size, its hash and what the registry finds. It may be asked for again, and
     /// changes nothing that another call tells.
     pub fn identify(
         &mut self,
@@ -245,9 +244,9 @@ impl UnfinishedFiles {
         ensures complete { OnOk result (At self.old place IsComplete) }
         ensures size { At self.old place (λ file. (pieces : List Piece) → StandsFor file pieces
             → IfOk result (λ finding. finding.sealed.size ≡ length (file_bytes (count_of file) pieces))) }
-        ensures digest { At self.old place (λ file. (pieces : List Piece) → StandsFor file pieces
-            → IfOk result (λ finding. finding.sealed.md5 ≡ md5 (file_bytes (count_of file) pieces))) }
-        ensures sixteen { IfOk result (λ finding. IsDigest finding.sealed.md5) }
+        ensures hash { At self.old place (λ file. (pieces : List Piece) → StandsFor file pieces
+            → IfOk result (λ finding. finding.sealed.hash ≡ hash (hash_kind_of file) (file_bytes (count_of file) pieces))) }
+        ensures length { IfOk result (λ finding. IsHashValue finding.sealed.hash) }
         ensures found { At self.old place (λ file. (pieces : List Piece) → StandsFor file pieces
             → IfOk result (λ finding. IsFound registry.now name.now (file_bytes (count_of file) pieces) file.limit match_all finding.found)) }
         ensures few { IfOk result (λ finding. length finding.found.puids ≤ 4096) }

@@ -2,10 +2,9 @@
 
 ghost use Rattle.std.specs.Prelude.{◌≡◌, ◌<◌, ◌≤◌, ◌↔◌, ℕ, List, length, None, IsTrue, IsErrOf, IfOk, OnOk};
 ghost use Rattle.std.specs.List.{AllByRecursion};
-ghost use Rattle.md5.specs.Md5.{md5};
 ghost use Rattle.droid_assembly.specs.Pieces.{Piece, missing as missing_of, file_bytes};
-ghost use Rattle.droid_assembly.specs.State.{StandsFor, IsComplete, IsUnchanged, count_of};
-ghost use Rattle.droid_frame.specs.Replies.{IsDigest};
+ghost use Rattle.droid_assembly.specs.State.{StandsFor, IsComplete, IsUnchanged, count_of, hash_kind_of};
+ghost use Rattle.droid_frame.specs.Hashes.{hash, IsHashValue};
 ghost use Rattle.droid_pronom.specs.Found.{IsFound};
 ghost use Rattle.droid_pronom.specs.RegistryFields.{is_puid};
 
@@ -31,9 +30,9 @@ pub(crate) fn identify_whole(
     ensures complete { OnOk result (IsComplete file.old) }
     ensures size { (pieces : List Piece) → StandsFor file.old pieces
         → IfOk result (λ finding. finding.sealed.size ≡ length (file_bytes (count_of file.old) pieces)) }
-    ensures digest { (pieces : List Piece) → StandsFor file.old pieces
-        → IfOk result (λ finding. finding.sealed.md5 ≡ md5 (file_bytes (count_of file.old) pieces)) }
-    ensures sixteen { IfOk result (λ finding. IsDigest finding.sealed.md5) }
+    ensures hash { (pieces : List Piece) → StandsFor file.old pieces
+        → IfOk result (λ finding. finding.sealed.hash ≡ hash (hash_kind_of file.old) (file_bytes (count_of file.old) pieces)) }
+    ensures length { IfOk result (λ finding. IsHashValue finding.sealed.hash) }
     ensures found { (pieces : List Piece) → StandsFor file.old pieces
         → IfOk result (λ finding. IsFound registry.now name.now (file_bytes (count_of file.old) pieces) file.old.limit match_all finding.found) }
     ensures few { IfOk result (λ finding. length finding.found.puids ≤ 4096) }

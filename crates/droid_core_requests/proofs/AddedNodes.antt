@@ -23,6 +23,7 @@ still_open profile node content found is = record {
     size = is.assembled.size;
     piece_size = is.assembled.piece_size;
     limit = is.assembled.limit;
+    hash = is.assembled.hash;
     pieces = is.assembled.pieces;
     none_pending = is.assembled.none_pending;
   };
@@ -144,6 +145,7 @@ module _ (world : World) (number : ℕ) (profile : Profile) (parent : ℕ) (modi
             size = new_assembly.size;
             piece_size = new_assembly.piece_size;
             limit = new_assembly.limit;
+            hash = new_assembly.hash;
             pieces = new_assembly.pieces;
             none_pending = new_assembly.none_pending;
           };

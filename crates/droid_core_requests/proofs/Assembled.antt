@@ -45,6 +45,7 @@ same_assembly before after (Some (File parent modified name content)) found limi
     size = it.assembled.size;
     piece_size = it.assembled.piece_size;
     limit = it.assembled.limit ∙ limit;
+    hash = it.assembled.hash;
     pieces = it.assembled.pieces;
     none_pending = it.assembled.none_pending;
   };

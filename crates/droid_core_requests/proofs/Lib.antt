@@ -21,4 +21,5 @@ pub mod PlaceChecks
 pub mod PuidTexts
 pub mod PutJudged
 pub mod SameLists
+pub mod Sixteen
 pub mod UnchangedFiles

@@ -3,7 +3,7 @@ use Rattle.std.proofs.Common.{◌≡◌, inl, inr, ℕ, zero, suc, ◌+◌, List
 use Rattle.std.proofs.lemmas.Bool.{cases_Bool}
 use Rattle.std.specs.Prelude.{ℤ, MatchBool}
 use Rattle.droid_assembly.specs.Pieces.{Piece}
-use Rattle.droid_assembly.specs.State.{State, StandsFor, IsOfSameFile, with_pending}
+use Rattle.droid_assembly.specs.State.{State, StandsFor, IsOfSameFile, hash_kind_of, with_pending}
 use Rattle.droid_core_spec.specs.Files.{with_piece}
 use Rattle.droid_core_spec.specs.Judging.{world_set, node_set}
 use Rattle.droid_core_spec.specs.World.{Content, File, Profile, World, numbered, node_at}
@@ -69,6 +69,7 @@ module _ (old mid new : OpenFiles) (place : ℕ) (first : IsAlikeBut place old m
           size = same.size ∙ ap (λ (a : State). a.size) put_at ∙ is.size;
           piece_size = same.piece_size ∙ ap (λ (a : State). a.piece_size) put_at ∙ is.piece_size;
           limit = same.limit ∙ ap (λ (a : State). a.limit) put_at ∙ is.limit ∙ limit;
+          hash = same.hash_kind ∙ ap hash_kind_of put_at ∙ is.hash;
           pieces = settled was now middle.at last.at content.pieces (index, bytes) (stood file was here middle.at content.pieces is.pieces) (ap (λ (a : State). a.pending) put_at);
           none_pending = none_pending was now middle.at last.at;
         }

@@ -1,5 +1,6 @@
 -- What the kinds of request look up, take and place.
 pub mod Causes
+pub mod Digests
 pub mod KeptTexts
 pub mod LookUps
 pub mod NewAssemblies

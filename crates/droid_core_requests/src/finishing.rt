@@ -9,6 +9,7 @@ ghost use Rattle.droid_core_state.specs.Changes.{Comes, answered, stamped};
 ghost use Rattle.droid_core_state.specs.Rows.{IsShort};
 ghost use Rattle.droid_core_state.specs.Standing.{IsIn};
 ghost use Rattle.droid_core_requests.specs.Causes.{says_store};
+ghost use Rattle.droid_core_requests.specs.Digests.{md5_in};
 ghost use Rattle.droid_frame.specs.Replies.{HasReplySpelling, IsDigest};
 ghost use Rattle.droid_frame.specs.types.reply.Reply.TheVariants as replies;
 ghost use Rattle.droid_frame.specs.types.request.Request.TheVariants.{Finish};
@@ -27,7 +28,7 @@ use crate::file_rows::{FileRow, file_of, none_is_pending, place_of_file};
 use droid_assembly::Sealed;
 use droid_core_files::{Finding, IdentifyFault, UnfinishedFiles};
 use droid_core_state::{Parts, Stamp, entry_of, store_refusal};
-use droid_frame::{Method, Refusal, Reply, Texts};
+use droid_frame::{HashValue, Method, Refusal, Reply, Texts};
 use droid_pronom::Registry;
 use droid_store::Store;
 use std::alloc::Global;
@@ -77,10 +78,10 @@ fn identify_file(
     ensures allowed { OnOk result (At files.old place (λ file. (profile : Profile) (content : Content) → IsAssemblyOf profile content file → content.finished ≡ false
         → refusal_of (finish_checks content) ≡ None)) }
     ensures digest { IfOk result (λ finding. At files.old place (λ file. (profile : Profile) (content : Content) → IsAssemblyOf profile content file
-        → finding.sealed.md5 ≡ md5 (bytes_of content))) }
+        → md5_in finding.sealed.hash ≡ md5 (bytes_of content))) }
     ensures found { IfOk result (λ finding. At files.old place (λ file. (profile : Profile) (content : Content) → IsAssemblyOf profile content file
         → IsFound registry.now row.now.node.item.name (bytes_of content) profile.scan_limit row.now.profile.match_all finding.found)) }
-    ensures sixteen { IfOk result (λ finding. IsDigest finding.sealed.md5) }
+    ensures sixteen { IfOk result (λ finding. IsDigest (md5_in finding.sealed.hash)) }
     ensures few { IfOk result (λ finding. length finding.found.puids ≤ 4096) }
     ensures puids { IfOk result (λ finding. AllByRecursion (λ puid. IsTrue (is_puid puid)) finding.found.puids) }
     ensures unchanged { Turns files.old files.new place IsUnchanged }
@@ -112,12 +113,12 @@ fn keep_finding(
     requires small { stamp.number < 2 ^ 63 }
     requires within { place < length files.old.files }
     requires file { IsOpen number file store.old }
-    requires digest { IsDigest finding.sealed.md5 }
+    requires digest { IsDigest (md5_in finding.sealed.hash) }
     requires few { length finding.found.puids ≤ 4096 }
     requires puids { AllByRecursion (λ puid. IsTrue (is_puid puid)) finding.found.puids }
-    ensures reply { IfOk result (λ reply. reply ≡ replies.Finished finding.found.method finding.found.mismatch finding.sealed.md5 finding.found.puids) }
+    ensures reply { IfOk result (λ reply. reply ≡ replies.Finished finding.found.method finding.found.mismatch (md5_in finding.sealed.hash) finding.found.puids) }
     ensures kept { IfOk result (λ reply. store.new ≡ with_reply (stamped stamp reply)
-        (with_finished number file finding.found.method finding.found.mismatch finding.sealed.md5 finding.found.puids store.old)) }
+        (with_finished number file finding.found.method finding.found.mismatch (md5_in finding.sealed.hash) finding.found.puids store.old)) }
     ensures spelled { HasReplySpelling (answered result) }
     ensures gone { OnOk result ((one : OpenFile) → IsAt files.old.files place one → open_at one.profile one.file files.new.files ≡ None) }
     ensures others { OnOk result ((one : OpenFile) (that_number that_id : ℕ) → IsAt files.old.files place one → is_of that_number that_id one ≡ false
@@ -129,7 +130,7 @@ fn keep_finding(
     ensures memory { AllByRecursion IsShort store.old.nodes → IfErr result (λ refusal. refusal ≡ Refusal.Memory) }
 {
     let Finding { sealed, found } = finding;
-    let md5 = sealed.md5;
+    let md5 = md5_of(sealed.hash);
     let reply = finished_reply(alloc, found.method, found.mismatch, md5, &found.puids)?;
     let entry = entry_of(alloc, stamp, &reply)?;
     match store.commit_finish(
@@ -146,6 +147,17 @@ fn keep_finding(
             Ok(reply)
         }
         Err(fault) => Err(store_refusal(fault)),
+    }
+}
+
+/// The MD5 of a file: each profile has that hash.
+fn md5_of(value: HashValue) -> [u8; 16]
+    ensures { result ≡ md5_in value }
+{
+    match value {
+        HashValue::Md5(digest) => digest,
+        HashValue::Nothing => [0; 16],
+        HashValue::Sha256(_) => [0; 16],
     }
 }
 

@@ -20,7 +20,7 @@ use droid_core_files::UnfinishedFiles;
 use droid_core_state::{
     Parts, Room, Stamp, entry_of, file_refusal, is_scan_limit, profile_of, store_refusal,
 };
-use droid_frame::{Refusal, Reply, Text};
+use droid_frame::{HashKind, Refusal, Reply, Text};
 use std::alloc::Global;
 
 /// Adds a file to a profile, whose pieces are still to come.
@@ -95,7 +95,7 @@ fn new_assembly(alloc: Global, size: u64, piece_size: u32, limit: u32) -> Result
     if !is_scan_limit(limit) {
         return Err(Refusal::Store);
     }
-    match Assembly::new(alloc, size, piece_size, limit) {
+    match Assembly::new(alloc, size, piece_size, limit, HashKind::Md5) {
         Ok(assembly) => Ok(assembly),
         Err(_) => Err(Refusal::Memory),
     }

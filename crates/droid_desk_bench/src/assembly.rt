@@ -3,8 +3,9 @@
 ghost use Rattle.std.specs.Prelude.{◌≡◌, IfOk, None};
 
 use droid_assembly::{Assembly, Spent};
-use droid_frame::Blob;
-use md5::{Digest, Md5};
+use droid_frame::{Blob, HashKind, HashValue};
+use md5::{Digest as Md5Digest, Md5};
+use sha2::{Digest as Sha2Digest, Sha256};
 use std::alloc::{AllocError, Global};
 
 /// A piece of a file.
@@ -53,18 +54,18 @@ pub fn content(alloc: Global, length: u32) -> Result<Vec<u8>, AllocError> {
     Ok(bytes)
 }
 
-/// An assembly of a file of 256 MiB in pieces of 1 MiB.
-pub fn of_large_pieces(alloc: Global) -> Result<Assembly, AllocError>
+/// An assembly of a file of 256 MiB in pieces of 1 MiB, which gets this hash.
+pub fn of_large_pieces(alloc: Global, hash: HashKind) -> Result<Assembly, AllocError>
     ensures { IfOk result (λ assembly. assembly.pending ≡ None) }
 {
-    Assembly::new(alloc, 268_435_456, 1_048_576, 65_536)
+    Assembly::new(alloc, 268_435_456, 1_048_576, 65_536, hash)
 }
 
 /// An assembly of a file of as many pieces as there can be, each of one byte.
 pub fn of_single_bytes(alloc: Global) -> Result<Assembly, AllocError>
     ensures { IfOk result (λ assembly. assembly.pending ≡ None) }
 {
-    Assembly::new(alloc, 1_048_576, 1, 65_536)
+    Assembly::new(alloc, 1_048_576, 1, 65_536, HashKind::Md5)
 }
 
 /// Takes the pieces one after another, and tells whether none was refused.
@@ -93,12 +94,12 @@ pub fn keep_all(assembly: &mut Assembly, pieces: Vec<Piece>, kept: &mut Vec<Spen
     true
 }
 
-/// The digest of the file that the pieces make, if they do.
-pub fn digest_of(assembly: &mut Assembly) -> Option<[u8; 16]>
+/// The hash of the file that the pieces make, if they do.
+pub fn hash_of(assembly: &mut Assembly) -> Option<HashValue>
     requires { assembly.old.pending ≡ None }
     ensures { assembly.new.pending ≡ None }
 {
-    assembly.seal().ok().map(|sealed| sealed.md5)
+    assembly.seal().ok().map(|sealed| sealed.hash)
 }
 
 /// Takes one piece, unless it is refused.
@@ -124,19 +125,41 @@ fn keep(assembly: &mut Assembly, piece: Piece, kept: &mut Vec<Spent>) -> bool
     kept.push(assembly.settle()).is_ok()
 }
 
-/// The digest of the file that the pieces make, by the hash alone over their own bytes.
-pub fn digest_alone(pieces: &[Piece], order: Order) -> [u8; 16] {
+/// The hash of the file that the pieces make, by the hash alone over their own bytes.
+pub fn hash_alone(pieces: &[Piece], order: Order, kind: HashKind) -> HashValue {
+    match kind {
+        HashKind::Nothing => HashValue::Nothing,
+        HashKind::Md5 => HashValue::Md5(md5_alone(pieces, order)),
+        HashKind::Sha256 => HashValue::Sha256(sha256_alone(pieces, order)),
+    }
+}
+
+fn md5_alone(pieces: &[Piece], order: Order) -> [u8; 16] {
     let mut hash = Md5::new();
     for index in 0..pieces.len() {
-        let place = match order {
-            Order::Rising => index,
-            Order::Turned => index ^ 15,
-        };
-        if let Some(piece) = pieces.get(place) {
+        if let Some(piece) = pieces.get(place_of(index, order)) {
             hash.update(piece.bytes.as_slice());
         }
     }
     hash.finalize()
+}
+
+fn sha256_alone(pieces: &[Piece], order: Order) -> [u8; 32] {
+    let mut hash = Sha256::new();
+    for index in 0..pieces.len() {
+        if let Some(piece) = pieces.get(place_of(index, order)) {
+            hash.update(piece.bytes.as_slice());
+        }
+    }
+    hash.finalize()
+}
+
+/// Where the piece of this index lies.
+fn place_of(index: usize, order: Order) -> usize {
+    match order {
+        Order::Rising => index,
+        Order::Turned => index ^ 15,
+    }
 }
 
 /// The digest of these bytes, by the hash alone in blocks of 64 bytes.

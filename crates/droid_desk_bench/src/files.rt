@@ -5,6 +5,7 @@ ghost use Rattle.std.specs.Prelude.{◌≡◌, None};
 use crate::assembly::{self, Order, Piece};
 use anyhow::{Context, Error};
 use droid_assembly::{Assembly, Spent};
+use droid_frame::{HashKind, HashValue};
 use std::alloc::Global;
 use std::rt::Clock;
 use std::time::Instant;
@@ -34,8 +35,17 @@ enum Fate {
 /// Prints how long a file of 256 MiB takes in pieces of 1 MiB, in order and with as many waiting as can, and one of
 /// 1 MiB in pieces of a byte.
 pub fn measure<R: Print + Clock + AllocGlobal>(rt: &R) -> Result<(), Error> {
-    print_large(rt, "in order", Order::Rising)?;
-    print_large(rt, "sixteen turned", Order::Turned)?;
+    let (md5, sha256) = (HashKind::Md5, HashKind::Sha256);
+    print_large(rt, "in order, MD5", Order::Rising, md5, md5)?;
+    print_large(rt, "sixteen turned, MD5", Order::Turned, md5, md5)?;
+    print_large(rt, "in order, SHA-256", Order::Rising, sha256, sha256)?;
+    print_large(
+        rt,
+        "in order, no hash",
+        Order::Rising,
+        HashKind::Nothing,
+        md5,
+    )?;
     let blocks = hash_in_blocks(rt)?;
     println!(rt;
         "hash: 1 MiB in blocks of 64 bytes in {} microseconds",
@@ -60,22 +70,24 @@ fn hash_in_blocks<R: Print + Clock + AllocGlobal>(rt: &R) -> Result<u128, Error>
     Ok(least)
 }
 
-/// Prints how long a file of 256 MiB takes beside the hash alone over the same pieces: where what is handed back is
+/// Prints how long a file of 256 MiB with this hash takes beside a hash alone over the same pieces: where what is handed back is
 /// kept aside, as the hash keeps the pieces, and where each piece is dropped as it comes back.
 fn print_large<R: Print + Clock + AllocGlobal>(
     rt: &R,
     what: &str,
     order: Order,
+    hash: HashKind,
+    beside: HashKind,
 ) -> Result<(), Error> {
     let mut alone = u128::MAX;
     let mut kept = u128::MAX;
     let mut dropped = u128::MAX;
     for _ in 0..ROUNDS {
-        let (hash, own) = times_of_large(rt, order, Fate::Kept)?;
-        alone = alone.min(hash);
+        let (other, own) = times_of_large(rt, order, Fate::Kept, hash, beside)?;
+        alone = alone.min(other);
         kept = kept.min(own);
-        let (hash, own) = times_of_large(rt, order, Fate::Dropped)?;
-        alone = alone.min(hash);
+        let (other, own) = times_of_large(rt, order, Fate::Dropped, hash, beside)?;
+        alone = alone.min(other);
         dropped = dropped.min(own);
     }
     println!(rt;
@@ -127,24 +139,30 @@ fn print_small<R: Print + Clock + AllocGlobal>(
     Ok(())
 }
 
-/// How many nanoseconds the hash takes alone over the pieces of a large file, and how many an assembly takes for these
-/// very pieces.
+/// How many nanoseconds a hash takes alone over the pieces of a large file, and how many an assembly with another hash, or
+/// the same, takes for these very pieces.
 fn times_of_large<R: Clock + AllocGlobal>(
     rt: &R,
     order: Order,
     fate: Fate,
+    hash: HashKind,
+    beside: HashKind,
 ) -> Result<(u128, u128), Error> {
     let pieces = assembly::pieces(rt.alloc(), 0, LARGE_PIECES, 1 << 20, order)?;
     let start = Instant::now(rt)?;
-    let alone = assembly::digest_alone(pieces.as_slice(), order);
-    let hash = start.elapsed(rt)?.as_nanos();
-    let mut assembly = assembly::of_large_pieces(rt.alloc())?;
+    let alone = assembly::hash_alone(pieces.as_slice(), order, beside);
+    let other = start.elapsed(rt)?.as_nanos();
+    let mut assembly = assembly::of_large_pieces(rt.alloc(), hash)?;
     let taking = time_to_take(rt, &mut assembly, pieces, fate)?;
-    let (digest, sealing) = seal(rt, &mut assembly)?;
-    if digest != alone {
+    let (value, sealing) = seal(rt, &mut assembly)?;
+    let wanted = match hash {
+        HashKind::Nothing => HashValue::Nothing,
+        HashKind::Md5 | HashKind::Sha256 => alone,
+    };
+    if value != wanted {
         return None.context("the pieces make another file");
     }
-    Ok((hash, taking.saturating_add(sealing)))
+    Ok((other, taking.saturating_add(sealing)))
 }
 
 /// How many nanoseconds an assembly takes for a file in pieces of a byte.
@@ -182,14 +200,14 @@ fn time_to_take<R: Clock + AllocGlobal>(
     Ok(took)
 }
 
-/// The digest of the file that was taken, and how many nanoseconds it takes to ask for it.
-fn seal<R: Clock + AllocGlobal>(rt: &R, assembly: &mut Assembly) -> Result<([u8; 16], u128), Error>
+/// The hash of the file that was taken, and how many nanoseconds it takes to ask for it.
+fn seal<R: Clock + AllocGlobal>(rt: &R, assembly: &mut Assembly) -> Result<(HashValue, u128), Error>
     requires { assembly.old.pending ≡ None }
 {
     let start = Instant::now(rt)?;
-    let digest = assembly::digest_of(assembly);
+    let value = assembly::hash_of(assembly);
     let took = start.elapsed(rt)?.as_nanos();
-    Ok((digest.context("the pieces")?, took))
+    Ok((value.context("the pieces")?, took))
 }
 
 /// How many nanoseconds it takes to drop the pieces of a file in pieces of a byte.

@@ -20,7 +20,7 @@ loop-place-preserved c =
           let more = joined-more several now.place bytes below at in
           let knows : (before : List ℕ) → FrontKnows c.args.front.now before → FrontKnows w.take.new.self (before ++ concat (take (now.place + 1) several)) =
           λ before known. rw (more, ← append_assoc before shown bytes, ← w.as_slice.ensures.value) (w.take.ensures.knows (before ++ shown) (now.invariant.knows before known)) in
-          rw w.front-is (record { sound = w.take.ensures.sound; width = w.take.ensures.width ∙ now.invariant.width; knows = knows })
+          rw w.front-is (record { sound = w.take.ensures.sound; width = w.take.ensures.width ∙ now.invariant.width; kind = w.take.ensures.kind ∙ now.invariant.kind; knows = knows })
       | in_default w ↦ absurd (none-past several now.place below (sym c.get.ensures ∙ ap option_copied w.in_default.is))
     ]
 

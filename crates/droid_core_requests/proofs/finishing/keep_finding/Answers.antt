@@ -10,6 +10,6 @@ commit_finish-requires-clause-puids c = are_words c.args.finding.found.puids c.r
 pub returns-clause-memory : goal.returns-clause-memory
 returns-clause-memory c = λ short.
     let found = c.args.finding.found in
-    let digest = c.args.finding.sealed.md5 in
-    let fits = finished_fits c.args.store.now c.args.number c.args.file found.method found.mismatch digest found.puids short c.requires.digest.0 c.requires.few (are_texts found.puids c.requires.puids) in
+    let digest = c.md5_of-md5.result in
+    let fits = finished_fits c.args.store.now c.args.number c.args.file found.method found.mismatch digest found.puids short (rw c.md5_of-md5.ensures c.requires.digest.0) c.requires.few (are_texts found.puids c.requires.puids) in
     c.store_refusal.ensures.told ∙ ap told_of (c.in-Err.ensures.memory c.in_ok-entry.ensures.fits fits)

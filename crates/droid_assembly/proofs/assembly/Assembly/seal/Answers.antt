@@ -1,8 +1,8 @@
 use Rattle.std.proofs.Common.{arith, sym, subst}
 use Rattle.droid_assembly.specs.Parts.{state_of}
 use Rattle.droid_assembly.specs.State.{StandsFor, IsComplete}
-use Rattle.droid_frame.specs.Replies.{IsDigest}
-use Rattle.droid_assembly.proofs.Digests.{is_digest}
+use Rattle.droid_frame.specs.Hashes.{IsHashValue}
+use Rattle.droid_assembly.proofs.Digests.{is_hash_value}
 use Rattle.droid_assembly.proofs.Whole.{length-complete}
 use Rattle.droid_assembly.proofs.assembly.Assembly.seal.Goals as goal
 
@@ -17,5 +17,5 @@ returns-clause-size c pieces stands =
     let complete : IsComplete a = omega (arith, c.if-missing-count.false, whole, first, before.least, sound.within) in
     rw (← c.self.view_is) (sym (length-complete a c.self.inside.front pieces sound complete before))
 
-pub returns-clause-sixteen : goal.returns-clause-sixteen
-returns-clause-sixteen c = subst IsDigest (sym (c.digest_of.ensures.digest _ c.self.invariant.stands.hashed)) (is_digest _)
+pub returns-clause-length : goal.returns-clause-length
+returns-clause-length c = subst IsHashValue (sym (c.hash_of.ensures.value _ c.self.invariant.stands.is_hash)) (is_hash_value _ _)

@@ -1,4 +1,5 @@
 use Rattle.std.proofs.Common.{◌∙◌, ap, length, refl}
+use Rattle.droid_assembly.specs.Hashing.{running_kind}
 use Rattle.droid_assembly.specs.Parts.{state_of}
 use Rattle.droid_assembly.specs.State.{StandsFor}
 use Rattle.droid_assembly.proofs.Whole.{first-whole, last-whole, length-first, length-last}
@@ -15,7 +16,7 @@ returns c =
         refl,
         (λ _. tt),
         rw (← c.self.view_is, c.straighten.ensures.first, c.straighten.ensures.last, c.straighten.ensures.hash, c.straighten.ensures.capacity) (record {
-          same_file = record { size = refl; piece_size = refl; limit = refl };
+          same_file = record { size = refl; piece_size = refl; limit = refl; hash_kind = refl {a = running_kind c.self.inside.front.hash} };
           missing = refl;
           pending = refl;
           stands = λ pieces h. h;

@@ -16,5 +16,5 @@ returns-clause-knows c before knows =
           ∙ ap (λ w. last_window w (ring_items front.last ++ bytes)) c.requires.same_width
           ∙ ap (λ last. last_window front.width (last ++ bytes)) knows.ended
           ∙ last-last front.width before bytes;
-      hashed = c.update.ensures before knows.hashed;
+      hashed = c.update.ensures.holds before knows.hashed;
     }

@@ -14,8 +14,8 @@ returns-clause-incomplete c = rw (← c.self.view_is) (of_read (files_of c.self.
 pub returns-clause-size : goal.returns-clause-size
 returns-clause-size c = rw (← c.self.view_is) (of_read (files_of c.self.inside) c.args.place c.index_mut.result.now c.index_mut.ensures.value _ c.identify_whole.ensures.size)
 
-pub returns-clause-digest : goal.returns-clause-digest
-returns-clause-digest c = rw (← c.self.view_is) (of_read (files_of c.self.inside) c.args.place c.index_mut.result.now c.index_mut.ensures.value _ c.identify_whole.ensures.digest)
+pub returns-clause-hash : goal.returns-clause-hash
+returns-clause-hash c = rw (← c.self.view_is) (of_read (files_of c.self.inside) c.args.place c.index_mut.result.now c.index_mut.ensures.value _ c.identify_whole.ensures.hash)
 
 pub returns-clause-found : goal.returns-clause-found
 returns-clause-found c = rw (← c.self.view_is) (of_read (files_of c.self.inside) c.args.place c.index_mut.result.now c.index_mut.ensures.value _ c.identify_whole.ensures.found)
