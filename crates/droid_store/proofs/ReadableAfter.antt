@@ -1,6 +1,6 @@
 -- Rows can be read back, also after each change; and what is found of them can.
-use Rattle.std.proofs.Common.{◌≡◌, ◌<◌, ◌^◌, inl, inr, ℕ, zero, suc, List, [], ◌∷◌, length, map, find, filter, slice_get, Bool, true, false, not, Some, if◌then◌else◌, IsUtf8, subst, arith}
-use Rattle.std.proofs.lemmas.Bool.{cases_Bool}
+use Rattle.std.proofs.Common.{◌≡◌, ◌<◌, ◌≤◌, ◌^◌, ◌==◌, inl, inr, ℕ, zero, suc, List, [], ◌∷◌, length, map, find, filter, slice_get, Bool, true, false, not, Some, None, if◌then◌else◌, IsUtf8, refl, subst, arith}
+use Rattle.std.proofs.lemmas.Bool.{cases_Bool, and_parts, eqb-true}
 use Rattle.std.specs.List.{AllByRecursion}
 use Rattle.droid_frame.specs.types.method.Method.{Method}
 use Rattle.droid_store.specs.declared.rows.Entry.{Entry}
@@ -77,6 +77,19 @@ child_readable profile parent name rows n all is = found_has NodeFits (is_child 
 
 pub reply_readable : (client number : ℕ) (rows : Rows) (e : Entry) → AreReadable rows → reply_for client number rows ≡ Some e → EntryFits e
 reply_readable client number rows e all is = found_has EntryFits (is_for client number) rows.replies e all.replies is
+
+-- no row has a number of 2^63 or more
+none_of_number : (client number : ℕ) (es : List Entry) → AllByRecursion EntryFits es → 2 ^ 63 ≤ number → find (is_for client number) es ≡ None
+none_of_number client number [] all past = refl
+none_of_number client number (e ∷ es) all past = elim (cases_Bool (is_for client number e)) [
+  | inl is ↦ let same = eqb-true e.number number (and_parts (e.client == client) (e.number == number) is).1 in
+      let low = all.0.number in
+      absurd (omega (arith, same, low, past))
+  | inr isnt ↦ rw isnt (none_of_number client number es all.1 past)
+]
+
+pub none_past : (client number : ℕ) (rows : Rows) → AreReadable rows → 2 ^ 63 ≤ number → reply_for client number rows ≡ None
+none_past client number rows all past = none_of_number client number rows.replies all.replies past
 
 pub profile_readable : (profile : ℕ) (rows : Rows) (p : ProfileRow) → AreReadable rows → profile_at profile rows ≡ Some p → ProfileFits p
 profile_readable zero rows p all is = absurd cc

@@ -1,4 +1,4 @@
--- Rows that can be read back: numbers in the range of their types, texts that are UTF-8, digests of 16 bytes.
+-- Rows that can be read back: numbers in the range of their types, and a request's below 2^63, texts that are UTF-8, digests of 16 bytes.
 use Rattle.std.specs.Prelude.{◌≡◌, ◌<◌, ◌^◌, length, IsUtf8}
 use Rattle.std.specs.List.{AllByRecursion}
 use Rattle.droid_store.specs.declared.rows.Entry.{Entry}
@@ -20,6 +20,7 @@ pub record NodeFits (n : Node) : Type 0 where
   pub md5 : length n.md5 ≡ 16
 
 pub record EntryFits (e : Entry) : Type 0 where
+  pub number : e.number < 2 ^ 63
   pub kind : e.kind < 2 ^ 8
   pub mark : length e.mark ≡ 16
 

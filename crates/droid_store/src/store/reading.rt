@@ -1,6 +1,6 @@
 //! The calls that read. They leave the rows as they are, also where they fail.
 
-ghost use Rattle.std.specs.Prelude.{◌≡◌, ◌<◌, ◌^◌, IfOk, IfErr, Ok, option_map};
+ghost use Rattle.std.specs.Prelude.{◌≡◌, IfOk, IfErr, Ok, option_map};
 ghost use Rattle.droid_store.specs.declared.fault.StoreFault.TheVariants.{Memory};
 ghost use Rattle.droid_store.specs.Rows.{profile_at, node_at, child_at, reply_for, records_of, counts_of, row_of};
 
@@ -9,17 +9,20 @@ use crate::look_ups::{find_child, find_node, find_profile, find_reply, list_node
 use crate::read_rows::{entry_of, node_of, profile_of, records_in};
 use crate::rows::{Counts, Entry, NodeRow, ProfileRow};
 use crate::store::Store;
-use droid_frame::Record;
+use droid_frame::{NUMBER_LIMIT, Record};
 
 impl Store {
-    /// What is kept under this client and number.
+    /// What is kept under this client and number. No row has a number of 2^63 or more.
     pub fn reply_of(&mut self, client: u32, number: u64) -> Result<Option<Entry>, StoreFault>
-        requires small { number < 2 ^ 63 }
         ensures same { self.new ≡ self.old }
         ensures found { IfOk result (λ found. found ≡ reply_for client number self.old) }
         ensures memory { IfErr result (λ fault. fault ≡ Memory) }
     {
-        let Some(row) = find_reply(&mut self.conn, client, number)? else {
+        let conn = &mut self.conn;
+        if number >= NUMBER_LIMIT {
+            return Ok(None);
+        }
+        let Some(row) = find_reply(conn, client, number)? else {
             return Ok(None);
         };
         Ok(Some(entry_of(&row, client, number)?))
