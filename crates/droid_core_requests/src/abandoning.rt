@@ -11,7 +11,7 @@ ghost use Rattle.droid_core_spec.specs.World.{World};
 ghost use Rattle.droid_store.specs.Rows.{reply_for};
 
 use crate::file_rows::{file_of, place_of_file};
-use droid_core_state::{Parts, Stamp, entry_of, store_refusal};
+use droid_core_state::{Parts, Stamp, entry_of};
 use droid_frame::{Refusal, Reply};
 
 /// Abandons an unfinished file.
@@ -30,11 +30,7 @@ pub fn abandon(parts: &mut Parts, stamp: Stamp, number: u32, file: u32) -> Resul
     }
     let place = place_of_file(&parts.files, number, file)?;
     let entry = entry_of(parts.alloc, stamp, &Reply::Abandoned)?;
-    match parts.store.commit_abandon(&entry, number, file) {
-        Ok(()) => {
-            parts.files.remove(place);
-            Ok(Reply::Abandoned)
-        }
-        Err(fault) => Err(store_refusal(fault)),
-    }
+    parts.store.commit_abandon(&entry, number, file)?;
+    parts.files.remove(place);
+    Ok(Reply::Abandoned)
 }

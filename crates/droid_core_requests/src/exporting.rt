@@ -4,7 +4,7 @@ ghost use Rattle.std.specs.Prelude.{◌≡◌, ◌≤◌, IfOk, IfErr, IsOk, IsT
 ghost use Rattle.droid_core_state.specs.Changes.{Comes, answered};
 ghost use Rattle.droid_core_state.specs.Standing.{IsIn};
 ghost use Rattle.droid_core_state.specs.declared.stamps.Stamp.{Stamp};
-ghost use Rattle.droid_export.specs.Text.{HaveMoments, text};
+ghost use Rattle.droid_export.specs.Text.{HaveMoments};
 ghost use Rattle.droid_frame.specs.Replies.{HasReplySpelling};
 ghost use Rattle.droid_frame.specs.types.request.Request.TheVariants.{Export};
 ghost use Rattle.droid_core_requests.specs.KeptTexts.{IsFor, IsLastText, is_followed};
@@ -18,7 +18,6 @@ use crate::kept_text::{KeptText, forget_text, keep_text, text_for};
 use droid_core_state::{Parts, export_refusal, is_moment, profile_of};
 use droid_export::export_text;
 use droid_frame::{Blob, Filter, Record, Refusal, Reply};
-use droid_pronom::Registry;
 use droid_store::Store;
 use std::alloc::Global;
 
@@ -52,7 +51,7 @@ pub fn export(
     }
     forget_text(last);
     let records = records_in(&mut parts.store, number)?;
-    let text = text_of(parts.alloc, records.as_slice(), &parts.registry, &filter)?;
+    let text = export_text(parts.alloc, records.as_slice(), &parts.registry, &filter)?;
     let reply = part_of(parts.alloc, accepted, &text, from, max)?;
     keep_text(last, number, filter, text, from, max);
     Ok(reply)
@@ -65,13 +64,8 @@ fn records_in(store: &mut Store, number: u32) -> Result<Vec<Record>, Refusal>
     ensures moments { IfOk result (λ records. HaveMoments records.items) }
     ensures memory { HaveMoments (records_of number store.old) → IfErr result (λ refusal. refusal ≡ Refusal.Memory) }
 {
-    match store.records(number) {
-        Err(_) => Err(Refusal::Memory),
-        Ok(records) => {
-            let written = with_moments(records)?;
-            Ok(written)
-        }
-    }
+    let records = store.records(number)?;
+    with_moments(records)
 }
 
 /// The records, of which each has a moment that can be written. That one hasn't is true of no service,
@@ -101,23 +95,6 @@ fn have_moments(records: &[Record]) -> bool
     true
 }
 
-/// The text of an export.
-fn text_of(
-    alloc: Global,
-    records: &[Record],
-    registry: &Registry,
-    filter: &Filter,
-) -> Result<Blob, Refusal>
-    requires { HaveMoments records.now }
-    ensures text { IfOk result (λ bytes. bytes ≡ text registry.now filter.now records.now) }
-    ensures want { IfErr result (λ refusal. refusal ≡ Refusal.Memory) }
-{
-    match export_text(alloc, records, registry, filter) {
-        Ok(bytes) => Ok(bytes),
-        Err(_) => Err(Refusal::Memory),
-    }
-}
-
 /// How many commands were accepted. The store always tells it.
 fn accepted_by(store: &mut Store) -> u64
     ensures same { store.new ≡ store.old }
@@ -137,12 +114,10 @@ fn part_of(alloc: Global, accepted: u64, text: &Blob, from: u64, max: u32) -> Re
     let start = bytes.len().min(from as usize);
     let rest = &bytes[start..];
     let end = rest.len().min(max as usize);
-    match Blob::copy_of(alloc, &rest[..end]) {
-        Ok(bytes) => Ok(Reply::Part {
-            as_of: accepted,
-            total: text.len() as u64,
-            bytes,
-        }),
-        Err(_) => Err(Refusal::Memory),
-    }
+    let bytes = Blob::copy_of(alloc, &rest[..end])?;
+    Ok(Reply::Part {
+        as_of: accepted,
+        total: text.len() as u64,
+        bytes,
+    })
 }

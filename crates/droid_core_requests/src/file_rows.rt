@@ -64,10 +64,9 @@ pub fn node_of(found: Result<Option<NodeRow>, StoreFault>) -> Result<NodeRow, Re
     ensures found { IfOk result (λ row. found ≡ Ok (Some row)) }
     ensures none { IfErr result (λ refusal. MatchBool (is_want_of refusal) ⊤ ((refusal ≡ Refusal.NoSuchNode) × (found ≡ Ok None))) }
 {
-    match found {
-        Ok(Some(row)) => Ok(row),
-        Ok(None) => Err(Refusal::NoSuchNode),
-        Err(_) => Err(Refusal::Memory),
+    match found? {
+        Some(row) => Ok(row),
+        None => Err(Refusal::NoSuchNode),
     }
 }
 

@@ -27,7 +27,7 @@ ghost use Rattle.droid_core_files.specs.Files.{OpenFile, IsAt, At, Turns, IsAlik
 use crate::file_rows::{FileRow, file_of, none_is_pending, place_of_file};
 use droid_assembly::Sealed;
 use droid_core_files::{Finding, IdentifyFault, UnfinishedFiles};
-use droid_core_state::{Parts, Stamp, entry_of, store_refusal};
+use droid_core_state::{Parts, Stamp, entry_of};
 use droid_frame::{HashValue, Method, Refusal, Reply, Texts};
 use droid_pronom::Registry;
 use droid_store::Store;
@@ -133,7 +133,7 @@ fn keep_finding(
     let md5 = md5_of(sealed.hash);
     let reply = finished_reply(alloc, found.method, found.mismatch, md5, &found.puids)?;
     let entry = entry_of(alloc, stamp, &reply)?;
-    match store.commit_finish(
+    store.commit_finish(
         &entry,
         number,
         file,
@@ -141,13 +141,9 @@ fn keep_finding(
         found.mismatch,
         md5,
         &found.puids,
-    ) {
-        Ok(()) => {
-            files.remove(place);
-            Ok(reply)
-        }
-        Err(fault) => Err(store_refusal(fault)),
-    }
+    )?;
+    files.remove(place);
+    Ok(reply)
 }
 
 /// The MD5 of a file: each profile has that hash.
@@ -176,13 +172,11 @@ fn finished_reply(
     ensures spelled { IfOk result (λ reply. HasReplySpelling reply) }
     ensures want { IfErr result (λ refusal. refusal ≡ Refusal.Memory) }
 {
-    match puids.try_clone(alloc) {
-        Ok(puids) => Ok(Reply::Finished {
-            method,
-            mismatch,
-            md5,
-            puids,
-        }),
-        Err(_) => Err(Refusal::Memory),
-    }
+    let puids = puids.try_clone(alloc)?;
+    Ok(Reply::Finished {
+        method,
+        mismatch,
+        md5,
+        puids,
+    })
 }

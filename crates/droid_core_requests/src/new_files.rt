@@ -17,9 +17,7 @@ ghost use Rattle.droid_core_files.specs.Files.{open_at};
 use crate::new_places::{node_room, place_of};
 use droid_assembly::Assembly;
 use droid_core_files::UnfinishedFiles;
-use droid_core_state::{
-    Parts, Room, Stamp, entry_of, file_refusal, is_scan_limit, profile_of, store_refusal,
-};
+use droid_core_state::{Parts, Room, Stamp, entry_of, file_refusal, is_scan_limit, profile_of};
 use droid_frame::{HashKind, Refusal, Reply, Text};
 use std::alloc::Global;
 
@@ -54,7 +52,7 @@ pub fn add_file(
     has_room(&parts.files, number, id)?;
     let reply = Reply::Node { id };
     let entry = entry_of(parts.alloc, stamp, &reply)?;
-    match parts.store.commit_file(
+    parts.store.commit_file(
         &entry,
         number,
         id,
@@ -64,13 +62,9 @@ pub fn add_file(
         piece_size,
         name.as_str(),
         path.as_str(),
-    ) {
-        Ok(()) => {
-            parts.files.add(number, id, assembly);
-            Ok(reply)
-        }
-        Err(fault) => Err(store_refusal(fault)),
-    }
+    )?;
+    parts.files.add(number, id, assembly);
+    Ok(reply)
 }
 
 /// How many files are unfinished, over all profiles, and how many may be.
@@ -95,10 +89,8 @@ fn new_assembly(alloc: Global, size: u64, piece_size: u32, limit: u32) -> Result
     if !is_scan_limit(limit) {
         return Err(Refusal::Store);
     }
-    match Assembly::new(alloc, size, piece_size, limit, HashKind::Md5) {
-        Ok(assembly) => Ok(assembly),
-        Err(_) => Err(Refusal::Memory),
-    }
+    let assembly = Assembly::new(alloc, size, piece_size, limit, HashKind::Md5)?;
+    Ok(assembly)
 }
 
 /// Finds that one unfinished file more has room, and that none is kept under its number: both hold

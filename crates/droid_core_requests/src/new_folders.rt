@@ -11,7 +11,7 @@ ghost use Rattle.droid_core_spec.specs.World.{World};
 ghost use Rattle.droid_store.specs.Rows.{reply_for};
 
 use crate::new_places::{node_room, place_of};
-use droid_core_state::{Parts, Stamp, entry_of, folder_refusal, profile_of, store_refusal};
+use droid_core_state::{Parts, Stamp, entry_of, folder_refusal, profile_of};
 use droid_frame::{Refusal, Reply, Text};
 
 /// Adds a folder to a profile.
@@ -40,7 +40,7 @@ pub fn add_folder(
     let id = row.nodes + 1;
     let reply = Reply::Node { id };
     let entry = entry_of(parts.alloc, stamp, &reply)?;
-    match parts.store.commit_folder(
+    parts.store.commit_folder(
         &entry,
         number,
         id,
@@ -48,8 +48,6 @@ pub fn add_folder(
         modified,
         name.as_str(),
         path.as_str(),
-    ) {
-        Ok(()) => Ok(reply),
-        Err(fault) => Err(store_refusal(fault)),
-    }
+    )?;
+    Ok(reply)
 }

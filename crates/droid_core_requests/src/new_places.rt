@@ -38,10 +38,7 @@ pub fn place_of(
     if is_taken(store.child(number, parent, name))? {
         return Err(Refusal::NameTaken);
     }
-    match new_path(alloc, folder.as_str(), name) {
-        Ok(path) => Ok(path),
-        Err(_) => Err(Refusal::Memory),
-    }
+    Ok(new_path(alloc, folder.as_str(), name)?)
 }
 
 /// The path of a folder. The top's is empty.
@@ -75,10 +72,7 @@ fn is_taken(found: Result<Option<u32>, StoreFault>) -> Result<bool, Refusal>
     ensures told { result ≡ taken_in found }
     ensures memory { IfErr result (λ refusal. refusal ≡ Refusal.Memory) }
 {
-    match found {
-        Ok(found) => Ok(found.is_some()),
-        Err(_) => Err(Refusal::Memory),
-    }
+    Ok(found?.is_some())
 }
 
 /// How many nodes a profile has had, and how many it may have.

@@ -11,7 +11,7 @@ ghost use Rattle.droid_core_spec.specs.Setting.{Setting};
 ghost use Rattle.droid_core_spec.specs.World.{World};
 ghost use Rattle.droid_store.specs.Rows.{reply_for};
 
-use droid_core_state::{Parts, Room, Stamp, create_refusal, entry_of, store_refusal};
+use droid_core_state::{Parts, Room, Stamp, create_refusal, entry_of};
 use droid_frame::{Refusal, Reply};
 
 /// Makes a profile.
@@ -39,13 +39,10 @@ pub fn create_profile(
     let profile = profiles.count as u32 + 1;
     let reply = Reply::Made { profile };
     let entry = entry_of(parts.alloc, stamp, &reply)?;
-    match parts
+    parts
         .store
-        .commit_profile(&entry, profile, scan_limit, match_all)
-    {
-        Ok(()) => Ok(reply),
-        Err(fault) => Err(store_refusal(fault)),
-    }
+        .commit_profile(&entry, profile, scan_limit, match_all)?;
+    Ok(reply)
 }
 
 /// How many profiles there are, and how many there may be. The store always tells it.

@@ -21,7 +21,7 @@ ghost use Rattle.droid_core_files.specs.Files.{At, Turns, IsAlikeBut};
 use crate::file_rows::{file_of, none_is_pending, place_of_file};
 use droid_assembly::PutFault;
 use droid_core_files::UnfinishedFiles;
-use droid_core_state::{Parts, Stamp, entry_of, store_refusal};
+use droid_core_state::{Parts, Stamp, entry_of};
 use droid_frame::{Blob, Refusal, Reply};
 use droid_store::{Entry, Store};
 
@@ -134,7 +134,7 @@ fn keep_piece(
         }
         Err(fault) => {
             files.take_back(place);
-            Err(store_refusal(fault))
+            Err(Refusal::from(fault))
         }
     }
 }

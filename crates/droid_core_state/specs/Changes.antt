@@ -3,7 +3,7 @@ use Rattle.std.specs.Prelude.{◌≡◌, ℕ, List, ◌∷◌, [], ◌++◌, if�
 use Rattle.droid_frame.specs.Replies.{reply_kind, reply_bytes}
 use Rattle.droid_frame.specs.types.frame.Frame.{Frame}
 use Rattle.droid_frame.specs.types.refusal.Refusal.{Refusal}
-use Rattle.droid_frame.specs.types.refusal.Refusal.TheVariants.{Memory, Store, NumberReused}
+use Rattle.droid_frame.specs.types.refusal.Refusal.TheVariants.{NumberReused}
 use Rattle.droid_frame.specs.types.reply.Reply.{Reply}
 use Rattle.droid_frame.specs.types.reply.Reply.TheVariants.{Refused}
 use Rattle.droid_core_spec.specs.Histories.{frame_mark, is_same_request, verdict_reply}
@@ -11,8 +11,6 @@ use Rattle.droid_core_spec.specs.Judging.{Verdict, Accepted, Answered, Refuses}
 use Rattle.droid_core_spec.specs.Setting.{Setting}
 use Rattle.droid_core_spec.specs.Wants.{is_want}
 use Rattle.droid_core_spec.specs.World.{World}
-use Rattle.droid_store.specs.declared.fault.StoreFault.{StoreFault}
-use Rattle.droid_store.specs.declared.fault.StoreFault.TheVariants as faults
 use Rattle.droid_store.specs.declared.rows.Entry as rows
 use Rattle.droid_core_state.specs.declared.parts.Parts.{Parts}
 use Rattle.droid_core_state.specs.declared.stamps.Stamp.{Stamp}
@@ -22,11 +20,6 @@ use Rattle.droid_core_state.specs.Standing.{IsIn}
 abbrev pub answered : Result Reply Refusal → Reply
 answered (Ok reply) = reply
 answered (Err refusal) = Refused refusal
-
--- what a client is told where a call of the store gave up
-abbrev pub told_of : StoreFault → Refusal
-told_of faults.Memory = Memory
-told_of faults.Refused = Store
 
 -- the row of a reply to the request with this stamp
 abbrev pub stamped : Stamp → Reply → rows.Entry

@@ -20,9 +20,8 @@ pub fn profile_of(found: Result<Option<ProfileRow>, StoreFault>) -> Result<Profi
     ensures found { (setting : Setting) (world : World) (number : ℕ) (rows : Rows) → KeepsWorld setting world rows
         → IfOk found (λ row. row ≡ profile_at number rows) → FindsProfile world number result }
 {
-    match found {
-        Ok(Some(row)) => Ok(row),
-        Ok(None) => Err(Refusal::NoSuchProfile),
-        Err(_) => Err(Refusal::Memory),
+    match found? {
+        Some(row) => Ok(row),
+        None => Err(Refusal::NoSuchProfile),
     }
 }

@@ -21,9 +21,7 @@ pub fn entry_of(alloc: Global, stamp: Stamp, reply: &Reply) -> Result<Entry, Ref
     ensures fits { IfOk result (λ entry. FitsARow (entry_size entry)) }
     ensures want { IfErr result (λ refusal. refusal ≡ Refusal.Memory) }
 {
-    let Ok(body) = reply_body(alloc, reply) else {
-        return Err(Refusal::Memory);
-    };
+    let body = reply_body(alloc, reply)?;
     let mark = stamp.mark;
     Ok(Entry {
         client: stamp.client,

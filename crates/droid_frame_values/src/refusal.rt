@@ -3,6 +3,8 @@
 ghost use Rattle.std.specs.Prelude.{◌≡◌};
 ghost use Rattle.droid_frame_values.specs.Refusals.{refusal_number, limit_number};
 
+use std::alloc::AllocError;
+
 /// Which limit of the service is reached.
 #[derive(Clone, Copy, Debug, PartialEq, Eq)]
 pub enum Limit {
@@ -103,5 +105,16 @@ impl Refusal {
             Refusal::Memory => 18,
             Refusal::Store => 19,
         }
+    }
+}
+
+impl From<AllocError> for Refusal {
+    ghost use Rattle.droid_frame_values.specs.declared.refusal.Refusal.TheVariants.{Memory};
+
+    ghost from_gives = { λ _ refusal. refusal ≡ Memory };
+
+    /// Want of memory is told as that.
+    fn from(_: AllocError) -> Refusal {
+        Refusal::Memory
     }
 }

@@ -1,4 +1,6 @@
--- As what a failed call of the database is told.
+-- As what a failed call of the database is told, and what of it a client is told.
+use Rattle.droid_frame.specs.types.refusal.Refusal.{Refusal}
+use Rattle.droid_frame.specs.types.refusal.Refusal.TheVariants as refusals
 use Rattle.sqlite.specs.declared.error.Error.{Error}
 use Rattle.sqlite.specs.declared.error.Error.TheVariants.{SqliteFailure}
 use Rattle.sqlite.specs.declared.error.ErrorCode.TheVariants.{OutOfMemory, NoRowid}
@@ -10,3 +12,8 @@ abbrev pub fault_of : Error → StoreFault
 fault_of (SqliteFailure OutOfMemory) = Memory
 fault_of (SqliteFailure NoRowid) = Memory
 fault_of _ = Refused
+
+-- the refusal that a client is told where a call of the store gave up
+abbrev pub told_as : StoreFault → Refusal
+told_as Memory = refusals.Memory
+told_as Refused = refusals.Store

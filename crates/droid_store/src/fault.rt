@@ -2,6 +2,7 @@
 
 ghost use Rattle.std.specs.Prelude.{◌≡◌};
 
+use droid_frame::Refusal;
 use sqlite::{Error as SqlError, ErrorCode};
 use std::alloc::AllocError;
 use thiserror::Error;
@@ -38,5 +39,19 @@ impl From<AllocError> for StoreFault {
 
     fn from(_: AllocError) -> StoreFault {
         StoreFault::Memory
+    }
+}
+
+impl From<StoreFault> for Refusal {
+    ghost use Rattle.droid_store.specs.Faults.{told_as};
+
+    ghost from_gives = { λ fault refusal. refusal ≡ told_as fault };
+
+    /// What a client is told: Memory, or Store where the database refused for another cause.
+    fn from(fault: StoreFault) -> Refusal {
+        match fault {
+            StoreFault::Memory => Refusal::Memory,
+            StoreFault::Refused => Refusal::Store,
+        }
     }
 }

@@ -77,7 +77,7 @@ fn answer_found(
     ensures registry { registry_of service.new ≡ registry_of service.old }
 {
     match found {
-        Err(_) => Reply::Refused(Refusal::Memory),
+        Err(fault) => Reply::Refused(Refusal::from(fault)),
         Ok(Some(row)) => answer_kept(service, stamp, row),
         Ok(None) => answer_new(service, stamp, request),
     }

@@ -18,10 +18,10 @@ returns-then-not-is_unfinished-clause-comes c = λ setting world is_in.
     let refused = refused_finished setting world c.args.number c.args.file c.in_ok-row.row has (sym c.if-not-is_unfinished.ensures) in
     rw refused (refl, read_only setting world c.args.parts.now c.file_of.new.store c.file_of.ensures.same is_in)
 
-pub returns-in-Ok-clause-comes : goal.returns-in-Ok-clause-comes
-returns-in-Ok-clause-comes c = λ setting world is_in.
+pub returns-clause-comes : goal.returns-clause-comes
+returns-clause-comes c = λ setting world is_in.
     let has = c.in_ok-row.ensures.found setting world is_in.rows in
-    let stored = c.in-Ok.ensures.ok ∙ (rw (c.in_ok-entry.ensures.row, c.file_of.ensures.same) refl) in
+    let stored = c.in_ok-commit_abandon.ensures.ok ∙ (rw (c.in_ok-entry.ensures.row, c.file_of.ensures.same) refl) in
     abandoned setting world c.args.number c.args.file c.in_ok-row.row has c.args.parts.now c.args.stamp c.in_ok-place.place c.commit_abandon.new.self c.remove.new.self is_in (sym c.if-not-is_unfinished.ensures)
     stored c.in_ok-place.ensures.place c.remove.ensures.gone c.remove.ensures.others c.remove.ensures.count c.remove.ensures.limit
 

@@ -57,7 +57,7 @@ returns-clause-comes c = λ setting world stamp is_in last.
     let same : c.records_in.new.store ≡ service.store = c.records_in.ensures.same ∙ counted in
     let count : c.accepted_by-accepted.result ≡ length service.store.replies = c.accepted_by-accepted.ensures.found ∙ ap (λ (rows : Rows). length rows.replies) c.profile.ensures.same in
     let read : c.in_ok-text.text ≡ text service.registry c.args.filter (records_of c.args.number service.store) =
-    c.in_ok-text.ensures.text
+    c.in_ok-text.ensures
     ∙ ap (text service.registry c.args.filter)
     (c.as_slice.ensures.value ∙ (c.in_ok-records.ensures.found ∙ ap (records_of c.args.number) counted)) in
     let shown = read ∙ text_shown setting world service c.args.number c.args.filter found.profile is_in found.there in
@@ -71,7 +71,7 @@ returns-clause-last c = λ setting world is_in last.
     let found = c.in_ok-profile_of.ensures.found setting world c.args.number c.args.parts.now.store is_in.rows c.profile.ensures.found in
     let counted : c.accepted_by-accepted.new.store ≡ service.store = c.accepted_by-accepted.ensures.same ∙ c.profile.ensures.same in
     let read : c.in_ok-text.text ≡ text service.registry c.args.filter (records_of c.args.number service.store) =
-    c.in_ok-text.ensures.text
+    c.in_ok-text.ensures
     ∙ ap (text service.registry c.args.filter)
     (c.as_slice.ensures.value ∙ (c.in_ok-records.ensures.found ∙ ap (records_of c.args.number) counted)) in
     kept_or_none setting world c.keep_text.new.last c.args.number c.args.from c.args.max c.args.filter c.in_ok-text.text found.profile found.there

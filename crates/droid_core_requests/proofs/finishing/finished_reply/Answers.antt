@@ -4,9 +4,9 @@ use Rattle.droid_frame.specs.Replies.{IsPuidText}
 use Rattle.droid_core_requests.proofs.PuidTexts.{are_texts}
 use Rattle.droid_core_requests.proofs.finishing.finished_reply.Goals as goal
 
-pub returns-in-Ok-clause-spelled : goal.returns-in-Ok-clause-spelled
-returns-in-Ok-clause-spelled c = (
+pub returns-clause-spelled : goal.returns-clause-spelled
+returns-clause-spelled c = (
   c.requires.digest,
-  subst (λ (all : List (List ℕ)). length all ≤ 4096) (sym c.in-Ok.ensures) c.requires.few,
-  subst (λ (all : List (List ℕ)). AllByRecursion IsPuidText all) (sym c.in-Ok.ensures) (are_texts c.args.puids.now c.requires.puids),
+  subst (λ (all : List (List ℕ)). length all ≤ 4096) (sym c.in_ok-puids.ensures) c.requires.few,
+  subst (λ (all : List (List ℕ)). AllByRecursion IsPuidText all) (sym c.in_ok-puids.ensures) (are_texts c.args.puids.now c.requires.puids),
 )

@@ -35,8 +35,8 @@ returns-in-Some-clause-comes c = λ setting world is.
     let verdict = folder_refused setting world c.args.number c.args.parent c.args.modified c.args.name has.profile has.there c.in-Some.refusal (rw (to_z-of_z w64 c.args.modified c.ranges.modified) at refused) in
     comes_refused setting world _ _ c.args.stamp _ c.in-Some.refusal (of_any _ verdict) (stays setting world _ _ refl refl store refl is)
 
-pub returns-in-Ok-clause-comes : goal.returns-in-Ok-clause-comes
-returns-in-Ok-clause-comes c = λ setting world is.
+pub returns-clause-comes : goal.returns-clause-comes
+returns-clause-comes c = λ setting world is.
     let store = c.place_of.ensures.same ∙ c.profile.ensures.same in
     let has = c.in_ok-row.ensures.found setting world c.args.number c.args.parts.now.store is.rows c.profile.ensures.found in
     let limit = c.node_room-nodes.ensures.limit ∙ sym (ap (λ (limits : Limits). limits.nodes) is.is_setting.limits) in
@@ -46,6 +46,6 @@ returns-in-Ok-clause-comes c = λ setting world is.
     let way = rw c.as_str.ensures.value at finds.1 in
     let short = rw c.as_str.ensures.value at c.in_ok-path.ensures.short in
     let allowed = sym (c.in_default.ensures.first setting.limits has.profile.nodes c.args.parent c.args.name limit (c.node_room-nodes.ensures.count ∙ counted) place) in
-    let made = rw (c.in_ok-entry.ensures.row, c.as_str-2.ensures.value, c.as_str-3.ensures.value, to_z-of_z w64 c.args.modified c.ranges.modified, store) at c.in-Ok.ensures.ok in
+    let made = rw (c.in_ok-entry.ensures.row, c.as_str-2.ensures.value, c.as_str-3.ensures.value, to_z-of_z w64 c.args.modified c.ranges.modified, store) at c.in_ok-commit_folder.ensures.ok in
     comes_folder setting world c.args.number c.args.parent c.args.modified c.args.name has.profile has.there _ _ c.args.stamp (c.in_ok-row.row.nodes + 1) c.in_ok-path.path is
     (rw (to_z-of_z w64 c.args.modified c.ranges.modified) at allowed) (ap (λ n. n + 1) counted) way short refl refl refl made

@@ -43,12 +43,12 @@ returns-in-Err-clause-refused c = λ setting world refusal is judged.
     let count = room.count ∙ profile_count setting world c.args.parts.now.store is.rows in
     absurd (never_refused setting world c.args.scan_limit c.args.match_all refusal (sym (c.in_default.ensures.first setting.limits world limit count)) judged)
 
-pub returns-in-Ok-clause-comes : goal.returns-in-Ok-clause-comes
-returns-in-Ok-clause-comes c = λ setting world is.
+pub returns-clause-comes : goal.returns-clause-comes
+returns-clause-comes c = λ setting world is.
     let room = c.profile_room-profiles.ensures in
     let limit = room.limit ∙ sym (ap (λ (limits : Limits). limits.profiles) is.is_setting.limits) in
     let count = room.count ∙ profile_count setting world c.args.parts.now.store is.rows in
     let allowed = sym (c.in_default.ensures.first setting.limits world limit count) in
-    let store = rw (c.in_ok-entry.ensures.row, room.store) at c.in-Ok.ensures.ok in
+    let store = rw (c.in_ok-entry.ensures.row, room.store) at c.in_ok-commit_profile.ensures.ok in
     comes_made setting world _ _ c.args.stamp c.args.scan_limit c.args.match_all (c.profile_room-profiles.result.count + 1) is allowed (ap (λ n. n + 1) count)
     room.limits room.registry room.files store
