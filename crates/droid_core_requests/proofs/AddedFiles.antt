@@ -6,10 +6,9 @@ use Rattle.droid_frame.specs.types.refusal.Limit.TheVariants as reached
 use Rattle.droid_frame.specs.types.refusal.Refusal.{Refusal}
 use Rattle.droid_frame.specs.types.refusal.Refusal.TheVariants.{NoSuchProfile, BadOption, TooLarge, LimitReached}
 use Rattle.droid_frame.specs.types.reply.Reply.TheVariants as replies
-use Rattle.droid_frame.specs.types.request.Request.TheVariants.{AddFile}
 use Rattle.droid_core_spec.specs.Conditions.{is_moment, is_piece_size, is_too_large}
 use Rattle.droid_core_spec.specs.Files.{unfinished_in}
-use Rattle.droid_core_spec.specs.Judging.{refusal_of, file_checks, judge, Verdict, Accepted, Refuses, world_set, with_node as with_node_in}
+use Rattle.droid_core_spec.specs.Judging.{refusal_of, file_checks, judge_file, Verdict, Accepted, Refuses, world_set, with_node as with_node_in}
 use Rattle.droid_core_spec.specs.Setting.{Setting}
 use Rattle.droid_core_spec.specs.Wants.{is_want_of}
 use Rattle.droid_core_spec.specs.World.{Node, File, Profile, World, numbered, path}
@@ -30,10 +29,10 @@ use Rattle.droid_core_state.proofs.Staying.{if_refused, still_of}
 
 module _ (setting : Setting) (world : World) (number parent : ℕ) (modified : ℤ) (size piece_size : ℕ) (name : List ℕ) where
   abbrev verdict : Verdict
-  verdict = judge setting world (AddFile number parent modified size piece_size name)
+  verdict = judge_file setting world number parent modified size piece_size name
 
   nowhere : (refusal : Refusal) → (refusal ≡ NoSuchProfile) × (numbered world.profiles number ≡ None) → verdict ≡ Refuses refusal
-  unfolding judge
+  unfolding judge_file
   nowhere refusal none = rw (none.1, none.0) refl
 
   -- there is no such profile
@@ -45,7 +44,7 @@ module _ (setting : Setting) (world : World) (number parent : ℕ) (modified : �
     first_refusal = refusal_of (file_checks setting.limits world profile.nodes parent modified size piece_size name)
 
     pub file_refused : (refusal : Refusal) → first_refusal ≡ Some refusal → verdict ≡ Refuses refusal
-    unfolding judge
+    unfolding judge_file
     file_refused refusal is = rw (found, is) refl
 
     -- its place is refused
@@ -63,7 +62,7 @@ module _ (setting : Setting) (world : World) (number parent : ℕ) (modified : �
     node = File parent modified name (new_content size piece_size)
 
     file_accepted : first_refusal ≡ None → verdict ≡ Accepted (replies.Node (length profile.nodes + 1)) (world_set world number (with_node_in profile node))
-    unfolding judge
+    unfolding judge_file
     file_accepted is = rw (found, is) refl
 
     pub comes_file : (old new : Parts) (stamp : Stamp) (id : ℕ) (way : List ℕ) (assembly : State) → IsIn setting world old → first_refusal ≡ None

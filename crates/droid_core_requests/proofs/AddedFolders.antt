@@ -5,9 +5,8 @@ use Rattle.droid_frame.specs.types.refusal.Limit.TheVariants as reached
 use Rattle.droid_frame.specs.types.refusal.Refusal.{Refusal}
 use Rattle.droid_frame.specs.types.refusal.Refusal.TheVariants.{NoSuchProfile, BadOption, LimitReached}
 use Rattle.droid_frame.specs.types.reply.Reply.TheVariants as replies
-use Rattle.droid_frame.specs.types.request.Request.TheVariants.{AddFolder}
 use Rattle.droid_core_spec.specs.Conditions.{is_moment}
-use Rattle.droid_core_spec.specs.Judging.{refusal_of, folder_checks, judge, Verdict, Accepted, Refuses, world_set, with_node as with_node_in}
+use Rattle.droid_core_spec.specs.Judging.{refusal_of, folder_checks, judge_folder, Verdict, Accepted, Refuses, world_set, with_node as with_node_in}
 use Rattle.droid_core_spec.specs.Setting.{Setting}
 use Rattle.droid_core_spec.specs.Wants.{is_want_of}
 use Rattle.droid_core_spec.specs.World.{Folder, Profile, World, numbered, path}
@@ -27,10 +26,10 @@ use Rattle.droid_core_state.proofs.Staying.{if_refused, still_of}
 
 module _ (setting : Setting) (world : World) (number parent : ℕ) (modified : ℤ) (name : List ℕ) where
   abbrev verdict : Verdict
-  verdict = judge setting world (AddFolder number parent modified name)
+  verdict = judge_folder setting world number parent modified name
 
   nowhere : (refusal : Refusal) → (refusal ≡ NoSuchProfile) × (numbered world.profiles number ≡ None) → verdict ≡ Refuses refusal
-  unfolding judge
+  unfolding judge_folder
   nowhere refusal none = rw (none.1, none.0) refl
 
   -- there is no such profile
@@ -39,7 +38,7 @@ module _ (setting : Setting) (world : World) (number parent : ℕ) (modified : �
 
   module _ (profile : Profile) (found : numbered world.profiles number ≡ Some profile) where
     pub folder_refused : (refusal : Refusal) → refusal_of (folder_checks setting.limits profile.nodes parent modified name) ≡ Some refusal → verdict ≡ Refuses refusal
-    unfolding judge
+    unfolding judge_folder
     folder_refused refusal is = rw (found, is) refl
 
     -- its place is refused
@@ -50,7 +49,7 @@ module _ (setting : Setting) (world : World) (number parent : ℕ) (modified : �
 
     folder_accepted : refusal_of (folder_checks setting.limits profile.nodes parent modified name) ≡ None
         → verdict ≡ Accepted (replies.Node (length profile.nodes + 1)) (world_set world number (with_node_in profile (Folder parent modified name)))
-    unfolding judge
+    unfolding judge_folder
     folder_accepted is = rw (found, is) refl
 
     pub comes_folder : (old new : Parts) (stamp : Stamp) (id : ℕ) (way : List ℕ) → IsIn setting world old → refusal_of (folder_checks setting.limits profile.nodes parent modified name) ≡ None

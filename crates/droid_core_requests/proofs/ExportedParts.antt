@@ -10,10 +10,9 @@ use Rattle.droid_export.specs.Text.{text}
 use Rattle.droid_frame.specs.types.filter.Filter.{Filter}
 use Rattle.droid_frame.specs.types.refusal.Refusal.{Refusal}
 use Rattle.droid_frame.specs.types.refusal.Refusal.TheVariants.{NoSuchProfile}
-use Rattle.droid_frame.specs.types.request.Request.TheVariants.{Export}
 use Rattle.droid_core_spec.specs.Conditions.{is_moment, is_part_size}
 use Rattle.droid_core_spec.specs.Exported.{part, part_of}
-use Rattle.droid_core_spec.specs.Judging.{Answered, Refuses, refusal_of, export_checks, judge}
+use Rattle.droid_core_spec.specs.Judging.{Answered, Refuses, refusal_of, export_checks, judge_export}
 use Rattle.droid_core_spec.specs.Records.{records}
 use Rattle.droid_core_spec.specs.Setting.{Setting}
 use Rattle.droid_core_spec.specs.World.{Profile, World, numbered}
@@ -62,18 +61,18 @@ all_with P items place item within is it later =
 -- ---- what judging an export comes to
 
 module _ (setting : Setting) (world : World) (number from max : ℕ) (filter : Filter) where
-  pub export_nowhere : numbered world.profiles number ≡ None → judge setting world (Export number from max filter) ≡ Refuses NoSuchProfile
-  unfolding judge
+  pub export_nowhere : numbered world.profiles number ≡ None → judge_export setting world number from max filter ≡ Refuses NoSuchProfile
+  unfolding judge_export
   export_nowhere missing = rw missing refl
 
   pub export_refused : (profile : Profile) (refusal : Refusal) → numbered world.profiles number ≡ Some profile → Some refusal ≡ refusal_of (export_checks max)
-      → judge setting world (Export number from max filter) ≡ Refuses refusal
-  unfolding judge
+      → judge_export setting world number from max filter ≡ Refuses refusal
+  unfolding judge_export
   export_refused profile refusal there refused = rw (there, ← refused) refl
 
   pub export_shown : (profile : Profile) → numbered world.profiles number ≡ Some profile → None ≡ refusal_of (export_checks max)
-      → judge setting world (Export number from max filter) ≡ Answered (part_of setting world.accepted profile from max filter)
-  unfolding judge
+      → judge_export setting world number from max filter ≡ Answered (part_of setting world.accepted profile from max filter)
+  unfolding judge_export
   export_shown profile there allowed = rw (there, ← allowed) refl
 
 -- a part that nothing refuses has at most 1,048,576 bytes

@@ -3,9 +3,8 @@ use Rattle.std.proofs.Common.{◌≡◌, ℕ, ◌+◌, List, length, slice_get, 
 use Rattle.std.specs.Prelude.{ℤ}
 use Rattle.droid_frame.specs.types.refusal.Refusal.TheVariants.{AlreadyFinished}
 use Rattle.droid_frame.specs.types.reply.Reply.TheVariants as replies
-use Rattle.droid_frame.specs.types.request.Request.TheVariants.{Abandon}
 use Rattle.droid_core_spec.specs.Histories.{verdict_reply}
-use Rattle.droid_core_spec.specs.Judging.{Verdict, Accepted, Refuses, unless_refused, refusal_of, abandon_checks, judge, world_set, node_set}
+use Rattle.droid_core_spec.specs.Judging.{Verdict, Accepted, Refuses, unless_refused, refusal_of, abandon_checks, judge_abandon, world_set, node_set}
 use Rattle.droid_core_spec.specs.Setting.{Setting}
 use Rattle.droid_core_spec.specs.World.{Content, Abandoned, Profile, World}
 use Rattle.droid_core_state.specs.Rows.{KeepsWorld}
@@ -28,20 +27,20 @@ abbrev pub abandon_there : World → ℕ → ℕ → Profile → ℕ → ℤ →
 abandon_there world number id profile parent modified name content =
     unless_refused (refusal_of (abandon_checks content)) (Accepted replies.Abandoned (world_set world number (node_set profile id Abandoned)))
 
-pub judge_abandon : (setting : Setting) (world : World) (number id : ℕ) → judge setting world (Abandon number id) ≡ for_file world number id (abandon_there world number id)
-unfolding judge
-judge_abandon setting world number id = refl
+pub abandon_for_file : (world : World) (number id : ℕ) → judge_abandon world number id ≡ for_file world number id (abandon_there world number id)
+unfolding judge_abandon
+abandon_for_file world number id = refl
 
 module _ (setting : Setting) (world : World) (number id : ℕ) (row : FileRow) (has : HasFile world number id row) where
-  pub refused_finished : is_unfinished row.node.state ≡ false → judge setting world (Abandon number id) ≡ Refuses AlreadyFinished
+  pub refused_finished : is_unfinished row.node.state ≡ false → judge_abandon world number id ≡ Refuses AlreadyFinished
   refused_finished isnt =
       let finished = finished_there world number id row has isnt in
-      judge_abandon setting world number id ∙ judged_there world number id row has (abandon_there world number id) ∙ rw finished refl
+      abandon_for_file world number id ∙ judged_there world number id row has (abandon_there world number id) ∙ rw finished refl
 
-  accepted : is_unfinished row.node.state ≡ true → judge setting world (Abandon number id) ≡ Accepted replies.Abandoned (world_set world number (node_set has.profile id Abandoned))
+  accepted : is_unfinished row.node.state ≡ true → judge_abandon world number id ≡ Accepted replies.Abandoned (world_set world number (node_set has.profile id Abandoned))
   accepted is =
       let unfinished = unfinished_there world number id row has is in
-      judge_abandon setting world number id ∙ judged_there world number id row has (abandon_there world number id) ∙ rw unfinished refl
+      abandon_for_file world number id ∙ judged_there world number id row has (abandon_there world number id) ∙ rw unfinished refl
 
   module _ (old : Parts) (stamp : Stamp) (place : ℕ) (store : Rows) (files : OpenFiles) (is_in : IsIn setting world old) (is : is_unfinished row.node.state ≡ true)
       (stored : store ≡ with_reply (stamped stamp replies.Abandoned) (without_node number id old.store))
@@ -49,7 +48,7 @@ module _ (setting : Setting) (world : World) (number id : ℕ) (row : FileRow) (
       (gone : (file : OpenFile) → IsAt old.files.files place file → open_at file.profile file.file files.files ≡ None)
       (others : (file : OpenFile) (that_number that_id : ℕ) → IsAt old.files.files place file → is_of that_number that_id file ≡ false → open_at that_number that_id files.files ≡ open_at that_number that_id old.files.files)
       (count : length files.files + 1 ≡ length old.files.files) (limit : files.limit ≡ old.files.limit) where
-    pub abandoned : (replies.Abandoned ≡ verdict_reply (judge setting world (Abandon number id))) × Leaves setting world old (record old { store = store; files = files }) stamp (judge setting world (Abandon number id))
+    pub abandoned : (replies.Abandoned ≡ verdict_reply (judge_abandon world number id)) × Leaves setting world old (record old { store = store; files = files }) stamp (judge_abandon world number id)
     abandoned =
         let unfinished = unfinished_there world number id row has is in
         let after = world_set world number (node_set has.profile id Abandoned) in

@@ -7,10 +7,9 @@ use Rattle.droid_frame.specs.types.refusal.Refusal.{Refusal}
 use Rattle.droid_frame.specs.types.refusal.Refusal.TheVariants.{AlreadyFinished}
 use Rattle.droid_frame.specs.types.reply.Reply.{Reply}
 use Rattle.droid_frame.specs.types.reply.Reply.TheVariants as replies
-use Rattle.droid_frame.specs.types.request.Request.TheVariants.{Finish}
 use Rattle.droid_core_spec.specs.Files.{as_finished, bytes_of, finding_of, finished_reply}
 use Rattle.droid_core_state.specs.Identified.{found_in}
-use Rattle.droid_core_spec.specs.Judging.{Verdict, Accepted, Refuses, unless_refused, refusal_of, finish_checks, judge, world_set, node_set}
+use Rattle.droid_core_spec.specs.Judging.{Verdict, Accepted, Refuses, unless_refused, refusal_of, finish_checks, judge_finish, world_set, node_set}
 use Rattle.droid_core_spec.specs.Setting.{Setting, Finding}
 use Rattle.droid_core_spec.specs.Wants.{is_want, is_want_of}
 use Rattle.droid_core_spec.specs.World.{Content, File, Profile, World}
@@ -42,9 +41,9 @@ finish_there setting world number id profile parent modified name content =
     unless_refused (refusal_of (finish_checks content))
     (Accepted (finished_reply (finding_of setting profile name content) (bytes_of content)) (world_set world number (node_set profile id (File parent modified name (as_finished content)))))
 
-pub judge_finish : (setting : Setting) (world : World) (number id : ℕ) → judge setting world (Finish number id) ≡ for_file world number id (finish_there setting world number id)
-unfolding judge
-judge_finish setting world number id = refl
+pub finish_for_file : (setting : Setting) (world : World) (number id : ℕ) → judge_finish setting world number id ≡ for_file world number id (finish_there setting world number id)
+unfolding judge_finish
+finish_for_file setting world number id = refl
 
 -- ---- where a file was only looked at
 
@@ -78,10 +77,10 @@ found_is setting world old name bytes limit match_all found is_in is =
     found_once (Hits bytes limit) old.registry name match_all found (found_in (setting.identify name bytes limit match_all)) is (is_in.is_setting.registry.identifies name bytes limit match_all)
 
 module _ (setting : Setting) (world : World) (number id : ℕ) (row : FileRow) (has : HasFile world number id row) where
-  judged : judge setting world (Finish number id) ≡ finish_there setting world number id has.profile has.parent has.modified has.name has.content
-  judged = judge_finish setting world number id ∙ judged_there world number id row has (finish_there setting world number id)
+  judged : judge_finish setting world number id ≡ finish_there setting world number id has.profile has.parent has.modified has.name has.content
+  judged = finish_for_file setting world number id ∙ judged_there world number id row has (finish_there setting world number id)
 
-  pub refused_finished : is_unfinished row.node.state ≡ false → judge setting world (Finish number id) ≡ Refuses AlreadyFinished
+  pub refused_finished : is_unfinished row.node.state ≡ false → judge_finish setting world number id ≡ Refuses AlreadyFinished
   refused_finished isnt =
       let finished = finished_there world number id row has isnt in
       judged ∙ rw finished refl
@@ -90,10 +89,10 @@ module _ (setting : Setting) (world : World) (number id : ℕ) (row : FileRow) (
   abbrev reply_and_world : Verdict
   reply_and_world = Accepted (finished_reply (finding_of setting has.profile has.name has.content) (bytes_of has.content)) (world_set world number (node_set has.profile id (File has.parent has.modified has.name (as_finished has.content))))
 
-  refused : (refusal : Refusal) → refusal_of (finish_checks has.content) ≡ Some refusal → judge setting world (Finish number id) ≡ Refuses refusal
+  refused : (refusal : Refusal) → refusal_of (finish_checks has.content) ≡ Some refusal → judge_finish setting world number id ≡ Refuses refusal
   refused refusal is = judged ∙ ap (λ found. unless_refused found reply_and_world) is
 
-  accepted : refusal_of (finish_checks has.content) ≡ None → judge setting world (Finish number id) ≡ reply_and_world
+  accepted : refusal_of (finish_checks has.content) ≡ None → judge_finish setting world number id ≡ reply_and_world
   accepted is = judged ∙ ap (λ found. unless_refused found reply_and_world) is
 
   module _ (old : Parts) (place : ℕ) (is_in : IsIn setting world old) (is : is_unfinished row.node.state ≡ true) (at_place : slice_get old.files.files place ≡ open_at number id old.files.files) where
@@ -106,10 +105,10 @@ module _ (setting : Setting) (world : World) (number id : ℕ) (row : FileRow) (
     -- it is not identified
     pub comes_unfinished : (stamp : Stamp) (new : Parts) (refusal : Refusal) → Stays setting world old new
         → At old.files place (λ file. (profile : Profile) (content : Content) → IsAssemblyOf profile content file → content.finished ≡ false → MatchBool (is_want_of refusal) ⊤ (refusal_of (finish_checks content) ≡ Some refusal))
-        → Comes setting world old new stamp (judge setting world (Finish number id)) (replies.Refused refusal)
+        → Comes setting world old new stamp (judge_finish setting world number id) (replies.Refused refusal)
     comes_unfinished stamp new refusal stays said =
         wanting_or (is_want_of refusal) _ _ _ (said its.file (at_place ∙ its.there) has.profile has.content its.assembled unfinished) stays
-        (λ refuses. comes_refused setting world old new stamp (judge setting world (Finish number id)) refusal (of_any _ (refused refusal refuses)) stays)
+        (λ refuses. comes_refused setting world old new stamp (judge_finish setting world number id) refusal (of_any _ (refused refusal refuses)) stays)
 
     -- what is found is the setting's
     pub finds : (found : Found) → At old.files place (λ file. (profile : Profile) (content : Content) → IsAssemblyOf profile content file
@@ -145,7 +144,7 @@ module _ (setting : Setting) (world : World) (number id : ℕ) (row : FileRow) (
         → ((one : OpenFile) → IsAt mid.files place one → open_at one.profile one.file new.files ≡ None)
         → ((one : OpenFile) (that_number that_id : ℕ) → IsAt mid.files place one → is_of that_number that_id one ≡ false → open_at that_number that_id new.files ≡ open_at that_number that_id mid.files)
         → length new.files + 1 ≡ length mid.files → new.limit ≡ mid.limit
-        → Comes setting world old (record old { store = store; files = new }) stamp (judge setting world (Finish number id)) given
+        → Comes setting world old (record old { store = store; files = new }) stamp (judge_finish setting world number id) given
     finished stamp given store mid new found digest allowed same_found same_digest gives stored alike unchanged gone others count limit =
         let after = world_set world number (node_set has.profile id (File has.parent has.modified has.name (as_finished has.content))) in
         let replied : given ≡ reply = gives ∙ ap (λ (it : Found). replies.Finished it.method it.mismatch digest it.puids) same_found ∙ ap (λ (d : List ℕ). replies.Finished finding.method finding.mismatch d finding.puids) same_digest in

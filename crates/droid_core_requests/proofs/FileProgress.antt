@@ -5,10 +5,9 @@ use Rattle.droid_assembly.specs.Pieces.{piece_count}
 use Rattle.droid_frame.specs.types.refusal.Refusal.{Refusal}
 use Rattle.droid_frame.specs.types.reply.Reply.{Reply}
 use Rattle.droid_frame.specs.types.reply.Reply.TheVariants.{Progress}
-use Rattle.droid_frame.specs.types.request.Request.TheVariants.{Status}
 use Rattle.droid_core_spec.specs.Files.{progress_of}
 use Rattle.droid_core_spec.specs.Histories.{verdict_reply}
-use Rattle.droid_core_spec.specs.Judging.{Verdict, Answered, judge}
+use Rattle.droid_core_spec.specs.Judging.{Verdict, Answered, judge_status}
 use Rattle.droid_core_spec.specs.Setting.{Setting}
 use Rattle.droid_core_spec.specs.Wants.{is_want}
 use Rattle.droid_core_spec.specs.World.{Content, File, Profile, World, numbered, node_at}
@@ -31,9 +30,9 @@ told_at_all (Err refusal) none isnt = absurd (isnt none)
 abbrev pub status_there : Profile → ℕ → ℤ → List ℕ → Content → Verdict
 status_there profile parent modified name content = Answered (progress_of content)
 
-pub judge_status : (setting : Setting) (world : World) (number id : ℕ) → judge setting world (Status number id) ≡ for_file world number id status_there
-unfolding judge
-judge_status setting world number id = refl
+pub status_for_file : (world : World) (number id : ℕ) → judge_status world number id ≡ for_file world number id status_there
+unfolding judge_status
+status_for_file world number id = refl
 
 module _ (setting : Setting) (world : World) (old new : Parts) (stamp : Stamp) (verdict : Verdict) (stays : Stays setting world old new) where
   one_of : (wanting : Bool) (P Q : Type 0) → P → Q → MatchBool wanting P Q
@@ -46,8 +45,8 @@ module _ (setting : Setting) (world : World) (old new : Parts) (stamp : Stamp) (
   comes_told (Err refusal) is told = absurd cc
 
 module _ (setting : Setting) (world : World) (number id : ℕ) (row : FileRow) (has : HasFile world number id row) where
-  told_there : judge setting world (Status number id) ≡ Answered (progress_of has.content)
-  told_there = judge_status setting world number id ∙ judged_there world number id row has status_there
+  told_there : judge_status world number id ≡ Answered (progress_of has.content)
+  told_there = status_for_file world number id ∙ judged_there world number id row has status_there
 
   abbrev TellsProgress : OpenFiles → Reply → Type 0
   TellsProgress files reply = (world : World) (profile : Profile) (parent : ℕ) (modified : ℤ) (name : List ℕ) (content : Content) → HasAssemblies world files
@@ -55,7 +54,7 @@ module _ (setting : Setting) (world : World) (number id : ℕ) (row : FileRow) (
       → reply ≡ progress_of content
 
   of_progress : (files : OpenFiles) → HasAssemblies world files → is_unfinished row.node.state ≡ true → (told : Result Reply Refusal) → IfOk told (TellsProgress files)
-      → IfOk told (λ reply. judge setting world (Status number id) ≡ Answered reply)
+      → IfOk told (λ reply. judge_status world number id ≡ Answered reply)
   of_progress files assembled is (Ok reply) tells =
       told_there ∙ ap Answered (sym (tells world has.profile has.parent has.modified has.name has.content assembled has.there has.at (unfinished_there world number id row has is)))
   of_progress files assembled is (Err refusal) tells = tt
@@ -63,7 +62,7 @@ module _ (setting : Setting) (world : World) (number id : ℕ) (row : FileRow) (
   -- of an unfinished file its assembly tells
   pub unfinished_told : (old new : Parts) (stamp : Stamp) → Stays setting world old new → HasAssemblies world old.files → is_unfinished row.node.state ≡ true
       → (told : Result Reply Refusal) → IfOk told (TellsProgress old.files) → IsOk told
-      → Comes setting world old new stamp (judge setting world (Status number id)) (answered told)
+      → Comes setting world old new stamp (judge_status world number id) (answered told)
   unfinished_told old new stamp stays assembled is told tells tells_it = comes_told setting world old new stamp _ stays told (of_progress old.files assembled is told tells) tells_it
 
   finished_progress : (content : Content) → content.finished ≡ true → progress_of content ≡ Progress (piece_count content.size content.piece_size) (piece_count content.size content.piece_size)
@@ -71,7 +70,7 @@ module _ (setting : Setting) (world : World) (number id : ℕ) (row : FileRow) (
 
   -- of a finished file its row does
   pub finished_told : (old new : Parts) (stamp : Stamp) (count : ℕ) → Stays setting world old new → is_unfinished row.node.state ≡ false → count ≡ piece_count row.node.item.size row.node.piece_size
-      → (Progress count count ≡ verdict_reply (judge setting world (Status number id))) × Leaves setting world old new stamp (judge setting world (Status number id))
+      → (Progress count count ≡ verdict_reply (judge_status world number id)) × Leaves setting world old new stamp (judge_status world number id)
   finished_told old new stamp count stays isnt counted =
       let finished = finished_progress has.content (finished_there world number id row has isnt) in
       let counts : count ≡ piece_count has.content.size has.content.piece_size = rw (counted, has.size_is, has.piece_size_is) refl in

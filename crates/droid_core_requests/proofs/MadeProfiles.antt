@@ -6,8 +6,7 @@ use Rattle.std.proofs.lemmas.Bool.{cases_Bool, ltb-true, ltb-false, eqb-true, eq
 use Rattle.droid_frame.specs.types.refusal.Refusal.{Refusal}
 use Rattle.droid_frame.specs.types.reply.Reply.{Reply}
 use Rattle.droid_frame.specs.types.reply.Reply.TheVariants as replies
-use Rattle.droid_frame.specs.types.request.Request.TheVariants.{CreateProfile}
-use Rattle.droid_core_spec.specs.Judging.{refusal_of, create_checks, judge, Accepted, Refuses}
+use Rattle.droid_core_spec.specs.Judging.{refusal_of, create_checks, judge_create, Accepted, Refuses}
 use Rattle.droid_core_spec.specs.Setting.{Setting}
 use Rattle.droid_core_spec.specs.World.{Profile, World, world_with, numbered}
 use Rattle.droid_store.specs.Changes.{with_reply, with_profile}
@@ -63,13 +62,13 @@ assemblies_made world files scan_limit match_all has = record {
 -- ---- what is judged, and what comes of it
 
 pub create_refused : (setting : Setting) (world : World) (scan_limit : ℕ) (match_all : Bool) (refusal : Refusal) → refusal_of (create_checks setting.limits world scan_limit) ≡ Some refusal
-    → judge setting world (CreateProfile scan_limit match_all) ≡ Refuses refusal
-unfolding judge
+    → judge_create setting world scan_limit match_all ≡ Refuses refusal
+unfolding judge_create
 create_refused setting world scan_limit match_all refusal is = rw is refl
 
 create_accepted : (setting : Setting) (world : World) (scan_limit : ℕ) (match_all : Bool) → refusal_of (create_checks setting.limits world scan_limit) ≡ None
-    → judge setting world (CreateProfile scan_limit match_all) ≡ Accepted (replies.Made (length world.profiles + 1)) (with_fresh world scan_limit match_all)
-unfolding judge
+    → judge_create setting world scan_limit match_all ≡ Accepted (replies.Made (length world.profiles + 1)) (with_fresh world scan_limit match_all)
+unfolding judge_create
 create_accepted setting world scan_limit match_all is = rw is refl
 
 refusal_same : {refusal other : Refusal} → Refuses refusal ≡ Refuses other → refusal ≡ other
@@ -80,12 +79,12 @@ refuses refusal = Err refusal
 
 -- a request has one refusal
 pub refused_alone : (setting : Setting) (world : World) (scan_limit : ℕ) (match_all : Bool) (refusal other : Refusal) → refusal_of (create_checks setting.limits world scan_limit) ≡ Some refusal
-    → judge setting world (CreateProfile scan_limit match_all) ≡ Refuses other → refuses refusal ≡ refuses other
+    → judge_create setting world scan_limit match_all ≡ Refuses other → refuses refusal ≡ refuses other
 refused_alone setting world scan_limit match_all refusal other is judged = ap refuses (refusal_same (sym (create_refused setting world scan_limit match_all refusal is) ∙ judged))
 
 -- where nothing refuses it, it has none
 pub never_refused : (setting : Setting) (world : World) (scan_limit : ℕ) (match_all : Bool) (refusal : Refusal) → refusal_of (create_checks setting.limits world scan_limit) ≡ None
-    → judge setting world (CreateProfile scan_limit match_all) ≡ Refuses refusal → ⊥
+    → judge_create setting world scan_limit match_all ≡ Refuses refusal → ⊥
 never_refused setting world scan_limit match_all refusal is judged =
     let both = sym (create_accepted setting world scan_limit match_all is) ∙ judged in
     cc
@@ -98,7 +97,7 @@ pub comes_made : (setting : Setting) (world : World) (old new : Parts) (stamp : 
     → IsIn setting world old → refusal_of (create_checks setting.limits world scan_limit) ≡ None → number ≡ length world.profiles + 1
     → new.limits ≡ old.limits → new.registry ≡ old.registry → new.files ≡ old.files
     → new.store ≡ with_reply (stamped stamp (replies.Made number)) (with_profile scan_limit match_all old.store)
-    → Comes setting world old new stamp (judge setting world (CreateProfile scan_limit match_all)) (replies.Made number)
+    → Comes setting world old new stamp (judge_create setting world scan_limit match_all) (replies.Made number)
 comes_made setting world old new stamp scan_limit match_all number is allowed number_is limits registry files store =
     rw (create_accepted setting world scan_limit match_all allowed) (
       ap (λ n. replies.Made n) number_is,

@@ -6,10 +6,9 @@ use Rattle.droid_assembly.specs.State.{StandsFor, IsOfSameFile, with_pending}
 use Rattle.droid_frame.specs.types.refusal.Refusal.{Refusal}
 use Rattle.droid_frame.specs.types.refusal.Refusal.TheVariants.{AlreadyFinished, Memory}
 use Rattle.droid_frame.specs.types.reply.Reply.TheVariants as replies
-use Rattle.droid_frame.specs.types.request.Request.TheVariants.{Piece}
 use Rattle.droid_core_spec.specs.Files.{with_piece}
 use Rattle.droid_core_spec.specs.Histories.{verdict_reply}
-use Rattle.droid_core_spec.specs.Judging.{Verdict, Accepted, Refuses, unless_refused, refusal_of, piece_checks, judge, world_set, node_set}
+use Rattle.droid_core_spec.specs.Judging.{Verdict, Accepted, Refuses, unless_refused, refusal_of, piece_checks, judge_piece, world_set, node_set}
 use Rattle.droid_core_spec.specs.Setting.{Setting}
 use Rattle.droid_core_spec.specs.World.{Content, File, Profile, World}
 use Rattle.droid_core_state.specs.Rows.{KeepsWorld}
@@ -35,9 +34,9 @@ piece_there world number id index bytes profile parent modified name content =
     unless_refused (refusal_of (piece_checks content index bytes))
     (Accepted (replies.Taken (length content.pieces + 1)) (world_set world number (node_set profile id (File parent modified name (with_piece content index bytes)))))
 
-pub judge_piece : (setting : Setting) (world : World) (number id index : ℕ) (bytes : List ℕ) → judge setting world (Piece number id index bytes) ≡ for_file world number id (piece_there world number id index bytes)
-unfolding judge
-judge_piece setting world number id index bytes = refl
+pub piece_for_file : (world : World) (number id index : ℕ) (bytes : List ℕ) → judge_piece world number id index bytes ≡ for_file world number id (piece_there world number id index bytes)
+unfolding judge_piece
+piece_for_file world number id index bytes = refl
 
 -- where the rows and the files are as before, the service is
 pub stays_as : (setting : Setting) (world : World) (old : Parts) (store : Rows) (files : OpenFiles) → store ≡ old.store → files ≡ old.files → IsIn setting world old
@@ -55,10 +54,10 @@ same_files old new limit files =
     ∙ ap (λ them. let all : OpenFiles = record { limit = old.limit; files = them } in all) files
 
 module _ (setting : Setting) (world : World) (number id : ℕ) (row : FileRow) (has : HasFile world number id row) (index : ℕ) (bytes : List ℕ) where
-  judged : judge setting world (Piece number id index bytes) ≡ piece_there world number id index bytes has.profile has.parent has.modified has.name has.content
-  judged = judge_piece setting world number id index bytes ∙ judged_there world number id row has (piece_there world number id index bytes)
+  judged : judge_piece world number id index bytes ≡ piece_there world number id index bytes has.profile has.parent has.modified has.name has.content
+  judged = piece_for_file world number id index bytes ∙ judged_there world number id row has (piece_there world number id index bytes)
 
-  pub refused_finished : is_unfinished row.node.state ≡ false → judge setting world (Piece number id index bytes) ≡ Refuses AlreadyFinished
+  pub refused_finished : is_unfinished row.node.state ≡ false → judge_piece world number id index bytes ≡ Refuses AlreadyFinished
   refused_finished isnt =
       let finished = finished_there world number id row has isnt in
       judged ∙ rw finished refl
@@ -67,10 +66,10 @@ module _ (setting : Setting) (world : World) (number id : ℕ) (row : FileRow) (
   abbrev reply_and_world : Verdict
   reply_and_world = Accepted (replies.Taken (length has.content.pieces + 1)) (world_set world number (node_set has.profile id (File has.parent has.modified has.name (with_piece has.content index bytes))))
 
-  pub refused : (refusal : Refusal) → Some refusal ≡ refusal_of (piece_checks has.content index bytes) → judge setting world (Piece number id index bytes) ≡ Refuses refusal
+  pub refused : (refusal : Refusal) → Some refusal ≡ refusal_of (piece_checks has.content index bytes) → judge_piece world number id index bytes ≡ Refuses refusal
   refused refusal is = judged ∙ ap (λ found. unless_refused found reply_and_world) (sym is)
 
-  accepted : None ≡ refusal_of (piece_checks has.content index bytes) → judge setting world (Piece number id index bytes) ≡ reply_and_world
+  accepted : None ≡ refusal_of (piece_checks has.content index bytes) → judge_piece world number id index bytes ≡ reply_and_world
   accepted is = judged ∙ ap (λ found. unless_refused found reply_and_world) (sym is)
 
   module _ (old : Parts) (place : ℕ) (is_in : IsIn setting world old) (is : is_unfinished row.node.state ≡ true) (at_place : slice_get old.files.files place ≡ open_at number id old.files.files) where
@@ -99,7 +98,7 @@ module _ (setting : Setting) (world : World) (number id : ℕ) (row : FileRow) (
           → Turns old.files mid place (λ before after. (all : List pieces.Piece) → StandsFor before all → StandsFor after all)
           → Turns mid new place (λ before after. (all : List pieces.Piece) (piece : pieces.Piece) → StandsFor before all → before.pending ≡ Some piece → StandsFor after (all ++ piece ∷ []))
           → Turns mid new place IsOfSameFile → Turns mid new place (λ before after. after.pending ≡ None)
-          → (replies.Taken held ≡ verdict_reply (judge setting world (Piece number id index bytes))) × Leaves setting world old (record old { store = store; files = new }) stamp (judge setting world (Piece number id index bytes))
+          → (replies.Taken held ≡ verdict_reply (judge_piece world number id index bytes)) × Leaves setting world old (record old { store = store; files = new }) stamp (judge_piece world number id index bytes)
       taken stamp held counted stored allowed stood settled same_file none_pending =
           let after = world_set world number (node_set has.profile id (File has.parent has.modified has.name (with_piece has.content index bytes))) in
           let entry = stamped stamp (replies.Taken (length has.content.pieces + 1)) in

@@ -4,8 +4,7 @@ ghost use Rattle.std.specs.Prelude.{◌≡◌, ◌<◌, ◌^◌, None};
 ghost use Rattle.droid_core_state.specs.Changes.{Comes, answered};
 ghost use Rattle.droid_core_state.specs.Standing.{IsIn};
 ghost use Rattle.droid_frame.specs.Replies.{HasReplySpelling};
-ghost use Rattle.droid_frame.specs.types.request.Request.TheVariants.{Abandon};
-ghost use Rattle.droid_core_spec.specs.Judging.{judge};
+ghost use Rattle.droid_core_spec.specs.Judging.{judge_abandon};
 ghost use Rattle.droid_core_spec.specs.Setting.{Setting};
 ghost use Rattle.droid_core_spec.specs.World.{World};
 ghost use Rattle.droid_store.specs.Rows.{reply_for};
@@ -19,7 +18,7 @@ pub fn abandon(parts: &mut Parts, stamp: Stamp, number: u32, file: u32) -> Resul
     requires new { reply_for stamp.client stamp.number parts.old.store ≡ None }
     requires small { stamp.number < 2 ^ 63 }
     ensures comes { (setting : Setting) (world : World) → IsIn setting world parts.old
-        → Comes setting world parts.old parts.new stamp (judge setting world (Abandon number file)) (answered result) }
+        → Comes setting world parts.old parts.new stamp (judge_abandon world number file) (answered result) }
     ensures spelled { HasReplySpelling (answered result) }
     ensures limits { parts.new.limits ≡ parts.old.limits }
     ensures registry { parts.new.registry ≡ parts.old.registry }

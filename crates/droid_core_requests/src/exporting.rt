@@ -6,10 +6,9 @@ ghost use Rattle.droid_core_state.specs.Standing.{IsIn};
 ghost use Rattle.droid_core_state.specs.declared.stamps.Stamp.{Stamp};
 ghost use Rattle.droid_export.specs.Text.{HaveMoments};
 ghost use Rattle.droid_frame.specs.Replies.{HasReplySpelling};
-ghost use Rattle.droid_frame.specs.types.request.Request.TheVariants.{Export};
 ghost use Rattle.droid_core_requests.specs.KeptTexts.{IsFor, IsLastText, is_followed};
 ghost use Rattle.droid_core_spec.specs.Exported.{part};
-ghost use Rattle.droid_core_spec.specs.Judging.{judge};
+ghost use Rattle.droid_core_spec.specs.Judging.{judge_export};
 ghost use Rattle.droid_core_spec.specs.Setting.{Setting};
 ghost use Rattle.droid_core_spec.specs.World.{World};
 ghost use Rattle.droid_store.specs.Rows.{records_of};
@@ -32,7 +31,7 @@ pub fn export(
     filter: Filter,
 ) -> Result<Reply, Refusal>
     ensures comes { (setting : Setting) (world : World) (stamp : Stamp) → IsIn setting world parts.old → IsLastText setting world last.old
-        → Comes setting world parts.old parts.new stamp (judge setting world (Export number from max filter)) (answered result) }
+        → Comes setting world parts.old parts.new stamp (judge_export setting world number from max filter) (answered result) }
     ensures last { (setting : Setting) (world : World) → IsIn setting world parts.old → IsLastText setting world last.old → IsLastText setting world last.new }
     // It costs nothing anew where it is the last text, and it is the last text where something is left.
     ensures kept { IfOk result (λ reply. IsTrue (is_followed from max reply) → IsFor number filter last.new) }

@@ -12,9 +12,8 @@ ghost use Rattle.droid_core_requests.specs.Causes.{says_store};
 ghost use Rattle.droid_core_requests.specs.Digests.{md5_in};
 ghost use Rattle.droid_frame.specs.Replies.{HasReplySpelling, IsDigest};
 ghost use Rattle.droid_frame.specs.types.reply.Reply.TheVariants as replies;
-ghost use Rattle.droid_frame.specs.types.request.Request.TheVariants.{Finish};
 ghost use Rattle.droid_core_spec.specs.Files.{bytes_of};
-ghost use Rattle.droid_core_spec.specs.Judging.{judge, refusal_of, finish_checks};
+ghost use Rattle.droid_core_spec.specs.Judging.{judge_finish, refusal_of, finish_checks};
 ghost use Rattle.droid_core_spec.specs.Setting.{Setting};
 ghost use Rattle.droid_core_spec.specs.Wants.{is_want_of};
 ghost use Rattle.droid_core_spec.specs.World.{Content, Profile, World};
@@ -38,7 +37,7 @@ pub fn finish(parts: &mut Parts, stamp: Stamp, number: u32, file: u32) -> Result
     requires new { reply_for stamp.client stamp.number parts.old.store ≡ None }
     requires small { stamp.number < 2 ^ 63 }
     ensures comes { (setting : Setting) (world : World) → IsIn setting world parts.old
-        → Comes setting world parts.old parts.new stamp (judge setting world (Finish number file)) (answered result) }
+        → Comes setting world parts.old parts.new stamp (judge_finish setting world number file) (answered result) }
     ensures spelled { HasReplySpelling (answered result) }
     ensures limits { parts.new.limits ≡ parts.old.limits }
     ensures registry { parts.new.registry ≡ parts.old.registry }

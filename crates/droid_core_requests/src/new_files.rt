@@ -6,9 +6,8 @@ ghost use Rattle.droid_core_state.specs.Changes.{Comes, answered};
 ghost use Rattle.droid_core_requests.specs.NewAssemblies.{IsNew};
 ghost use Rattle.droid_core_state.specs.Standing.{IsIn};
 ghost use Rattle.droid_frame.specs.Replies.{HasReplySpelling};
-ghost use Rattle.droid_frame.specs.types.request.Request.TheVariants.{AddFile};
 ghost use Rattle.droid_core_spec.specs.Conditions.{is_scan_limit};
-ghost use Rattle.droid_core_spec.specs.Judging.{judge};
+ghost use Rattle.droid_core_spec.specs.Judging.{judge_file};
 ghost use Rattle.droid_core_spec.specs.Setting.{Setting};
 ghost use Rattle.droid_core_spec.specs.World.{World};
 ghost use Rattle.droid_store.specs.Rows.{reply_for};
@@ -35,7 +34,7 @@ pub fn add_file(
     requires new { reply_for stamp.client stamp.number parts.old.store ≡ None }
     requires small { stamp.number < 2 ^ 63 }
     ensures comes { (setting : Setting) (world : World) → IsIn setting world parts.old
-        → Comes setting world parts.old parts.new stamp (judge setting world (AddFile number parent modified size piece_size name)) (answered result) }
+        → Comes setting world parts.old parts.new stamp (judge_file setting world number parent modified size piece_size name) (answered result) }
     ensures spelled { HasReplySpelling (answered result) }
     ensures limits { parts.new.limits ≡ parts.old.limits }
     ensures registry { parts.new.registry ≡ parts.old.registry }

@@ -5,8 +5,7 @@ ghost use Rattle.droid_core_state.specs.Changes.{Comes, answered};
 ghost use Rattle.droid_core_state.specs.Standing.{IsIn};
 ghost use Rattle.droid_frame.specs.Replies.{HasReplySpelling};
 ghost use Rattle.droid_frame.specs.types.refusal.Refusal.{Refusal as RefusalValue};
-ghost use Rattle.droid_frame.specs.types.request.Request.TheVariants.{CreateProfile};
-ghost use Rattle.droid_core_spec.specs.Judging.{judge, Refuses};
+ghost use Rattle.droid_core_spec.specs.Judging.{judge_create, Refuses};
 ghost use Rattle.droid_core_spec.specs.Setting.{Setting};
 ghost use Rattle.droid_core_spec.specs.World.{World};
 ghost use Rattle.droid_store.specs.Rows.{reply_for};
@@ -24,10 +23,10 @@ pub fn create_profile(
     requires new { reply_for stamp.client stamp.number parts.old.store ≡ None }
     requires small { stamp.number < 2 ^ 63 }
     ensures comes { (setting : Setting) (world : World) → IsIn setting world parts.old
-        → Comes setting world parts.old parts.new stamp (judge setting world (CreateProfile scan_limit match_all)) (answered result) }
+        → Comes setting world parts.old parts.new stamp (judge_create setting world scan_limit match_all) (answered result) }
     // What is refused is refused with no want of memory: no call before it takes any.
     ensures refused { (setting : Setting) (world : World) (refusal : RefusalValue) → IsIn setting world parts.old
-        → judge setting world (CreateProfile scan_limit match_all) ≡ Refuses refusal → result ≡ Err refusal }
+        → judge_create setting world scan_limit match_all ≡ Refuses refusal → result ≡ Err refusal }
     ensures spelled { HasReplySpelling (answered result) }
     ensures limits { parts.new.limits ≡ parts.old.limits }
     ensures registry { parts.new.registry ≡ parts.old.registry }

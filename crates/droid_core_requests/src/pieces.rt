@@ -9,8 +9,7 @@ ghost use Rattle.droid_core_state.specs.Standing.{IsIn};
 ghost use Rattle.droid_core_requests.specs.Taking.{put_refusal, refusal_in};
 ghost use Rattle.droid_frame.specs.Replies.{HasReplySpelling};
 ghost use Rattle.droid_frame.specs.types.reply.Reply.TheVariants.{Refused};
-ghost use Rattle.droid_frame.specs.types.request.Request.TheVariants as requests;
-ghost use Rattle.droid_core_spec.specs.Judging.{judge, refusal_of, piece_checks};
+ghost use Rattle.droid_core_spec.specs.Judging.{judge_piece, refusal_of, piece_checks};
 ghost use Rattle.droid_core_spec.specs.Setting.{Setting};
 ghost use Rattle.droid_core_spec.specs.World.{Content, Profile, World};
 ghost use Rattle.droid_store.specs.Changes.{with_reply};
@@ -37,7 +36,7 @@ pub fn take_piece(
     requires new { reply_for stamp.client stamp.number parts.old.store ≡ None }
     requires small { stamp.number < 2 ^ 63 }
     ensures comes { (setting : Setting) (world : World) → IsIn setting world parts.old
-        → Comes setting world parts.old parts.new stamp (judge setting world (requests.Piece number file index bytes)) (answered result) }
+        → Comes setting world parts.old parts.new stamp (judge_piece world number file index bytes) (answered result) }
     ensures spelled { HasReplySpelling (answered result) }
     ensures limits { parts.new.limits ≡ parts.old.limits }
     ensures registry { parts.new.registry ≡ parts.old.registry }

@@ -7,9 +7,8 @@ ghost use Rattle.droid_core_state.specs.Changes.{Comes, answered};
 ghost use Rattle.droid_core_state.specs.declared.stamps.Stamp.{Stamp};
 ghost use Rattle.droid_core_state.specs.Standing.{IsIn};
 ghost use Rattle.droid_frame.specs.Replies.{HasReplySpelling};
-ghost use Rattle.droid_frame.specs.types.request.Request.TheVariants.{Status};
 ghost use Rattle.droid_core_spec.specs.Files.{progress_of};
-ghost use Rattle.droid_core_spec.specs.Judging.{judge};
+ghost use Rattle.droid_core_spec.specs.Judging.{judge_status};
 ghost use Rattle.droid_core_spec.specs.Setting.{Setting};
 ghost use Rattle.droid_core_spec.specs.World.{Content, File, Profile, World, numbered, node_at as node_there};
 ghost use Rattle.droid_store.specs.Rows.{is_unfinished};
@@ -23,7 +22,7 @@ use droid_frame::{Refusal, Reply};
 /// Tells how far a file is.
 pub fn status(parts: &mut Parts, number: u32, file: u32) -> Result<Reply, Refusal>
     ensures comes { (setting : Setting) (world : World) (stamp : Stamp) → IsIn setting world parts.old
-        → Comes setting world parts.old parts.new stamp (judge setting world (Status number file)) (answered result) }
+        → Comes setting world parts.old parts.new stamp (judge_status world number file) (answered result) }
     ensures spelled { HasReplySpelling (answered result) }
     ensures limits { parts.new.limits ≡ parts.old.limits }
     ensures registry { parts.new.registry ≡ parts.old.registry }

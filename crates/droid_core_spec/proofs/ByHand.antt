@@ -17,7 +17,7 @@ use Rattle.droid_frame.specs.types.reply.Reply.{Reply}
 use Rattle.droid_core_spec.specs.Limits.{Limits}
 use Rattle.droid_core_spec.specs.Conditions.{is_scan_limit, is_piece_size, is_part_size, is_too_large, is_moment, is_bad_name, is_missing, is_file, is_too_deep}
 use Rattle.droid_core_spec.specs.Histories.{command, world_of, verdict_reply, world_after, meeting, answer, answers, next}
-use Rattle.droid_core_spec.specs.Judging.{judge}
+use Rattle.droid_core_spec.specs.Judging.{judge, judge_create, judge_folder, judge_file, judge_piece, judge_finish, judge_abandon, judge_status, judge_export}
 use Rattle.droid_core_spec.specs.Setting.{Setting}
 use Rattle.droid_core_spec.specs.World.{World, empty_world, is_taken}
 use Rattle.droid_assembly.specs.Pieces.{missing, file_bytes}
@@ -49,7 +49,7 @@ pub too_far_ahead : replies_from usual empty_world (
     ∷ Status 1 1
     ∷ []
     ) ≡ replies.Made 1 ∷ replies.Node 1 ∷ replies.Taken 1 ∷ replies.Refused (refusals.TooFarAhead 0) ∷ replies.Taken 2 ∷ replies.Taken 3 ∷ replies.Progress 3 1 ∷ []
-unfolding judge is_scan_limit is_piece_size is_part_size is_too_large is_moment is_bad_name is_missing is_file is_too_deep is_taken missing file_bytes
+unfolding judge judge_create judge_folder judge_file judge_piece judge_finish judge_abandon judge_status judge_export is_scan_limit is_piece_size is_part_size is_too_large is_moment is_bad_name is_missing is_file is_too_deep is_taken missing file_bytes
 too_far_ahead = refl
 
 -- bad pieces and one that is held: m.msg, 14 bytes in pieces of 4
@@ -66,7 +66,7 @@ pub bad_and_held_pieces : replies_from usual empty_world (
     ∷ []
     ) ≡ replies.Made 1 ∷ replies.Node 1 ∷ replies.Taken 1 ∷ replies.Refused refusals.PieceHeld ∷ replies.Refused refusals.BadPiece ∷ replies.Refused refusals.BadPiece
     ∷ replies.Refused refusals.BadPiece ∷ replies.Taken 2 ∷ replies.Refused (refusals.Incomplete 1) ∷ []
-unfolding judge is_scan_limit is_piece_size is_part_size is_too_large is_moment is_bad_name is_missing is_file is_too_deep is_taken missing file_bytes
+unfolding judge judge_create judge_folder judge_file judge_piece judge_finish judge_abandon judge_status judge_export is_scan_limit is_piece_size is_part_size is_too_large is_moment is_bad_name is_missing is_file is_too_deep is_taken missing file_bytes
 bad_and_held_pieces = refl
 
 -- an abandoned file's number isn't given again, and its name is free
@@ -80,7 +80,7 @@ pub abandoned : replies_from usual empty_world (
     ∷ Status 1 2
     ∷ []
     ) ≡ replies.Made 1 ∷ replies.Node 1 ∷ replies.Abandoned ∷ replies.Refused refusals.NoSuchNode ∷ replies.Node 2 ∷ replies.Refused refusals.NoSuchNode ∷ replies.Progress 0 0 ∷ []
-unfolding judge is_scan_limit is_piece_size is_part_size is_too_large is_moment is_bad_name is_missing is_file is_too_deep is_taken missing file_bytes
+unfolding judge judge_create judge_folder judge_file judge_piece judge_finish judge_abandon judge_status judge_export is_scan_limit is_piece_size is_part_size is_too_large is_moment is_bad_name is_missing is_file is_too_deep is_taken missing file_bytes
 abandoned = refl
 
 -- one unfinished file at a time; the limit is judged after the size
@@ -101,7 +101,7 @@ pub limit_of_unfinished : replies_from (plain (record { profiles = 1; nodes = 9;
     ) ≡ replies.Made 1 ∷ replies.Refused (refusals.LimitReached reached.Profiles) ∷ replies.Node 1 ∷ replies.Refused (refusals.LimitReached reached.Unfinished)
     ∷ replies.Refused refusals.TooLarge ∷ replies.Refused refusals.TooLarge ∷ replies.Refused refusals.BadOption ∷ replies.Refused refusals.BadOption
     ∷ replies.Refused refusals.NameTaken ∷ replies.Refused refusals.NotAFolder ∷ replies.Abandoned ∷ replies.Node 2 ∷ []
-unfolding judge is_scan_limit is_piece_size is_part_size is_too_large is_moment is_bad_name is_missing is_file is_too_deep is_taken missing file_bytes
+unfolding judge judge_create judge_folder judge_file judge_piece judge_finish judge_abandon judge_status judge_export is_scan_limit is_piece_size is_part_size is_too_large is_moment is_bad_name is_missing is_file is_too_deep is_taken missing file_bytes
 limit_of_unfinished = refl
 
 -- pieces out of order, and what is asked after the file is finished
@@ -124,7 +124,7 @@ pub pieces_out_of_order : replies_from usual empty_world message_requests
     ≡ replies.Made 1 ∷ replies.Node 1 ∷ replies.Taken 1 ∷ replies.Taken 2 ∷ replies.Taken 3 ∷ replies.Taken 4
     ∷ replies.Finished Unidentified false (md5 (codes "message digest")) [] ∷ replies.Refused refusals.AlreadyFinished ∷ replies.Refused refusals.AlreadyFinished
     ∷ replies.Refused refusals.AlreadyFinished ∷ replies.Progress 4 4 ∷ []
-unfolding judge is_scan_limit is_piece_size is_part_size is_too_large is_moment is_bad_name is_missing is_file is_too_deep is_taken missing file_bytes
+unfolding judge judge_create judge_folder judge_file judge_piece judge_finish judge_abandon judge_status judge_export is_scan_limit is_piece_size is_part_size is_too_large is_moment is_bad_name is_missing is_file is_too_deep is_taken missing file_bytes
 pieces_out_of_order = refl
 
 -- an empty file is complete at once; a folder is no file, a file is no folder
@@ -145,7 +145,7 @@ pub empty_file_and_kinds : replies_from usual empty_world (
     ) ≡ replies.Made 1 ∷ replies.Node 1 ∷ replies.Finished Unidentified false (md5 []) [] ∷ replies.Node 2 ∷ replies.Refused refusals.NotAFile ∷ replies.Refused refusals.NotAFile
     ∷ replies.Refused refusals.NotAFolder ∷ replies.Refused refusals.BadName ∷ replies.Refused refusals.NoSuchNode ∷ replies.Refused refusals.NoSuchProfile
     ∷ replies.Refused refusals.BadOption ∷ replies.Node 3 ∷ []
-unfolding judge is_scan_limit is_piece_size is_part_size is_too_large is_moment is_bad_name is_missing is_file is_too_deep is_taken missing file_bytes
+unfolding judge judge_create judge_folder judge_file judge_piece judge_finish judge_abandon judge_status judge_export is_scan_limit is_piece_size is_part_size is_too_large is_moment is_bad_name is_missing is_file is_too_deep is_taken missing file_bytes
 empty_file_and_kinds = refl
 
 -- slices of an export, over a text of nine bytes; a query isn't counted as accepted
@@ -161,7 +161,7 @@ pub slices_of_an_export : replies_from (record usual { export_text = λ records 
     ∷ []
     ) ≡ replies.Made 1 ∷ replies.Node 1 ∷ replies.Part 2 9 (codes "ten bytes") ∷ replies.Part 2 9 (codes "byt") ∷ replies.Part 2 9 [] ∷ replies.Part 2 9 []
     ∷ replies.Refused refusals.BadOption ∷ replies.Refused refusals.NoSuchProfile ∷ []
-unfolding judge is_scan_limit is_piece_size is_part_size is_too_large is_moment is_bad_name is_missing is_file is_too_deep is_taken missing file_bytes
+unfolding judge judge_create judge_folder judge_file judge_piece judge_finish judge_abandon judge_status judge_export is_scan_limit is_piece_size is_part_size is_too_large is_moment is_bad_name is_missing is_file is_too_deep is_taken missing file_bytes
 slices_of_an_export = refl
 
 -- the records of a profile: the folder and the finished file, not the unfinished nor the abandoned one
@@ -182,7 +182,7 @@ pub records_of_a_profile : records_shown (world_from usual empty_world (
     ∷ Abandon 1 4
     ∷ []
     )) ≡ (1, codes "/in") ∷ (2, codes "/in/e.txt") ∷ []
-unfolding judge is_scan_limit is_piece_size is_part_size is_too_large is_moment is_bad_name is_missing is_file is_too_deep is_taken missing file_bytes
+unfolding judge judge_create judge_folder judge_file judge_piece judge_finish judge_abandon judge_status judge_export is_scan_limit is_piece_size is_part_size is_too_large is_moment is_bad_name is_missing is_file is_too_deep is_taken missing file_bytes
 records_of_a_profile = refl
 
 -- ---- frames, with clients and numbers
@@ -194,7 +194,7 @@ create client number all = record { version = 1; kind = 1; client = client; numb
 -- sent again; another request under the same number; that number of another client; the first again after all that
 pub repeats : answers usual [] (create 7 1 0 ∷ create 7 1 0 ∷ create 7 1 1 ∷ create 8 1 1 ∷ create 7 1 0 ∷ [])
     ≡ replies.Made 1 ∷ replies.Made 1 ∷ replies.Refused refusals.NumberReused ∷ replies.Made 2 ∷ replies.Made 1 ∷ []
-unfolding answer next meeting command request_in request_value plain_value create_profile_value truth_at whole world_of judge is_scan_limit md5 digest_bytes hash_after compress rounds block_words
+unfolding answer next meeting command request_in request_value plain_value create_profile_value truth_at whole world_of judge judge_create is_scan_limit md5 digest_bytes hash_after compress rounds block_words
 repeats = refl
 
 -- no truth value, a byte past the end, a kind that is none, a number of 2^63: also under a number that is kept
@@ -206,5 +206,5 @@ pub malformed : answers usual [] (
     ∷ create 7 9223372036854775808 0
     ∷ []
     ) ≡ replies.Made 1 ∷ replies.Refused refusals.Malformed ∷ replies.Refused refusals.Malformed ∷ replies.Refused refusals.Malformed ∷ replies.Refused refusals.Malformed ∷ []
-unfolding answer next meeting command request_in request_value plain_value create_profile_value truth_at whole world_of judge is_scan_limit md5 digest_bytes hash_after compress rounds block_words
+unfolding answer next meeting command request_in request_value plain_value create_profile_value truth_at whole world_of judge judge_create is_scan_limit md5 digest_bytes hash_after compress rounds block_words
 malformed = refl

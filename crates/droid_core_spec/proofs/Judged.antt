@@ -8,7 +8,7 @@ use Rattle.droid_frame.specs.types.request.Request.{Request}
 use Rattle.droid_frame.specs.types.request.Request.TheVariants.{CreateProfile, AddFolder, AddFile, Piece, Finish, Abandon, Status, Export}
 use Rattle.droid_core_spec.specs.Exported.{part_of}
 use Rattle.droid_core_spec.specs.Files.{count_of, missing_of, bytes_of, with_piece, as_finished, finding_of, finished_reply, progress_of}
-use Rattle.droid_core_spec.specs.Judging.{Verdict, Accepted, Answered, Check, refusal_of, unless_refused, in_profile, in_file, world_set, with_node, node_set, create_checks, folder_checks, file_checks, piece_checks, finish_checks, abandon_checks, export_checks, judge}
+use Rattle.droid_core_spec.specs.Judging.{Verdict, Accepted, Answered, Check, refusal_of, unless_refused, in_profile, in_file, world_set, with_node, node_set, create_checks, folder_checks, file_checks, piece_checks, finish_checks, abandon_checks, export_checks, judge, judge_create, judge_folder, judge_file, judge_piece, judge_finish, judge_abandon, judge_status, judge_export}
 use Rattle.droid_core_spec.specs.Records.{records}
 use Rattle.droid_core_spec.specs.Setting.{Setting}
 use Rattle.droid_core_spec.specs.Verdicts.{is_refused, is_of_judging, MayCome}
@@ -55,7 +55,7 @@ module _ (world : World) (request : Request) where
       (λ parent modified name content. unless (checks profile parent modified name content) (verdict profile parent modified name content) (are profile parent modified name content) (judged profile parent modified name content)))
 
 pub judged : (setting : Setting) (world : World) (request : Request) → MayCome world request (judge setting world request)
-unfolding judge
+unfolding judge judge_create judge_folder judge_file judge_piece judge_finish judge_abandon judge_status judge_export
 judged setting world (CreateProfile scan_limit match_all) =
     unless world (CreateProfile scan_limit match_all) (create_checks setting.limits world scan_limit)
     (Accepted (replies.Made (length world.profiles + 1)) (world_with world (world.profiles ++ record { scan_limit = scan_limit; match_all = match_all; nodes = [] } ∷ [])))
@@ -127,7 +127,7 @@ number_unless None as_of total its_as_of its_total bytes its_bytes is = sym_numb
 number_unless (Some refusal) as_of total its_as_of its_total bytes its_bytes is = absurd cc
 
 pub exported_as_of : (setting : Setting) (world : World) (number from max as_of total : ℕ) (filter : Filter) (bytes : List ℕ) → judge setting world (Export number from max filter) ≡ Answered (replies.Part as_of total bytes) → as_of ≡ world.accepted
-unfolding judge
+unfolding judge judge_export
 exported_as_of setting world number from max as_of total filter bytes is = by (numbered world.profiles number) is
   where
     by : (found : Option Profile) → in_profile found (λ profile. unless_refused (refusal_of (export_checks max)) (Answered (part_of setting world.accepted profile from max filter))) ≡ Answered (replies.Part as_of total bytes) → as_of ≡ world.accepted

@@ -1,5 +1,6 @@
 pub mod Asked
 mod ByHand
+pub mod ByKind
 pub mod Counted
 pub mod Each
 pub mod Judged

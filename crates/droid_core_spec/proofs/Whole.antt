@@ -14,7 +14,7 @@ use Rattle.droid_core_spec.specs.Conditions.{is_moment, is_piece_size}
 use Rattle.droid_core_spec.specs.Exported.{part_of}
 use Rattle.droid_core_spec.specs.Files.{count_of, missing_of, is_due, with_piece, as_finished, progress_of}
 use Rattle.droid_core_spec.specs.Histories.{History, Entry, world_after, world_asked, world_of, command}
-use Rattle.droid_core_spec.specs.Judging.{Verdict, Answered, Check, refusal_of, unless_refused, in_profile, in_file, create_checks, folder_checks, file_checks, piece_checks, finish_checks, abandon_checks, export_checks, judge, world_set, with_node, node_set}
+use Rattle.droid_core_spec.specs.Judging.{Verdict, Answered, Check, refusal_of, unless_refused, in_profile, in_file, create_checks, folder_checks, file_checks, piece_checks, finish_checks, abandon_checks, export_checks, judge, judge_create, judge_folder, judge_file, judge_piece, judge_finish, judge_abandon, judge_status, judge_export, world_set, with_node, node_set}
 use Rattle.droid_core_spec.specs.Setting.{Setting}
 use Rattle.droid_core_spec.specs.Whole.{IsWhole, FinishedAreWhole}
 use Rattle.droid_core_spec.specs.World.{Content, Node, Folder, File, Abandoned, Profile, World, empty_world, numbered, node_at, unless_abandoned}
@@ -156,7 +156,7 @@ module _ (world : World) (counted : AreCounted world) where
   file_in number id parent modified name content profile is at = counted_file profile.nodes id parent modified name content (counted_profile world number profile counted is) at
 
   pub counted_after : (setting : Setting) (request : Request) → AreCounted (world_after world (judge setting world request))
-  unfolding judge
+  unfolding judge judge_create judge_folder judge_file judge_piece judge_finish judge_abandon judge_status judge_export
   counted_after setting (CreateProfile scan_limit match_all) =
       after_checks _ _ (λ (none : refusal_of (create_checks setting.limits world scan_limit) ≡ None).
       each_with_one_more IsCountedProfile world.profiles (record { scan_limit = scan_limit; match_all = match_all; nodes = [] }) counted tt)

@@ -122,57 +122,58 @@ export_checks max = (not (is_part_size max), BadOption) ∷ []
 
 -- ---- requests, each by its kind; profiles and nodes are numbered from 1, in order of acceptance
 
-abbrev pub judge_create : Setting → World → ℕ → Bool → Verdict
+unfoldable pub judge_create : Setting → World → ℕ → Bool → Verdict
 judge_create setting world scan_limit match_all =
     unless_refused (refusal_of (create_checks setting.limits world scan_limit))
     (Accepted (replies.Made (length world.profiles + 1)) (world_with world (world.profiles ++ record { scan_limit = scan_limit; match_all = match_all; nodes = [] } ∷ [])))
 
-abbrev pub judge_folder : Setting → World → ℕ → ℕ → ℤ → List ℕ → Verdict
+unfoldable pub judge_folder : Setting → World → ℕ → ℕ → ℤ → List ℕ → Verdict
 judge_folder setting world number parent modified name =
     in_profile (numbered world.profiles number) (λ profile.
     unless_refused (refusal_of (folder_checks setting.limits profile.nodes parent modified name))
     (Accepted (replies.Node (length profile.nodes + 1)) (world_set world number (with_node profile (Folder parent modified name)))))
 
-abbrev pub judge_file : Setting → World → ℕ → ℕ → ℤ → ℕ → ℕ → List ℕ → Verdict
+unfoldable pub judge_file : Setting → World → ℕ → ℕ → ℤ → ℕ → ℕ → List ℕ → Verdict
 judge_file setting world number parent modified size piece_size name =
     in_profile (numbered world.profiles number) (λ profile.
     unless_refused (refusal_of (file_checks setting.limits world profile.nodes parent modified size piece_size name))
     (Accepted (replies.Node (length profile.nodes + 1)) (world_set world number (with_node profile
     (File parent modified name (record { size = size; piece_size = piece_size; pieces = []; finished = false }))))))
 
-abbrev pub judge_piece : World → ℕ → ℕ → ℕ → List ℕ → Verdict
+unfoldable pub judge_piece : World → ℕ → ℕ → ℕ → List ℕ → Verdict
 judge_piece world number file index bytes =
     in_profile (numbered world.profiles number) (λ profile.
     in_file (node_at profile.nodes file) (λ parent modified name content.
     unless_refused (refusal_of (piece_checks content index bytes))
     (Accepted (replies.Taken (length content.pieces + 1)) (world_set world number (node_set profile file (File parent modified name (with_piece content index bytes)))))))
 
-abbrev pub judge_finish : Setting → World → ℕ → ℕ → Verdict
+unfoldable pub judge_finish : Setting → World → ℕ → ℕ → Verdict
 judge_finish setting world number file =
     in_profile (numbered world.profiles number) (λ profile.
     in_file (node_at profile.nodes file) (λ parent modified name content.
     unless_refused (refusal_of (finish_checks content))
     (Accepted (finished_reply (finding_of setting profile name content) (bytes_of content)) (world_set world number (node_set profile file (File parent modified name (as_finished content)))))))
 
-abbrev pub judge_abandon : World → ℕ → ℕ → Verdict
+unfoldable pub judge_abandon : World → ℕ → ℕ → Verdict
 judge_abandon world number file =
     in_profile (numbered world.profiles number) (λ profile.
     in_file (node_at profile.nodes file) (λ parent modified name content.
     unless_refused (refusal_of (abandon_checks content))
     (Accepted replies.Abandoned (world_set world number (node_set profile file Abandoned)))))
 
-abbrev pub judge_status : World → ℕ → ℕ → Verdict
+unfoldable pub judge_status : World → ℕ → ℕ → Verdict
 judge_status world number file =
     in_profile (numbered world.profiles number) (λ profile.
     in_file (node_at profile.nodes file) (λ parent modified name content.
     Answered (progress_of content)))
 
-abbrev pub judge_export : Setting → World → ℕ → ℕ → ℕ → Filter → Verdict
+unfoldable pub judge_export : Setting → World → ℕ → ℕ → ℕ → Filter → Verdict
 judge_export setting world number from max filter =
     in_profile (numbered world.profiles number) (λ profile.
     unless_refused (refusal_of (export_checks max))
     (Answered (part_of setting world.accepted profile from max filter)))
 
+-- by the kind of request
 unfoldable pub judge : Setting → World → Request → Verdict
 judge setting world (CreateProfile scan_limit match_all) = judge_create setting world scan_limit match_all
 judge setting world (AddFolder number parent modified name) = judge_folder setting world number parent modified name

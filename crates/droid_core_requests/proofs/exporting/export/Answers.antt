@@ -1,10 +1,9 @@
 use Rattle.std.proofs.Common.{◌≡◌, length, refl, ap, ◌∙◌, None}
 use Rattle.std.proofs.lemmas.Result.{err_from_is_err_and}
 use Rattle.droid_frame.specs.types.refusal.Refusal.TheVariants.{NoSuchProfile}
-use Rattle.droid_frame.specs.types.request.Request.TheVariants.{Export}
 use Rattle.droid_export.specs.Text.{text}
 use Rattle.droid_core_spec.specs.Exported.{part_of}
-use Rattle.droid_core_spec.specs.Judging.{judge}
+use Rattle.droid_core_spec.specs.Judging.{judge_export}
 use Rattle.droid_core_spec.specs.World.{numbered}
 use Rattle.droid_store.specs.Rows.{Rows, records_of}
 use Rattle.droid_core_requests.proofs.ExportedParts.{export_nowhere, export_refused, export_shown, part_within, text_shown, part_shown}
@@ -21,7 +20,7 @@ returns-in_err-profile_of-clause-comes c = λ setting world stamp is_in last.
     let found = c.in_err-profile_of.ensures.found setting world c.args.number c.args.parts.now.store is_in.rows c.profile.ensures.found in
     let p = err_from_is_err_and c.from_residual.result c.from_residual.ensures.1 in
     let stays = read_only setting world service c.profile.new.self c.profile.ensures.same is_in in
-    rw (p.1, p.2) (comes_refused setting world service _ stamp (judge setting world (Export c.args.number c.args.from c.args.max c.args.filter)) c.in_err-profile_of.field-0.0
+    rw (p.1, p.2) (comes_refused setting world service _ stamp (judge_export setting world c.args.number c.args.from c.args.max c.args.filter) c.in_err-profile_of.field-0.0
     (if_refused _ (λ (it : (refusal ≡ NoSuchProfile) × (numbered world.profiles c.args.number ≡ None)). rw it.0 (export_nowhere setting world c.args.number c.args.from c.args.max c.args.filter it.1)) found) stays)
 
 pub returns-in-Some-clause-comes : goal.returns-in-Some-clause-comes
@@ -30,7 +29,7 @@ returns-in-Some-clause-comes c = λ setting world stamp is_in last.
     let found = c.in_ok-profile_of.ensures.found setting world c.args.number c.args.parts.now.store is_in.rows c.profile.ensures.found in
     let refused = export_refused setting world c.args.number c.args.from c.args.max c.args.filter found.profile c.in-Some.refusal found.there c.in-Some.ensures.first in
     let stays = read_only setting world service c.profile.new.self c.profile.ensures.same is_in in
-    comes_refused setting world service _ stamp (judge setting world (Export c.args.number c.args.from c.args.max c.args.filter)) c.in-Some.refusal
+    comes_refused setting world service _ stamp (judge_export setting world c.args.number c.args.from c.args.max c.args.filter) c.in-Some.refusal
     (of_any _ refused) stays
 
 pub returns-in-Some-text_for-clause-comes : goal.returns-in-Some-text_for-clause-comes
@@ -87,5 +86,5 @@ returns-in_err-records-clause-comes c = λ setting world stamp is_in last.
     let counted : c.accepted_by-accepted.new.store ≡ service.store = c.accepted_by-accepted.ensures.same ∙ c.profile.ensures.same in
     let fault = err_from_is_err_and c.from_residual-in_err-records.result c.from_residual-in_err-records.ensures.1 in
     let memory = c.in_err-records.ensures.memory (moments_written setting world service c.accepted_by-accepted.new.store c.args.number found.profile is_in counted found.there) in
-    rw (fault.1, fault.2) (comes_wanting setting world service _ stamp (judge setting world (Export c.args.number c.args.from c.args.max c.args.filter)) _ memory
+    rw (fault.1, fault.2) (comes_wanting setting world service _ stamp (judge_export setting world c.args.number c.args.from c.args.max c.args.filter) _ memory
     (read_only setting world service c.records_in.new.store (c.records_in.ensures.same ∙ counted) is_in))

@@ -1,9 +1,8 @@
 use Rattle.std.proofs.Common.{refl, sym, ◌∙◌}
 use Rattle.std.proofs.lemmas.Result.{err_from_is_err_and}
-use Rattle.droid_frame.specs.types.request.Request.TheVariants.{Finish}
-use Rattle.droid_core_spec.specs.Judging.{judge}
 use Rattle.droid_core_requests.specs.Digests.{md5_in}
-use Rattle.droid_core_requests.proofs.FileFinished.{finish_there, judge_finish, only_looked, refused_finished, comes_unfinished, finds, digest_is, allowed_there, finished}
+use Rattle.droid_core_spec.specs.Judging.{judge_finish}
+use Rattle.droid_core_requests.proofs.FileFinished.{finish_there, finish_for_file, only_looked, refused_finished, comes_unfinished, finds, digest_is, allowed_there, finished}
 use Rattle.droid_core_requests.proofs.FileVerdicts.{comes_nowhere}
 use Rattle.droid_core_requests.proofs.PieceTaken.{comes_wanting}
 use Rattle.droid_core_state.proofs.Staying.{read_only}
@@ -14,7 +13,7 @@ pub returns-in_err-row-clause-comes : goal.returns-in_err-row-clause-comes
 returns-in_err-row-clause-comes c = λ setting world is_in.
     let fault = err_from_is_err_and c.from_residual.result c.from_residual.ensures.1 in
     rw (fault.1, fault.2) (comes_nowhere setting world c.args.parts.now _ c.args.stamp c.args.number c.args.file (finish_there setting world c.args.number c.args.file) _ _
-    (judge_finish setting world c.args.number c.args.file) (c.in_err-row.ensures.found setting world is_in.rows) (read_only setting world c.args.parts.now c.file_of.new.store c.file_of.ensures.same is_in))
+    (finish_for_file setting world c.args.number c.args.file) (c.in_err-row.ensures.found setting world is_in.rows) (read_only setting world c.args.parts.now c.file_of.new.store c.file_of.ensures.same is_in))
 
 pub returns-then-not-is_unfinished-clause-comes : goal.returns-then-not-is_unfinished-clause-comes
 returns-then-not-is_unfinished-clause-comes c = λ setting world is_in.
@@ -36,7 +35,7 @@ returns-in_err-reply-clause-comes c = λ setting world is_in.
     let fault = err_from_is_err_and c.from_residual-in_err-reply.result c.from_residual-in_err-reply.ensures.1 in
     let memory = c.in_err-reply.ensures.memory (rw c.file_of.ensures.same is_in.rows.short) in
     rw (fault.1, fault.2)
-    (comes_wanting setting world c.args.parts.now _ c.args.stamp (judge setting world (Finish c.args.number c.args.file)) _ memory
+    (comes_wanting setting world c.args.parts.now _ c.args.stamp (judge_finish setting world c.args.number c.args.file) _ memory
     (rw c.in_err-reply.ensures.same (only_looked setting world c.args.parts.now c.in_ok-place.place c.keep_finding.new.store c.identify_file.new.files (c.in_err-reply.ensures.not_kept ∙ c.file_of.ensures.same) c.identify_file.ensures.others c.identify_file.ensures.unchanged is_in)))
 
 pub returns-clause-comes : goal.returns-clause-comes

@@ -2,9 +2,8 @@ use Rattle.std.proofs.Common.{◌+◌, sym, refl, ap, ◌∙◌, arith}
 use Rattle.std.specs.Int.{w64}
 use Rattle.std.proofs.lemmas.Int.{to_z-of_z}
 use Rattle.std.proofs.lemmas.Result.{err_from_is_err_and}
-use Rattle.droid_core_spec.specs.Judging.{judge}
+use Rattle.droid_core_spec.specs.Judging.{judge_file}
 use Rattle.droid_core_spec.specs.Limits.{Limits}
-use Rattle.droid_frame.specs.types.request.Request.TheVariants.{AddFile}
 use Rattle.droid_store.specs.declared.rows.ProfileRow.{ProfileRow}
 use Rattle.droid_core_requests.proofs.AddedFiles.{file_nowhere, file_misplaced, file_refused, comes_file}
 use Rattle.droid_core_state.proofs.Staying.{of_any, stays, comes_refused}
@@ -64,7 +63,7 @@ returns-in_err-assembly-clause-comes c = λ setting world is.
     let within = limit_within world c.args.number has.profile is.sound has.there in
     let memory = c.in_err-assembly.ensures.memory (rw (ap (λ (row : ProfileRow). row.scan_limit) has.row_is) within) in
     let failed = err_from_is_err_and c.from_residual-in_err-assembly.result c.from_residual-in_err-assembly.ensures.1 in
-    rw (failed.1, failed.2) (comes_wanting setting world _ _ c.args.stamp (judge setting world (AddFile c.args.number c.args.parent c.args.modified c.args.size c.args.piece_size c.args.name)) _ memory (stays setting world _ _ refl refl store refl is))
+    rw (failed.1, failed.2) (comes_wanting setting world _ _ c.args.stamp (judge_file setting world c.args.number c.args.parent c.args.modified c.args.size c.args.piece_size c.args.name) _ memory (stays setting world _ _ refl refl store refl is))
 
 pub returns-in_err-has_room-clause-comes : goal.returns-in_err-has_room-clause-comes
 returns-in_err-has_room-clause-comes c = λ setting world is.

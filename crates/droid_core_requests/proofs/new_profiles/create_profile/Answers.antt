@@ -29,15 +29,15 @@ returns-in_err-entry-clause-refused c = λ setting world refusal is judged.
     let count = room.count ∙ profile_count setting world c.args.parts.now.store is.rows in
     absurd (never_refused setting world c.args.scan_limit c.args.match_all refusal (sym (c.in_default.ensures.first setting.limits world limit count)) judged)
 
-pub returns-in-Ok-clause-refused : goal.returns-in-Ok-clause-refused
-returns-in-Ok-clause-refused c = λ setting world refusal is judged.
+pub returns-clause-refused : goal.returns-clause-refused
+returns-clause-refused c = λ setting world refusal is judged.
     let room = c.profile_room-profiles.ensures in
     let limit = room.limit ∙ sym (ap (λ (limits : Limits). limits.profiles) is.is_setting.limits) in
     let count = room.count ∙ profile_count setting world c.args.parts.now.store is.rows in
     absurd (never_refused setting world c.args.scan_limit c.args.match_all refusal (sym (c.in_default.ensures.first setting.limits world limit count)) judged)
 
-pub returns-in-Err-clause-refused : goal.returns-in-Err-clause-refused
-returns-in-Err-clause-refused c = λ setting world refusal is judged.
+pub returns-in_err-commit_profile-clause-refused : goal.returns-in_err-commit_profile-clause-refused
+returns-in_err-commit_profile-clause-refused c = λ setting world refusal is judged.
     let room = c.profile_room-profiles.ensures in
     let limit = room.limit ∙ sym (ap (λ (limits : Limits). limits.profiles) is.is_setting.limits) in
     let count = room.count ∙ profile_count setting world c.args.parts.now.store is.rows in

@@ -1,8 +1,7 @@
 use Rattle.std.proofs.Common.{refl, sym, ◌∙◌}
 use Rattle.std.proofs.lemmas.Result.{err_from_is_err_and}
-use Rattle.droid_core_requests.proofs.PieceTaken.{piece_there, judge_piece, refused_finished, refused, judged_by_put, held_is, not_kept, taken, stays_as, comes_wanting}
-use Rattle.droid_frame.specs.types.request.Request.TheVariants.{Piece}
-use Rattle.droid_core_spec.specs.Judging.{judge}
+use Rattle.droid_core_requests.proofs.PieceTaken.{piece_there, piece_for_file, refused_finished, refused, judged_by_put, held_is, not_kept, taken, stays_as, comes_wanting}
+use Rattle.droid_core_spec.specs.Judging.{judge_piece}
 use Rattle.droid_core_requests.proofs.FileVerdicts.{comes_nowhere}
 use Rattle.droid_core_state.proofs.Staying.{read_only, comes_refused, of_any}
 use Rattle.droid_core_requests.proofs.PieceAssemblies.{is_pending}
@@ -13,7 +12,7 @@ pub returns-in_err-row-clause-comes : goal.returns-in_err-row-clause-comes
 returns-in_err-row-clause-comes c = λ setting world is_in.
     let fault = err_from_is_err_and c.from_residual.result c.from_residual.ensures.1 in
     rw (fault.1, fault.2) (comes_nowhere setting world c.args.parts.now _ c.args.stamp c.args.number c.args.file (piece_there world c.args.number c.args.file c.args.index c.args.bytes) _ _
-    (judge_piece setting world c.args.number c.args.file c.args.index c.args.bytes) (c.in_err-row.ensures.found setting world is_in.rows) (read_only setting world c.args.parts.now c.file_of.new.store c.file_of.ensures.same is_in))
+    (piece_for_file world c.args.number c.args.file c.args.index c.args.bytes) (c.in_err-row.ensures.found setting world is_in.rows) (read_only setting world c.args.parts.now c.file_of.new.store c.file_of.ensures.same is_in))
 
 pub returns-then-not-is_unfinished-clause-comes : goal.returns-then-not-is_unfinished-clause-comes
 returns-then-not-is_unfinished-clause-comes c = λ setting world is_in.
@@ -40,7 +39,7 @@ returns-in_err-keep_piece-clause-comes c = λ setting world is_in.
     let has = c.in_ok-row.ensures.found setting world is_in.rows in
     let stays = not_kept setting world c.args.number c.args.file c.in_ok-row.row has c.args.index c.args.bytes c.args.parts.now c.in_ok-place.place is_in (sym c.if-not-is_unfinished.ensures) c.in_ok-place.ensures.place
     c.keep_piece.new.store c.put_piece.new.files c.keep_piece.new.files c.put_piece.ensures.others c.keep_piece.ensures.others c.in_ok-put_piece.ensures.pending (c.in_err-keep_piece.ensures.not_kept ∙ c.file_of.ensures.same) c.in_err-keep_piece.ensures.taken_back in
-    rw (fault.1, fault.2) (comes_wanting setting world c.args.parts.now _ c.args.stamp (judge setting world (Piece c.args.number c.args.file c.args.index c.args.bytes)) _ c.in_err-keep_piece.ensures.memory stays)
+    rw (fault.1, fault.2) (comes_wanting setting world c.args.parts.now _ c.args.stamp (judge_piece world c.args.number c.args.file c.args.index c.args.bytes) _ c.in_err-keep_piece.ensures.memory stays)
 
 pub returns-clause-comes : goal.returns-clause-comes
 returns-clause-comes c = λ setting world is_in.

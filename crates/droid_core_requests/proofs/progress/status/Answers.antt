@@ -1,6 +1,6 @@
 use Rattle.std.proofs.Common.{sym}
 use Rattle.std.proofs.lemmas.Result.{err_from_is_err_and}
-use Rattle.droid_core_requests.proofs.FileProgress.{status_there, judge_status, told_at_all, unfinished_told, finished_told}
+use Rattle.droid_core_requests.proofs.FileProgress.{status_there, status_for_file, told_at_all, unfinished_told, finished_told}
 use Rattle.droid_core_requests.proofs.FileVerdicts.{comes_nowhere}
 use Rattle.droid_core_state.proofs.Staying.{read_only}
 use Rattle.droid_core_requests.proofs.CannotBe.{no_assembly, no_count}
@@ -10,7 +10,7 @@ pub returns-in_err-row-clause-comes : goal.returns-in_err-row-clause-comes
 returns-in_err-row-clause-comes c = λ setting world stamp is_in.
     let fault = err_from_is_err_and c.from_residual.result c.from_residual.ensures.1 in
     rw (fault.1, fault.2) (comes_nowhere setting world c.args.parts.now _ stamp c.args.number c.args.file status_there _ _
-    (judge_status setting world c.args.number c.args.file) (c.in_err-row.ensures.found setting world is_in.rows) (read_only setting world c.args.parts.now c.file_of.new.store c.file_of.ensures.same is_in))
+    (status_for_file world c.args.number c.args.file) (c.in_err-row.ensures.found setting world is_in.rows) (read_only setting world c.args.parts.now c.file_of.new.store c.file_of.ensures.same is_in))
 
 pub returns-then-is_unfinished-clause-comes : goal.returns-then-is_unfinished-clause-comes
 returns-then-is_unfinished-clause-comes c = λ setting world stamp is_in.

@@ -1,0 +1,41 @@
+-- Judging a request is what its kind's own definition says.
+use Rattle.std.proofs.Common.{◌≡◌, ℕ, ℤ, Bool, List, refl}
+use Rattle.droid_frame.specs.types.filter.Filter.{Filter}
+use Rattle.droid_frame.specs.types.request.Request.TheVariants.{CreateProfile, AddFolder, AddFile, Piece, Finish, Abandon, Status, Export}
+use Rattle.droid_core_spec.specs.Judging.{judge, judge_create, judge_folder, judge_file, judge_piece, judge_finish, judge_abandon, judge_status, judge_export}
+use Rattle.droid_core_spec.specs.Setting.{Setting}
+use Rattle.droid_core_spec.specs.World.{World}
+
+module _ (setting : Setting) (world : World) where
+  pub is_create : (scan_limit : ℕ) (match_all : Bool) → judge setting world (CreateProfile scan_limit match_all) ≡ judge_create setting world scan_limit match_all
+  unfolding judge
+  is_create scan_limit match_all = refl
+
+  pub is_folder : (number parent : ℕ) (modified : ℤ) (name : List ℕ) → judge setting world (AddFolder number parent modified name) ≡ judge_folder setting world number parent modified name
+  unfolding judge
+  is_folder number parent modified name = refl
+
+  pub is_file : (number parent : ℕ) (modified : ℤ) (size piece_size : ℕ) (name : List ℕ)
+      → judge setting world (AddFile number parent modified size piece_size name) ≡ judge_file setting world number parent modified size piece_size name
+  unfolding judge
+  is_file number parent modified size piece_size name = refl
+
+  pub is_piece : (number file index : ℕ) (bytes : List ℕ) → judge setting world (Piece number file index bytes) ≡ judge_piece world number file index bytes
+  unfolding judge
+  is_piece number file index bytes = refl
+
+  pub is_finish : (number file : ℕ) → judge setting world (Finish number file) ≡ judge_finish setting world number file
+  unfolding judge
+  is_finish number file = refl
+
+  pub is_abandon : (number file : ℕ) → judge setting world (Abandon number file) ≡ judge_abandon world number file
+  unfolding judge
+  is_abandon number file = refl
+
+  pub is_status : (number file : ℕ) → judge setting world (Status number file) ≡ judge_status world number file
+  unfolding judge
+  is_status number file = refl
+
+  pub is_export : (number from max : ℕ) (filter : Filter) → judge setting world (Export number from max filter) ≡ judge_export setting world number from max filter
+  unfolding judge
+  is_export number from max filter = refl
