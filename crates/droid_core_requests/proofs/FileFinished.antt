@@ -1,25 +1,24 @@
 -- What comes of finishing a file that was found.
 use Rattle.std.proofs.Common.{◌≡◌, ℕ, ◌+◌, List, length, slice_get, true, false, Some, None, refl, sym, ap, subst, ◌∙◌}
 use Rattle.std.specs.Prelude.{ℤ, Bool, MatchBool, ⊤}
-use Rattle.md5.specs.Md5.{md5}
 use Rattle.droid_assembly.specs.State.{IsUnchanged}
 use Rattle.droid_frame.specs.types.refusal.Refusal.{Refusal}
 use Rattle.droid_frame.specs.types.refusal.Refusal.TheVariants.{AlreadyFinished}
 use Rattle.droid_frame.specs.types.reply.Reply.{Reply}
 use Rattle.droid_frame.specs.types.reply.Reply.TheVariants as replies
-use Rattle.droid_core_spec.specs.Files.{as_finished, bytes_of, finding_of, finished_reply}
-use Rattle.droid_core_state.specs.Identified.{found_in}
+use Rattle.droid_core_spec.specs.Files.{Finding, as_finished, bytes_of, digest_of, found_as, identified, finding_of, finished_reply}
+use Rattle.droid_core_state.specs.Identified.{as_identification, found_in}
 use Rattle.droid_core_spec.specs.Judging.{Verdict, Accepted, Refuses, unless_refused, refusal_of, finish_checks, judge_finish, world_set, node_set}
-use Rattle.droid_core_spec.specs.Setting.{Setting, Finding}
+use Rattle.droid_core_spec.specs.Setting.{Setting}
 use Rattle.droid_core_spec.specs.Wants.{is_want, is_want_of}
 use Rattle.droid_core_spec.specs.World.{Content, File, Profile, World}
 use Rattle.droid_pronom.specs.Found.{Hits, IsFound}
 use Rattle.droid_pronom.specs.types.found.Found.{Found}
 use Rattle.droid_pronom.proofs.FoundOnce.{found_once}
-use Rattle.droid_core_state.specs.Rows.{KeepsWorld}
+use Rattle.droid_core_state.specs.Rows.{with_finding, KeepsWorld}
 use Rattle.droid_core_state.proofs.Finished.{file_finished}
 use Rattle.droid_core_state.proofs.Soundness.{sound_file_set}
-use Rattle.droid_store.specs.Changes.{with_reply, with_finished}
+use Rattle.droid_store.specs.Changes.{with_reply}
 use Rattle.droid_store.specs.declared.rows.ProfileRow.{ProfileRow}
 use Rattle.droid_store.specs.Rows.{Rows, is_unfinished}
 use Rattle.droid_core_files.specs.Files.{OpenFile, OpenFiles, IsAt, At, Turns, IsAlikeBut, is_of, open_at}
@@ -39,7 +38,7 @@ use Rattle.droid_core_requests.proofs.UnchangedFiles.{assemblies_unchanged, plac
 abbrev pub finish_there : Setting → World → ℕ → ℕ → Profile → ℕ → ℤ → List ℕ → Content → Verdict
 finish_there setting world number id profile parent modified name content =
     unless_refused (refusal_of (finish_checks content))
-    (Accepted (finished_reply (finding_of setting profile name content) (bytes_of content)) (world_set world number (node_set profile id (File parent modified name (as_finished content)))))
+    (Accepted (finished_reply (finding_of setting profile name content)) (world_set world number (node_set profile id (File parent modified name (as_finished content)))))
 
 pub finish_for_file : (setting : Setting) (world : World) (number id : ℕ) → judge_finish setting world number id ≡ for_file world number id (finish_there setting world number id)
 unfolding judge_finish
@@ -87,7 +86,7 @@ module _ (setting : Setting) (world : World) (number id : ℕ) (row : FileRow) (
 
   -- where nothing refuses it
   abbrev reply_and_world : Verdict
-  reply_and_world = Accepted (finished_reply (finding_of setting has.profile has.name has.content) (bytes_of has.content)) (world_set world number (node_set has.profile id (File has.parent has.modified has.name (as_finished has.content))))
+  reply_and_world = Accepted (finished_reply (finding_of setting has.profile has.name has.content)) (world_set world number (node_set has.profile id (File has.parent has.modified has.name (as_finished has.content))))
 
   refused : (refusal : Refusal) → refusal_of (finish_checks has.content) ≡ Some refusal → judge_finish setting world number id ≡ Refuses refusal
   refused refusal is = judged ∙ ap (λ found. unless_refused found reply_and_world) is
@@ -113,46 +112,50 @@ module _ (setting : Setting) (world : World) (number id : ℕ) (row : FileRow) (
     -- what is found is the setting's
     pub finds : (found : Found) → At old.files place (λ file. (profile : Profile) (content : Content) → IsAssemblyOf profile content file
         → IsFound old.registry row.node.item.name (bytes_of content) profile.scan_limit row.profile.match_all found)
-        → found ≡ found_in (finding_of setting has.profile has.name has.content)
+        → found ≡ found_in (identified setting has.profile has.name has.content)
     finds found said =
         let told = said its.file (at_place ∙ its.there) has.profile has.content its.assembled in
         let named = subst (λ (name : List ℕ). IsFound old.registry name (bytes_of has.content) has.profile.scan_limit row.profile.match_all found) has.name_is told in
         let of_profile = subst (λ (p : ProfileRow). IsFound old.registry has.name (bytes_of has.content) has.profile.scan_limit p.match_all found) has.profile_is named in
         found_is setting world old has.name (bytes_of has.content) has.profile.scan_limit has.profile.match_all found is_in of_profile
 
-    pub digest_is : (digest : List ℕ) → At old.files place (λ file. (profile : Profile) (content : Content) → IsAssemblyOf profile content file → digest ≡ md5 (bytes_of content)) → digest ≡ md5 (bytes_of has.content)
+    pub digest_is : (digest : List ℕ) → At old.files place (λ file. (profile : Profile) (content : Content) → IsAssemblyOf profile content file → digest ≡ digest_of content) → digest ≡ digest_of has.content
     digest_is digest said = said its.file (at_place ∙ its.there) has.profile has.content its.assembled
 
     pub allowed_there : At old.files place (λ file. (profile : Profile) (content : Content) → IsAssemblyOf profile content file → content.finished ≡ false → refusal_of (finish_checks content) ≡ None) → refusal_of (finish_checks has.content) ≡ None
     allowed_there said = said its.file (at_place ∙ its.there) has.profile has.content its.assembled unfinished
 
-    -- the reply, and the rows with it, as the verdict has them
+    -- the finding, the reply, and the rows with it, as the verdict has them
     abbrev finding : Finding
     finding = finding_of setting has.profile has.name has.content
 
+    -- what was seen of the file is that
+    pub seen_is : (found : Found) (digest : List ℕ) → found ≡ found_in (identified setting has.profile has.name has.content) → digest ≡ digest_of has.content
+        → found_as (as_identification found) digest ≡ finding
+    seen_is found digest same_found same_digest =
+        ap (λ (it : Found). found_as (as_identification it) digest) same_found
+        ∙ ap (λ (d : List ℕ). found_as (identified setting has.profile has.name has.content) d) same_digest
+
     abbrev reply : Reply
-    reply = finished_reply finding (bytes_of has.content)
+    reply = finished_reply finding
 
     abbrev finished_rows : Stamp → Rows
-    finished_rows stamp = with_reply (stamped stamp reply) (with_finished number id finding.method finding.mismatch (md5 (bytes_of has.content)) finding.puids old.store)
+    finished_rows stamp = with_reply (stamped stamp reply) (with_finding number id finding old.store)
 
-    pub finished : (stamp : Stamp) (given : Reply) (store : Rows) (mid new : OpenFiles) (found : Found) (digest : List ℕ) → refusal_of (finish_checks has.content) ≡ None
-        → found ≡ found_in finding → digest ≡ md5 (bytes_of has.content)
-        → given ≡ replies.Finished found.method found.mismatch digest found.puids
-        → store ≡ with_reply (stamped stamp given) (with_finished number id found.method found.mismatch digest found.puids old.store)
+    pub finished : (stamp : Stamp) (given : Reply) (store : Rows) (mid new : OpenFiles) (seen : Finding) → refusal_of (finish_checks has.content) ≡ None
+        → seen ≡ finding → given ≡ finished_reply seen → store ≡ with_reply (stamped stamp given) (with_finding number id seen old.store)
         → IsAlikeBut place old.files mid → Turns old.files mid place IsUnchanged
         → ((one : OpenFile) → IsAt mid.files place one → open_at one.profile one.file new.files ≡ None)
         → ((one : OpenFile) (that_number that_id : ℕ) → IsAt mid.files place one → is_of that_number that_id one ≡ false → open_at that_number that_id new.files ≡ open_at that_number that_id mid.files)
         → length new.files + 1 ≡ length mid.files → new.limit ≡ mid.limit
         → Comes setting world old (record old { store = store; files = new }) stamp (judge_finish setting world number id) given
-    finished stamp given store mid new found digest allowed same_found same_digest gives stored alike unchanged gone others count limit =
+    finished stamp given store mid new seen allowed same gives stored alike unchanged gone others count limit =
         let after = world_set world number (node_set has.profile id (File has.parent has.modified has.name (as_finished has.content))) in
-        let replied : given ≡ reply = gives ∙ ap (λ (it : Found). replies.Finished it.method it.mismatch digest it.puids) same_found ∙ ap (λ (d : List ℕ). replies.Finished finding.method finding.mismatch d finding.puids) same_digest in
+        let replied : given ≡ reply = gives ∙ ap (λ (it : Finding). finished_reply it) same in
         let kept : store ≡ finished_rows stamp =
         stored
-        ∙ ap (λ (it : Reply). with_reply (stamped stamp it) (with_finished number id found.method found.mismatch digest found.puids old.store)) replied
-        ∙ ap (λ (it : Found). with_reply (stamped stamp reply) (with_finished number id it.method it.mismatch digest it.puids old.store)) same_found
-        ∙ ap (λ (d : List ℕ). with_reply (stamped stamp reply) (with_finished number id finding.method finding.mismatch d finding.puids old.store)) same_digest in
+        ∙ ap (λ (it : Reply). with_reply (stamped stamp it) (with_finding number id seen old.store)) replied
+        ∙ ap (λ (it : Finding). with_reply (stamped stamp reply) (with_finding number id it old.store)) same in
         let rows = file_finished setting world old.store (stamped stamp reply) number has.profile id has.parent has.modified has.name has.content is_in.rows has.there has.at unfinished in
         let looked = assemblies_unchanged world old.files mid place is_in.files alike unchanged in
         let still = place_still world old.files mid place is_in.files alike unchanged number id at_place in

@@ -2,32 +2,31 @@
 
 ghost use Rattle.std.specs.Prelude.{◌≡◌, ◌<◌, ◌≤◌, ◌^◌, ◌+◌, ℕ, length, false, None, Some, IsTrue, MatchBool, ⊤, IfOk, IfErr, OnOk, OnErr};
 ghost use Rattle.std.specs.List.{AllByRecursion};
-ghost use Rattle.md5.specs.Md5.{md5};
 ghost use Rattle.droid_assembly.specs.State.{IsUnchanged};
 ghost use Rattle.droid_core_state.specs.Assemblies.{IsAssemblyOf};
 ghost use Rattle.droid_core_state.specs.Changes.{Comes, answered, stamped};
-ghost use Rattle.droid_core_state.specs.Rows.{IsShort};
+ghost use Rattle.droid_core_state.specs.Rows.{IsShort, with_finding};
 ghost use Rattle.droid_core_state.specs.Standing.{IsIn};
 ghost use Rattle.droid_core_requests.specs.Causes.{says_store};
 ghost use Rattle.droid_core_requests.specs.Digests.{md5_in};
+ghost use Rattle.droid_core_requests.specs.Findings.{finding_in};
 ghost use Rattle.droid_frame.specs.Replies.{HasReplySpelling, IsDigest};
 ghost use Rattle.droid_frame.specs.types.reply.Reply.TheVariants as replies;
-ghost use Rattle.droid_core_spec.specs.Files.{bytes_of};
+ghost use Rattle.droid_core_spec.specs.Files.{bytes_of, digest_of, finished_reply};
 ghost use Rattle.droid_core_spec.specs.Judging.{judge_finish, refusal_of, finish_checks};
 ghost use Rattle.droid_core_spec.specs.Setting.{Setting};
 ghost use Rattle.droid_core_spec.specs.Wants.{is_want_of};
 ghost use Rattle.droid_core_spec.specs.World.{Content, Profile, World};
 ghost use Rattle.droid_pronom.specs.Found.{IsFound};
 ghost use Rattle.droid_pronom.specs.RegistryFields.{is_puid};
-ghost use Rattle.droid_store.specs.Changes.{IsOpen, with_finished, with_reply};
+ghost use Rattle.droid_store.specs.Changes.{IsOpen, with_reply};
 ghost use Rattle.droid_store.specs.Rows.{reply_for};
 ghost use Rattle.droid_core_files.specs.Files.{OpenFile, IsAt, At, Turns, IsAlikeBut, is_of, open_at};
 
 use crate::file_rows::{FileRow, file_of, none_is_pending, place_of_file};
-use droid_assembly::Sealed;
 use droid_core_files::{Finding, IdentifyFault, UnfinishedFiles};
 use droid_core_state::{Parts, Stamp, entry_of};
-use droid_frame::{HashValue, Method, Refusal, Reply, Texts};
+use droid_frame::{HashValue, Refusal, Reply};
 use droid_pronom::Registry;
 use droid_store::Store;
 use std::alloc::Global;
@@ -77,7 +76,7 @@ fn identify_file(
     ensures allowed { OnOk result (At files.old place (λ file. (profile : Profile) (content : Content) → IsAssemblyOf profile content file → content.finished ≡ false
         → refusal_of (finish_checks content) ≡ None)) }
     ensures digest { IfOk result (λ finding. At files.old place (λ file. (profile : Profile) (content : Content) → IsAssemblyOf profile content file
-        → md5_in finding.sealed.hash ≡ md5 (bytes_of content))) }
+        → md5_in finding.sealed.hash ≡ digest_of content)) }
     ensures found { IfOk result (λ finding. At files.old place (λ file. (profile : Profile) (content : Content) → IsAssemblyOf profile content file
         → IsFound registry.now row.now.node.item.name (bytes_of content) profile.scan_limit row.now.profile.match_all finding.found)) }
     ensures sixteen { IfOk result (λ finding. IsDigest (md5_in finding.sealed.hash)) }
@@ -115,9 +114,8 @@ fn keep_finding(
     requires digest { IsDigest (md5_in finding.sealed.hash) }
     requires few { length finding.found.puids ≤ 4096 }
     requires puids { AllByRecursion (λ puid. IsTrue (is_puid puid)) finding.found.puids }
-    ensures reply { IfOk result (λ reply. reply ≡ replies.Finished finding.found.method finding.found.mismatch (md5_in finding.sealed.hash) finding.found.puids) }
-    ensures kept { IfOk result (λ reply. store.new ≡ with_reply (stamped stamp reply)
-        (with_finished number file finding.found.method finding.found.mismatch (md5_in finding.sealed.hash) finding.found.puids store.old)) }
+    ensures reply { IfOk result (λ reply. reply ≡ finished_reply (finding_in finding)) }
+    ensures kept { IfOk result (λ reply. store.new ≡ with_reply (stamped stamp reply) (with_finding number file (finding_in finding) store.old)) }
     ensures spelled { HasReplySpelling (answered result) }
     ensures gone { OnOk result ((one : OpenFile) → IsAt files.old.files place one → open_at one.profile one.file files.new.files ≡ None) }
     ensures others { OnOk result ((one : OpenFile) (that_number that_id : ℕ) → IsAt files.old.files place one → is_of that_number that_id one ≡ false
@@ -128,10 +126,10 @@ fn keep_finding(
     ensures same { OnErr result (files.new ≡ files.old) }
     ensures memory { AllByRecursion IsShort store.old.nodes → IfErr result (λ refusal. refusal ≡ Refusal.Memory) }
 {
-    let Finding { sealed, found } = finding;
-    let md5 = md5_of(sealed.hash);
-    let reply = finished_reply(alloc, found.method, found.mismatch, md5, &found.puids)?;
+    let reply = finished_reply(alloc, &finding)?;
     let entry = entry_of(alloc, stamp, &reply)?;
+    let found = &finding.found;
+    let md5 = md5_of(finding.sealed.hash);
     store.commit_finish(
         &entry,
         number,
@@ -157,25 +155,20 @@ fn md5_of(value: HashValue) -> [u8; 16]
 }
 
 /// The reply that says what was found, with a copy of the identifiers: the store is given the others.
-fn finished_reply(
-    alloc: Global,
-    method: Method,
-    mismatch: bool,
-    md5: [u8; 16],
-    puids: &Texts,
-) -> Result<Reply, Refusal>
-    requires digest { IsDigest md5 }
-    requires few { length puids.now ≤ 4096 }
-    requires puids { AllByRecursion (λ puid. IsTrue (is_puid puid)) puids.now }
-    ensures reply { IfOk result (λ reply. reply ≡ replies.Finished method mismatch md5 puids.now) }
+fn finished_reply(alloc: Global, finding: &Finding) -> Result<Reply, Refusal>
+    requires digest { IsDigest (md5_in finding.now.sealed.hash) }
+    requires few { length finding.now.found.puids ≤ 4096 }
+    requires puids { AllByRecursion (λ puid. IsTrue (is_puid puid)) finding.now.found.puids }
+    ensures reply { IfOk result (λ reply. reply ≡ finished_reply (finding_in finding.now)) }
     ensures spelled { IfOk result (λ reply. HasReplySpelling reply) }
     ensures want { IfErr result (λ refusal. refusal ≡ Refusal.Memory) }
 {
-    let puids = puids.try_clone(alloc)?;
+    let found = &finding.found;
+    let puids = found.puids.try_clone(alloc)?;
     Ok(Reply::Finished {
-        method,
-        mismatch,
-        md5,
+        method: found.method,
+        mismatch: found.mismatch,
+        md5: md5_of(finding.sealed.hash),
         puids,
     })
 }

@@ -7,7 +7,7 @@ use Rattle.droid_frame.specs.types.reply.Reply.TheVariants as replies
 use Rattle.droid_frame.specs.types.request.Request.{Request}
 use Rattle.droid_frame.specs.types.request.Request.TheVariants.{CreateProfile, AddFolder, AddFile, Piece, Finish, Abandon, Status, Export}
 use Rattle.droid_core_spec.specs.Exported.{part_of}
-use Rattle.droid_core_spec.specs.Files.{count_of, missing_of, bytes_of, with_piece, as_finished, finding_of, finished_reply, progress_of}
+use Rattle.droid_core_spec.specs.Files.{count_of, missing_of, with_piece, as_finished, finding_of, finished_reply, progress_of}
 use Rattle.droid_core_spec.specs.Judging.{Verdict, Accepted, Answered, Check, refusal_of, unless_refused, in_profile, in_file, world_set, with_node, node_set, create_checks, folder_checks, file_checks, piece_checks, finish_checks, abandon_checks, export_checks, judge, judge_create, judge_folder, judge_file, judge_piece, judge_finish, judge_abandon, judge_status, judge_export}
 use Rattle.droid_core_spec.specs.Records.{records}
 use Rattle.droid_core_spec.specs.Setting.{Setting}
@@ -83,7 +83,7 @@ judged setting world (Piece number file index bytes) =
 judged setting world (Finish number file) =
     in_file_of world (Finish number file) number file
     (λ profile parent modified name content. finish_checks content)
-    (λ profile parent modified name content. Accepted (finished_reply (finding_of setting profile name content) (bytes_of content)) (world_set world number (node_set profile file (File parent modified name (as_finished content)))))
+    (λ profile parent modified name content. Accepted (finished_reply (finding_of setting profile name content)) (world_set world number (node_set profile file (File parent modified name (as_finished content)))))
     (λ profile parent modified name content. (refl, (refl, tt)))
     (λ profile parent modified name content. record { command = refl; no_refusal = refl; one_more = refl })
 judged setting world (Abandon number file) =

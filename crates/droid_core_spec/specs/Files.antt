@@ -2,10 +2,11 @@
 use Rattle.std.specs.Prelude.{ℕ, ◌+◌, ◌==◌, ◌&&◌, if◌then◌else◌, nat_lt, nat_le, Bool, true, false, not, List, [], ◌∷◌, ◌++◌, length, sum_by, is_some}
 use Rattle.std.specs.List.{count_by}
 use Rattle.md5.specs.Md5.{md5}
+use Rattle.droid_frame.specs.types.method.Method.{Method}
 use Rattle.droid_frame.specs.types.reply.Reply.{Reply}
 use Rattle.droid_frame.specs.types.reply.Reply.TheVariants as replies
 use Rattle.droid_assembly.specs.Pieces as pieces
-use Rattle.droid_core_spec.specs.Setting.{Setting, Finding}
+use Rattle.droid_core_spec.specs.Setting.{Setting, Identification}
 use Rattle.droid_core_spec.specs.World.{Content, Node, Folder, File, Abandoned, Profile, World}
 
 -- how many pieces the file has
@@ -40,13 +41,33 @@ with_piece content index bytes = record content { pieces = content.pieces ++ (in
 abbrev pub as_finished : Content → Content
 as_finished content = record content { finished = true }
 
--- what is found in the whole file, by its profile's scan limit and mode
+-- what a finished file was found to be, as its reply, its record and its row tell it
+pub record Finding : Type 0 where
+  pub method : Method
+  pub mismatch : Bool
+  pub digest : List ℕ
+  pub puids : List (List ℕ)
+
+-- the digest of the whole file: its MD5 (RFC 1321)
+abbrev pub digest_of : Content → List ℕ
+digest_of content = md5 (bytes_of content)
+
+-- what the whole file is identified as, by its profile's scan limit and mode
+abbrev pub identified : Setting → Profile → List ℕ → Content → Identification
+identified setting profile name content = setting.identify name (bytes_of content) profile.scan_limit profile.match_all
+
+-- a digest beside what the file is identified as
+abbrev pub found_as : Identification → List ℕ → Finding
+found_as identification digest =
+    record { method = identification.method; mismatch = identification.mismatch; digest = digest; puids = identification.puids }
+
+-- what the whole file is found to be
 abbrev pub finding_of : Setting → Profile → List ℕ → Content → Finding
-finding_of setting profile name content = setting.identify name (bytes_of content) profile.scan_limit profile.match_all
+finding_of setting profile name content = found_as (identified setting profile name content) (digest_of content)
 
 -- the reply to who finishes the file
-abbrev pub finished_reply : Finding → List ℕ → Reply
-finished_reply finding bytes = replies.Finished finding.method finding.mismatch (md5 bytes) finding.puids
+abbrev pub finished_reply : Finding → Reply
+finished_reply finding = replies.Finished finding.method finding.mismatch finding.digest finding.puids
 
 -- how many pieces were taken, and the first missing one; of a finished file both are the number of its pieces
 abbrev pub progress_of : Content → Reply

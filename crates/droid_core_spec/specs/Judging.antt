@@ -12,7 +12,7 @@ use Rattle.droid_frame.specs.types.request.Request.TheVariants.{CreateProfile, A
 use Rattle.droid_core_spec.specs.Limits.{Limits}
 use Rattle.droid_core_spec.specs.Conditions.{is_scan_limit, is_piece_size, is_part_size, is_too_large, is_moment, is_bad_name, is_missing, is_file, is_too_deep}
 use Rattle.droid_core_spec.specs.Exported.{part_of}
-use Rattle.droid_core_spec.specs.Files.{count_of, missing_of, bytes_of, has_piece, is_due, is_too_far, with_piece, as_finished, finding_of, finished_reply, progress_of, unfinished_in}
+use Rattle.droid_core_spec.specs.Files.{count_of, missing_of, has_piece, is_due, is_too_far, with_piece, as_finished, finding_of, finished_reply, progress_of, unfinished_in}
 use Rattle.droid_core_spec.specs.Setting.{Setting}
 use Rattle.droid_core_spec.specs.World.{Content, Node, Folder, File, Abandoned, Profile, World, numbered, node_at, is_taken, world_with}
 
@@ -152,7 +152,7 @@ judge_finish setting world number file =
     in_profile (numbered world.profiles number) (λ profile.
     in_file (node_at profile.nodes file) (λ parent modified name content.
     unless_refused (refusal_of (finish_checks content))
-    (Accepted (finished_reply (finding_of setting profile name content) (bytes_of content)) (world_set world number (node_set profile file (File parent modified name (as_finished content)))))))
+    (Accepted (finished_reply (finding_of setting profile name content)) (world_set world number (node_set profile file (File parent modified name (as_finished content)))))))
 
 unfoldable pub judge_abandon : World → ℕ → ℕ → Verdict
 judge_abandon world number file =

@@ -6,7 +6,7 @@ use Rattle.droid_frame.specs.types.record.Record.{Record}
 use Rattle.droid_core_spec.specs.Limits.{Limits}
 
 -- what a file is identified as: the method, whether its extension is none of its formats', and their PUIDs
-pub record Finding : Type 0 where
+pub record Identification : Type 0 where
   pub method : Method
   pub mismatch : Bool
   pub puids : List (List ℕ)
@@ -14,7 +14,7 @@ pub record Finding : Type 0 where
 -- What is found in a file: of its name, its bytes, how many of them are looked at from each end, and whether
 -- a format with signatures may be found by its extension. droid_core_state's Identified.antt says which function this is.
 abbrev pub Identify : Type 0
-Identify = (name bytes : List ℕ) (scan_limit : ℕ) (match_all : Bool) → Finding
+Identify = (name bytes : List ℕ) (scan_limit : ℕ) (match_all : Bool) → Identification
 
 -- The text of an export: of records and a filter. droid_core_state's Identified.antt says which function this is.
 abbrev pub ExportText : Type 0

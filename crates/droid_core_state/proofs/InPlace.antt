@@ -2,16 +2,15 @@
 use Rattle.std.proofs.Common.{◌≡◌, inl, inr, ℕ, zero, suc, ◌+◌, ◌-◌, ◌==◌, List, [], ◌∷◌, ◌++◌, length-set, if◌then◌else◌, map, slice_get, slice_set, Bool, true, false, Option, Some, None, refl, sym, ap, subst, ◌∙◌, arith}
 use Rattle.std.proofs.lemmas.Bool.{cases_Bool, eqb-true, eqb-false}
 use Rattle.std.specs.Prelude.{ℤ}
-use Rattle.md5.specs.Md5.{md5}
-use Rattle.droid_core_spec.specs.Files.{bytes_of, finding_of}
+use Rattle.droid_core_spec.specs.Files.{finding_of}
 use Rattle.droid_core_spec.specs.Judging.{node_set}
 use Rattle.droid_core_spec.specs.Records.{option_list}
 use Rattle.droid_core_spec.specs.Setting.{Setting}
 use Rattle.droid_core_spec.specs.World.{Content, Node, Folder, File, Abandoned, Profile, numbered, unless_abandoned, path}
-use Rattle.droid_store.specs.Changes.{new_folder, new_file, finished}
+use Rattle.droid_store.specs.Changes.{new_folder, new_file}
 use Rattle.droid_store.specs.Rows as rows
 use Rattle.droid_store.specs.Rows.{Rows}
-use Rattle.droid_core_state.specs.Rows.{profile_row, node_row, node_rows_from, stored_in}
+use Rattle.droid_core_state.specs.Rows.{found_row, profile_row, node_row, node_rows_from, stored_in}
 use Rattle.droid_core_state.proofs.Items.{numbered_set_same, numbered_set_other}
 use Rattle.droid_core_state.proofs.RowsOfNodes.{same_stored, rows_changed}
 
@@ -48,8 +47,7 @@ module _ (change : List rows.Node → List rows.Node) (nothing : change [] ≡ [
   leaves_row setting number profile other (Some (Folder parent modified name)) apart = leaves (new_folder number other parent modified name (path profile.nodes other)) apart
   leaves_row setting number profile other (Some (File parent modified name content)) apart =
       let plain = new_file number other parent modified content.size content.piece_size name (path profile.nodes other) in
-      let finding = finding_of setting profile name content in
-      leaves_either content.finished (finished finding.method finding.mismatch (md5 (bytes_of content)) finding.puids plain) plain apart apart
+      leaves_either content.finished (found_row (finding_of setting profile name content) plain) plain apart apart
   leaves_row setting number profile other (Some Abandoned) apart = nothing
 
   -- it makes the rows of the profile with the new node, if it does so at that node and the other paths stay

@@ -8,11 +8,11 @@ use Rattle.droid_pronom.specs.Finding as answers
 use Rattle.droid_pronom.specs.Found.{IsFound}
 use Rattle.droid_pronom.specs.Registry.{Contents}
 use Rattle.droid_core_spec.specs.Limits.{Limits}
-use Rattle.droid_core_spec.specs.Setting.{Setting, Finding}
+use Rattle.droid_core_spec.specs.Setting.{Setting, Identification}
 
--- what was found, as the registry's crate has it
-abbrev pub found_in : Finding → Found
-found_in finding = record { method = finding.method; mismatch = finding.mismatch; puids = finding.puids }
+-- what a file is identified as, as the registry's crate has it
+abbrev pub found_in : Identification → Found
+found_in identification = record { method = identification.method; mismatch = identification.mismatch; puids = identification.puids }
 
 -- In every file the setting finds what the registry does (there is one such thing: a law of droid_pronom), and
 -- its exports are the texts of this registry.
@@ -20,14 +20,14 @@ pub record IsOf (registry : Contents) (setting : Setting) : Type 0 where
   pub identifies : (name bytes : List ℕ) (limit : ℕ) (match_all : Bool) → IsFound registry name bytes limit match_all (found_in (setting.identify name bytes limit match_all))
   pub exports : (records : List Record) (filter : Filter) → setting.export_text records filter ≡ text registry filter records
 
--- what was found, as a world has it
-abbrev pub as_finding : Found → Finding
-as_finding found = record { method = found.method; mismatch = found.mismatch; puids = found.puids }
+-- what a file is identified as, as a world has it
+abbrev pub as_identification : Found → Identification
+as_identification found = record { method = found.method; mismatch = found.mismatch; puids = found.puids }
 
 -- the setting of these limits and this registry
 abbrev pub setting_of : Limits → Contents → Setting
 setting_of limits registry = record {
   limits = limits;
-  identify = λ name bytes scan_limit match_all. as_finding (answers.found_in registry name bytes scan_limit match_all);
+  identify = λ name bytes scan_limit match_all. as_identification (answers.found_in registry name bytes scan_limit match_all);
   export_text = λ records filter. text registry filter records;
 }

@@ -1,8 +1,7 @@
 -- The rows of profiles and nodes that stand for a world.
 use Rattle.std.specs.Prelude.{◌≡◌, ℕ, ◌+◌, ◌≤◌, ◌==◌, if◌then◌else◌, List, [], ◌∷◌, ◌++◌, length, map, filter, Option, Some, None}
 use Rattle.std.specs.List.{AllByRecursion}
-use Rattle.md5.specs.Md5.{md5}
-use Rattle.droid_core_spec.specs.Files.{bytes_of, finding_of}
+use Rattle.droid_core_spec.specs.Files.{Finding, finding_of}
 use Rattle.droid_core_spec.specs.Records.{option_list}
 use Rattle.droid_core_spec.specs.Setting.{Setting}
 use Rattle.droid_core_spec.specs.World.{Content, Node, Folder, File, Abandoned, Profile, World, numbered, path}
@@ -15,13 +14,17 @@ use Rattle.droid_store.specs.Rows.{Rows}
 abbrev pub profile_row : Profile → ProfileRow
 profile_row profile = record { scan_limit = profile.scan_limit; match_all = profile.match_all; nodes = length profile.nodes }
 
--- the row of a file: with what was found in it where it is finished
+-- the row of a finished file, with what it was found to be
+abbrev pub found_row : Finding → rows.Node → rows.Node
+found_row finding plain = changes.finished finding.method finding.mismatch finding.digest finding.puids plain
+
+-- the rows with that of this file finished
+abbrev pub with_finding : ℕ → ℕ → Finding → Rows → Rows
+with_finding number id finding rows = changes.with_finished number id finding.method finding.mismatch finding.digest finding.puids rows
+
+-- the row of a file: with what it was found to be where it is finished
 abbrev pub file_row : Setting → Profile → List ℕ → Content → rows.Node → rows.Node
-file_row setting profile name content plain =
-    if content.finished
-    then changes.finished (finding_of setting profile name content).method (finding_of setting profile name content).mismatch
-    (md5 (bytes_of content)) (finding_of setting profile name content).puids plain
-    else plain
+file_row setting profile name content plain = if content.finished then found_row (finding_of setting profile name content) plain else plain
 
 -- the row of the node with this number in the profile with that number; an abandoned one has none
 abbrev pub node_row : Setting → ℕ → Profile → ℕ → Node → Option rows.Node

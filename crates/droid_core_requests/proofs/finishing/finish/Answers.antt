@@ -1,8 +1,8 @@
 use Rattle.std.proofs.Common.{refl, sym, ◌∙◌}
 use Rattle.std.proofs.lemmas.Result.{err_from_is_err_and}
-use Rattle.droid_core_requests.specs.Digests.{md5_in}
 use Rattle.droid_core_spec.specs.Judging.{judge_finish}
-use Rattle.droid_core_requests.proofs.FileFinished.{finish_there, finish_for_file, only_looked, refused_finished, comes_unfinished, finds, digest_is, allowed_there, finished}
+use Rattle.droid_core_requests.specs.Findings.{finding_in}
+use Rattle.droid_core_requests.proofs.FileFinished.{finish_there, finish_for_file, only_looked, refused_finished, comes_unfinished, finds, digest_is, seen_is, allowed_there, finished}
 use Rattle.droid_core_requests.proofs.FileVerdicts.{comes_nowhere}
 use Rattle.droid_core_requests.proofs.PieceTaken.{comes_wanting}
 use Rattle.droid_core_state.proofs.Staying.{read_only}
@@ -46,10 +46,11 @@ returns-clause-comes c = λ setting world is_in.
     let found = finds setting world c.args.number c.args.file c.in_ok-row.row has c.args.parts.now c.in_ok-place.place is_in is at_place _ c.in_ok-finding.ensures.found in
     let digest = digest_is setting world c.args.number c.args.file c.in_ok-row.row has c.args.parts.now c.in_ok-place.place is_in is at_place _ c.in_ok-finding.ensures.digest in
     let allowed = allowed_there setting world c.args.number c.args.file c.in_ok-row.row has c.args.parts.now c.in_ok-place.place is_in is at_place c.in_ok-finding.ensures.allowed in
+    let seen = seen_is setting world c.args.number c.args.file c.in_ok-row.row has c.args.parts.now c.in_ok-place.place is_in is at_place _ _ found digest in
     let stored = c.in_ok-reply.ensures.kept ∙ (rw c.file_of.ensures.same refl) in
     finished setting world c.args.number c.args.file c.in_ok-row.row has c.args.parts.now c.in_ok-place.place is_in is at_place
-    c.args.stamp c.in_ok-reply.reply c.keep_finding.new.store c.identify_file.new.files c.keep_finding.new.files c.in_ok-finding.finding.found (md5_in c.in_ok-finding.finding.sealed.hash)
-    allowed found digest c.in_ok-reply.ensures.reply stored c.identify_file.ensures.others c.identify_file.ensures.unchanged
+    c.args.stamp c.in_ok-reply.reply c.keep_finding.new.store c.identify_file.new.files c.keep_finding.new.files (finding_in c.in_ok-finding.finding)
+    allowed seen c.in_ok-reply.ensures.reply stored c.identify_file.ensures.others c.identify_file.ensures.unchanged
     c.in_ok-reply.ensures.gone c.in_ok-reply.ensures.others c.in_ok-reply.ensures.count c.keep_finding.ensures.limit
 
 pub returns-in_err-place-clause-comes : goal.returns-in_err-place-clause-comes
