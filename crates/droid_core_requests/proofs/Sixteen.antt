@@ -1,5 +1,5 @@
 -- A digest has 16 bytes.
-use Rattle.std.proofs.Common.{ℕ, zero, suc, List, replicate, refl, arith}
+use Rattle.std.proofs.Common.{ℕ, zero, suc, replicate, refl, arith}
 use Rattle.droid_frame.specs.Fields.{IsBytes}
 use Rattle.droid_frame.specs.Hashes.{IsHashValue}
 use Rattle.droid_frame.specs.Replies.{IsDigest}
