@@ -130,7 +130,6 @@ fn look_at_replies(store: &mut Store, steps: &[Step<'_>], accepted: u64) -> Resu
     let mut place: u64 = 0;
     for (kept, _) in steps {
         let (client, number, ..) = *kept;
-        expect(number < 1 << 63, "the number is below 2^63")?;
         let entry = store.reply_of(client, number)?;
         if place < accepted {
             expect(is_kept(entry.as_ref(), kept), "each reply is kept")?;

@@ -30,8 +30,8 @@ const ENTRIES: [Kept<'static>; 14] = [
     (1, LAST_NUMBER, 0x00, 129, &[]),
 ];
 
-/// Clients and numbers of no entry, each beside one of them.
-const NO_ENTRIES: [(u32, u64); 9] = [
+/// Clients and numbers of no entry, each beside one of them, or as far past the last number as one of them is past 0.
+const NO_ENTRIES: [(u32, u64); 13] = [
     (0, 2),
     (2, 0),
     (2, LAST_NUMBER),
@@ -41,6 +41,10 @@ const NO_ENTRIES: [(u32, u64); 9] = [
     (2_147_483_648, 2_147_483_648),
     (1, 9_007_199_254_740_992),
     (1, 9_007_199_254_740_994),
+    (1, 9_223_372_036_854_775_808),
+    (1, 9_223_372_036_854_775_809),
+    (0, 18_446_744_073_709_551_615),
+    (4_294_967_295, 18_446_744_073_709_551_615),
 ];
 
 #[test]
@@ -64,7 +68,6 @@ fn keep_each(alloc: Global, store: &mut Store, entries: &[Kept<'_>]) -> Result<(
 fn each_is_kept(rt: &impl Abort, store: &mut Store, entries: &[Kept<'_>]) -> Result<(), StepFault> {
     for kept in entries {
         let (client, number, ..) = *kept;
-        assert!(rt; number <= LAST_NUMBER);
         let found = store.reply_of(client, number)?;
         assert!(rt; is_kept(found.as_ref(), kept), "{kept:?}");
     }
@@ -77,9 +80,7 @@ fn none_is_kept(
     numbers: &[(u32, u64)],
 ) -> Result<(), StepFault> {
     for (client, number) in numbers {
-        let number = *number;
-        assert!(rt; number <= LAST_NUMBER);
-        let found = store.reply_of(*client, number)?;
+        let found = store.reply_of(*client, *number)?;
         assert!(rt; found.is_none(), "number {number} of {client}");
     }
     Ok(())
