@@ -1,0 +1,9 @@
+//! Rows in order, in a list that is copied at no cost: a copy shares all that later edits leave.
+#![tactic(auto)]
+
+mod entries;
+mod node;
+mod probe;
+
+pub use entries::Entries;
+pub use probe::Probe;

@@ -1,0 +1,138 @@
+//! All trees at one moment, by their numbers, with the user version.
+
+ghost use Rattle.std.specs.Prelude.{◌≡◌, ◌<◌, ◌^◌, [], map, IfOk, OnOk, OnErr};
+ghost use Rattle.sqlite_trees.specs.Tree.{order_of, sought, with_tree};
+
+use crate::cursor::Cursor;
+use crate::edit::Edit;
+use crate::tree::Tree;
+use droid_store_entries::Probe;
+use sqlite_trees::store::{Direction, Shape};
+use sqlite_value::row::Row;
+use std::alloc::{AllocError, Global};
+
+#[derive(Drop)]
+pub(crate) struct Forest {
+    pub trees: Vec<Tree>,
+    pub version: u32,
+}
+
+impl Forest {
+    ghost use Rattle.droid_store_trees.specs.Shown.{headings, rows_of, shape_of, left_of, Steps};
+    ghost use Rattle.droid_store_trees.specs.Edits.{edited, Fits};
+    ghost use Rattle.droid_store_trees.specs.Rooms.{padded, Replaces};
+
+    pub(crate) fn new(alloc: Global) -> Forest
+        ensures { (result.trees.items ≡ []) × (result.version ≡ 0) }
+    {
+        Forest {
+            trees: Vec::new(alloc),
+            version: 0,
+        }
+    }
+
+    pub(crate) fn copy(&self, alloc: Global) -> Result<Forest, AllocError>
+        ensures headings { IfOk result (λ f. headings f ≡ headings self.now) }
+        ensures rows { IfOk result (λ f. rows_of f ≡ rows_of self.now) }
+        ensures version { IfOk result (λ f. f.version ≡ self.now.version) }
+    {
+        let mut trees = Vec::with_capacity(alloc, self.trees.len())?;
+        for tree in &self.trees {
+            trees.push(tree.copy()?)?;
+        }
+        Ok(Forest {
+            trees,
+            version: self.version,
+        })
+    }
+
+    pub(crate) fn shape(&self, tree: u32) -> Shape
+        ensures { result ≡ shape_of self.now tree }
+    {
+        self.trees
+            .get(tree as usize)
+            .map_or(Shape::Absent, |t| t.shape)
+    }
+
+    pub(crate) fn placed(&self, tree: usize, key: &Row, direction: Direction) -> Cursor
+        ensures { left_of self.now result ≡ sought (order_of (shape_of self.now tree)) direction key.now (rows_of self.now tree) }
+    {
+        let Some(found) = self.trees.get(tree) else {
+            return Cursor {
+                tree,
+                at: 0,
+                direction,
+            };
+        };
+        let order = found.shape.order();
+        let at = match direction {
+            Direction::Forward => found.rows.place(Probe::BelowKey(order, key)),
+            Direction::Backward => found.rows.place(Probe::UpToKey(order, key)),
+        };
+        Cursor {
+            tree,
+            at,
+            direction,
+        }
+    }
+
+    // The cursor after it has given a row, or `None` at its end.
+    pub(crate) fn step(&self, cursor: Cursor, row: &mut Row) -> Result<Option<Cursor>, AllocError>
+        ensures { IfOk result (Steps self.now cursor row.new) }
+    {
+        let Some(tree) = self.trees.get(cursor.tree) else {
+            return Ok(None);
+        };
+        match cursor.direction {
+            Direction::Forward => {
+                let Some(found) = tree.rows.get(cursor.at) else {
+                    return Ok(None);
+                };
+                row.copy_from(found)?;
+                Ok(Some(Cursor {
+                    at: cursor.at + 1,
+                    ..cursor
+                }))
+            }
+            Direction::Backward => {
+                let behind = cursor.at.min(tree.rows.len());
+                if behind == 0 {
+                    return Ok(None);
+                }
+                let at = behind - 1;
+                let Some(found) = tree.rows.get(at) else {
+                    return Ok(None);
+                };
+                row.copy_from(found)?;
+                Ok(Some(Cursor { at, ..cursor }))
+            }
+        }
+    }
+
+    pub(crate) fn edit(&mut self, alloc: Global, tree: u32, edit: Edit<'_>) -> Result<(), AllocError>
+        requires { Fits edit (shape_of self.old tree) }
+        ensures headings { headings self.new ≡ headings self.old }
+        ensures version { self.new.version ≡ self.old.version }
+        ensures ok { OnOk result (rows_of self.new ≡ with_tree (rows_of self.old) tree (edited edit.entry (rows_of self.old tree))) }
+        ensures err { OnErr result (rows_of self.new ≡ rows_of self.old) }
+    {
+        self.trees[tree as usize].apply(alloc, edit)
+    }
+
+    fn make_room(&mut self, alloc: Global, tree: u32) -> Result<(), AllocError>
+        ensures room { OnOk result (tree < length self.new.trees.items) }
+        ensures same { AreAlike self.old self.new }
+    {
+        while self.trees.len() <= tree as usize {
+            self.trees.push(Tree::absent(alloc)?)?;
+        }
+        Ok(())
+    }
+
+    pub(crate) fn replace(&mut self, alloc: Global, tree: u32, new: Tree) -> Result<(), AllocError>
+    {
+        self.make_room(alloc, tree)?;
+        self.trees[tree as usize] = new;
+        Ok(())
+    }
+}

@@ -1,0 +1,208 @@
+//! One tree: its description, and its entries in order.
+
+ghost use Rattle.std.specs.Prelude.{◌≡◌, ◌^◌, ◌<◌, false, [], take, true, IsTrue, IfOk, OnOk, OnErr};
+ghost use Rattle.std.specs.Ordering.{is_eq};
+ghost use Rattle.sqlite_value.specs.Value.{owned};
+ghost use Rattle.sqlite_value.specs.Order.{value_cmp};
+ghost use Rattle.sqlite_value.specs.Keys.{entry_cmp};
+ghost use Rattle.sqlite_trees.specs.Probe.{IsTestAt};
+ghost use Rattle.sqlite_trees.specs.Tree.{rowid, put_row, insert_entry, remove_entry, without_rowid};
+ghost use Rattle.sqlite_trees.specs.View.{IsShaped, Finds, is_int};
+ghost use Rattle.sqlite_trees.specs.Objects.{description, listing};
+
+use crate::edit::Edit;
+use droid_store_entries::{Entries, Probe};
+use sqlite_trees::schema::Object;
+use sqlite_trees::store::Shape;
+use sqlite_value::keys::Order;
+use sqlite_value::order::compare;
+use sqlite_value::row::Row;
+use sqlite_value::value::ValueRef;
+use std::alloc::{AllocError, Global};
+use std::rc::Rc;
+
+#[derive(Drop)]
+pub(crate) struct Tree {
+    pub shape: Shape,
+    pub reals: u64,
+    pub described: Rc<Row>,
+    pub rows: Entries,
+    pub ghost ordered: { ∥ IsShaped shape rows ∥₁ },
+}
+
+fn has_rowid_at(rows: &Entries, at: usize, id: ValueRef<'_>) -> bool
+    ensures { IsTestAt (λ r. is_eq (value_cmp (rowid r) (owned id.entry))) rows.now at result }
+{
+    match rows.get(at) {
+        Some(row) => compare(row.get(0), id).is_eq(),
+        None => false,
+    }
+}
+
+fn has_entry_at(order: Order, rows: &Entries, at: usize, entry: &Row) -> bool
+    ensures { IsTestAt (λ e. is_eq (entry_cmp order e entry.now)) rows.now at result }
+{
+    match rows.get(at) {
+        Some(row) => row.cmp_entry(order, entry).is_eq(),
+        None => false,
+    }
+}
+
+impl Tree {
+    ghost use Rattle.droid_store_trees.specs.Shown.{heading};
+    ghost use Rattle.droid_store_trees.specs.Edits.{edited, Fits};
+
+    pub(crate) fn new(alloc: Global, object: &Object<'_>) -> Result<Tree, AllocError>
+        ensures heading { IfOk result (λ t. heading t ≡ (object.now.shape, object.now.reals, description object.now)) }
+        ensures rows { IfOk result (λ t. t.rows ≡ []) }
+    {
+        let described = Rc::new(alloc, object.describe(alloc)?)?;
+        Ok(Tree {
+            shape: object.shape,
+            reals: object.reals,
+            described,
+            rows: Entries::new(),
+        })
+    }
+
+    pub(crate) fn absent(alloc: Global) -> Result<Tree, AllocError>
+        ensures heading { IfOk result (λ t. heading t ≡ (Shape.Absent, 0, [])) }
+        ensures rows { IfOk result (λ t. t.rows ≡ []) }
+    {
+        let described = Rc::new(alloc, Row::new(alloc))?;
+        Ok(Tree {
+            shape: Shape::Absent,
+            reals: 0,
+            described,
+            rows: Entries::new(),
+        })
+    }
+
+    /// The same tree with another description.
+    pub(crate) fn described_as(&self, alloc: Global, object: &Object<'_>) -> Result<Tree, AllocError>
+        ensures heading { IfOk result (λ t. heading t ≡ (self.now.shape, object.now.reals, description object.now)) }
+        ensures rows { IfOk result (λ t. t.rows ≡ self.now.rows) }
+    {
+        let described = Rc::new(alloc, object.describe(alloc)?)?;
+        Ok(Tree {
+            shape: self.shape,
+            reals: object.reals,
+            described,
+            rows: self.rows.copy()?,
+        })
+    }
+
+    /// Its row in the list of objects.
+    pub(crate) fn listing(&self, alloc: Global, tree: usize) -> Result<Row, AllocError>
+        requires { tree < 2 ^ 62 }
+        ensures { IfOk result (λ row. row ≡ take 5 (listing tree self.now.described.value self.now.shape self.now.reals)) }
+    {
+        let mut row = Row::new(alloc);
+        row.push(ValueRef::Int(tree as i64 + 1))?;
+        row.push(self.described.get(0))?;
+        row.push(self.described.get(1))?;
+        row.push(self.described.get(2))?;
+        row.push(self.described.get(3))?;
+        Ok(row)
+    }
+
+    pub(crate) fn copy(&self) -> Result<Tree, AllocError>
+        ensures heading { IfOk result (λ t. heading t ≡ heading self.now) }
+        ensures rows { IfOk result (λ t. t.rows ≡ self.now.rows) }
+    {
+        Ok(Tree {
+            shape: self.shape,
+            reals: self.reals,
+            described: self.described.clone()?,
+            rows: self.rows.copy()?,
+        })
+    }
+
+    pub(crate) fn get(&self, id: i64, row: &mut Row) -> Result<bool, AllocError>
+        requires { self.now.shape ≡ Shape.Table }
+        ensures { IfOk result (Finds self.now.rows id row.new) }
+    {
+        let at = self.rows.place(Probe::BelowRowid(ValueRef::Int(id)));
+        if !has_rowid_at(&self.rows, at, ValueRef::Int(id)) {
+            return Ok(false);
+        }
+        match self.rows.get(at) {
+            Some(found) => {
+                row.copy_from(found)?;
+                Ok(true)
+            }
+            None => Ok(false),
+        }
+    }
+
+    fn put(&mut self, alloc: Global, new: Row) -> Result<(), AllocError>
+        requires table { self.old.shape ≡ Shape.Table }
+        requires keyed { IsTrue (is_int (rowid new)) }
+        ensures ok { OnOk result (self.new.rows ≡ put_row new self.old.rows) }
+        ensures err { OnErr result (self.new.rows ≡ self.old.rows) }
+        ensures heading { heading self.new ≡ heading self.old }
+    {
+        let at = self.rows.place(Probe::BelowRowid(new.get(0)));
+        if has_rowid_at(&self.rows, at, new.get(0)) {
+            self.rows.set(alloc, at, new)
+        } else {
+            self.rows.insert(alloc, at, new)
+        }
+    }
+
+    fn delete(&mut self, alloc: Global, id: i64) -> Result<(), AllocError>
+        requires { self.old.shape ≡ Shape.Table }
+        ensures ok { OnOk result (self.new.rows ≡ without_rowid id self.old.rows) }
+        ensures err { OnErr result (self.new.rows ≡ self.old.rows) }
+        ensures heading { heading self.new ≡ heading self.old }
+    {
+        let at = self.rows.place(Probe::BelowRowid(ValueRef::Int(id)));
+        if has_rowid_at(&self.rows, at, ValueRef::Int(id)) {
+            self.rows.remove(alloc, at)
+        } else {
+            Ok(())
+        }
+    }
+
+    fn insert(&mut self, alloc: Global, order: Order, new: Row) -> Result<(), AllocError>
+        requires { self.old.shape ≡ Shape.Index order }
+        ensures ok { OnOk result (self.new.rows ≡ insert_entry order new self.old.rows) }
+        ensures err { OnErr result (self.new.rows ≡ self.old.rows) }
+        ensures heading { heading self.new ≡ heading self.old }
+    {
+        let at = self.rows.place(Probe::BelowEntry(order, &new));
+        if has_entry_at(order, &self.rows, at, &new) {
+            Ok(())
+        } else {
+            self.rows.insert(alloc, at, new)
+        }
+    }
+
+    fn remove(&mut self, alloc: Global, order: Order, entry: &Row) -> Result<(), AllocError>
+        requires { self.old.shape ≡ Shape.Index order }
+        ensures ok { OnOk result (self.new.rows ≡ remove_entry order entry.now self.old.rows) }
+        ensures err { OnErr result (self.new.rows ≡ self.old.rows) }
+        ensures heading { heading self.new ≡ heading self.old }
+    {
+        let at = self.rows.place(Probe::BelowEntry(order, entry));
+        if has_entry_at(order, &self.rows, at, entry) {
+            self.rows.remove(alloc, at)
+        } else {
+            Ok(())
+        }
+    }
+
+    pub(crate) fn apply(&mut self, alloc: Global, edit: Edit<'_>) -> Result<(), AllocError>
+        requires { Fits edit self.old.shape }
+        ensures ok { OnOk result (self.new.rows ≡ edited edit.entry self.old.rows) }
+        ensures err { OnErr result (self.new.rows ≡ self.old.rows) }
+        ensures heading { heading self.new ≡ heading self.old }
+    {
+        match edit {
+            Edit::Put(row) => self.put(alloc, row.copy(alloc)?),
+            Edit::Delete(id) => self.delete(alloc, id),
+            Edit::Insert(order, entry) => self.insert(alloc, order, entry.copy(alloc)?),
+            Edit::Remove(order, entry) => self.remove(alloc, order, entry),
+        }
+    }
+}
