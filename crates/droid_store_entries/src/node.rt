@@ -129,17 +129,16 @@ impl Node {
     }
 
     /// How many rows pass.
-    #[tactic(auto, using(crate::proofs::Places::cut_left, crate::proofs::Places::cut_right, crate::proofs::Places::placed_left, crate::proofs::Places::placed_right))]
     pub(crate) fn place(&self, probe: Probe<'_>) -> usize
-        requires counted { IsCounted self.now }
-        requires cut { IsCutBy (passes probe) (rows self.now) }
-        ensures { IsPlaceOf (passes probe.entry) (rows self.now) result }
+        requires { IsCounted self.now }
+        ensures within { result ≤ length (rows self.now) }
+        ensures place { IsCutBy (passes probe.entry) (rows self.now) → IsPlaceOf (passes probe.entry) (rows self.now) result }
     {
         match self {
             Node::Empty => 0,
             Node::Fork(fork) => {
                 if probe.passes(&fork.row) {
-                    fork.left.len() + 1 + fork.right.place(probe)
+                    fork.len - fork.right.len() + fork.right.place(probe)
                 } else {
                     fork.left.place(probe)
                 }
