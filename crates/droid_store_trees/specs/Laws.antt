@@ -1,6 +1,6 @@
 -- The laws of a store, for trees that each keep their order.
-use Rattle.std.specs.Prelude.{◌≡◌, ℕ, zero, suc, true, false, List, [], ◌∷◌, map, slice_index_or}
-use Rattle.std.proofs.Common.{subst, refl, ◌==◌}
+use Rattle.std.specs.Prelude.{◌≡◌, ℕ, zero, suc, ◌==◌, if◌then◌else◌, true, false, List, [], ◌∷◌, map, slice_index_or}
+use Rattle.std.proofs.Common.{subst, refl}
 use Rattle.std.proofs.Math.Logic.{∥∥₁_elim}
 use Rattle.sqlite_trees.specs.declared.store.Shape.TheVariants.{Table}
 use Rattle.sqlite_trees.specs.View.{IsShaped, IsOrdered}

@@ -1,3 +1,4 @@
+pub mod Alike
 pub mod Edits
 pub mod Shown
 pub mod Laws

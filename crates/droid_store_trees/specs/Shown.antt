@@ -1,11 +1,13 @@
 -- What the trees of a store show.
-use Rattle.std.specs.Prelude.{◌≡◌, ℕ, ◌==◌, if◌then◌else◌, true, false, List, [], ◌∷◌, map, slice_index_or, Option, Some, None, option_map}
+use Rattle.std.specs.Prelude.{◌≡◌, ℕ, ◌==◌, if◌then◌else◌, true, false, List, [], ◌∷◌, map, take, drop, reverse, slice_index_or, Option, Some, None, option_map}
 use Rattle.sqlite_value.specs.Order.{Row}
 use Rattle.sqlite_trees.specs.declared.store.Shape.{Shape}
 use Rattle.sqlite_trees.specs.Tree.{Trees}
 use Rattle.sqlite_trees.specs.View.{Snapshot, View}
 use Rattle.sqlite_trees.specs.Listing.{Heading, shape_in}
-use Rattle.sqlite_trees.specs.Memory.{left_from, snapshot_of}
+use Rattle.sqlite_trees.specs.Memory.{snapshot_of}
+use Rattle.sqlite_trees.specs.declared.store.Direction.{Direction}
+use Rattle.sqlite_trees.specs.declared.store.Direction.TheVariants.{Forward, Backward}
 use Rattle.droid_store_trees.specs.declared.tree.Tree.{Tree}
 use Rattle.droid_store_trees.specs.declared.cursor.Cursor.{Cursor}
 use Rattle.droid_store_trees.specs.declared.forest.Forest.{Forest}
@@ -27,6 +29,10 @@ shape_of f = shape_in (headings f)
 -- the trees with the list of them and the user version
 abbrev pub shown : Forest → Snapshot
 shown f = snapshot_of (headings f) (rows_of f) f.version
+
+abbrev pub left_from : Direction → ℕ → List Row → List Row
+left_from Forward at rows = drop at rows
+left_from Backward at rows = reverse (take at rows)
 
 -- what a cursor has left to give
 abbrev pub left_of : Forest → Cursor → List Row
@@ -64,3 +70,7 @@ view s = record {
   is_broken = false;
   is_clean = true;
 }
+
+-- only cursors may differ
+abbrev pub IsStill : View → View → Type 0
+IsStill old new = new ≡ record old { cursors = new.cursors }

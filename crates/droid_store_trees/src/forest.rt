@@ -1,12 +1,13 @@
 //! All trees at one moment, by their numbers, with the user version.
 
-ghost use Rattle.std.specs.Prelude.{◌≡◌, ◌<◌, ◌^◌, [], map, IfOk, OnOk, OnErr};
+ghost use Rattle.std.specs.Prelude.{◌≡◌, ◌<◌, [], length, IfOk, OnOk, OnErr};
 ghost use Rattle.sqlite_trees.specs.Tree.{order_of, sought, with_tree};
 
 use crate::cursor::Cursor;
 use crate::edit::Edit;
 use crate::tree::Tree;
 use droid_store_entries::Probe;
+use sqlite_trees::schema::Object;
 use sqlite_trees::store::{Direction, Shape};
 use sqlite_value::row::Row;
 use std::alloc::{AllocError, Global};
@@ -20,7 +21,7 @@ pub(crate) struct Forest {
 impl Forest {
     ghost use Rattle.droid_store_trees.specs.Shown.{headings, rows_of, shape_of, left_of, Steps};
     ghost use Rattle.droid_store_trees.specs.Edits.{edited, Fits};
-    ghost use Rattle.droid_store_trees.specs.Rooms.{padded, Replaces};
+    ghost use Rattle.droid_store_trees.specs.Alike.{AreAlike, Replaces, Relabels};
 
     pub(crate) fn new(alloc: Global) -> Forest
         ensures { (result.trees.items ≡ []) × (result.version ≡ 0) }
@@ -32,9 +33,7 @@ impl Forest {
     }
 
     pub(crate) fn copy(&self, alloc: Global) -> Result<Forest, AllocError>
-        ensures headings { IfOk result (λ f. headings f ≡ headings self.now) }
-        ensures rows { IfOk result (λ f. rows_of f ≡ rows_of self.now) }
-        ensures version { IfOk result (λ f. f.version ≡ self.now.version) }
+        ensures { IfOk result (AreAlike self.now) }
     {
         let mut trees = Vec::with_capacity(alloc, self.trees.len())?;
         for tree in &self.trees {
@@ -119,6 +118,7 @@ impl Forest {
         self.trees[tree as usize].apply(alloc, edit)
     }
 
+    // Where trees are missing below this number, they are there as absent ones.
     fn make_room(&mut self, alloc: Global, tree: u32) -> Result<(), AllocError>
         ensures room { OnOk result (tree < length self.new.trees.items) }
         ensures same { AreAlike self.old self.new }
@@ -130,8 +130,21 @@ impl Forest {
     }
 
     pub(crate) fn replace(&mut self, alloc: Global, tree: u32, new: Tree) -> Result<(), AllocError>
+        ensures ok { OnOk result (Replaces self.old self.new tree new) }
+        ensures err { OnErr result (AreAlike self.old self.new) }
     {
         self.make_room(alloc, tree)?;
+        self.trees[tree as usize] = new;
+        Ok(())
+    }
+
+    /// The same trees, one of them described as this object.
+    pub(crate) fn relist(&mut self, alloc: Global, tree: u32, object: &Object<'_>) -> Result<(), AllocError>
+        requires { tree < length self.old.trees.items }
+        ensures ok { OnOk result (Relabels self.old self.new tree object.now) }
+        ensures err { OnErr result (AreAlike self.old self.new) }
+    {
+        let new = self.trees[tree as usize].described_as(alloc, object)?;
         self.trees[tree as usize] = new;
         Ok(())
     }
