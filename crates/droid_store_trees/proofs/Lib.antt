@@ -1,1 +1,4 @@
+pub mod Places
 pub mod Removals
+pub mod Seen
+pub mod Showing

@@ -84,6 +84,9 @@ impl Forest {
         };
         match cursor.direction {
             Direction::Forward => {
+                if tree.rows.len() <= cursor.at {
+                    return Ok(None);
+                }
                 let Some(found) = tree.rows.get(cursor.at) else {
                     return Ok(None);
                 };
