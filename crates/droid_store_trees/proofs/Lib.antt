@@ -1,3 +1,4 @@
+pub mod Altering
 pub mod Places
 pub mod Removals
 pub mod Seen

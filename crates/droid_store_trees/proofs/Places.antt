@@ -1,9 +1,11 @@
 -- The tree that has a number.
-use Rattle.std.proofs.Common.{◌≡◌, ◌≢◌, ℕ, zero, suc, ◌<◌, ◌^◌, List, [], ◌∷◌, length, map, set, get_or, refl, sym, ap, ◌∙◌, arith}
+use Rattle.std.proofs.Common.{◌≡◌, ◌≢◌, ℕ, zero, suc, ◌<◌, ◌^◌, inl, inr, eq-eqb, ne_eqb, List, [], ◌∷◌, length, map, set, get_or, refl, sym, ap, ◌∙◌, arith}
 use Rattle.std.proofs.lemmas.List.{map-set, length-map, set-get_or}
+use Rattle.std.proofs.lemmas.Bool.{cases_eq}
 use mathlib.Core.Path.{fun_ext}
 use Rattle.sqlite_trees.specs.declared.store.Shape.{Shape}
 use Rattle.sqlite_trees.specs.declared.store.Shape.TheVariants.{Absent}
+use Rattle.sqlite_trees.specs.Objects.{set_at}
 use Rattle.sqlite_trees.specs.Tree.{with_tree}
 use Rattle.sqlite_trees.specs.Listing.{Heading, no_heading, shape_in}
 use Rattle.sqlite_trees.proofs.StoreLemmas.{get_or-set_cases, named, unnumbered}
@@ -50,3 +52,6 @@ shape_shown f t low = rw (unnumbered t low, named t low) refl
 
 pub rows_shown : (f : Forest) (t : ℕ) → t < 2 ^ 32 → (shown f).trees t ≡ rows_of f t
 rows_shown f t low = rw (unnumbered t low, named t low) refl
+
+pub set_same : {X : Type 0} (f : ℕ → X) (t : ℕ) → set_at f t (f t) ≡ f
+set_same f t = fun_ext (λ k. elim (cases_eq k t) [ inl same ↦ rw (eq-eqb k t same, same) | inr other ↦ rw (ne_eqb k t other) ])

@@ -1,8 +1,8 @@
 -- What a store shows after a call.
-use Rattle.std.proofs.Common.{◌≡◌, true, false, [], map, refl, inl, inr, arith, ap, ◌∙◌, sym, Result, Ok, Err, OnOk, OnErr, IfErr}
+use Rattle.std.proofs.Common.{◌≡◌, ℕ, List, true, false, [], map, refl, inl, inr, arith, ap, ◌∙◌, sym, Result, Ok, Err, OnOk, OnErr, IfErr}
+use Rattle.sqlite_value.specs.Order.{Row}
 use Rattle.sqlite_trees.specs.declared.error.StoreError.{StoreError}
-use Rattle.sqlite_trees.specs.declared.error.StoreError.TheVariants.{OutOfMemory}
-use Rattle.sqlite_trees.specs.View.{Snapshot, View, KeepsSchema, KeepsCommitted, IsFailure, Commits, OnlyCommits}
+use Rattle.sqlite_trees.specs.View.{Snapshot, View, KeepsSchema, KeepsCommitted, IsFailure, SetsTree, OnlyWrites, Commits, OnlyCommits}
 use Rattle.droid_store_trees.specs.declared.store.TreeStore.{TreeStore}
 use Rattle.droid_store_trees.specs.Shown.{shown, current, view, IsStill}
 
@@ -63,3 +63,25 @@ commits old new base now marks = record {
 
 pub only_commits : (old new : View) → Commits old new → OnlyCommits old new
 only_commits old new h = λ i. record (h.is i) { committed = new.committed }
+
+module _ {U : Type 0} (old new : TreeStore) (t : ℕ) (edit : List Row → List Row) where
+  pub failing : (r : Result U StoreError) → OnErr r (IsStill (view old) (view new)) → IfErr r (IsFailure (view old) (view new))
+  failing (Ok x) h = tt
+  failing (Err e) h = fails (view old) (view new) e h
+
+  pub frame : SetsTree (view old) (view new) t edit → OnlyWrites (view old) (view new)
+  frame h = λ i. record (h.is i) { trees = (view new).trees; cursors = (view new).cursors }
+
+  pub keeps : (r : Result U StoreError) → OnOk r (SetsTree (view old) (view new) t edit) → OnErr r (IsStill (view old) (view new))
+      → KeepsSchema (view old) (view new) × ((view new).committed ≡ (view old).committed)
+  keeps (Ok x) h _ = (
+    record {
+      shape = ap (λ (v : View). v.shape) h.is;
+      reals = ap (λ (v : View). v.reals) h.is;
+      committed_shape = ap (λ (v : View). v.committed_shape) h.is;
+      committed_reals = ap (λ (v : View). v.committed_reals) h.is;
+      numbered = refl;
+    },
+    ap (λ (v : View). v.committed) h.is,
+  )
+  keeps (Err e) _ h = (schema_kept (view old) (view new) refl h, ap (λ (v : View). v.committed) h)

@@ -25,6 +25,9 @@ listed f = with_tree (rows_of f) catalog_tree (objects_from 0 (headings f))
 pub alike : (old new : Forest) → headings new ≡ headings old → rows_of new ≡ rows_of old → new.version ≡ old.version → AreAlike old new
 alike old new hs rows version = record { rows = rows; shapes = ap shape_in hs; shown = λ i. snapshot_of (hs i) (rows i) (version i) }
 
+pub alike_items : (old new : Forest) → new.trees.items ≡ old.trees.items → new.version ≡ old.version → AreAlike old new
+alike_items old new is version = alike old new (ap (map heading) is) (λ i t. get_or (map (λ (x : Tree). x.rows) (is i)) t []) version
+
 pub alike_on : (a b c : Forest) → AreAlike a b → AreAlike b c → AreAlike a c
 alike_on a b c p q = record { rows = q.rows ∙ p.rows; shapes = q.shapes ∙ p.shapes; shown = q.shown ∙ p.shown }
 

@@ -1,4 +1,4 @@
-use Rattle.std.proofs.Common.{◌≡◌, ◌<◌, ◌∙◌, sym, refl, true, arith, length, to_z-of_z}
+use Rattle.std.proofs.Common.{rules, ◌≡◌, ◌<◌, ◌∙◌, sym, refl, true, arith, length, to_z-of_z}
 use Rattle.sqlite_trees.specs.declared.store.Shape.TheVariants.{Table}
 use Rattle.sqlite_trees.proofs.Doubt.{no_doubt}
 use Rattle.droid_store_trees.specs.Shown.{current, shape_of, rows_of}
@@ -9,7 +9,9 @@ pub index-requires : goal.index-requires
 index-requires c =
     let s = c.args.self.now in
     let table : shape_of (current s) c.args.table ≡ Table = sym (shape_shown (current s) c.args.table (omega arith)) ∙ c.requires (no_doubt true refl) in
-    rw c.current.ensures (present (current s).trees.items c.args.table (λ none. cc))
+    let within : c.args.table < length (current s).trees.items = present (current s).trees.items c.args.table (λ none. cc) in
+    let small = c.current.result.now.trees.ok in
+    search rules
 
 pub get-requires : goal.get-requires
 get-requires c =
