@@ -1,5 +1,5 @@
 -- Trees are made, dropped and described anew.
-use Rattle.std.proofs.Common.{◌≡◌, ◌≢◌, ℕ, ◌<◌, ◌^◌, List, [], ◌∷◌, length, map, set, refl, sym, ap, ◌∙◌, arith}
+use Rattle.std.proofs.Common.{◌≡◌, ◌≢◌, ℕ, ◌<◌, ◌^◌, false, Some, List, [], ◌∷◌, length, map, set, refl, sym, ap, ◌∙◌, arith}
 use Rattle.std.proofs.lemmas.List.{length-map}
 use Rattle.sqlite_value.specs.Order.{Row}
 use Rattle.sqlite_trees.specs.declared.store.Shape.{Shape}
@@ -47,7 +47,7 @@ relabelled old new t o low h within base marks shaped there =
     let f = current old in
     let s = shown f in
     let kind : shape_of f t ≡ o.shape = sym (shape_shown f t low) ∙ shaped in
-    let is : heading h.it ≡ (o.shape, o.reals, description o) = rw ← kind h.heading in
+    let is : heading h.it ≡ (o.shape, o.reals, description o) = h.heading ∙ ap (λ (k : Shape). let x : Heading = (k, o.reals, description o) in x) kind in
     let shape : h.it.shape ≡ o.shape = ap (λ (x : Heading). x.0) is in
     let bits : h.it.reals ≡ o.reals = ap (λ (x : Heading). x.1) is in
     let edit = put_row (object_row t o) in
@@ -67,3 +67,7 @@ relabelled old new t o low h within base marks shaped there =
         cursors = (view new).cursors;
       });
     }
+
+-- the store, where the transaction sees these trees
+abbrev pub with_forest : TreeStore → Forest → TreeStore
+with_forest s f = record { alloc = s.alloc; base = s.base; changed = Some f; cursors = s.cursors; marks = s.marks }

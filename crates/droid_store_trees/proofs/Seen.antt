@@ -64,13 +64,13 @@ commits old new base now marks = record {
 pub only_commits : (old new : View) → Commits old new → OnlyCommits old new
 only_commits old new h = λ i. record (h.is i) { committed = new.committed }
 
+pub frame : (old new : TreeStore) (t : ℕ) (edit : List Row → List Row) → SetsTree (view old) (view new) t edit → OnlyWrites (view old) (view new)
+frame old new t edit h = λ i. record (h.is i) { trees = (view new).trees; cursors = (view new).cursors }
+
 module _ {U : Type 0} (old new : TreeStore) (t : ℕ) (edit : List Row → List Row) where
   pub failing : (r : Result U StoreError) → OnErr r (IsStill (view old) (view new)) → IfErr r (IsFailure (view old) (view new))
   failing (Ok x) h = tt
   failing (Err e) h = fails (view old) (view new) e h
-
-  pub frame : SetsTree (view old) (view new) t edit → OnlyWrites (view old) (view new)
-  frame h = λ i. record (h.is i) { trees = (view new).trees; cursors = (view new).cursors }
 
   pub keeps : (r : Result U StoreError) → OnOk r (SetsTree (view old) (view new) t edit) → OnErr r (IsStill (view old) (view new))
       → KeepsSchema (view old) (view new) × ((view new).committed ≡ (view old).committed)
