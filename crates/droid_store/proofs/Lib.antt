@@ -1,5 +1,6 @@
 pub mod ApartAfter
 pub mod ChangesNodes
+pub mod Clean
 pub mod Closed
 pub mod CountsAfter
 pub mod Decoded
@@ -17,6 +18,7 @@ pub mod Makes
 pub mod Meanings
 pub mod NodeEffects
 pub mod NodeOrder
+pub mod Opened
 pub mod ReadableAfter
 pub mod RecordsSoFar
 pub mod Started

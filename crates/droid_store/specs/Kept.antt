@@ -6,8 +6,8 @@ use Rattle.sqlite.specs.Effect.{Database}
 use Rattle.sqlite.specs.Held.{Held, state}
 use Rattle.sqlite.specs.Schema.{Schema}
 use Rattle.sqlite.specs.State.{State}
-use Rattle.sqlite.specs.Steps.{over_memory}
-use Rattle.sqlite_trees.specs.declared.memory.MemStore.{MemStore}
+use Rattle.droid_store_trees.specs.Over.{over_trees}
+use Rattle.droid_store_trees.specs.declared.store.TreeStore.{TreeStore}
 use Rattle.droid_store.specs.Changes.{IsWord}
 use Rattle.droid_store_sql.specs.KeyedRows.{numbered_from, AreRising}
 use Rattle.droid_store_sql.specs.Transactions.{Within}
@@ -49,8 +49,8 @@ pub record HasKeys (rows : Rows) : Type 0 where
   pub children : (profile parent : ℕ) (name : List ℕ) → length (filter (is_child profile parent name) rows.nodes) ≤ 1
   pub numbers : AreInOrder rows.nodes
 
-abbrev pub kept : Held MemStore → Rows
-kept c = rows_in (state over_memory c).now
+abbrev pub kept : Held TreeStore → Rows
+kept c = rows_in (state over_trees c).now
 
 -- while the tables are made: this schema, and these trees have no row
 pub record HasEmpty (wanted : Schema) (trees : List ℕ) (db : Database) : Type 0 where

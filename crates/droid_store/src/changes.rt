@@ -2,7 +2,7 @@
 
 ghost use Rattle.std.specs.Prelude.{◌≡◌, ◌+◌, ◌<◌, ◌^◌, ◌++◌, ◌∷◌, [], List, ℕ, Some, length, pos};
 ghost use Rattle.sqlite.specs.Held.{state};
-ghost use Rattle.sqlite.specs.Steps.{over_memory};
+ghost use Rattle.droid_store_trees.specs.Over.{over_trees};
 ghost use Rattle.std.specs.List.{AllByRecursion};
 ghost use Rattle.droid_store.specs.Changes.{with_profile, with_reply, with_node, with_finished, finished, without_node, counted, IsWord};
 ghost use Rattle.droid_store.specs.Encoded.{joined, method_number};
@@ -15,7 +15,8 @@ ghost use Rattle.droid_store.specs.Nodes.{node_of};
 use crate::rows::{Entry, NodeState};
 use crate::statements::{ADD_NODE, ADD_PROFILE, ADD_REPLY, COUNT_NODES, FINISH_NODE, REMOVE_NODE};
 use droid_frame::Method;
-use sqlite::{Error, MemStore, Transaction, params};
+use droid_store_trees::TreeStore;
+use sqlite::{Error, Transaction, params};
 
 /// A node as it is accepted.
 #[derive(Clone, Copy)]
@@ -39,31 +40,31 @@ pub(crate) fn signed(number: u64) -> i64
 }
 
 pub(crate) fn insert_profile(
-    tx: &mut Transaction<'_, MemStore>,
+    tx: &mut Transaction<'_, TreeStore>,
     profile: u32,
     scan_limit: u32,
     match_all: bool,
 ) -> Result<usize, Error>
     ensures same_reference { tx.new.conn.ghost_name ≡ tx.old.conn.ghost_name }
-    ensures ok { (rows : Rows) → profile ≡ length rows.profiles + 1 → Steps (state over_memory tx.old.conn.now) (state over_memory tx.new.conn.now) result rows (with_profile scan_limit match_all rows) }
-    ensures err { (rows : Rows) → Saves (state over_memory tx.old.conn.now) (state over_memory tx.new.conn.now) result rows }
+    ensures ok { (rows : Rows) → profile ≡ length rows.profiles + 1 → Steps (state over_trees tx.old.conn.now) (state over_trees tx.new.conn.now) result rows (with_profile scan_limit match_all rows) }
+    ensures err { (rows : Rows) → Saves (state over_trees tx.old.conn.now) (state over_trees tx.new.conn.now) result rows }
     ensures limit { tx.new.conn.now.step_limit ≡ tx.old.conn.now.step_limit }
-    ensures want { (rows : Rows) → profile ≡ length rows.profiles + 1 → HasKeys rows → Wants (state over_memory tx.old.conn.now) (state over_memory tx.new.conn.now) result rows }
+    ensures want { (rows : Rows) → profile ≡ length rows.profiles + 1 → HasKeys rows → Wants (state over_trees tx.old.conn.now) (state over_trees tx.new.conn.now) result rows }
 {
     tx.execute(ADD_PROFILE, params![profile, scan_limit, match_all])
 }
 
 pub(crate) fn insert_reply(
-    tx: &mut Transaction<'_, MemStore>,
+    tx: &mut Transaction<'_, TreeStore>,
     entry: &Entry,
 ) -> Result<usize, Error>
     requires small { entry.now.number < 2 ^ 63 }
     ensures same_reference { tx.new.conn.ghost_name ≡ tx.old.conn.ghost_name }
-    ensures ok { (rows : Rows) → Steps (state over_memory tx.old.conn.now) (state over_memory tx.new.conn.now) result rows (with_reply entry.now rows) }
-    ensures err { (rows : Rows) → Saves (state over_memory tx.old.conn.now) (state over_memory tx.new.conn.now) result rows }
+    ensures ok { (rows : Rows) → Steps (state over_trees tx.old.conn.now) (state over_trees tx.new.conn.now) result rows (with_reply entry.now rows) }
+    ensures err { (rows : Rows) → Saves (state over_trees tx.old.conn.now) (state over_trees tx.new.conn.now) result rows }
     ensures limit { tx.new.conn.now.step_limit ≡ tx.old.conn.now.step_limit }
     ensures fits { EntryFits entry.now }
-    ensures want { (rows : Rows) → HasKeys (with_reply entry.now rows) → FitsARow (entry_size entry.now) → Wants (state over_memory tx.old.conn.now) (state over_memory tx.new.conn.now) result rows }
+    ensures want { (rows : Rows) → HasKeys (with_reply entry.now rows) → FitsARow (entry_size entry.now) → Wants (state over_trees tx.old.conn.now) (state over_trees tx.new.conn.now) result rows }
 {
     let mark = entry.mark.as_slice();
     let body = entry.body.as_slice();
@@ -80,16 +81,16 @@ pub(crate) fn insert_reply(
 }
 
 fn insert_node(
-    tx: &mut Transaction<'_, MemStore>,
+    tx: &mut Transaction<'_, TreeStore>,
     node: &NewNode<'_>,
     modified: i64,
 ) -> Result<usize, Error>
     requires small { node.now.size < 2 ^ 63 }
     ensures same_reference { tx.new.conn.ghost_name ≡ tx.old.conn.ghost_name }
-    ensures ok { (rows : Rows) → Steps (state over_memory tx.old.conn.now) (state over_memory tx.new.conn.now) result rows (record rows { nodes = rows.nodes ++ node_of node.now modified ∷ [] }) }
-    ensures err { (rows : Rows) → Saves (state over_memory tx.old.conn.now) (state over_memory tx.new.conn.now) result rows }
+    ensures ok { (rows : Rows) → Steps (state over_trees tx.old.conn.now) (state over_trees tx.new.conn.now) result rows (record rows { nodes = rows.nodes ++ node_of node.now modified ∷ [] }) }
+    ensures err { (rows : Rows) → Saves (state over_trees tx.old.conn.now) (state over_trees tx.new.conn.now) result rows }
     ensures limit { tx.new.conn.now.step_limit ≡ tx.old.conn.now.step_limit }
-    ensures want { (rows : Rows) → HasKeys (record rows { nodes = rows.nodes ++ node_of node.now modified ∷ [] }) → FitsARow (node_size (node_of node.now modified)) → Wants (state over_memory tx.old.conn.now) (state over_memory tx.new.conn.now) result rows }
+    ensures want { (rows : Rows) → HasKeys (record rows { nodes = rows.nodes ++ node_of node.now modified ∷ [] }) → FitsARow (node_size (node_of node.now modified)) → Wants (state over_trees tx.old.conn.now) (state over_trees tx.new.conn.now) result rows }
 {
     tx.execute(
         ADD_NODE,
@@ -107,28 +108,32 @@ fn insert_node(
     )
 }
 
-fn count_nodes(tx: &mut Transaction<'_, MemStore>, profile: u32, nodes: u32) -> Result<usize, Error>
+fn count_nodes(
+    tx: &mut Transaction<'_, TreeStore>,
+    profile: u32,
+    nodes: u32,
+) -> Result<usize, Error>
     ensures same_reference { tx.new.conn.ghost_name ≡ tx.old.conn.ghost_name }
-    ensures ok { (rows : Rows) → Steps (state over_memory tx.old.conn.now) (state over_memory tx.new.conn.now) result rows (record rows { profiles = counted profile nodes rows.profiles }) }
-    ensures err { (rows : Rows) → Saves (state over_memory tx.old.conn.now) (state over_memory tx.new.conn.now) result rows }
+    ensures ok { (rows : Rows) → Steps (state over_trees tx.old.conn.now) (state over_trees tx.new.conn.now) result rows (record rows { profiles = counted profile nodes rows.profiles }) }
+    ensures err { (rows : Rows) → Saves (state over_trees tx.old.conn.now) (state over_trees tx.new.conn.now) result rows }
     ensures limit { tx.new.conn.now.step_limit ≡ tx.old.conn.now.step_limit }
-    ensures want { (rows : Rows) → HasKeys rows → Wants (state over_memory tx.old.conn.now) (state over_memory tx.new.conn.now) result rows }
+    ensures want { (rows : Rows) → HasKeys rows → Wants (state over_trees tx.old.conn.now) (state over_trees tx.new.conn.now) result rows }
 {
     tx.execute(COUNT_NODES, params![profile, nodes])
 }
 
 /// Adds the node, and has its profile count it.
 pub(crate) fn add_node(
-    tx: &mut Transaction<'_, MemStore>,
+    tx: &mut Transaction<'_, TreeStore>,
     node: &NewNode<'_>,
     modified: i64,
 ) -> Result<usize, Error>
     requires small { node.now.size < 2 ^ 63 }
     ensures same_reference { tx.new.conn.ghost_name ≡ tx.old.conn.ghost_name }
-    ensures ok { (rows : Rows) → Steps (state over_memory tx.old.conn.now) (state over_memory tx.new.conn.now) result rows (with_node (node_of node.now modified) rows) }
-    ensures err { (rows : Rows) → Saves (state over_memory tx.old.conn.now) (state over_memory tx.new.conn.now) result rows }
+    ensures ok { (rows : Rows) → Steps (state over_trees tx.old.conn.now) (state over_trees tx.new.conn.now) result rows (with_node (node_of node.now modified) rows) }
+    ensures err { (rows : Rows) → Saves (state over_trees tx.old.conn.now) (state over_trees tx.new.conn.now) result rows }
     ensures limit { tx.new.conn.now.step_limit ≡ tx.old.conn.now.step_limit }
-    ensures want { (rows : Rows) → HasKeys (record rows { nodes = rows.nodes ++ node_of node.now modified ∷ [] }) → FitsARow (node_size (node_of node.now modified)) → Wants (state over_memory tx.old.conn.now) (state over_memory tx.new.conn.now) result rows }
+    ensures want { (rows : Rows) → HasKeys (record rows { nodes = rows.nodes ++ node_of node.now modified ∷ [] }) → FitsARow (node_size (node_of node.now modified)) → Wants (state over_trees tx.old.conn.now) (state over_trees tx.new.conn.now) result rows }
 {
     insert_node(tx, node, modified)?;
     count_nodes(tx, node.profile, node.id)
@@ -145,17 +150,17 @@ pub(crate) struct Findings<'a> {
 }
 
 pub(crate) fn finish_node(
-    tx: &mut Transaction<'_, MemStore>,
+    tx: &mut Transaction<'_, TreeStore>,
     profile: u32,
     file: u32,
     findings: &Findings<'_>,
 ) -> Result<usize, Error>
     ensures same_reference { tx.new.conn.ghost_name ≡ tx.old.conn.ghost_name }
     ensures ok { (rows : Rows) → AreApart rows → (puids : List (List ℕ)) → AllByRecursion IsWord puids → findings.now.formats.now ≡ joined puids
-        → Steps (state over_memory tx.old.conn.now) (state over_memory tx.new.conn.now) result rows (with_finished profile file findings.now.method findings.now.mismatch findings.now.md5.now puids rows) }
-    ensures err { (rows : Rows) → Saves (state over_memory tx.old.conn.now) (state over_memory tx.new.conn.now) result rows }
+        → Steps (state over_trees tx.old.conn.now) (state over_trees tx.new.conn.now) result rows (with_finished profile file findings.now.method findings.now.mismatch findings.now.md5.now puids rows) }
+    ensures err { (rows : Rows) → Saves (state over_trees tx.old.conn.now) (state over_trees tx.new.conn.now) result rows }
     ensures limit { tx.new.conn.now.step_limit ≡ tx.old.conn.now.step_limit }
-    ensures want { (rows : Rows) → HasKeys rows → (puids : List (List ℕ)) → findings.now.formats.now ≡ joined puids → HasKeys (with_finished profile file findings.now.method findings.now.mismatch findings.now.md5.now puids rows) → ((n : Node) → node_at profile file rows ≡ Some n → FitsARow (node_size (finished findings.now.method findings.now.mismatch findings.now.md5.now puids n))) → Wants (state over_memory tx.old.conn.now) (state over_memory tx.new.conn.now) result rows }
+    ensures want { (rows : Rows) → HasKeys rows → (puids : List (List ℕ)) → findings.now.formats.now ≡ joined puids → HasKeys (with_finished profile file findings.now.method findings.now.mismatch findings.now.md5.now puids rows) → ((n : Node) → node_at profile file rows ≡ Some n → FitsARow (node_size (finished findings.now.method findings.now.mismatch findings.now.md5.now puids n))) → Wants (state over_trees tx.old.conn.now) (state over_trees tx.new.conn.now) result rows }
 {
     tx.execute(
         FINISH_NODE,
@@ -182,15 +187,15 @@ fn number_of(method: Method) -> u32
 }
 
 pub(crate) fn delete_node(
-    tx: &mut Transaction<'_, MemStore>,
+    tx: &mut Transaction<'_, TreeStore>,
     profile: u32,
     file: u32,
 ) -> Result<usize, Error>
     ensures same_reference { tx.new.conn.ghost_name ≡ tx.old.conn.ghost_name }
-    ensures ok { (rows : Rows) → AreApart rows → Steps (state over_memory tx.old.conn.now) (state over_memory tx.new.conn.now) result rows (without_node profile file rows) }
-    ensures err { (rows : Rows) → Saves (state over_memory tx.old.conn.now) (state over_memory tx.new.conn.now) result rows }
+    ensures ok { (rows : Rows) → AreApart rows → Steps (state over_trees tx.old.conn.now) (state over_trees tx.new.conn.now) result rows (without_node profile file rows) }
+    ensures err { (rows : Rows) → Saves (state over_trees tx.old.conn.now) (state over_trees tx.new.conn.now) result rows }
     ensures limit { tx.new.conn.now.step_limit ≡ tx.old.conn.now.step_limit }
-    ensures want { (rows : Rows) → HasKeys rows → HasKeys (without_node profile file rows) → Wants (state over_memory tx.old.conn.now) (state over_memory tx.new.conn.now) result rows }
+    ensures want { (rows : Rows) → HasKeys rows → HasKeys (without_node profile file rows) → Wants (state over_trees tx.old.conn.now) (state over_trees tx.new.conn.now) result rows }
 {
     tx.execute(REMOVE_NODE, params![profile, file])
 }

@@ -3,7 +3,7 @@
 ghost use Rattle.std.specs.Prelude.{◌≡◌, ◌+◌, ◌<◌, ◌^◌, List, ℕ, None, Some, length, OnOk, OnErr, IfErr};
 ghost use Rattle.std.specs.List.{AllByRecursion};
 ghost use Rattle.sqlite.specs.Held.{state};
-ghost use Rattle.sqlite.specs.Steps.{over_memory};
+ghost use Rattle.droid_store_trees.specs.Over.{over_trees};
 ghost use Rattle.droid_store_sql.specs.Transactions.{Settled};
 ghost use Rattle.droid_store_sql.specs.Wants.{IsWant};
 ghost use Rattle.droid_store.specs.Changes.{with_node, with_profile, with_reply, finished, with_finished, without_node, IsWord};
@@ -18,14 +18,15 @@ use crate::changes::{
     Findings, NewNode, add_node, delete_node, finish_node, insert_profile, insert_reply,
 };
 use crate::rows::Entry;
-use sqlite::{Connection, Error, MemStore};
+use droid_store_trees::TreeStore;
+use sqlite::{Connection, Error};
 
 /// A reply alone.
-pub(crate) fn write_reply(conn: &mut Connection<MemStore>, entry: &Entry) -> Result<(), Error>
-    requires holds { Settled (state over_memory conn.old) (Holds (kept conn.old)) }
+pub(crate) fn write_reply(conn: &mut Connection<TreeStore>, entry: &Entry) -> Result<(), Error>
+    requires holds { Settled (state over_trees conn.old) (Holds (kept conn.old)) }
     requires small { entry.now.number < 2 ^ 63 }
-    ensures ok { OnOk result (Settled (state over_memory conn.new) (Holds (with_reply entry.now (kept conn.old)))) }
-    ensures err { OnErr result (Settled (state over_memory conn.new) (Holds (kept conn.old))) }
+    ensures ok { OnOk result (Settled (state over_trees conn.new) (Holds (with_reply entry.now (kept conn.old)))) }
+    ensures err { OnErr result (Settled (state over_trees conn.new) (Holds (kept conn.old))) }
     ensures limit { conn.new.step_limit ≡ conn.old.step_limit }
     ensures fits { OnOk result (EntryFits entry.now) }
     ensures want { HasKeys (with_reply entry.now (kept conn.old)) → FitsARow (entry_size entry.now) → conn.old.step_limit ≡ None → IfErr result IsWant }
@@ -36,17 +37,17 @@ pub(crate) fn write_reply(conn: &mut Connection<MemStore>, entry: &Entry) -> Res
 }
 
 pub(crate) fn write_profile(
-    conn: &mut Connection<MemStore>,
+    conn: &mut Connection<TreeStore>,
     entry: &Entry,
     profile: u32,
     scan_limit: u32,
     match_all: bool,
 ) -> Result<(), Error>
-    requires holds { Settled (state over_memory conn.old) (Holds (kept conn.old)) }
+    requires holds { Settled (state over_trees conn.old) (Holds (kept conn.old)) }
     requires next { profile ≡ length (kept conn.old).profiles + 1 }
     requires small { entry.now.number < 2 ^ 63 }
-    ensures ok { OnOk result (Settled (state over_memory conn.new) (Holds (with_reply entry.now (with_profile scan_limit match_all (kept conn.old))))) }
-    ensures err { OnErr result (Settled (state over_memory conn.new) (Holds (kept conn.old))) }
+    ensures ok { OnOk result (Settled (state over_trees conn.new) (Holds (with_reply entry.now (with_profile scan_limit match_all (kept conn.old))))) }
+    ensures err { OnErr result (Settled (state over_trees conn.new) (Holds (kept conn.old))) }
     ensures limit { conn.new.step_limit ≡ conn.old.step_limit }
     ensures fits { OnOk result (EntryFits entry.now) }
     ensures want { HasKeys (kept conn.old) → HasKeys (with_reply entry.now (with_profile scan_limit match_all (kept conn.old))) → FitsARow (entry_size entry.now) → conn.old.step_limit ≡ None → IfErr result IsWant }
@@ -58,16 +59,16 @@ pub(crate) fn write_profile(
 }
 
 pub(crate) fn write_node(
-    conn: &mut Connection<MemStore>,
+    conn: &mut Connection<TreeStore>,
     entry: &Entry,
     node: &NewNode<'_>,
     modified: i64,
 ) -> Result<(), Error>
-    requires holds { Settled (state over_memory conn.old) (Holds (kept conn.old)) }
+    requires holds { Settled (state over_trees conn.old) (Holds (kept conn.old)) }
     requires small { entry.now.number < 2 ^ 63 }
     requires size { node.now.size < 2 ^ 63 }
-    ensures ok { OnOk result (Settled (state over_memory conn.new) (Holds (with_reply entry.now (with_node (node_of node.now modified) (kept conn.old))))) }
-    ensures err { OnErr result (Settled (state over_memory conn.new) (Holds (kept conn.old))) }
+    ensures ok { OnOk result (Settled (state over_trees conn.new) (Holds (with_reply entry.now (with_node (node_of node.now modified) (kept conn.old))))) }
+    ensures err { OnErr result (Settled (state over_trees conn.new) (Holds (kept conn.old))) }
     ensures limit { conn.new.step_limit ≡ conn.old.step_limit }
     ensures fits { OnOk result (EntryFits entry.now) }
     ensures want { HasKeys (kept conn.old) → HasKeys (with_reply entry.now (with_node (node_of node.now modified) (kept conn.old))) → FitsARow (entry_size entry.now) → FitsARow (node_size (node_of node.now modified)) → conn.old.step_limit ≡ None → IfErr result IsWant }
@@ -79,18 +80,18 @@ pub(crate) fn write_node(
 }
 
 pub(crate) fn write_finish(
-    conn: &mut Connection<MemStore>,
+    conn: &mut Connection<TreeStore>,
     entry: &Entry,
     profile: u32,
     file: u32,
     findings: &Findings<'_>,
 ) -> Result<(), Error>
-    requires holds { Settled (state over_memory conn.old) (Holds (kept conn.old)) }
+    requires holds { Settled (state over_trees conn.old) (Holds (kept conn.old)) }
     requires apart { AreApart (kept conn.old) }
     requires small { entry.now.number < 2 ^ 63 }
     ensures ok { (puids : List (List ℕ)) → AllByRecursion IsWord puids → findings.now.formats.now ≡ joined puids
-        → OnOk result (Settled (state over_memory conn.new) (Holds (with_reply entry.now (with_finished profile file findings.now.method findings.now.mismatch findings.now.md5.now puids (kept conn.old))))) }
-    ensures err { (puids : List (List ℕ)) → AllByRecursion IsWord puids → findings.now.formats.now ≡ joined puids → OnErr result (Settled (state over_memory conn.new) (Holds (kept conn.old))) }
+        → OnOk result (Settled (state over_trees conn.new) (Holds (with_reply entry.now (with_finished profile file findings.now.method findings.now.mismatch findings.now.md5.now puids (kept conn.old))))) }
+    ensures err { (puids : List (List ℕ)) → AllByRecursion IsWord puids → findings.now.formats.now ≡ joined puids → OnErr result (Settled (state over_trees conn.new) (Holds (kept conn.old))) }
     ensures limit { conn.new.step_limit ≡ conn.old.step_limit }
     ensures fits { OnOk result (EntryFits entry.now) }
     ensures want { (puids : List (List ℕ)) → AllByRecursion IsWord puids → findings.now.formats.now ≡ joined puids → HasKeys (kept conn.old) → HasKeys (with_reply entry.now (with_finished profile file findings.now.method findings.now.mismatch findings.now.md5.now puids (kept conn.old))) → FitsARow (entry_size entry.now) → ((n : Node) → node_at profile file (kept conn.old) ≡ Some n → FitsARow (node_size (finished findings.now.method findings.now.mismatch findings.now.md5.now puids n))) → conn.old.step_limit ≡ None → IfErr result IsWant }
@@ -102,16 +103,16 @@ pub(crate) fn write_finish(
 }
 
 pub(crate) fn write_abandon(
-    conn: &mut Connection<MemStore>,
+    conn: &mut Connection<TreeStore>,
     entry: &Entry,
     profile: u32,
     file: u32,
 ) -> Result<(), Error>
-    requires holds { Settled (state over_memory conn.old) (Holds (kept conn.old)) }
+    requires holds { Settled (state over_trees conn.old) (Holds (kept conn.old)) }
     requires apart { AreApart (kept conn.old) }
     requires small { entry.now.number < 2 ^ 63 }
-    ensures ok { OnOk result (Settled (state over_memory conn.new) (Holds (with_reply entry.now (without_node profile file (kept conn.old))))) }
-    ensures err { OnErr result (Settled (state over_memory conn.new) (Holds (kept conn.old))) }
+    ensures ok { OnOk result (Settled (state over_trees conn.new) (Holds (with_reply entry.now (without_node profile file (kept conn.old))))) }
+    ensures err { OnErr result (Settled (state over_trees conn.new) (Holds (kept conn.old))) }
     ensures limit { conn.new.step_limit ≡ conn.old.step_limit }
     ensures fits { OnOk result (EntryFits entry.now) }
     ensures want { HasKeys (kept conn.old) → HasKeys (with_reply entry.now (without_node profile file (kept conn.old))) → FitsARow (entry_size entry.now) → conn.old.step_limit ≡ None → IfErr result IsWant }

@@ -2,7 +2,7 @@
 
 ghost use Rattle.std.specs.Prelude.{◌≡◌, ◌≢◌, ◌<◌, ◌^◌, None, IfOk, IfErr, MatchOption, Ok, Err, map, filter, option_map};
 ghost use Rattle.sqlite.specs.Held.{state};
-ghost use Rattle.sqlite.specs.Steps.{over_memory};
+ghost use Rattle.droid_store_trees.specs.Over.{over_trees};
 ghost use Rattle.sqlite.specs.declared.error.Error.TheVariants.{QueryReturnedNoRows};
 ghost use Rattle.droid_store_sql.specs.Transactions.{Settled};
 ghost use Rattle.droid_store_sql.specs.Wants.{IsWant};
@@ -12,7 +12,8 @@ ghost use Rattle.droid_store.specs.Shown.{shown_profile, shown_node, shown_id, s
 
 use crate::changes::signed;
 use crate::statements::{FIND_CHILD, FIND_NODE, FIND_PROFILE, FIND_REPLY, LIST_RECORDS};
-use sqlite::{Connection, Error, MemStore, Row, params};
+use droid_store_trees::TreeStore;
+use sqlite::{Connection, Error, Row, params};
 
 /// The row, or `None` where the answer has none.
 fn or_none(answer: Result<Row, Error>) -> Result<Option<Row>, Error>
@@ -27,12 +28,12 @@ fn or_none(answer: Result<Row, Error>) -> Result<Option<Row>, Error>
 }
 
 pub(crate) fn find_profile(
-    conn: &mut Connection<MemStore>,
+    conn: &mut Connection<TreeStore>,
     profile: u32,
 ) -> Result<Option<Row>, Error>
-    requires holds { Settled (state over_memory conn.old) (Holds (kept conn.old)) }
+    requires holds { Settled (state over_trees conn.old) (Holds (kept conn.old)) }
     ensures same { kept conn.new ≡ kept conn.old }
-    ensures holds { Settled (state over_memory conn.new) (Holds (kept conn.new)) }
+    ensures holds { Settled (state over_trees conn.new) (Holds (kept conn.new)) }
     ensures found { IfOk result (λ found. found ≡ option_map shown_profile (profile_at profile (kept conn.old))) }
     ensures limit { conn.new.step_limit ≡ conn.old.step_limit }
     ensures want { conn.old.step_limit ≡ None → IfErr result IsWant }
@@ -42,14 +43,14 @@ pub(crate) fn find_profile(
 }
 
 pub(crate) fn find_node(
-    conn: &mut Connection<MemStore>,
+    conn: &mut Connection<TreeStore>,
     profile: u32,
     id: u32,
 ) -> Result<Option<Row>, Error>
-    requires holds { Settled (state over_memory conn.old) (Holds (kept conn.old)) }
+    requires holds { Settled (state over_trees conn.old) (Holds (kept conn.old)) }
     requires apart { AreApart (kept conn.old) }
     ensures same { kept conn.new ≡ kept conn.old }
-    ensures holds { Settled (state over_memory conn.new) (Holds (kept conn.new)) }
+    ensures holds { Settled (state over_trees conn.new) (Holds (kept conn.new)) }
     ensures found { IfOk result (λ found. found ≡ option_map shown_node (node_at profile id (kept conn.old))) }
     ensures limit { conn.new.step_limit ≡ conn.old.step_limit }
     ensures want { conn.old.step_limit ≡ None → IfErr result IsWant }
@@ -59,15 +60,15 @@ pub(crate) fn find_node(
 }
 
 pub(crate) fn find_child(
-    conn: &mut Connection<MemStore>,
+    conn: &mut Connection<TreeStore>,
     profile: u32,
     parent: u32,
     name: &str,
 ) -> Result<Option<Row>, Error>
-    requires holds { Settled (state over_memory conn.old) (Holds (kept conn.old)) }
+    requires holds { Settled (state over_trees conn.old) (Holds (kept conn.old)) }
     requires apart { AreApart (kept conn.old) }
     ensures same { kept conn.new ≡ kept conn.old }
-    ensures holds { Settled (state over_memory conn.new) (Holds (kept conn.new)) }
+    ensures holds { Settled (state over_trees conn.new) (Holds (kept conn.new)) }
     ensures found { IfOk result (λ found. found ≡ option_map shown_id (child_at profile parent name.now (kept conn.old))) }
     ensures limit { conn.new.step_limit ≡ conn.old.step_limit }
     ensures want { conn.old.step_limit ≡ None → IfErr result IsWant }
@@ -77,15 +78,15 @@ pub(crate) fn find_child(
 }
 
 pub(crate) fn find_reply(
-    conn: &mut Connection<MemStore>,
+    conn: &mut Connection<TreeStore>,
     client: u32,
     number: u64,
 ) -> Result<Option<Row>, Error>
-    requires holds { Settled (state over_memory conn.old) (Holds (kept conn.old)) }
+    requires holds { Settled (state over_trees conn.old) (Holds (kept conn.old)) }
     requires apart { AreApart (kept conn.old) }
     requires small { number < 2 ^ 63 }
     ensures same { kept conn.new ≡ kept conn.old }
-    ensures holds { Settled (state over_memory conn.new) (Holds (kept conn.new)) }
+    ensures holds { Settled (state over_trees conn.new) (Holds (kept conn.new)) }
     ensures found { IfOk result (λ found. found ≡ option_map shown_reply (reply_for client number (kept conn.old))) }
     ensures limit { conn.new.step_limit ≡ conn.old.step_limit }
     ensures want { conn.old.step_limit ≡ None → IfErr result IsWant }
@@ -95,11 +96,11 @@ pub(crate) fn find_reply(
 }
 
 /// The folders and finished files of the profile, by number.
-pub(crate) fn list_nodes(conn: &mut Connection<MemStore>, profile: u32) -> Result<Vec<Row>, Error>
-    requires holds { Settled (state over_memory conn.old) (Holds (kept conn.old)) }
+pub(crate) fn list_nodes(conn: &mut Connection<TreeStore>, profile: u32) -> Result<Vec<Row>, Error>
+    requires holds { Settled (state over_trees conn.old) (Holds (kept conn.old)) }
     requires apart { AreApart (kept conn.old) }
     ensures same { kept conn.new ≡ kept conn.old }
-    ensures holds { Settled (state over_memory conn.new) (Holds (kept conn.new)) }
+    ensures holds { Settled (state over_trees conn.new) (Holds (kept conn.new)) }
     ensures found { IfOk result (λ rows. rows.items ≡ map shown_node (filter (is_listed profile) (kept conn.old).nodes)) }
     ensures limit { conn.new.step_limit ≡ conn.old.step_limit }
     ensures want { conn.old.step_limit ≡ None → IfErr result IsWant }

@@ -5,9 +5,10 @@ ghost use Rattle.droid_store.specs.Rows.{no_rows};
 ghost use Rattle.droid_store.specs.declared.fault.StoreFault.TheVariants.{Memory};
 
 use crate::fault::StoreFault;
-use crate::making::make_tables;
+use crate::making::{make_tables, open_empty};
 use crate::rows::Counts;
-use sqlite::{Connection, MemStore};
+use droid_store_trees::TreeStore;
+use sqlite::Connection;
 use std::alloc::Global;
 use std::marker::Model;
 
@@ -18,7 +19,7 @@ mod reading;
 /// made with.
 #[derive(Drop)]
 pub struct Store {
-    conn: Connection<MemStore>,
+    conn: Connection<TreeStore>,
     alloc: Global,
     counts: Counts,
 }
@@ -26,7 +27,7 @@ pub struct Store {
 impl Model for Store {
     ghost use Rattle.std.specs.Prelude.{◌≡◌, None};
     ghost use Rattle.sqlite.specs.Held.{state};
-    ghost use Rattle.sqlite.specs.Steps.{over_memory};
+    ghost use Rattle.droid_store_trees.specs.Over.{over_trees};
     ghost use Rattle.droid_store_sql.specs.Transactions.{Settled};
     ghost use Rattle.droid_store.specs.Kept.{kept, Holds, AreApart};
     ghost use Rattle.droid_store.specs.Ranges.{AreReadable};
@@ -36,7 +37,7 @@ impl Model for Store {
 
     ghost view = { λ s. kept s.conn };
 
-    ghost invariant = { λ s. Settled (state over_memory s.conn) (Holds (kept s.conn)) × AreApart (kept s.conn) × (s.counts ≡ counts_of (kept s.conn)) × (s.conn.step_limit ≡ None) × AreReadable (kept s.conn) };
+    ghost invariant = { λ s. Settled (state over_trees s.conn) (Holds (kept s.conn)) × AreApart (kept s.conn) × (s.counts ≡ counts_of (kept s.conn)) × (s.conn.step_limit ≡ None) × AreReadable (kept s.conn) };
 }
 
 impl Store {
@@ -45,7 +46,7 @@ impl Store {
         ensures empty { IfOk result (λ store. store ≡ no_rows) }
         ensures memory { IfErr result (λ fault. fault ≡ Memory) }
     {
-        let mut conn = Connection::open_in_memory(alloc)?;
+        let mut conn = open_empty(alloc)?;
         make_tables(&mut conn)?;
         let counts = Counts {
             profiles: 0,

@@ -59,6 +59,6 @@ module _ (test : Row → Bool) (left : List Row) (row : Row) (right : List Row) 
           | inr low ↦ passes_before test (left ++ row ∷ right) (length left) cut (omega (arith, len)) reached k low
         ];
         after = λ k p q.
-        let high : length left < k = omega arith in
-        subst (λ n. test (here n) ≡ false) (beyond k high) (subst (λ r. test r ≡ false) (sym (in_right (k - (length left + 1)))) (place.after _ (omega arith) (omega (arith, len))));
+            let high : length left < k = omega arith in
+            subst (λ n. test (here n) ≡ false) (beyond k high) (subst (λ r. test r ≡ false) (sym (in_right (k - (length left + 1)))) (place.after _ (omega arith) (omega (arith, len))));
       }

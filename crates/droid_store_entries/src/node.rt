@@ -84,7 +84,12 @@ impl Node {
         Node::joined(alloc, left, row, right)
     }
 
-    fn turned_left(alloc: Global, left: Node, row: Rc<Row>, right: &Node) -> Result<Node, AllocError>
+    fn turned_left(
+        alloc: Global,
+        left: Node,
+        row: Rc<Row>,
+        right: &Node,
+    ) -> Result<Node, AllocError>
         requires left { IsCounted left }
         requires right { IsCounted right.now }
         ensures counted { IfOk result IsCounted }
@@ -96,7 +101,12 @@ impl Node {
         }
     }
 
-    fn turned_right(alloc: Global, left: &Node, row: Rc<Row>, right: Node) -> Result<Node, AllocError>
+    fn turned_right(
+        alloc: Global,
+        left: &Node,
+        row: Rc<Row>,
+        right: Node,
+    ) -> Result<Node, AllocError>
         requires left { IsCounted left.now }
         requires right { IsCounted right }
         ensures counted { IfOk result IsCounted }
@@ -232,7 +242,12 @@ impl Fork {
         if self.left.len() / 2 > self.right.len() {
             if let Node::Fork(middle) = &self.left {
                 let first = Node::joined(alloc, left, row, middle.left.copy()?)?;
-                let last = Node::joined(alloc, middle.right.copy()?, self.row.clone()?, self.right.copy()?)?;
+                let last = Node::joined(
+                    alloc,
+                    middle.right.copy()?,
+                    self.row.clone()?,
+                    self.right.copy()?,
+                )?;
                 return Node::joined(alloc, first, middle.row.clone()?, last);
             }
         }
@@ -249,7 +264,12 @@ impl Fork {
     {
         if self.right.len() / 2 > self.left.len() {
             if let Node::Fork(middle) = &self.right {
-                let first = Node::joined(alloc, self.left.copy()?, self.row.clone()?, middle.left.copy()?)?;
+                let first = Node::joined(
+                    alloc,
+                    self.left.copy()?,
+                    self.row.clone()?,
+                    middle.left.copy()?,
+                )?;
                 let last = Node::joined(alloc, middle.right.copy()?, row, right)?;
                 return Node::joined(alloc, first, middle.row.clone()?, last);
             }

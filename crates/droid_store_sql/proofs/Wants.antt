@@ -2,7 +2,7 @@
 use Rattle.std.proofs.Common.{◌≡◌, ◌≢◌, inl, inr, ℕ, ◌||◌, true, false, List, [], length, Option, Some, None, Result, Ok, Err, is_some, append-nil, refl, sym, ap, subst, subst₂, ◌∙◌, arith}
 use Rattle.sqlite_trees.specs.declared.error.StoreError.{StoreError}
 use Rattle.sqlite_trees.specs.declared.error.StoreError.TheVariants.{OutOfMemory, Io, Corrupt, Full, Broken, Unstorable}
-use Rattle.sqlite_trees.specs.declared.memory.MemStore.{MemStore}
+use Rattle.droid_store_trees.specs.declared.store.TreeStore.{TreeStore}
 use Rattle.sqlite_resolve.specs.declared.compiled.Compiled.{Compiled}
 use Rattle.sqlite_resolve.specs.declared.error.CompileError.{CompileError}
 use Rattle.sqlite_schema.specs.declared.program.Program.{Program}
@@ -21,7 +21,8 @@ use Rattle.sqlite.specs.Order.{Row}
 use Rattle.sqlite.specs.Schema.{Schema}
 use Rattle.sqlite.specs.Source.{Source}
 use Rattle.sqlite.specs.State.{State, store_error, HasCause, Fails, mode_of, text_of, is_pragma, shows_rows, IsMisplaced, Escapes, IsNoStatement, IsNotRun, RunsCommand, ExecutesIn, Executes, EndsScope, ExecutesInside, FailsToQuery, FailsToShow, QueriesRow}
-use Rattle.sqlite.specs.Steps.{over_memory, FailsToCommit}
+use Rattle.sqlite.specs.Steps.{FailsToCommit}
+use Rattle.droid_store_trees.specs.Over.{over_trees}
 use Rattle.sqlite.proofs.Callers.{IsPlain, command_of, statement_of}
 use Rattle.droid_store_sql.specs.Wants.{IsWant, InMemory, IsWhole, IsEdit}
 
@@ -30,7 +31,7 @@ use Rattle.droid_store_sql.specs.Wants.{IsWant, InMemory, IsWhole, IsEdit}
 no_more : ¬ MoreFaults 0 0
 no_more h = absurd (omega arith)
 
-pub in_memory : (old new : Held MemStore) → old.step_limit ≡ None → InMemory (state over_memory old) (state over_memory new)
+pub in_memory : (old new : Held TreeStore) → old.step_limit ≡ None → InMemory (state over_trees old) (state over_trees new)
 in_memory old new none = record { live = refl; sure = no_more; unlimited = none }
 
 by_cause : (old new : State) (too_big : Type 0) (cause : StoreError) → InMemory old new → ¬ too_big → HasCause old new too_big cause → store_error cause ≡ SqliteFailure code.OutOfMemory

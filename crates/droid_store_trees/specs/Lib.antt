@@ -2,3 +2,4 @@ pub mod Alike
 pub mod Edits
 pub mod Shown
 pub mod Laws
+pub mod Over

@@ -111,7 +111,12 @@ impl Forest {
         }
     }
 
-    pub(crate) fn edit(&mut self, alloc: Global, tree: u32, edit: Edit<'_>) -> Result<(), AllocError>
+    pub(crate) fn edit(
+        &mut self,
+        alloc: Global,
+        tree: u32,
+        edit: Edit<'_>,
+    ) -> Result<(), AllocError>
         requires { Fits edit (shape_of self.old tree) }
         ensures headings { headings self.new ≡ headings self.old }
         ensures version { self.new.version ≡ self.old.version }
@@ -142,7 +147,12 @@ impl Forest {
     }
 
     /// The same trees, one of them described as this object.
-    pub(crate) fn relist(&mut self, alloc: Global, tree: u32, object: &Object<'_>) -> Result<(), AllocError>
+    pub(crate) fn relist(
+        &mut self,
+        alloc: Global,
+        tree: u32,
+        object: &Object<'_>,
+    ) -> Result<(), AllocError>
         requires { tree < length self.old.trees.items }
         ensures ok { OnOk result (Relabels self.old self.new tree object.now) }
         ensures err { OnErr result (AreAlike self.old self.new) }

@@ -79,7 +79,11 @@ impl Tree {
     }
 
     /// The same tree with another description.
-    pub(crate) fn described_as(&self, alloc: Global, object: &Object<'_>) -> Result<Tree, AllocError>
+    pub(crate) fn described_as(
+        &self,
+        alloc: Global,
+        object: &Object<'_>,
+    ) -> Result<Tree, AllocError>
         ensures heading { IfOk result (λ t. heading t ≡ (self.now.shape, object.now.reals, description object.now)) }
         ensures rows { IfOk result (λ t. t.rows ≡ self.now.rows) }
     {

@@ -1,7 +1,7 @@
 use Rattle.std.proofs.Common.{refl}
 use Rattle.sqlite.specs.Held.{state}
-use Rattle.sqlite.specs.Steps.{over_memory}
-use Rattle.sqlite.proofs.Callers.{memory_is_clean}
+use Rattle.droid_store_trees.specs.Over.{over_trees}
+use Rattle.droid_store.proofs.Clean.{trees_are_clean}
 use Rattle.droid_store.specs.declared.statements.TheConstants.{ADD_PROFILE}
 use Rattle.droid_store.proofs.Effects.{stepped, kept_safe}
 use Rattle.droid_store.specs.Changes.{with_profile}
@@ -12,24 +12,24 @@ use Rattle.droid_store.proofs.changes.insert_profile.Goals as goal
 
 pub returns-clause-ok : goal.returns-clause-ok
 returns-clause-ok c rows next =
-    let old = state over_memory c.args.tx.now.conn.now in
-    let new = state over_memory c.execute.new.self.conn.now in
-    stepped ADD_PROFILE.now _ old new c.execute.result rows (with_profile c.args.scan_limit c.args.match_all rows) (rw (c.params-to_sql.ensures, c.params-to_sql-2.ensures, c.params-to_sql-3.ensures) at (c.execute.ensures.runs (memory_is_clean c.execute.new.self.conn.now)))
+    let old = state over_trees c.args.tx.now.conn.now in
+    let new = state over_trees c.execute.new.self.conn.now in
+    stepped ADD_PROFILE.now _ old new c.execute.result rows (with_profile c.args.scan_limit c.args.match_all rows) (rw (c.params-to_sql.ensures, c.params-to_sql-2.ensures, c.params-to_sql-3.ensures) at (c.execute.ensures.runs (trees_are_clean c.execute.new.self.conn.now)))
     (adds_profile old new c.args.profile c.args.scan_limit c.args.match_all rows next)
 
 pub returns-clause-err : goal.returns-clause-err
 returns-clause-err c rows =
-    let old = state over_memory c.args.tx.now.conn.now in
-    let new = state over_memory c.execute.new.self.conn.now in
-    kept_safe ADD_PROFILE.now _ old new c.execute.result rows refl (c.execute.ensures.runs (memory_is_clean c.execute.new.self.conn.now))
+    let old = state over_trees c.args.tx.now.conn.now in
+    let new = state over_trees c.execute.new.self.conn.now in
+    kept_safe ADD_PROFILE.now _ old new c.execute.result rows refl (c.execute.ensures.runs (trees_are_clean c.execute.new.self.conn.now))
 
 pub returns-clause-limit : goal.returns-clause-limit
 returns-clause-limit c = c.execute.ensures.survives.limit
 
 pub returns-clause-want : goal.returns-clause-want
 returns-clause-want c rows next keys =
-    let old = state over_memory c.args.tx.now.conn.now in
-    let new = state over_memory c.execute.new.self.conn.now in
+    let old = state over_trees c.args.tx.now.conn.now in
+    let new = state over_trees c.execute.new.self.conn.now in
     wants_by ADD_PROFILE.now (profile_params c.args.profile c.args.scan_limit c.args.match_all) old new c.execute.result rows
-    (rw (c.params-to_sql.ensures, c.params-to_sql-2.ensures, c.params-to_sql-3.ensures) at (c.execute.ensures.runs (memory_is_clean c.execute.new.self.conn.now)))
+    (rw (c.params-to_sql.ensures, c.params-to_sql-2.ensures, c.params-to_sql-3.ensures) at (c.execute.ensures.runs (trees_are_clean c.execute.new.self.conn.now)))
     (λ err none has h. profile_wants old new c.args.profile c.args.scan_limit c.args.match_all rows err (in_memory c.args.tx.now.conn.now c.execute.new.self.conn.now none) next has keys h)

@@ -1,9 +1,9 @@
 use Rattle.std.proofs.Common.{◌≡◌, OnOk, OnErr, refl, subst, rules, ◌∙◌, ap}
 use Rattle.sqlite.specs.Held.{Held, state}
-use Rattle.sqlite.specs.Steps.{over_memory}
-use Rattle.sqlite.proofs.Callers.{memory_is_clean}
+use Rattle.droid_store_trees.specs.Over.{over_trees}
+use Rattle.droid_store.proofs.Clean.{trees_are_clean}
 use Rattle.droid_store_sql.specs.Transactions.{Settled}
-use Rattle.sqlite_trees.specs.declared.memory.MemStore.{MemStore}
+use Rattle.droid_store_trees.specs.declared.store.TreeStore.{TreeStore}
 use Rattle.droid_store_sql.proofs.Transactions.{on_err, rolled_back, ends_ok, ends_err}
 use Rattle.droid_store_sql.proofs.Wants.{in_memory, commit_wants}
 use Rattle.droid_store.proofs.WantingLookUps.{failed_for, handed_on}
@@ -16,11 +16,11 @@ pub returns-in_err-finish_node-clause-err : goal.returns-in_err-finish_node-clau
 returns-in_err-finish_node-clause-err c puids words is =
     let rows = kept c.args.conn.now in
     let begun = started c.args.conn.now c.transaction-tx.result.conn.now rows c.transaction-tx.ensures.begun c.requires.holds in
-    let mid = state over_memory c.finish_node.new.tx.conn.now in
+    let mid = state over_trees c.finish_node.new.tx.conn.now in
     let end = c.drop-tx.new.self.0 in
     let same : end ≡ c.conn-1.given.0 = search rules in
-    on_err c.from_residual.result _ (subst (λ h. Settled (state over_memory h) (Holds rows)) same
-    (rolled_back mid (state over_memory end) (Holds rows) refl (c.in_err-finish_node.ensures.err rows rows begun) (c.drop-tx.ensures.undone (memory_is_clean end))))
+    on_err c.from_residual.result _ (subst (λ h. Settled (state over_trees h) (Holds rows)) same
+    (rolled_back mid (state over_trees end) (Holds rows) refl (c.in_err-finish_node.ensures.err rows rows begun) (c.drop-tx.ensures.undone (trees_are_clean end))))
 
 pub returns-in_err-insert_reply-clause-err : goal.returns-in_err-insert_reply-clause-err
 returns-in_err-insert_reply-clause-err c puids words is =
@@ -28,11 +28,11 @@ returns-in_err-insert_reply-clause-err c puids words is =
     let begun = started c.args.conn.now c.transaction-tx.result.conn.now rows c.transaction-tx.ensures.begun c.requires.holds in
     let first = c.in_ok-finish_node.ensures.ok rows c.requires.apart puids words is rows begun in
     let changed = with_finished c.args.profile c.args.file c.args.findings.now.method c.args.findings.now.mismatch c.args.findings.now.md5.now puids rows in
-    let mid = state over_memory c.insert_reply.new.tx.conn.now in
+    let mid = state over_trees c.insert_reply.new.tx.conn.now in
     let end = c.drop-tx-in_err-insert_reply.new.self.0 in
     let same : end ≡ c.conn-in_err-insert_reply-1.given.0 = search rules in
-    on_err c.from_residual-in_err-insert_reply.result _ (subst (λ h. Settled (state over_memory h) (Holds rows)) same
-    (rolled_back mid (state over_memory end) (Holds rows) refl (c.in_err-insert_reply.ensures.err changed rows first) (c.drop-tx-in_err-insert_reply.ensures.undone (memory_is_clean end))))
+    on_err c.from_residual-in_err-insert_reply.result _ (subst (λ h. Settled (state over_trees h) (Holds rows)) same
+    (rolled_back mid (state over_trees end) (Holds rows) refl (c.in_err-insert_reply.ensures.err changed rows first) (c.drop-tx-in_err-insert_reply.ensures.undone (trees_are_clean end))))
 
 pub returns-clause-ok : goal.returns-clause-ok
 returns-clause-ok c puids words is =
@@ -40,12 +40,12 @@ returns-clause-ok c puids words is =
     let begun = started c.args.conn.now c.transaction-tx.result.conn.now rows c.transaction-tx.ensures.begun c.requires.holds in
     let first = c.in_ok-finish_node.ensures.ok rows c.requires.apart puids words is rows begun in
     let changed = with_finished c.args.profile c.args.file c.args.findings.now.method c.args.findings.now.mismatch c.args.findings.now.md5.now puids rows in
-    let last = state over_memory c.insert_reply.new.tx.conn.now in
+    let last = state over_trees c.insert_reply.new.tx.conn.now in
     let after = with_reply c.args.entry.now changed in
     let end = c.commit.new.self.0 in
     let same : end ≡ c.conn-2-1.given.0 = search rules in
-    subst (λ h. OnOk c.commit.result (Settled (state over_memory h) (Holds after))) same
-    (ends_ok last (state over_memory end) c.commit.result (Holds after) (Holds rows) (c.in_ok-insert_reply.ensures.ok changed rows first) (c.commit.ensures.ok (memory_is_clean end)))
+    subst (λ h. OnOk c.commit.result (Settled (state over_trees h) (Holds after))) same
+    (ends_ok last (state over_trees end) c.commit.result (Holds after) (Holds rows) (c.in_ok-insert_reply.ensures.ok changed rows first) (c.commit.ensures.ok (trees_are_clean end)))
 
 pub returns-clause-err : goal.returns-clause-err
 returns-clause-err c puids words is =
@@ -53,37 +53,37 @@ returns-clause-err c puids words is =
     let begun = started c.args.conn.now c.transaction-tx.result.conn.now rows c.transaction-tx.ensures.begun c.requires.holds in
     let first = c.in_ok-finish_node.ensures.ok rows c.requires.apart puids words is rows begun in
     let changed = with_finished c.args.profile c.args.file c.args.findings.now.method c.args.findings.now.mismatch c.args.findings.now.md5.now puids rows in
-    let last = state over_memory c.insert_reply.new.tx.conn.now in
+    let last = state over_trees c.insert_reply.new.tx.conn.now in
     let after = with_reply c.args.entry.now changed in
     let end = c.commit.new.self.0 in
     let same : end ≡ c.conn-2-1.given.0 = search rules in
-    subst (λ h. OnErr c.commit.result (Settled (state over_memory h) (Holds rows))) same
-    (ends_err last (state over_memory end) c.commit.result (Holds after) (Holds rows) refl (c.in_ok-insert_reply.ensures.ok changed rows first) (c.commit.ensures.err (memory_is_clean end)))
+    subst (λ h. OnErr c.commit.result (Settled (state over_trees h) (Holds rows))) same
+    (ends_err last (state over_trees end) c.commit.result (Holds after) (Holds rows) refl (c.in_ok-insert_reply.ensures.ok changed rows first) (c.commit.ensures.err (trees_are_clean end)))
 
 pub returns-in_err-finish_node-clause-limit : goal.returns-in_err-finish_node-clause-limit
 returns-in_err-finish_node-clause-limit c =
     let end = c.drop-tx.new.self.0 in
     let same : end ≡ c.conn-1.given.0 = search rules in
-    subst (λ (h : Held MemStore). h.step_limit ≡ c.args.conn.now.step_limit) same (c.drop-tx.ensures.survives.limit ∙ c.in_err-finish_node.ensures.limit ∙ ap (λ (h : Held MemStore). h.step_limit) c.transaction-tx.ensures.begun)
+    subst (λ (h : Held TreeStore). h.step_limit ≡ c.args.conn.now.step_limit) same (c.drop-tx.ensures.survives.limit ∙ c.in_err-finish_node.ensures.limit ∙ ap (λ (h : Held TreeStore). h.step_limit) c.transaction-tx.ensures.begun)
 
 pub returns-in_err-finish_node-clause-want : goal.returns-in_err-finish_node-clause-want
 returns-in_err-finish_node-clause-want c puids words is keys later small size none =
     let rows = kept c.args.conn.now in
     let begun = started c.args.conn.now c.transaction-tx.result.conn.now rows c.transaction-tx.ensures.begun c.requires.holds in
-    let limit = ap (λ (h : Held MemStore). h.step_limit) c.transaction-tx.ensures.begun ∙ none in
+    let limit = ap (λ (h : Held TreeStore). h.step_limit) c.transaction-tx.ensures.begun ∙ none in
     handed_on c.from_residual.result _ c.from_residual.ensures.1 (c.in_err-finish_node.ensures.want rows keys puids is (record { replies = keys.replies; children = later.children; numbers = later.numbers }) size rows begun limit)
 
 pub returns-in_err-insert_reply-clause-limit : goal.returns-in_err-insert_reply-clause-limit
 returns-in_err-insert_reply-clause-limit c =
     let end = c.drop-tx-in_err-insert_reply.new.self.0 in
     let same : end ≡ c.conn-in_err-insert_reply-1.given.0 = search rules in
-    subst (λ (h : Held MemStore). h.step_limit ≡ c.args.conn.now.step_limit) same (c.drop-tx-in_err-insert_reply.ensures.survives.limit ∙ c.in_err-insert_reply.ensures.limit ∙ c.in_ok-finish_node.ensures.limit ∙ ap (λ (h : Held MemStore). h.step_limit) c.transaction-tx.ensures.begun)
+    subst (λ (h : Held TreeStore). h.step_limit ≡ c.args.conn.now.step_limit) same (c.drop-tx-in_err-insert_reply.ensures.survives.limit ∙ c.in_err-insert_reply.ensures.limit ∙ c.in_ok-finish_node.ensures.limit ∙ ap (λ (h : Held TreeStore). h.step_limit) c.transaction-tx.ensures.begun)
 
 pub returns-in_err-insert_reply-clause-want : goal.returns-in_err-insert_reply-clause-want
 returns-in_err-insert_reply-clause-want c puids words is keys later small size none =
     let rows = kept c.args.conn.now in
     let begun = started c.args.conn.now c.transaction-tx.result.conn.now rows c.transaction-tx.ensures.begun c.requires.holds in
-    let limit = ap (λ (h : Held MemStore). h.step_limit) c.transaction-tx.ensures.begun ∙ none in
+    let limit = ap (λ (h : Held TreeStore). h.step_limit) c.transaction-tx.ensures.begun ∙ none in
     let first = c.in_ok-finish_node.ensures.ok rows c.requires.apart puids words is rows begun in
     let changed = with_finished c.args.profile c.args.file c.args.findings.now.method c.args.findings.now.mismatch c.args.findings.now.md5.now puids rows in
     handed_on c.from_residual-in_err-insert_reply.result _ c.from_residual-in_err-insert_reply.ensures.1 (c.in_err-insert_reply.ensures.want changed later small rows first (c.in_ok-finish_node.ensures.limit ∙ limit))
@@ -92,20 +92,20 @@ pub returns-clause-limit : goal.returns-clause-limit
 returns-clause-limit c =
     let end = c.commit.new.self.0 in
     let same : end ≡ c.conn-2-1.given.0 = search rules in
-    subst (λ (h : Held MemStore). h.step_limit ≡ c.args.conn.now.step_limit) same (c.commit.ensures.survives.limit ∙ c.in_ok-insert_reply.ensures.limit ∙ c.in_ok-finish_node.ensures.limit ∙ ap (λ (h : Held MemStore). h.step_limit) c.transaction-tx.ensures.begun)
+    subst (λ (h : Held TreeStore). h.step_limit ≡ c.args.conn.now.step_limit) same (c.commit.ensures.survives.limit ∙ c.in_ok-insert_reply.ensures.limit ∙ c.in_ok-finish_node.ensures.limit ∙ ap (λ (h : Held TreeStore). h.step_limit) c.transaction-tx.ensures.begun)
 
 pub returns-clause-want : goal.returns-clause-want
 returns-clause-want c puids words is keys later small size none =
     let rows = kept c.args.conn.now in
     let begun = started c.args.conn.now c.transaction-tx.result.conn.now rows c.transaction-tx.ensures.begun c.requires.holds in
-    let limit = ap (λ (h : Held MemStore). h.step_limit) c.transaction-tx.ensures.begun ∙ none in
+    let limit = ap (λ (h : Held TreeStore). h.step_limit) c.transaction-tx.ensures.begun ∙ none in
     let first = c.in_ok-finish_node.ensures.ok rows c.requires.apart puids words is rows begun in
     let changed = with_finished c.args.profile c.args.file c.args.findings.now.method c.args.findings.now.mismatch c.args.findings.now.md5.now puids rows in
-    let last = state over_memory c.insert_reply.new.tx.conn.now in
+    let last = state over_trees c.insert_reply.new.tx.conn.now in
     let end = c.commit.new.self.0 in
     let stays = c.in_ok-insert_reply.ensures.ok changed rows first in
-    failed_for c.commit.result _ (c.commit.ensures.err (memory_is_clean end))
-    (λ e h. commit_wants last (state over_memory end) e (in_memory c.insert_reply.new.tx.conn.now end (c.in_ok-insert_reply.ensures.limit ∙ c.in_ok-finish_node.ensures.limit ∙ limit)) stays.within h)
+    failed_for c.commit.result _ (c.commit.ensures.err (trees_are_clean end))
+    (λ e h. commit_wants last (state over_trees end) e (in_memory c.insert_reply.new.tx.conn.now end (c.in_ok-insert_reply.ensures.limit ∙ c.in_ok-finish_node.ensures.limit ∙ limit)) stays.within h)
 
 pub returns-clause-fits : goal.returns-clause-fits
 returns-clause-fits c = on_ok c.commit.result _ c.insert_reply.ensures.fits

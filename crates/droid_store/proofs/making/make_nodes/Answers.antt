@@ -1,6 +1,6 @@
 use Rattle.sqlite.specs.Held.{state}
-use Rattle.sqlite.specs.Steps.{over_memory}
-use Rattle.sqlite.proofs.Callers.{memory_is_clean}
+use Rattle.droid_store_trees.specs.Over.{over_trees}
+use Rattle.droid_store.proofs.Clean.{trees_are_clean}
 use Rattle.droid_store.proofs.Makes.{makes_nodes}
 use Rattle.droid_store_sql.proofs.Wants.{in_memory}
 use Rattle.droid_store.proofs.WantingTables.{nodes_want}
@@ -8,10 +8,10 @@ use Rattle.droid_store.proofs.making.make_nodes.Goals as goal
 
 pub returns : goal.returns
 returns c =
-    let old = state over_memory c.args.conn.now in
-    let new = state over_memory c.execute.new.self in
+    let old = state over_trees c.args.conn.now in
+    let new = state over_trees c.execute.new.self in
     record {
-      made = makes_nodes old new c.execute.result c.requires (c.execute.ensures.runs (memory_is_clean c.execute.new.self));
+      made = makes_nodes old new c.execute.result c.requires (c.execute.ensures.runs (trees_are_clean c.execute.new.self));
       limit = c.execute.ensures.survives.limit;
-      want = λ none. nodes_want old new c.execute.result (in_memory c.args.conn.now c.execute.new.self none) c.requires.holds.schema (c.execute.ensures.runs (memory_is_clean c.execute.new.self));
+      want = λ none. nodes_want old new c.execute.result (in_memory c.args.conn.now c.execute.new.self none) c.requires.holds.schema (c.execute.ensures.runs (trees_are_clean c.execute.new.self));
     }

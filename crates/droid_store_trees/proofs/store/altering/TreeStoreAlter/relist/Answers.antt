@@ -52,9 +52,11 @@ pub loop-tree-preserved : goal.loop-tree-preserved
 loop-tree-preserved c =
     let s = c.args.self.now in
     let f = c.loop-tree.forest in
-    let may = of_each (MayRelist (view s)) c.args.changes.now c.loop-tree.tree-index _ (c.requires.each (no_doubt true refl)) c.loop-tree-test.true in
-    (more (view s) (view (with_forest s f)) (view (with_forest s c.relist.new.self)) c.args.changes.now c.loop-tree.tree-index _ c.loop-tree-test.true c.loop-tree.invariant.0
-    (one s f _ _ may c.loop-tree.invariant.0 c.relist.new.self c.in_ok-relist.ensures.ok), refl)
+    let may = of_each (MayRelist (view s)) c.args.changes.now c.loop-tree.tree-index _ (c.requires.each (no_doubt true refl)) c.loop-tree-test.true in (
+      more (view s) (view (with_forest s f)) (view (with_forest s c.relist.new.self)) c.args.changes.now c.loop-tree.tree-index _ c.loop-tree-test.true c.loop-tree.invariant.0
+          (one s f _ _ may c.loop-tree.invariant.0 c.relist.new.self c.in_ok-relist.ensures.ok),
+      refl,
+    )
 
 pub returns-clause-ok : goal.returns-clause-ok
 returns-clause-ok c _ =

@@ -1,0 +1,136 @@
+//! Random edits by a fixed seed, removals until nothing is left, and a list filled again.
+
+ghost use Rattle.std.specs.Prelude.{◌≡◌};
+
+use droid_store_entries::Entries;
+use sqlite_value::row::Row;
+use sqlite_value::value::ValueRef;
+use std::alloc::{AllocError, Global};
+use std::test::Fail;
+
+#[derive(Drop)]
+struct Numbers {
+    state: u64,
+}
+
+impl Numbers {
+    /// A number below `limit`, and 0 where that is 0.
+    fn below(&mut self, limit: usize) -> usize {
+        self.state = self
+            .state
+            .wrapping_mul(6_364_136_223_846_793_005)
+            .wrapping_add(1_442_695_040_888_963_407);
+        let drawn = (self.state >> 33) as usize;
+        if limit == 0 { 0 } else { drawn % limit }
+    }
+}
+
+fn row(alloc: Global, number: i64) -> Result<Row, AllocError> {
+    let mut row = Row::new(alloc);
+    row.push(ValueRef::Int(number))?;
+    Ok(row)
+}
+
+/// Whether the list has these numbers, and no row behind them.
+fn agrees(entries: &Entries, plain: &[i64]) -> bool {
+    for at in 0..plain.len() {
+        let Some(found) = entries.get(at) else {
+            return false;
+        };
+        if !matches!(found.get(0), ValueRef::Int(number) if number == plain[at]) {
+            return false;
+        }
+    }
+    entries.len() == plain.len() && entries.get(plain.len()).is_none()
+}
+
+fn insert(
+    alloc: Global,
+    entries: &mut Entries,
+    plain: &mut Vec<i64>,
+    at: usize,
+    number: i64,
+) -> Result<(), AllocError> {
+    if at <= entries.len() && at <= plain.len() {
+        entries.insert(alloc, at, row(alloc, number)?)?;
+        plain.insert(at, number)?;
+    }
+    Ok(())
+}
+
+fn remove(
+    alloc: Global,
+    entries: &mut Entries,
+    plain: &mut Vec<i64>,
+    at: usize,
+) -> Result<(), AllocError> {
+    if at < entries.len() && at < plain.len() {
+        entries.remove(alloc, at)?;
+        plain.remove(at);
+    }
+    Ok(())
+}
+
+fn set(
+    alloc: Global,
+    entries: &mut Entries,
+    plain: &mut Vec<i64>,
+    at: usize,
+    number: i64,
+) -> Result<(), AllocError> {
+    if at < entries.len() && at < plain.len() {
+        entries.set(alloc, at, row(alloc, number)?)?;
+        plain[at] = number;
+    }
+    Ok(())
+}
+
+/// Of ten edits five insert, three remove and two write over a row.
+fn edit(
+    alloc: Global,
+    numbers: &mut Numbers,
+    entries: &mut Entries,
+    plain: &mut Vec<i64>,
+    number: i64,
+) -> Result<(), AllocError> {
+    let kind = numbers.below(10);
+    let at = numbers.below(plain.len().saturating_add(1));
+    if kind < 5 {
+        insert(alloc, entries, plain, at, number)
+    } else if kind < 8 {
+        remove(alloc, entries, plain, at)
+    } else {
+        set(alloc, entries, plain, at, number)
+    }
+}
+
+#[test]
+fn random_edits_agree_with_a_plain_list(rt: HostRuntime) -> Result<(), Fail> {
+    let alloc = rt.alloc();
+    let mut numbers = Numbers { state: 20_251_125 };
+    let mut entries = Entries::new();
+    let mut plain: Vec<i64> = Vec::new(alloc);
+    for step in 0..20_000i64 {
+        edit(alloc, &mut numbers, &mut entries, &mut plain, step)?;
+        if step % 1_000 == 999 {
+            assert!(rt; agrees(&entries, &plain));
+        }
+    }
+    let before = entries.copy()?;
+    let kept = plain.clone()?;
+    while !plain.is_empty() {
+        let at = numbers.below(plain.len());
+        remove(alloc, &mut entries, &mut plain, at)?;
+    }
+    assert!(rt; agrees(&entries, &[]));
+    assert!(rt; agrees(&before, &kept));
+    for number in 0..3_000i64 {
+        insert(alloc, &mut entries, &mut plain, 0, number)?;
+    }
+    for number in 0..3_000i64 {
+        let end = plain.len();
+        insert(alloc, &mut entries, &mut plain, end, number)?;
+    }
+    assert!(rt; agrees(&entries, &plain));
+    Ok(())
+}

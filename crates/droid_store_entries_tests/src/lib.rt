@@ -1,0 +1,5 @@
+//! Rows in a balanced tree, beside a plain list.
+#![tactic(auto)]
+
+#[cfg(test)]
+mod edits;
