@@ -1,6 +1,6 @@
 -- Trees that list nothing are opened as a database with no table.
-use Rattle.std.proofs.Common.{◌≡◌, inl, inr, [], refl, ap, ◌∙◌, arith}
-use Rattle.sqlite_disk.specs.Disk.{MoreFaults}
+use Rattle.std.proofs.Common.{◌≡◌, inl, inr, [], refl, ◌∙◌, arith}
+use Rattle.sqlite.specs.Disk.{MoreFaults}
 use Rattle.sqlite_trees.specs.declared.error.StoreError.{StoreError}
 use Rattle.sqlite_trees.specs.declared.error.StoreError.TheVariants.{OutOfMemory, Io, Corrupt, Full, Broken, Unstorable}
 use Rattle.sqlite_trees.specs.Objects.{catalog_tree}
@@ -10,7 +10,6 @@ use Rattle.sqlite_catalog.proofs.ReadLemmas.{lists_once}
 use Rattle.sqlite.specs.declared.error.Error.{Error}
 use Rattle.sqlite.specs.declared.error.Error.TheVariants.{SqliteFailure}
 use Rattle.sqlite.specs.declared.error.ErrorCode.TheVariants as code
-use Rattle.sqlite.specs.Effect.{Database}
 use Rattle.sqlite.specs.Held.{Held, state}
 use Rattle.sqlite.specs.State.{IsLive, Opens, store_error}
 use Rattle.sqlite.specs.Steps.{FailsToOpen}

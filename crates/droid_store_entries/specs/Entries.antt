@@ -1,8 +1,7 @@
 -- The rows of a tree, from left to right.
-use Rattle.std.specs.Prelude.{◌≡◌, ℕ, ◌+◌, List, [], ◌∷◌, ◌++◌, length}
+use Rattle.std.specs.Prelude.{◌≡◌, ◌+◌, List, [], ◌∷◌, ◌++◌, length}
 use Rattle.sqlite_value.specs.Order.{Row}
 use Rattle.droid_store_entries.specs.declared.node.Node.{Node, Empty, Fork'}
-use Rattle.droid_store_entries.specs.declared.node.Fork.{Fork}
 
 abbrev pub rows : Node → List Row
 rows Empty = []

@@ -1,9 +1,8 @@
 -- An UPDATE or a DELETE of the row that a test finds, whose typed rows keep the rules: it stops only where no number is left for a row. And a SELECT of one table never overflows.
-use Rattle.std.proofs.Common.{◌≡◌, inl, inr, ℕ, ◌+◌, ◌≤◌, ◌&&◌, pos, List, [], ◌∷◌, length, map, filter, nat_lt, Bool, true, false, not, refl, sym, ap, subst, ◌∙◌, arith}
+use Rattle.std.proofs.Common.{◌≡◌, inl, inr, ℕ, ◌≤◌, pos, List, [], ◌∷◌, length, map, filter, nat_lt, Bool, true, false, refl, sym, ap, subst, arith}
 use Rattle.sqlite_rules.specs.Action.{works}
 use Rattle.sqlite_rules.specs.Calls.{ids_of}
-use Rattle.sqlite_rules.specs.Edit.{taken_by, edited, left_by, are_fresh, without_all, IsOversized}
-use Rattle.sqlite_rules.specs.Lists.{Has}
+use Rattle.sqlite_rules.specs.Edit.{taken_by, edited, left_by, are_fresh, IsOversized}
 use Rattle.sqlite_schema.specs.declared.schema.Constraint.TheVariants.{Datatype, NotNull, Check, Unique}
 use Rattle.sqlite_schema.specs.declared.schema.Keys.TheVariants.{Enforced}
 use Rattle.sqlite_schema.specs.Rules.{passes, Keeps, references_fit}
@@ -20,7 +19,7 @@ use Rattle.sqlite.specs.Table.{Table}
 use Rattle.sqlite.specs.Term.{Term}
 use Rattle.sqlite.specs.Tree.{Trees, with_tree}
 use Rattle.droid_store_sql.specs.Queries.{select}
-use Rattle.droid_store_sql.specs.Wants.{IsSure, IsFree}
+use Rattle.droid_store_sql.specs.Wants.{IsSure}
 use Rattle.droid_store_sql.proofs.FreeEdits.{free_by, small_one, fresh_again}
 use Rattle.droid_store_sql.proofs.SureEdits.{edit_sure}
 

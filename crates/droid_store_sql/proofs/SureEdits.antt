@@ -1,5 +1,5 @@
 -- An INSERT, an UPDATE or a DELETE that no rule refuses stops only where no number is left for a row.
-use Rattle.std.proofs.Common.{◌≡◌, inl, inr, ℕ, zero, suc, ◌/◌, true, false, List, [], length, Option, Some, None, Ok, Err, slice_get, option_map, length-append, ◌++◌, ◌∷◌, refl, sym, ap, subst, ◌∙◌, arith}
+use Rattle.std.proofs.Common.{◌≡◌, inl, inr, ℕ, zero, suc, false, List, [], length, Option, Some, None, Err, slice_get, option_map, length-append, ◌∷◌, refl, sym, ap, subst, ◌∙◌, arith}
 use Rattle.sqlite_rules.specs.Action.{works, Leads, Writes}
 use Rattle.sqlite_rules.specs.Calls.{ids_of}
 use Rattle.sqlite_rules.specs.Edit.{taken_by, IsRefused, IsOversized}
@@ -12,12 +12,10 @@ use Rattle.sqlite_schema.specs.declared.schema.Constraint.TheVariants.{Datatype,
 use Rattle.sqlite_schema.specs.declared.schema.Keys.TheVariants.{Enforced}
 use Rattle.sqlite_schema.specs.Rules.{Refers}
 use Rattle.sqlite.specs.declared.error.Error.{Error}
-use Rattle.sqlite.specs.declared.error.Error.TheVariants.{SqliteFailure}
-use Rattle.sqlite.specs.declared.error.ErrorCode.TheVariants as code
 use Rattle.sqlite.specs.Command.TheVariants.{Insert, Update, Delete}
 use Rattle.sqlite.specs.Does.{Does, Concludes, OnRows}
 use Rattle.sqlite.specs.Edit.{Edit, edit_of}
-use Rattle.sqlite.specs.Effect.{Database, Answers, RefusesQuery, RefusesSource, edit_error}
+use Rattle.sqlite.specs.Effect.{Answers, RefusesQuery, RefusesSource, edit_error}
 use Rattle.sqlite.specs.Order.{Row}
 use Rattle.sqlite.specs.Rowids.TheVariants.{Chosen, Given}
 use Rattle.sqlite.specs.Rows.{Task, Written, Edited, Sourced, Inserts, Updates, Deletes, stamped}

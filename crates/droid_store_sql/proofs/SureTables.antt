@@ -1,10 +1,9 @@
 -- A CREATE TABLE that no rule refuses fails for want alone.
-use Rattle.std.proofs.Common.{◌≡◌, ◌+◌, ◌*◌, ◌^◌, ◌<◌, ◌≤◌, inl, inr, ℕ, true, false, List, [], ◌∷◌, length, codes, IsUtf8, Option, Some, None, Ok, Err, refl, sym, ap, subst, ◌∙◌, arith}
+use Rattle.std.proofs.Common.{◌≡◌, ◌^◌, ◌<◌, inl, inr, ℕ, true, false, List, [], ◌∷◌, IsUtf8, Option, Some, None, Ok, Err, sym, ap, subst, ◌∙◌, arith}
 use Rattle.std.specs.List.{AllByRecursion}
 use Rattle.sqlite_catalog.specs.Calls.{RefusesTable, IsLongTable}
 use Rattle.sqlite_catalog.specs.declared.error.Refusal.{Refusal}
 use Rattle.sqlite_catalog.specs.declared.error.Refusal.TheVariants.{Invalid, NameTaken, BadName, TooBig, BadKey, BadText, Violates}
-use Rattle.sqlite_catalog.specs.Listing.{is_fit, is_formed}
 use Rattle.sqlite_rules.specs.Lists.{Has}
 use Rattle.sqlite_schema.specs.declared.schema.Keys.TheVariants.{Enforced}
 use Rattle.sqlite_schema.specs.Rules.{table_reals, index_reals}
@@ -12,11 +11,8 @@ use Rattle.sqlite.specs.Change.{created, is_used}
 use Rattle.sqlite.specs.Command.TheVariants.{CreateTable}
 use Rattle.sqlite.specs.Compile.{table_defined_by}
 use Rattle.sqlite.specs.declared.error.Error.{Error}
-use Rattle.sqlite.specs.declared.types.Value.TheVariants.{Text}
-use Rattle.sqlite.specs.Does.{Does, MakesTable, MakesSequence, lacks_sequence}
-use Rattle.sqlite.specs.Effect.{Database}
+use Rattle.sqlite.specs.Does.{Does, MakesTable, lacks_sequence}
 use Rattle.sqlite.specs.Order.{Row}
-use Rattle.sqlite.specs.Rows.{Then}
 use Rattle.sqlite.specs.Schema.{Schema}
 use Rattle.sqlite.specs.Table.{Table}
 use Rattle.sqlite.specs.Tree.{Trees}

@@ -1,5 +1,5 @@
 -- A call of a database in memory that fails does so for want alone, where its statement can't be refused.
-use Rattle.std.proofs.Common.{◌≡◌, ◌≢◌, inl, inr, ℕ, ◌||◌, true, false, List, [], length, Option, Some, None, Result, Ok, Err, is_some, append-nil, refl, sym, ap, subst, subst₂, ◌∙◌, arith}
+use Rattle.std.proofs.Common.{◌≡◌, ◌≢◌, inl, inr, ℕ, ◌||◌, true, false, List, length, Option, Some, None, Result, Ok, Err, is_some, append-nil, refl, sym, ap, subst, subst₂, ◌∙◌, arith}
 use Rattle.sqlite_trees.specs.declared.error.StoreError.{StoreError}
 use Rattle.sqlite_trees.specs.declared.error.StoreError.TheVariants.{OutOfMemory, Io, Corrupt, Full, Broken, Unstorable}
 use Rattle.droid_store_trees.specs.declared.store.TreeStore.{TreeStore}
@@ -14,7 +14,7 @@ use Rattle.sqlite.specs.Command.{Command}
 use Rattle.sqlite.specs.Command.TheVariants.{Select, Insert, Update, Delete, CreateTable, Begin, Commit, Rollback, Release, RollbackTo}
 use Rattle.sqlite.specs.Disk.{MoreFaults}
 use Rattle.sqlite.specs.Does.{Does}
-use Rattle.sqlite.specs.Effect.{Database, RefusesQuery, RefusesToRead, is_query}
+use Rattle.sqlite.specs.Effect.{RefusesQuery, RefusesToRead, is_query}
 use Rattle.sqlite.specs.Held.{Held, state}
 use Rattle.sqlite.specs.Listing.{understood, reads_listing, IsSourceOf}
 use Rattle.sqlite.specs.Order.{Row}

@@ -1,11 +1,11 @@
 -- Trees are made, dropped and described anew.
-use Rattle.std.proofs.Common.{◌≡◌, ◌≢◌, ℕ, ◌<◌, ◌^◌, false, Some, List, [], ◌∷◌, length, map, set, refl, sym, ap, ◌∙◌, arith}
+use Rattle.std.proofs.Common.{◌≡◌, ◌≢◌, ℕ, ◌<◌, ◌^◌, false, Some, List, [], ◌∷◌, length, set, refl, sym, ap, ◌∙◌, arith}
 use Rattle.std.proofs.lemmas.List.{length-map}
 use Rattle.sqlite_value.specs.Order.{Row}
 use Rattle.sqlite_trees.specs.declared.store.Shape.{Shape}
 use Rattle.sqlite_trees.specs.declared.store.Shape.TheVariants.{Absent}
 use Rattle.sqlite_trees.specs.declared.schema.Object.{Object}
-use Rattle.sqlite_trees.specs.Tree.{Trees, with_tree, put_row}
+use Rattle.sqlite_trees.specs.Tree.{with_tree, put_row}
 use Rattle.sqlite_trees.specs.View.{Snapshot, View}
 use Rattle.sqlite_trees.specs.Objects.{catalog_tree, set_at, SetsObject, Relists, object_row, description}
 use Rattle.sqlite_trees.specs.Listing.{Heading, objects_from, reals_unless_absent, objects_from-set}
@@ -13,8 +13,8 @@ use Rattle.sqlite_trees.proofs.StoreLemmas.{present_reals}
 use Rattle.droid_store_trees.specs.declared.tree.Tree.{Tree}
 use Rattle.droid_store_trees.specs.declared.forest.Forest.{Forest}
 use Rattle.droid_store_trees.specs.declared.store.TreeStore.{TreeStore}
-use Rattle.droid_store_trees.specs.Alike.{AreAlike, Replaces, Relabels}
-use Rattle.droid_store_trees.specs.Shown.{heading, headings, rows_of, shape_of, shown, current, view, IsStill}
+use Rattle.droid_store_trees.specs.Alike.{Replaces, Relabels}
+use Rattle.droid_store_trees.specs.Shown.{heading, headings, shape_of, shown, current, view, IsStill}
 use Rattle.droid_store_trees.proofs.Places.{set_same, shape_shown, rows_shown}
 use Rattle.droid_store_trees.proofs.Seen.{seen}
 use Rattle.droid_store_trees.proofs.Showing.{replaced, replaced_shown}

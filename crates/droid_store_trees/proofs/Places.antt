@@ -7,7 +7,7 @@ use Rattle.sqlite_trees.specs.declared.store.Shape.{Shape}
 use Rattle.sqlite_trees.specs.declared.store.Shape.TheVariants.{Absent}
 use Rattle.sqlite_trees.specs.Objects.{set_at}
 use Rattle.sqlite_trees.specs.Tree.{with_tree}
-use Rattle.sqlite_trees.specs.Listing.{Heading, no_heading, shape_in}
+use Rattle.sqlite_trees.specs.Listing.{no_heading, shape_in}
 use Rattle.sqlite_trees.proofs.StoreLemmas.{get_or-set_cases, named, unnumbered}
 use Rattle.droid_store_trees.specs.declared.edit.Edit.{Edit}
 use Rattle.droid_store_trees.specs.declared.edit.Edit.TheVariants.{Put, Delete, Insert, Remove}

@@ -1,5 +1,5 @@
 -- One row is taken out of rows in order, at the place that a search found.
-use Rattle.std.proofs.Common.{◌≡◌, ℕ, zero, suc, ◌<◌, ◌≤◌, Bool, true, false, not, List, [], ◌∷◌, ◌++◌, filter, length, get_or, take, drop, refl, sym, ap, ◌∙◌, arith, Ordering, Less, Equal, Greater, is_lt, is_eq, true≢false, Result, Ok, Err}
+use Rattle.std.proofs.Common.{◌≡◌, ℕ, zero, suc, ◌<◌, true, false, not, List, [], ◌∷◌, filter, length, get_or, refl, sym, ap, ◌∙◌, arith, Ordering, Less, Equal, Greater, is_lt, is_eq, true≢false, Result, Ok, Err}
 use Rattle.std.specs.Prelude.{OnOk, OnErr}
 use Rattle.std.specs.List.{AllByRecursion, remove}
 use Rattle.std.specs.Cmp.{IsTotalOrder}

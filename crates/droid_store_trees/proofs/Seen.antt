@@ -1,8 +1,8 @@
 -- What a store shows after a call.
-use Rattle.std.proofs.Common.{◌≡◌, ℕ, List, true, false, [], map, refl, inl, inr, arith, ap, ◌∙◌, sym, Result, Ok, Err, OnOk, OnErr, IfErr}
+use Rattle.std.proofs.Common.{◌≡◌, ℕ, List, [], map, refl, ap, ◌∙◌, sym, Result, Ok, Err, OnOk, OnErr, IfErr}
 use Rattle.sqlite_value.specs.Order.{Row}
 use Rattle.sqlite_trees.specs.declared.error.StoreError.{StoreError}
-use Rattle.sqlite_trees.specs.View.{Snapshot, View, KeepsSchema, KeepsCommitted, IsFailure, SetsTree, OnlyWrites, Commits, OnlyCommits}
+use Rattle.sqlite_trees.specs.View.{Snapshot, View, KeepsSchema, IsFailure, SetsTree, OnlyWrites, Commits, OnlyCommits}
 use Rattle.droid_store_trees.specs.declared.store.TreeStore.{TreeStore}
 use Rattle.droid_store_trees.specs.Shown.{shown, current, view, IsStill}
 

@@ -10,8 +10,7 @@ use Rattle.sqlite_trees.specs.Tree.{with_tree}
 use Rattle.sqlite_trees.specs.Props.{IsShaped-prop}
 use Rattle.droid_store_trees.specs.declared.tree.Tree.{Tree}
 use Rattle.droid_store_trees.specs.declared.forest.Forest.{Forest}
-use Rattle.droid_store_trees.specs.declared.store.TreeStore.{TreeStore}
-use Rattle.droid_store_trees.specs.Shown.{heading, headings, rows_of, shape_of, shown, current, view}
+use Rattle.droid_store_trees.specs.Shown.{heading, headings, rows_of, shape_of, shown}
 
 trees_keep_order : (trees : List Tree) (t : ℕ) → IsShaped (shape_in (map heading trees) t) (slice_index_or (map (λ x. x.rows) trees) t [])
 trees_keep_order [] t = refl

@@ -1,4 +1,4 @@
-use Rattle.std.proofs.Common.{rules, ◌≡◌, ◌∷◌, ◌++◌, ◌+◌, ◌-◌, length, true, false, sym, subst, arith}
+use Rattle.std.proofs.Common.{rules, ◌≡◌, ◌∷◌, ◌++◌, ◌+◌, ◌-◌, length, true, false, sym, subst}
 use Rattle.sqlite_trees.specs.Probe.{IsCutBy, IsPlaceOf}
 use Rattle.droid_store_entries.specs.Probe.{passes}
 use Rattle.droid_store_entries.specs.Entries.{rows}

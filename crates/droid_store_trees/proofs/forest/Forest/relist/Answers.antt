@@ -1,6 +1,4 @@
-use Rattle.std.proofs.Common.{◌≡◌, ◌∙◌, sym, ap, refl}
-use Rattle.sqlite_trees.specs.Objects.{description}
-use Rattle.droid_store_trees.specs.Shown.{heading, shape_of}
+use Rattle.std.proofs.Common.{refl}
 use Rattle.droid_store_trees.proofs.Places.{tree_at}
 use Rattle.droid_store_trees.proofs.forest.Forest.relist.Goals as goal
 

@@ -1,4 +1,3 @@
-use Rattle.std.proofs.Common.{◌≡◌}
 use Rattle.droid_store_trees.specs.Shown.{current}
 use Rattle.droid_store_trees.proofs.Showing.{alike_on}
 use Rattle.droid_store_trees.proofs.store.TreeStore.replace.Goals as goal

@@ -1,4 +1,4 @@
-use Rattle.std.proofs.Common.{rules, ◌≡◌, ◌∙◌, to_z-of_z, get_or, [], sym}
+use Rattle.std.proofs.Common.{rules, ◌≡◌, to_z-of_z, get_or, []}
 use Rattle.sqlite_trees.proofs.MemoryLemmas as lemma
 use Rattle.droid_store_trees.proofs.tree.Tree.get.Goals as goal
 

@@ -1,8 +1,8 @@
-use Rattle.std.proofs.Common.{◌≡◌, ◌∙◌, subst, is_lt, is_eq, length, ◌<◌, get_or, [], false}
+use Rattle.std.proofs.Common.{◌∙◌, subst, is_lt}
 use Rattle.std.proofs.lemmas.Result.{on_ok_weaker}
 use Rattle.sqlite_value.specs.Order.{value_cmp}
 use Rattle.sqlite_trees.specs.Tree.{rowid}
-use Rattle.sqlite_trees.specs.Probe.{IsPlaceOf, IsTestAt}
+use Rattle.sqlite_trees.specs.Probe.{IsPlaceOf}
 use Rattle.sqlite_trees.specs.View.{IsShaped}
 use Rattle.sqlite_trees.specs.declared.store.Shape.TheVariants.{Table}
 use Rattle.sqlite_trees.proofs.TreeLemmas.{IsShaped-put_row}

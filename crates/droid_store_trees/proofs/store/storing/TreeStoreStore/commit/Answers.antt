@@ -1,4 +1,4 @@
-use Rattle.std.proofs.Common.{◌≡◌, ◌∙◌, sym, ap, refl}
+use Rattle.std.proofs.Common.{◌≡◌, ◌∙◌, sym, ap}
 use Rattle.droid_store_trees.specs.declared.store.TreeStore.{TreeStore}
 use Rattle.droid_store_trees.specs.Shown.{changed_or, current, shown, view}
 use Rattle.droid_store_trees.proofs.Seen.{commits, only_commits}

@@ -1,8 +1,8 @@
-use Rattle.std.proofs.Common.{rules, ◌≡◌, ◌<◌, ◌∙◌, sym, refl, true, arith, length, to_z-of_z}
+use Rattle.std.proofs.Common.{rules, ◌≡◌, ◌<◌, ◌∙◌, sym, refl, true, arith, length}
 use Rattle.sqlite_trees.specs.declared.store.Shape.TheVariants.{Table}
 use Rattle.sqlite_trees.proofs.Doubt.{no_doubt}
-use Rattle.droid_store_trees.specs.Shown.{current, shape_of, rows_of}
-use Rattle.droid_store_trees.proofs.Places.{present, tree_at, shape_shown, rows_shown}
+use Rattle.droid_store_trees.specs.Shown.{current, shape_of}
+use Rattle.droid_store_trees.proofs.Places.{present, tree_at, shape_shown}
 use Rattle.droid_store_trees.proofs.store.storing.TreeStoreStore.get.Goals as goal
 
 pub index-requires : goal.index-requires

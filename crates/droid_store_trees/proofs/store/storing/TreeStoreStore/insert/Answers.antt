@@ -1,7 +1,6 @@
-use Rattle.std.proofs.Common.{true, refl, arith, inl, ◌∙◌, to_z-of_z}
+use Rattle.std.proofs.Common.{true, refl, arith, inl, ◌∙◌}
 use Rattle.std.proofs.lemmas.Result.{on_ok_weaker}
 use Rattle.sqlite_trees.proofs.Doubt.{no_doubt}
-use Rattle.droid_store_trees.specs.Edits.{edited}
 use Rattle.droid_store_trees.proofs.Seen.{failing, frame, keeps}
 use Rattle.droid_store_trees.proofs.store.storing.TreeStoreStore.insert.Goals as goal
 
