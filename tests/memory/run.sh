@@ -17,7 +17,7 @@ ${CC:-cc} -shared -fPIC -o "$work/refuse.so" "$top/tests/memory/refuse.c" -ldl |
 passed=0
 failed=0
 for test in droid_core_tests:memory::one_after_the_other droid_core_tests:memory::in_one_run \
-    droid_core_tests:scripts::each_growth_of_a_script \
+    droid_core_tests:scripts::each_growth_of_a_script droid_core:service::tests::memory::each_growth_of_both \
     droid_assembly_tests:memory::each_growth_refused droid_pronom_tests:memory::each_growth_of_a_registry \
     droid_pronom_tests:memory::each_growth_of_a_search droid_frame_tests:memory::each_growth_of_a_request \
     droid_frame_tests:memory::each_growth_of_a_reply droid_frame_stream_tests:streams::growths_refused \

@@ -1,7 +1,7 @@
 #!/bin/sh
 # Runs the model (model/main.py) on the cases and on registry files, as the program is run: what is wanted of
 # the program was not taken from it, and the model has to agree with that. Left out are the cases that show
-# the command line's own text, and the input that is no file.
+# the command line's own text, and the input that is no file. Then compares the model's random requests with their table.
 set -u
 tests=$(cd "$(dirname "$0")" && pwd)
 model=$tests/model/main.py
@@ -22,4 +22,7 @@ sh "$tests/registry.sh" "$model" &
 registries=$!
 wait "$cases" || failed=1
 wait "$registries" || failed=1
+# the table of random requests in the tests of droid_core is what the model writes
+table=$tests/../../crates/droid_core/src/service/tests/by_chance.rt
+"$tests/model/recent_steps.py" 28 190 | cmp - "$table" || failed=1
 [ "$failed" -eq 0 ]

@@ -26,6 +26,8 @@ use std::num::NonZeroUsize;
 
 mod answering;
 mod recent;
+#[cfg(test)]
+mod tests;
 
 /// How many of the latest kept replies are at hand.
 const RECENT: usize = 256;

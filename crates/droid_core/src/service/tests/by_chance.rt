@@ -1,0 +1,287 @@
+//! Requests by chance with the replies of the model, which `tests/program/model/recent_steps.py 28 190` writes. Three
+//! clients use the same numbers; requests come again, and kept numbers come with other requests.
+
+use crate::service::tests::steps::Ask::{
+    Abandon, Create, Export, File, Finish, Folder, Piece, Status,
+};
+use crate::service::tests::steps::Due::{Made, Node, Part, Refused, Taken, Told};
+use crate::service::tests::steps::{ABANDONED, FINISHED, PROGRESS, REFUSED, Step};
+use crate::service::tests::{LARGEST, ask};
+
+const FOUND_1: &[u8] =
+    b"\x00\x00\xd4\x1d\x8c\xd9\x8f\x00\xb2\x04\xe9\x80\x09\x98\xec\xf8\x42\x7e\x00\x00";
+
+const FOUND_2: &[u8] =
+    b"\x01\x00\xf9\x6b\x69\x7d\x7c\xb7\x93\x8d\x52\x5a\x2f\x31\xaa\xf1\x61\xd0\x00\x02\x05dev/1\x05dev/3";
+
+const FOUND_3: &[u8] =
+    b"\x00\x00\xb1\xa8\x59\x30\xd2\x33\x60\x90\x29\xcc\x0b\x18\xa9\x7b\x2d\x5d\x00\x00";
+
+const FOUND_4: &[u8] =
+    b"\x01\x00\x70\xfb\x87\x4a\x43\x09\x7a\x25\x23\x43\x82\x39\x0c\x0b\xae\xb3\x00\x01\x05dev/2";
+
+const FOUND_5: &[u8] =
+    b"\x02\x00\x19\x6d\x48\x7f\xa6\xa7\xc4\x47\x1d\x6d\xfd\x69\x87\x1c\x5e\x41\x00\x01\x05dev/1";
+
+const FOUND_6: &[u8] =
+    b"\x02\x00\x19\x6d\x48\x7f\xa6\xa7\xc4\x47\x1d\x6d\xfd\x69\x87\x1c\x5e\x41\x00\x01\x05dev/4";
+
+const FOUND_7: &[u8] =
+    b"\x00\x00\x18\x7e\xf4\x43\x61\x22\xd1\xcc\x2f\x40\xdc\x2b\x92\xf0\xeb\xa0\x00\x00";
+
+const FOUND_8: &[u8] =
+    b"\x01\x01\x78\xe7\x31\x02\x7d\x8f\xd5\x0e\xd6\x42\x34\x0b\x7c\x9a\x63\xb3\x00\x01\x05dev/1";
+
+const FOUND_9: &[u8] =
+    b"\x01\x01\xe2\xfc\x71\x4c\x47\x27\xee\x93\x95\xf3\x24\xcd\x2e\x7f\x33\x1f\x00\x01\x05dev/3";
+
+const FOUND_10: &[u8] =
+    b"\x00\x00\xe2\xfc\x71\x4c\x47\x27\xee\x93\x95\xf3\x24\xcd\x2e\x7f\x33\x1f\x00\x00";
+
+const BY_CHANCE: &[Step] = &[
+    (3, 1, Create(65_536, false), Made(1)),
+    (1, 1, File(1, 0, 253_402_300_800, 2, 14, "b"), Refused(10)),
+    (3, 2, Folder(1, 0, 0, "y.let"), Node(1)),
+    (1, 2, Status(1, 5), Refused(4)),
+    (2, 1, Create(65_536, false), Made(2)),
+    (1, 3, Folder(1, 1, 0, "a"), Node(2)),
+    (3, 3, Folder(2, 0, 0, "m.txt"), Node(1)),
+    (3, 4, Export(1, 180, 1), Part(5, 418, &["M"])),
+    (2, 2, Export(1, 300, 0), Refused(10)),
+    (1, 4, File(1, 2, 0, 6, 4, "a"), Node(3)),
+    (3, 4, Export(1, 180, 1), Part(6, 418, &["M"])),
+    (3, 5, Piece(1, 15, 0, b"ab"), Refused(4)),
+    (2, 3, Finish(1, 3), Told(REFUSED, b"\x10\x00\x00\x00\x00")),
+    (3, 6, Export(1, 0, 1), Part(6, 418, &["\""])),
+    (2, 4, File(1, 0, 0, 14, 14, "m.msg"), Node(4)),
+    (3, 7, Piece(1, 3, 1, b"ag"), Taken(1)),
+    (1, 5, Piece(1, 4, 0, b"message digest"), Taken(1)),
+    (
+        2,
+        5,
+        Status(1, 4),
+        Told(PROGRESS, b"\x00\x00\x00\x01\x00\x00\x00\x01"),
+    ),
+    (3, 7, Folder(1, 0, 0, "x.abc"), Refused(2)),
+    (2, 6, Abandon(1, 3), Told(ABANDONED, b"")),
+    (2, 7, Create(65_536, true), Made(3)),
+    (1, 6, Folder(1, 1, 0, "m.msg"), Node(5)),
+    (3, 7, Piece(1, 4, 1, b""), Refused(2)),
+    (3, 8, Abandon(1, 4), Told(ABANDONED, b"")),
+    (2, 8, File(1, 1, 0, 6, 4, "in"), Node(6)),
+    (3, 9, Piece(1, 6, 1, b"ag"), Taken(1)),
+    (3, 10, File(1, 5, 0, 6, 2, "a"), Node(7)),
+    (2, 9, Piece(1, 6, 1, b"g"), Refused(13)),
+    (3, 11, Finish(1, 7), Told(REFUSED, b"\x10\x00\x00\x00\x00")),
+    (2, 10, Abandon(1, 7), Told(ABANDONED, b"")),
+    (1, 7, File(1, 5, 0, 0, 2, "x.abc"), Node(8)),
+    (3, 12, Piece(1, 8, 0, b""), Refused(13)),
+    (2, 11, Abandon(1, 6), Told(ABANDONED, b"")),
+    (1, 8, Piece(1, 8, 0, b""), Refused(13)),
+    (1, 9, Piece(1, 8, 0, b""), Refused(13)),
+    (2, 11, Finish(1, 8), Refused(2)),
+    (3, 13, Folder(1, 0, 0, "out"), Node(9)),
+    (2, 12, File(1, 0, 0, 14, 14, "b"), Node(10)),
+    (
+        1,
+        10,
+        File(1, 0, 253_402_300_800, 0, 4, "m.txt"),
+        Refused(10),
+    ),
+    (3, 14, Piece(1, 10, 0, b"message digest"), Taken(1)),
+    (2, 13, Piece(1, 10, 1, b""), Refused(13)),
+    (1, 11, Piece(1, 28, 0, b"ab"), Refused(4)),
+    (3, 15, Piece(1, 10, 0, b"message digest"), Refused(14)),
+    (1, 11, Export(1, 193, 1), Part(22, 649, &["\""])),
+    (3, 16, Finish(1, 8), Told(FINISHED, FOUND_1)),
+    (3, 15, Piece(1, 10, 0, b"message digest"), Refused(14)),
+    (2, 14, Piece(1, 10, 0, b"message digest"), Refused(14)),
+    (3, 9_223_372_036_854_775_808, Create(3, false), Refused(1)),
+    (1, 12, Finish(1, 10), Told(FINISHED, FOUND_2)),
+    (1, 13, File(1, 0, 0, 14, 4, "out"), Refused(9)),
+    (3, 18, Status(1, 17), Refused(4)),
+    (3, 19, Status(3, 23), Refused(4)),
+    (1, 14, Export(1, 900, 9), Part(24, 1129, &["0\",\"false"])),
+    (1, 15, Export(1, 180, 9), Part(24, 1129, &["MAT_VERSI"])),
+    (3, 20, File(1, 0, 0, 4, 7, "a"), Node(11)),
+    (3, 21, Piece(1, 11, 0, b"abcx"), Taken(1)),
+    (1, 16, Finish(1, 11), Told(FINISHED, FOUND_3)),
+    (2, 15, File(3, 0, 0, 6, 7, "in"), Node(1)),
+    (1, 17, Finish(3, 1), Told(REFUSED, b"\x10\x00\x00\x00\x00")),
+    (1, 18, File(1, 0, 0, 0, 14, "out"), Refused(9)),
+    (2, 15, File(3, 0, 0, 6, 7, "in"), Node(1)),
+    (3, 10, File(1, 5, 0, 6, 2, "a"), Node(7)),
+    (1, 19, Piece(3, 1, 0, b"abcxyz"), Taken(1)),
+    (1, 20, Piece(3, 1, 0, b"abcxyz"), Refused(14)),
+    (2, 16, Folder(1, 1, 0, "b"), Node(12)),
+    (3, 14, Folder(1, 0, 0, "a.txt"), Refused(2)),
+    (2, 17, Finish(3, 1), Told(FINISHED, FOUND_4)),
+    (1, 21, File(1, 5, 0, 4, 4, "out"), Node(13)),
+    (1, 22, Piece(1, 13, 0, b"abcx"), Taken(1)),
+    (1, 23, Folder(1, 5, 0, "b"), Node(14)),
+    (1, 24, Export(3, 300, 12), Part(34, 349, &["25234382390c"])),
+    (1, 25, Finish(1, 13), Told(FINISHED, FOUND_3)),
+    (3, 15, Piece(1, 10, 0, b"message digest"), Refused(12)),
+    (2, 18, File(3, 0, 0, 6, 14, "m.msg"), Node(2)),
+    (1, 26, File(3, 0, 0, 6, 4, "a.txt"), Node(3)),
+    (3, 22, Piece(3, 3, 1, b"ag"), Taken(1)),
+    (3, 23, Piece(3, 2, 0, b"messag"), Taken(1)),
+    (
+        3,
+        24,
+        Status(3, 3),
+        Told(PROGRESS, b"\x00\x00\x00\x01\x00\x00\x00\x00"),
+    ),
+    (1, 5, Piece(1, 4, 0, b"message digest"), Taken(1)),
+    (1, 27, Piece(3, 2, 1, b""), Refused(13)),
+    (1, 15, Export(1, 180, 9), Part(39, 1664, &["MAT_VERSI"])),
+    (1, 5, Piece(1, 4, 0, b"message digest"), Taken(1)),
+    (3, 25, Piece(3, 3, 1, b"ag"), Refused(14)),
+    (2, 19, Piece(3, 3, 0, b"mess"), Taken(2)),
+    (2, 20, File(1, 5, 0, 7, 14, "a.txt"), Node(15)),
+    (1, 28, Export(3, 900, 12), Part(41, 349, &[""])),
+    (3, 26, Piece(1, 15, 0, b"message"), Taken(1)),
+    (2, 21, File(4, 0, 0, 2, 14, "m.txt"), Refused(3)),
+    (1, 29, Piece(1, 15, 1, b""), Refused(13)),
+    (3, 26, Piece(1, 15, 0, b"message"), Taken(1)),
+    (2, 22, Folder(3, 0, 0, "x.abc"), Node(4)),
+    (3, 26, Piece(1, 15, 0, b"message"), Taken(1)),
+    (2, 21, File(4, 0, 0, 2, 14, "m.txt"), Refused(3)),
+    (3, 1, Create(65_536, false), Made(1)),
+    (2, 23, File(1, 5, 0, 4, 7, "a"), Node(16)),
+    (2, 24, File(1, 0, 0, 4, 7, "b"), Refused(9)),
+    (1, 30, File(1, 0, 0, 2, 4, "in"), Node(17)),
+    (2, 24, File(1, 0, 0, 4, 7, "b"), Refused(9)),
+    (1, 16, Finish(1, 11), Told(FINISHED, FOUND_3)),
+    (1, 31, Finish(3, 2), Told(FINISHED, FOUND_5)),
+    (3, 10, File(1, 5, 0, 6, 2, "a"), Node(7)),
+    (1, 32, Piece(1, 9, 0, b"ab"), Refused(6)),
+    (
+        2,
+        25,
+        Export(1, 300, 9),
+        Part(46, 1664, &["\",\"\"\n\"2\","]),
+    ),
+    (2, 15, Status(1, 17), Refused(2)),
+    (2, 26, File(1, 7, 0, 14, 2, "a.txt"), Refused(4)),
+    (3, 15, Piece(1, 10, 0, b"message digest"), Refused(12)),
+    (2, 15, Finish(1, 15), Refused(2)),
+    (2, 10, Abandon(1, 7), Told(ABANDONED, b"")),
+    (3, 27, Folder(1, 5, 0, "y.let"), Node(18)),
+    (3, 7, Piece(1, 4, 1, b""), Refused(2)),
+    (1, 33, Piece(1, 17, 0, b"ab"), Taken(1)),
+    (2, 27, Finish(3, 3), Told(FINISHED, FOUND_6)),
+    (1, 34, Export(1, 180, 0), Refused(10)),
+    (2, 27, Folder(1, 2, 0, "out"), Refused(2)),
+    (2, 28, Folder(3, 0, 0, "m.txt"), Node(5)),
+    (2, 28, Status(1, 17), Refused(2)),
+    (2, 29, Piece(1, 17, 1, b""), Refused(13)),
+    (3, 10, File(1, 5, 0, 6, 2, "a"), Node(7)),
+    (2, 7, Create(65_536, true), Made(3)),
+    (3, 28, Finish(1, 17), Told(FINISHED, FOUND_7)),
+    (2, 7, Create(65_536, true), Made(3)),
+    (3, 29, Finish(1, 15), Told(FINISHED, FOUND_8)),
+    (3, 28, Finish(1, 17), Told(FINISHED, FOUND_7)),
+    (2, 7, Create(65_536, true), Made(3)),
+    (1, 35, File(1, 2, 0, 2, 14, "out"), Node(19)),
+    (2, 30, File(3, 0, 0, 14, 2, "x.abc"), Refused(9)),
+    (1, 36, File(1, 0, 0, 2, 2, "a"), Refused(9)),
+    (
+        3,
+        30,
+        File(3, 0, 253_402_300_800, 4, 2, "y.let"),
+        Refused(10),
+    ),
+    (3, 23, Export(1, 410, 0), Refused(2)),
+    (2, 31, File(3, 0, 0, 7, 2, "b"), Node(6)),
+    (2, 31, Export(3, 193, 0), Refused(2)),
+    (1, 37, Piece(1, 20, 0, b"b"), Refused(4)),
+    (1, 22, Export(1, 180, 9), Refused(2)),
+    (1, 1, Folder(3, 0, 0, "a.txt"), Refused(9)),
+    (3, 31, Abandon(3, 6), Told(ABANDONED, b"")),
+    (1, 38, Piece(1, 19, 0, b"ab"), Taken(1)),
+    (
+        2,
+        32,
+        Status(1, 19),
+        Told(PROGRESS, b"\x00\x00\x00\x01\x00\x00\x00\x01"),
+    ),
+    (3, 26, Piece(1, 15, 0, b"message"), Taken(1)),
+    (3, 22, Piece(3, 3, 1, b"ag"), Taken(1)),
+    (
+        2,
+        33,
+        Export(1, 300, 9),
+        Part(56, 2130, &["\",\"\"\n\"2\","]),
+    ),
+    (2, 4, File(1, 0, 0, 14, 14, "m.msg"), Node(4)),
+    (2, 34, Folder(1, 1, 0, "m.txt"), Node(20)),
+    (
+        2,
+        33,
+        Export(1, 300, 9),
+        Part(57, 2256, &["\",\"\"\n\"2\","]),
+    ),
+    (2, 18, File(3, 0, 0, 6, 14, "m.msg"), Node(2)),
+    (2, 15, File(3, 0, 0, 6, 7, "in"), Node(1)),
+    (2, 35, Abandon(1, 19), Told(ABANDONED, b"")),
+    (2, 36, Abandon(1, 16), Told(ABANDONED, b"")),
+    (2, 37, Status(1, 23), Refused(4)),
+    (2, 38, File(1, 1, 0, 6, 7, "in"), Node(21)),
+    (3, 32, Piece(1, 21, 0, b"bcxyz"), Refused(13)),
+    (3, 33, Create(2, false), Made(4)),
+    (3, 32, Piece(1, 21, 0, b"bcxyz"), Refused(13)),
+    (2, 39, Create(2, false), Made(5)),
+    (2, 40, Create(0, false), Refused(10)),
+    (3, 34, Abandon(1, 21), Told(ABANDONED, b"")),
+    (2, 41, File(1, 2, 0, 4, 4, "x.abc"), Node(22)),
+    (3, 35, Piece(1, 22, 0, b"bcd"), Refused(13)),
+    (1, 39, Piece(1, 22, 0, b"abcd"), Taken(1)),
+    (2, 41, File(1, 2, 0, 4, 4, "x.abc"), Node(22)),
+    (3, 36, File(1, 1, 0, 4, 4, "m.txt"), Refused(9)),
+    (3, 37, Finish(1, 22), Told(FINISHED, FOUND_9)),
+    (2, 24, File(1, 0, 0, 4, 7, "b"), Refused(9)),
+    (
+        2,
+        42,
+        Export(1, 410, 12),
+        Part(66, 2440, &["\",\"\",\"\"\n\"5\","]),
+    ),
+    (3, 38, Folder(1, 0, 0, "y.let"), Refused(9)),
+    (2, 43, File(1, 0, 0, 7, 7, ""), Refused(7)),
+    (2, 44, File(1, 0, 0, 7, 4, "a.txt"), Node(23)),
+    (2, 45, Export(5, 193, 9), Part(67, 193, &[""])),
+    (3, 39, Piece(1, 23, 0, b"mess"), Taken(1)),
+    (3, 40, Abandon(1, 23), Told(ABANDONED, b"")),
+    (3, 9_223_372_036_854_775_808, Create(2, false), Refused(1)),
+    (3, 42, Export(1, 900, 0), Refused(10)),
+    (3, 43, File(6, 0, 0, 14, 7, "a.txt"), Refused(3)),
+    (1, 40, Export(1, 0, 1), Part(69, 2440, &["\""])),
+    (1, 41, File(1, 0, 0, 4, 4, ""), Refused(7)),
+    (3, 44, File(1, 2, 0, 0, 4, "b"), Node(24)),
+    (3, 43, Status(1, 16), Refused(4)),
+    (3, 45, Piece(1, 24, 0, b""), Refused(13)),
+    (1, 42, Finish(1, 24), Told(FINISHED, FOUND_1)),
+    (2, 46, File(5, 0, 0, 4, 7, "in"), Node(1)),
+    (3, 46, Piece(5, 1, 0, b"abcd"), Taken(1)),
+    (2, 12, File(1, 0, 0, 14, 14, "b"), Node(10)),
+    (1, 43, Piece(5, 1, 1, b""), Refused(13)),
+    (2, 41, File(1, 2, 0, 4, 4, "x.abc"), Node(22)),
+    (1, 44, Create(65_536, true), Made(6)),
+    (2, 1, Export(1, 900, 0), Refused(2)),
+    (2, 47, Create(2, false), Made(7)),
+    (3, 47, Finish(5, 1), Told(FINISHED, FOUND_10)),
+    (3, 48, File(7, 0, 0, 7, 4, "a"), Node(1)),
+    (3, 47, Create(3, false), Refused(2)),
+    (
+        2,
+        48,
+        Export(1, 410, 9),
+        Part(77, 2589, &["\",\"\",\"\"\n\""]),
+    ),
+];
+
+#[test]
+fn requests_by_chance(rt: HostRuntime) {
+    ask(&rt, rt.alloc(), "by chance", LARGEST, BY_CHANCE);
+}
