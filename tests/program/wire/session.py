@@ -13,6 +13,11 @@ LARGEST_PIECE = LARGEST_PART = 1_048_576
 LARGEST_BODY = 1_048_640
 MOST_PROFILES = 64
 
+# how long parts are: each power of two below the largest, and a byte less, as many and a byte more than make a body of 4,096
+# bytes, the longest that a reply's frame is gathered with, or a frame of 8,192 or 65,536, as buffers usually have
+PART_SIZES = [1 << power for power in range(1, 20)]
+PART_SIZES += [size + more for size in (4_096 - 16, 8_192 - 34, 65_536 - 34) for more in (-1, 0, 1)]
+
 # a registry of as many formats as there can be, with the longest texts; a file that begins with `a` is of them all
 PUIDS = [b"dev/%028d" % number for number in range(1, 4_097)]
 TEXT = b"t" * 255
@@ -112,10 +117,12 @@ def add_files(session):
 
 
 def add_exports(session):
-    """The whole text in its parts, and what is shown by the largest filter."""
+    """The whole text in its parts, parts of other sizes, and what is shown by the largest filter."""
     for start in (*range(0, len(EXPORT), LARGEST_PART), len(EXPORT)):
         session.part(EXPORT, start, LARGEST_PART)
     session.part(EXPORT, len(HEADER), 1)
+    for size in PART_SIZES:
+        session.part(EXPORT, len(HEADER), size)
     shown = largest_filter(PUIDS[-1])
     session.part(HEADER + ROWS_OF_A, len(HEADER), LARGEST_PART, shown)
     session.part(HEADER + ROWS_OF_A, 0, 1, shown)
