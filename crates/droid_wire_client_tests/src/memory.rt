@@ -2,7 +2,7 @@
 //! Want of memory: a request that was not submitted and a reply that was not heard leave the client as it
 //! was, and the same again is as it would have been.
 
-use droid_frame::{Blob, Frame, Reply, Request};
+use droid_frame::{Blob, Frame, Refusal, Reply, Request};
 use droid_wire_client::{Client, HearFault, Heard, SubmitFault};
 use std::alloc::{AllocError, Global};
 use std::test::Fail;
@@ -23,6 +23,17 @@ fn finished(alloc: Global) -> Result<Frame, AllocError> {
     })
 }
 
+// A refusal for memory.
+fn refusal(alloc: Global) -> Result<Frame, AllocError> {
+    Ok(Frame {
+        version: 1,
+        kind: 136,
+        client: 1,
+        number: 1,
+        body: Blob::copy_of(alloc, &[18])?,
+    })
+}
+
 fn finish() -> Request {
     Request::Finish {
         profile: 1,
@@ -30,25 +41,42 @@ fn finish() -> Request {
     }
 }
 
-// Submits the request, once more where memory was refused.
-fn submitted(client: &mut Client) -> Option<u64> {
+const NUMBERS: [u64; 2] = [1, 2];
+
+// Whether the first so many requests are pending, and the first of them was refused so.
+fn are_pending(client: &Client, count: usize, refused: Option<Refusal>) -> bool {
+    let numbers = &NUMBERS[..count.min(2)];
+    client.pending() == count
+        && (0..3usize).all(|at| {
+            client.pending_at(at).map(|frame| frame.number) == numbers.get(at).copied()
+        })
+        && client.answer(1).is_none()
+        && client.answer(2).is_none()
+        && client.refusal(1) == refused
+        && client.refusal(2).is_none()
+}
+
+// Submits a request behind so many, once more where memory was refused and those are as they were.
+fn submitted(client: &mut Client, before: usize) -> Option<u64> {
     let (first, second) = (finish(), finish());
     if !first.fits() || !second.fits() {
         return None;
     }
     match client.submit(first) {
         Ok(number) => Some(number),
-        Err(SubmitFault::Memory) if client.pending() == 0 => client.submit(second).ok(),
+        Err(SubmitFault::Memory) if are_pending(client, before, None) => {
+            client.submit(second).ok()
+        }
         Err(_) => None,
     }
 }
 
-// Takes the reply, once more where memory was refused.
+// Takes the answer to the first of two requests, once more where memory was refused and both are as they were.
 fn heard(alloc: Global, client: &mut Client) -> Option<Heard> {
     let frame = finished(alloc).or_else(|_| finished(alloc)).ok()?;
     match client.on_reply(frame) {
         Ok(heard) => Some(heard),
-        Err(HearFault::Memory) if client.pending() == 1 => {
+        Err(HearFault::Memory) if are_pending(client, 2, Some(Refusal::Memory)) => {
             client.on_reply(finished(alloc).ok()?).ok()
         }
         Err(_) => None,
@@ -57,11 +85,16 @@ fn heard(alloc: Global, client: &mut Client) -> Option<Heard> {
 
 #[test]
 fn wanting_and_again(rt: HostRuntime) -> Result<(), Fail> {
-    let mut client = Client::new(rt.alloc(), 1, 1);
-    assert!(rt; submitted(&mut client) == Some(1));
-    assert!(rt; heard(rt.alloc(), &mut client) == Some(Heard::Answered));
+    let alloc = rt.alloc();
+    let mut client = Client::new(alloc, 1, 1);
+    for (before, number) in NUMBERS.iter().enumerate() {
+        assert!(rt; submitted(&mut client, before) == Some(*number));
+    }
+    let frame = refusal(alloc).or_else(|_| refusal(alloc))?;
+    assert!(rt; client.on_reply(frame).ok() == Some(Heard::Refused));
+    assert!(rt; heard(alloc, &mut client) == Some(Heard::Answered));
     let answer = client.answer(1);
     assert!(rt; matches!(answer, Some(Reply::Finished { puids, .. }) if puids.len() == 1));
-    assert!(rt; client.pending() == 0 && client.refusal(1).is_none());
+    assert!(rt; client.pending() == 1 && client.refusal(1) == Some(Refusal::Memory));
     Ok(())
 }
