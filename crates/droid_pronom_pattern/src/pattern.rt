@@ -50,7 +50,7 @@ impl Pattern {
     pub fn read(alloc: Global, text: &str) -> Result<Pattern, PatternFault>
         // What is read is spelled so.
         ensures spelled { IfOk result (λ pattern. Spells text.now pattern) }
-        // A text spells one pattern at most, and that is read, unless memory runs out.
+        // A text spells one pattern at most, and that is read, unless memory is refused.
         ensures only { (es : List Element) → Spells text.now es → IfOk result (λ pattern. pattern ≡ es) }
         ensures bad { IsErrOf result PatternFault.BadPattern → (es : List Element) → Spells text.now es → ⊥ }
     {
@@ -71,7 +71,8 @@ impl Pattern {
         requires { at ≤ length bytes.now }
         ensures { IfOk result (λ found. IsTrue found ↔ MatchesFrom self.now bytes.now at) }
     {
-        self.begins_within(alloc, bytes, at, at)
+        let mut classes = Classes::new(alloc);
+        self.begins_with(alloc, bytes, at, at, &mut classes)
     }
 
     /// Whether a match ends before this position.
@@ -79,24 +80,12 @@ impl Pattern {
         requires { end ≤ length bytes.now }
         ensures { IfOk result (λ found. IsTrue found ↔ MatchesTo self.now bytes.now end) }
     {
-        self.ends_within(alloc, &bytes[..end], 0, 0)
-    }
-
-    /// Whether a match begins at an offset from `low` to `high`.
-    pub fn begins_within(
-        &self,
-        alloc: Global,
-        bytes: &[u8],
-        low: usize,
-        high: usize,
-    ) -> Result<bool, AllocError>
-        ensures { IfOk result (λ found. IsTrue found ↔ BeginsWithin self.now bytes.now low high) }
-    {
         let mut classes = Classes::new(alloc);
-        self.begins_with(alloc, bytes, low, high, &mut classes)
+        self.ends_with(alloc, &bytes[..end], 0, 0, &mut classes)
     }
 
-    /// The same, with what is kept of these bytes between one pattern and the next.
+    /// Whether a match begins at an offset from `low` to `high`, with what is kept of these bytes between
+    /// one pattern and the next.
     pub fn begins_with(
         &self,
         alloc: Global,
@@ -159,21 +148,8 @@ impl Pattern {
         Ok(!classes.places.is_empty())
     }
 
-    /// Whether a match ends at an offset from `low` to `high` before the end of the bytes.
-    pub fn ends_within(
-        &self,
-        alloc: Global,
-        bytes: &[u8],
-        low: usize,
-        high: usize,
-    ) -> Result<bool, AllocError>
-        ensures { IfOk result (λ found. IsTrue found ↔ EndsWithin self.now bytes.now low high) }
-    {
-        let mut classes = Classes::new(alloc);
-        self.ends_with(alloc, bytes, low, high, &mut classes)
-    }
-
-    /// The same, with what is kept of these bytes between one pattern and the next.
+    /// Whether a match ends at an offset from `low` to `high` before the end of the bytes, with what is
+    /// kept of these bytes between one pattern and the next.
     pub fn ends_with(
         &self,
         alloc: Global,
