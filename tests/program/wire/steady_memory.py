@@ -1,12 +1,12 @@
 """What `run` keeps in memory: nothing of what is asked again, refused or only asked, and of a file's pieces no more than
-the service says (docs/SERVICE.md)."""
+the service says (docs/SERVICE.md). And what `serve` keeps of connections: nothing."""
 
 import socket
 import struct
 import subprocess
 import unittest
 
-from harness import HEADER, PROGRAM, SECONDS, frame, read_exactly
+from harness import HEADER, PROGRAM, SECONDS, Serve, connect, frame, read_exactly
 
 # the latest replies are at hand for some of these, and the others are read from the database
 KEPT = 600
@@ -18,6 +18,10 @@ ROOM = COUNTED
 PIECE, PIECES = 32_768, 2_000
 # two windows of the scan limit, and sixteen pieces
 ROOM_OF_PIECES = 2 * 65_536 + 16 * PIECE
+
+CONNECTIONS, FIRST_CONNECTIONS = 1_000, 100
+# less than a hundred bytes for each
+ROOM_OF_CONNECTIONS = 100 * (CONNECTIONS - FIRST_CONNECTIONS)
 
 
 def numbers(*values):
@@ -97,6 +101,27 @@ class SteadyMemory(unittest.TestCase):
         """What the database keeps of each piece is the same for small ones."""
         small = self.growth_by_pieces(1, 1)
         self.assertLess(self.growth_by_pieces(2, PIECE) - small, ROOM_OF_PIECES)
+
+
+class SteadyConnections(unittest.TestCase):
+    """Each connection reads and writes through buffers, and may end within a frame: nothing of that is left."""
+
+    REQUEST = frame(9, 1, 1, b"body")
+    REPLY = frame(136, 1, 1, b"\1")
+
+    def serve_some(self, service, count):
+        for place in range(count):
+            with connect(service.port) as stream:
+                stream.sendall(self.REQUEST + self.REQUEST[: place % len(self.REQUEST)])
+                self.assertEqual(read_exactly(stream, len(self.REPLY)), self.REPLY)
+
+    def test_nothing_is_kept_of_a_connection(self):
+        with Serve(CONNECTIONS) as service:
+            self.serve_some(service, FIRST_CONNECTIONS)
+            before = resident(service.process)
+            self.serve_some(service, CONNECTIONS - FIRST_CONNECTIONS - 1)
+            self.assertLess(resident(service.process) - before, ROOM_OF_CONNECTIONS)
+            self.serve_some(service, 1)
 
 
 if __name__ == "__main__":
