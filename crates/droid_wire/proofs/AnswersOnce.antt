@@ -15,7 +15,7 @@ use Rattle.droid_core.specs.Verdicts.{is_of_judging, MayCome}
 use Rattle.droid_core.specs.World.{World}
 use Rattle.droid_core.proofs.Judged.{judged}
 use Rattle.droid_core.proofs.Meetings.{answer_malformed, next_malformed, answer_kept, next_kept, answer_new, next_new}
-use Rattle.droid_wire.specs.Desks.{Comes, Again, Accepts, Refuses, Tells, IsDesk, IsItsOwn, IsSound, desk_of, is_refused}
+use Rattle.droid_wire.specs.Desks.{Answering, Again, Accepts, Refuses, Tells, IsDesk, IsItsOwn, IsAccepted, desk_of, is_refused}
 use Rattle.droid_wire.proofs.RequestKinds.{kind_of_request}
 
 asked_kind : (frame : Frame) (request : Request) → command frame ≡ Some request → request_kind request ≡ frame.kind
@@ -25,7 +25,7 @@ asked_kind frame request asked = kind_of_request frame request asked
 not_reused : refusals.Malformed ≢ refusals.NumberReused
 not_reused same = cc
 
-malformed : (setting : Setting) (history : History) (frame : Frame) → command frame ≡ None → Comes (desk_of setting) history frame
+malformed : (setting : Setting) (history : History) (frame : Frame) → command frame ≡ None → Answering (desk_of setting) history frame
 malformed setting history frame asked =
     Refuses refusals.Malformed not_reused (answer_malformed setting history frame asked) (next_malformed setting history frame asked)
 
@@ -34,7 +34,7 @@ same_mark entry mark same =
     ap (λ (b : Bool). cond b entry.reply (Refused refusals.NumberReused)) ((bytes_eq-Decides entry.mark mark).1 same)
 
 again : (setting : Setting) (history : History) (frame : Frame) (request : Request) (entry : Entry) → command frame ≡ Some request → kept history frame.client frame.number ≡ Some entry
-    → IsSound (desk_of setting) entry → entry.frame ≡ frame → Comes (desk_of setting) history frame
+    → IsAccepted (desk_of setting) entry → entry.frame ≡ frame → Answering (desk_of setting) history frame
 again setting history frame request entry asked there sound own =
     let marked : entry.mark ≡ frame_mark frame = sound.marked ∙ ap frame_mark own in
     Again entry there
@@ -49,7 +49,7 @@ of_kind : (frame : Frame) (request : Request) (b : Bool) → request_kind reques
 of_kind frame request b kind is = subst (λ n. nat_lt n 7 ≡ b) kind is
 
 by_verdict : (setting : Setting) (history : History) (frame : Frame) (world : World) (request : Request) (verdict : Verdict) → kept history frame.client frame.number ≡ None → request_kind request ≡ frame.kind
-    → MayCome world request verdict → answer setting history frame ≡ verdict_reply verdict → next setting history frame ≡ history_with history frame (New verdict) → Comes (desk_of setting) history frame
+    → MayCome world request verdict → answer setting history frame ≡ verdict_reply verdict → next setting history frame ≡ history_with history frame (New verdict) → Answering (desk_of setting) history frame
 by_verdict setting history frame world request (Accepted reply after) is_new kind may answered goes =
     Accepts is_new (of_kind frame request true kind may.command) (ap is_refused answered ∙ may.no_refusal)
     (goes ∙ ap (λ (reply : Reply). history ++ record { frame = frame; mark = frame_mark frame; reply = reply } ∷ []) (sym answered))
@@ -57,7 +57,7 @@ by_verdict setting history frame world request (Answered reply) is_new kind may 
     Tells (of_kind frame request false kind may.query) (ap is_refused answered ∙ may.no_refusal) goes
 by_verdict setting history frame world request (RefusesIt refusal) is_new kind may answered goes = Refuses refusal (other refusal may) answered goes
 
-anew : (setting : Setting) (history : History) (frame : Frame) (request : Request) → command frame ≡ Some request → kept history frame.client frame.number ≡ None → Comes (desk_of setting) history frame
+anew : (setting : Setting) (history : History) (frame : Frame) (request : Request) → command frame ≡ Some request → kept history frame.client frame.number ≡ None → Answering (desk_of setting) history frame
 anew setting history frame request asked is_new =
     by_verdict setting history frame (world_of setting history) request (judge setting (world_of setting history) request) is_new (asked_kind frame request asked)
     (judged setting (world_of setting history) request)
@@ -65,13 +65,13 @@ anew setting history frame request asked is_new =
     (next_new setting history frame request asked is_new)
 
 by_kept : (setting : Setting) (history : History) (frame : Frame) (request : Request) (o : Option Entry) → kept history frame.client frame.number ≡ o → command frame ≡ Some request → IsItsOwn (desk_of setting) history frame
-    → Comes (desk_of setting) history frame
+    → Answering (desk_of setting) history frame
 by_kept setting history frame request None is asked own = anew setting history frame request asked is
 by_kept setting history frame request (Some entry) is asked own =
     let mine = own entry is in
     again setting history frame request entry asked is mine.0 mine.1
 
-by_asked : (setting : Setting) (history : History) (frame : Frame) (asked : Option Request) → command frame ≡ asked → IsItsOwn (desk_of setting) history frame → Comes (desk_of setting) history frame
+by_asked : (setting : Setting) (history : History) (frame : Frame) (asked : Option Request) → command frame ≡ asked → IsItsOwn (desk_of setting) history frame → Answering (desk_of setting) history frame
 by_asked setting history frame None is own = malformed setting history frame is
 by_asked setting history frame (Some request) is own = by_kept setting history frame request (kept history frame.client frame.number) refl is own
 

@@ -11,7 +11,7 @@ use Rattle.droid_wire_client.specs.declared.slot.Slot.{Slot}
 use Rattle.droid_wire_client.specs.declared.slot.State.{State}
 use Rattle.droid_wire_client.specs.declared.slot.State.TheVariants.{Pending, Answered}
 use Rattle.droid_wire_client.specs.Cores.{Core}
-use Rattle.droid_wire.specs.Desks.{Desk, IsSound, is_command, is_refused}
+use Rattle.droid_wire.specs.Desks.{Desk, IsAccepted, is_command, is_refused}
 use Rattle.droid_wire.specs.Schedules.{Moment, Sent}
 
 -- everything in the first list is in the second
@@ -22,7 +22,7 @@ Within {X} xs ys = (x : X) → Contains xs x → Contains ys x
 pub record IsEntry (desk : Desk) (frames : List Frame) (entry : Entry) : Type 0 where
   pub submitted : Contains frames entry.frame
   pub command : is_command entry.frame ≡ true
-  pub sound : IsSound desk entry
+  pub sound : IsAccepted desk entry
 
 -- what a reply to this request says: a refusal, the reply of its entry, or what a query was told at some moment
 pub data Says (Was : History → Frame → Type 0) (desk : Desk) (history : History) (frame : Frame) (reply : Reply) : Type 0 where

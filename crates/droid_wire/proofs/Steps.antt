@@ -17,7 +17,7 @@ use Rattle.droid_wire_client.specs.declared.slot.Slot.{Slot}
 use Rattle.droid_wire_client.specs.declared.slot.State.{State}
 use Rattle.droid_wire_client.specs.declared.slot.State.TheVariants.{Pending, Answered}
 use Rattle.droid_wire_client.specs.Cores.{Core, belongs, core_hearing, core_submitting, heard_at, heard_in, new_slot, next_frame, next_number, slot_after, slot_at, slot_hearing, slots_hearing}
-use Rattle.droid_wire.specs.Desks.{Desk, Comes, Again, Accepts, Refuses, Tells, IsDesk, IsItsOwn, entry_at, is_command, is_refused}
+use Rattle.droid_wire.specs.Desks.{Desk, Answering, Again, Accepts, Refuses, Tells, IsDesk, IsItsOwn, entry_at, is_command, is_refused}
 use Rattle.droid_wire.specs.Schedules.{AreOnes, Event, Submits, Arrives, Wants, Replies, Drops, Moment, Sent, Want, OfMemory, OfStore, arrived, happens, refusal_for, replied, reply_to, submitted, wanted}
 use Rattle.droid_wire_client.proofs.Elements.{contains_got, count_push, found_in, none_there, push_cases, set_cases}
 use Rattle.droid_wire_client.proofs.Numbers.{slot_found}
@@ -128,7 +128,7 @@ says : (Was : History → Frame → Type 0) (desk : Desk) (moment : Moment) (fra
     → Holds Was desk (record { history = moment.history; cores = moment.cores; frames = moment.frames; replies = moment.replies ++ reply_to frame reply ∷ [] })
 says Was desk moment frame reply holds there is = answers Was desk moment moment.history frame reply holds (same_within moment.history) holds.entries holds.once there is
 
-arrives : (Was : History → Frame → Type 0) (desk : Desk) (moment : Moment) (frame : Frame) → Holds Was desk moment → IsItsOwn desk moment.history frame → Contains moment.frames frame → Was moment.history frame → Comes desk moment.history frame
+arrives : (Was : History → Frame → Type 0) (desk : Desk) (moment : Moment) (frame : Frame) → Holds Was desk moment → IsItsOwn desk moment.history frame → Contains moment.frames frame → Was moment.history frame → Answering desk moment.history frame
     → Holds Was desk (arrived desk moment (Some frame))
 arrives Was desk moment frame holds own there was (Again entry is answered goes) =
     let mine = own entry is in

@@ -28,29 +28,29 @@ abbrev pub entry_at : Desk → Frame → Reply → Entry
 entry_at desk frame reply = record { frame = frame; mark = desk.mark frame; reply = reply }
 
 -- the entry has its request's mark, and a reply that is no refusal
-pub record IsSound (desk : Desk) (entry : Entry) : Type 0 where
+pub record IsAccepted (desk : Desk) (entry : Entry) : Type 0 where
   pub marked : entry.mark ≡ desk.mark entry.frame
   pub accepted : is_refused entry.reply ≡ false
 
 -- what may come of a request
-pub data Comes (desk : Desk) (history : History) (frame : Frame) : Type 0 where
+pub data Answering (desk : Desk) (history : History) (frame : Frame) : Type 0 where
   -- it is kept, and is answered again
   Again : (entry : Entry) → kept history frame.client frame.number ≡ Some entry → desk.answer history frame ≡ entry.reply
-      → desk.next history frame ≡ history → Comes desk history frame
+      → desk.next history frame ≡ history → Answering desk history frame
   -- it is a command under a new number, and is accepted
   Accepts : kept history frame.client frame.number ≡ None → is_command frame ≡ true → is_refused (desk.answer history frame) ≡ false
-      → desk.next history frame ≡ history ++ entry_at desk frame (desk.answer history frame) ∷ [] → Comes desk history frame
+      → desk.next history frame ≡ history ++ entry_at desk frame (desk.answer history frame) ∷ [] → Answering desk history frame
   -- it is refused, and not for a number used again
   Refuses : (refusal : Refusal) → refusal ≢ NumberReused → desk.answer history frame ≡ Refused refusal
-      → desk.next history frame ≡ history → Comes desk history frame
+      → desk.next history frame ≡ history → Answering desk history frame
   -- it is a query, and is told
   Tells : is_command frame ≡ false → is_refused (desk.answer history frame) ≡ false
-      → desk.next history frame ≡ history → Comes desk history frame
+      → desk.next history frame ≡ history → Answering desk history frame
 
 -- what is kept under the number of this request is this very request
 abbrev pub IsItsOwn : Desk → History → Frame → Type 0
-IsItsOwn desk history frame = (entry : Entry) → kept history frame.client frame.number ≡ Some entry → IsSound desk entry × (entry.frame ≡ frame)
+IsItsOwn desk history frame = (entry : Entry) → kept history frame.client frame.number ≡ Some entry → IsAccepted desk entry × (entry.frame ≡ frame)
 
 -- each request whose number is new, or is kept with this very request, comes to one of these
 pub record IsDesk (desk : Desk) : Type 0 where
-  pub comes : (history : History) (frame : Frame) → IsItsOwn desk history frame → Comes desk history frame
+  pub comes : (history : History) (frame : Frame) → IsItsOwn desk history frame → Answering desk history frame

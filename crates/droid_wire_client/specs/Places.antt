@@ -16,7 +16,7 @@ places_from place [] = []
 places_from place (slot ∷ slots) = place_before place (pending_in slot.state) (places_from (suc place) slots)
 
 -- the numbers of the slots are numbers of requests, and these places are those of the pending ones
-pub record IsSound (first : ℕ) (slots : List Slot) (pending : List ℕ) : Type 0 where
+pub record KeepsPlaces (first : ℕ) (slots : List Slot) (pending : List ℕ) : Type 0 where
   pub numbers : first + length slots ≤ 2 ^ 63
   pub places : pending ≡ places_from 0 slots
 

@@ -38,13 +38,13 @@ pub struct Client {
 
 impl Model for Client {
     ghost use Rattle.droid_wire_client.specs.Cores.{Core};
-    ghost use Rattle.droid_wire_client.specs.Places.{IsSound};
+    ghost use Rattle.droid_wire_client.specs.Places.{KeepsPlaces};
 
     ghost Value = { Core };
 
     ghost view = { λ c. record { client = c.client; first = c.first; slots = c.slots.items } };
 
-    ghost invariant = { λ c. IsSound c.first c.slots.items c.pending.items };
+    ghost invariant = { λ c. KeepsPlaces c.first c.slots.items c.pending.items };
 }
 
 impl Client {

@@ -4,13 +4,13 @@ use Rattle.std.proofs.lemmas.List.{length-append}
 use Rattle.droid_frame.specs.types.frame.Frame.{Frame}
 use Rattle.droid_wire_client.specs.declared.slot.Slot.{Slot}
 use Rattle.droid_wire_client.specs.Cores.{new_slot}
-use Rattle.droid_wire_client.specs.Places.{IsSound, places_from}
+use Rattle.droid_wire_client.specs.Places.{KeepsPlaces, places_from}
 use Rattle.droid_wire_client.proofs.PendingPlaces.{pushed}
 use Rattle.droid_wire_client.proofs.client.Client.submit.Goals as goal
 
 -- one slot more, and its place
-one_more : (first place : ℕ) (slots more : List Slot) (pending places : List ℕ) (slot : Slot) (frame : Frame) → IsSound first slots pending → slot ≡ new_slot frame
-    → place ≡ length slots → first + place < 2 ^ 63 → more ≡ slots ++ slot ∷ [] → places ≡ pending ++ place ∷ [] → IsSound first more places
+one_more : (first place : ℕ) (slots more : List Slot) (pending places : List ℕ) (slot : Slot) (frame : Frame) → KeepsPlaces first slots pending → slot ≡ new_slot frame
+    → place ≡ length slots → first + place < 2 ^ 63 → more ≡ slots ++ slot ∷ [] → places ≡ pending ++ place ∷ [] → KeepsPlaces first more places
 one_more first place slots more pending places slot frame sound is counted below pushes adds =
     let long : length more ≡ length slots + 1 = ap (λ (slots : List Slot). length slots) pushes ∙ length-append slots (slot ∷ []) in
     record {
