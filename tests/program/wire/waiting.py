@@ -9,6 +9,8 @@ import unittest
 
 import session
 from harness import HEADER, PROGRAM, SECONDS, Serve, connect, frame, read_exactly, read_frame
+from two_senders import FOLDER
+from two_senders import HEADER as HEADER_ROW
 
 CREATE = (65536).to_bytes(4, "big") + b"\0"
 TICKS = os.sysconf("SC_CLK_TCK")
@@ -91,20 +93,27 @@ class NothingHeldBack(unittest.TestCase):
                     self.replies_come(stream, front)
 
     def test_by_send(self):
-        """What a line prints is there while the next line has only begun."""
-        text = b"create 65536 0\nfolder 1 0 0 in\nhello\nstatus 1 2\n"
-        ends = [(18, b"made 1\n"), (35, b"node 1\n"), (39, b"bad line\n"), (len(text), b"refused 4\n")]
+        """What a line prints is there while the next line has only begun, also where no line feed ends it."""
+        lines = [
+            (b"create 65536 0\n", b"made 1\n"),
+            (b"folder 1 0 0 in\n", b"node 1\n"),
+            (b"export 1 0 7\n", b"part 2 296 7\n" + HEADER_ROW[:7]),
+            (b"hello\n", b"bad line\n"),
+            (b"export 1 0 1048576\n", b"part 2 296 296\n" + HEADER_ROW + FOLDER),
+            (b"status 1 2\n", b"refused 4\n"),
+        ]
         near, far = socket.socketpair()
         near.settimeout(SECONDS)
         with Serve() as service:
             words = [PROGRAM, "send", "--port", str(service.port), "--client", "7"]
             with subprocess.Popen(words, stdin=far, stdout=far) as sender, near:
                 far.close()
-                sent = 0
-                for end, printed in ends:
-                    near.sendall(text[sent:end])
+                begun = b""
+                following = [line for line, _ in lines[1:]] + [b""]
+                for (line, printed), after in zip(lines, following):
+                    near.sendall(line[len(begun) :] + after[:3])
                     self.assertEqual(read_exactly(near, len(printed)), printed)
-                    sent = end
+                    begun = after[:3]
                 near.shutdown(socket.SHUT_WR)
                 self.assertEqual(sender.wait(SECONDS), 5)
 
