@@ -1,21 +1,21 @@
 //! How replies are printed.
 
 ghost use Rattle.std.specs.Prelude.{◌≡◌, ◌++◌, IfOk, OnOk, string_bytes};
-ghost use Rattle.droid_desk_lines.specs.Printed.{after_commas, answer_line, answer_text, detail_text, finished_text, following_bytes, limit_text, method_text, puids_text, reply_text};
+ghost use Rattle.droid_desk_lines.specs.Printed.{after_commas, answer_line, detail_text, finished_text, following_bytes, limit_text, method_text, puids_text, reply_text};
 
 use droid_frame::{Limit, Method, Refusal, Reply, Text, Texts};
 use std::alloc::{AllocError, Global};
 
 /// What stands for a line, as it is printed: the reply to its request, or that it is bad; a line feed; and
 /// the bytes of a part of an export. Only want of memory refuses it.
+#[tactic(auto, unfolding(crate::specs::Printed::answer_text, crate::specs::Printed::following_bytes))]
 pub fn print_answer(alloc: Global, answer: &Option<Reply>) -> Result<Vec<u8>, AllocError>
     ensures { IfOk result (λ printed. printed.items ≡ answer_line answer.now) }
 {
-    let mut text = answer_text(alloc, answer)?;
-    text.push('\n')?;
-    let mut printed = text.into_bytes();
-    append_following(&mut printed, answer)?;
-    Ok(printed)
+    match answer {
+        Some(reply) => print_reply(alloc, reply),
+        None => Ok(String::from_str(alloc, "bad line\n")?.into_bytes()),
+    }
 }
 
 /// A reply as it is printed for its line. Only want of memory refuses it.
@@ -28,27 +28,6 @@ pub fn print_reply(alloc: Global, reply: &Reply) -> Result<Vec<u8>, AllocError>
     let mut printed = line.into_bytes();
     append_part(&mut printed, reply)?;
     Ok(printed)
-}
-
-#[tactic(auto, unfolding(crate::specs::Printed::answer_text))]
-fn answer_text(alloc: Global, answer: &Option<Reply>) -> Result<String, AllocError>
-    ensures { IfOk result (λ text. string_bytes text ≡ answer_text answer.now) }
-{
-    match answer {
-        None => String::from_str(alloc, "bad line"),
-        Some(reply) => reply_text(alloc, reply),
-    }
-}
-
-/// Adds the bytes of a part of an export at the end.
-#[tactic(auto, unfolding(crate::specs::Printed::following_bytes))]
-fn append_following(printed: &mut Vec<u8>, answer: &Option<Reply>) -> Result<(), AllocError>
-    ensures { OnOk result (printed.new.items ≡ printed.old.items ++ following_bytes answer.now) }
-{
-    match answer {
-        Some(reply) => append_part(printed, reply),
-        None => Ok(()),
-    }
 }
 
 /// Adds the bytes of a part of an export at the end, where the reply is one.
