@@ -15,7 +15,7 @@ use Rattle.droid_desk_sender.specs.declared.fault.SendFault.{SendFault}
 use Rattle.droid_desk_sender.specs.declared.fault.SendFault.TheVariants.{Lines, Memory, NumbersUsedUp, Frames, Closed, Replies, Malformed, Stranger, Repeated, Text}
 use Rattle.droid_desk_sender.specs.Exchanges.{Hears}
 use Rattle.droid_desk_sender.specs.Steps.{LineDone, ReplyComes, Takes, TakesNone}
-use Rattle.droid_desk_sender.specs.Stopping.{Comes, Exchanged, IsHeardAs, LineStops, RequestStops, StopsAt, Undone, Unheard}
+use Rattle.droid_desk_sender.specs.Stopping.{Exchanged, IsHeardAs, LineStops, ReadsOne, RequestStops, StopsAt, Undone, Unheard}
 
 -- ---- a request
 
@@ -39,7 +39,7 @@ unread_stops core request input left old new after Text sent comes = absurd come
 
 -- a reply was heard so
 heard_as : (core : Core) (request : Request) (input left old new : Option (List ℕ)) (middle after : Core) (frame : Frame) (reply : _) (is : Heard)
-    → Unheard core request old new middle → Comes input left frame → Hears middle frame reply is after
+    → Unheard core request old new middle → ReadsOne input left frame → Hears middle frame reply is after
     → IsHeardAs core request input left old new after (record { sent = next_frame core request; came = frame; reply = reply }) is
 heard_as core request input left old new middle after frame reply is sent comes hears = record {
   exchanges = record {
@@ -53,7 +53,7 @@ heard_as core request input left old new middle after frame reply is sent comes 
 }
 
 pub exchanged : (core : Core) (request : Request) (input left old new : Option (List ℕ)) (middle after : Core) (frame : Frame) (text : List ℕ)
-    → Unheard core request old new middle → Comes input left frame → Takes middle frame after text → Exchanged core request input left old new after text
+    → Unheard core request old new middle → ReadsOne input left frame → Takes middle frame after text → Exchanged core request input left old new after text
 exchanged core request input left old new middle after frame text sent comes takes = record {
   exchange = record { sent = next_frame core request; came = frame; reply = takes.reply };
   heard = takes.heard;
@@ -67,7 +67,7 @@ still_unheard core request old new middle after sent same = record { number_left
 
 -- the frame that came was not taken, or its reply not printed
 pub untaken_stops : (core : Core) (request : Request) (input left old new : Option (List ℕ)) (middle after : Core) (frame : Frame) (fault : SendFault)
-    → Unheard core request old new middle → Comes input left frame → TakesNone fault middle frame after → RequestStops fault core request input left old new after
+    → Unheard core request old new middle → ReadsOne input left frame → TakesNone fault middle frame after → RequestStops fault core request input left old new after
 untaken_stops core request input left old new middle after frame Malformed sent comes none = (still_unheard core request old new middle after sent none.0, frame, comes, none.1)
 untaken_stops core request input left old new middle after frame Memory sent comes (inl none) = inr (inl (still_unheard core request old new middle after sent none.0, frame, comes, none.1))
 untaken_stops core request input left old new middle after frame Memory sent comes (inr took) = inr (inr (took.0, exchanged core request input left old new middle after frame took.0 sent comes took.1))

@@ -14,7 +14,7 @@ use Rattle.droid_desk_lines.specs.Printed.{answer_line}
 use Rattle.droid_desk_sender.specs.declared.fault.SendFault.{SendFault}
 use Rattle.droid_desk_sender.specs.declared.fault.SendFault.TheVariants.{Memory, NumbersUsedUp, Frames, Closed, Replies, Malformed, Stranger, Repeated}
 use Rattle.droid_desk_sender.specs.Exchanges.{Exchange, Hears, IsTaken, LineSent, came_bytes, is_bad, printed, sent_bytes}
-use Rattle.droid_desk_sender.specs.Stopping.{Comes, WritesFront}
+use Rattle.droid_desk_sender.specs.Stopping.{ReadsOne, WritesFront}
 
 -- a request is submitted and its frame sent
 abbrev pub RequestGoes : {T : Type 0} → Core → Request → Option (List ℕ) → Option (List ℕ) → Core → Result T SendFault → Type 0
@@ -28,7 +28,7 @@ RequestGoes core request old new after (Err _) = ⊥
 
 -- the frame of a reply is read
 abbrev pub ReplyComes : Option (List ℕ) → Option (List ℕ) → Result Frame SendFault → Type 0
-ReplyComes input left (Ok frame) = Comes input left frame
+ReplyComes input left (Ok frame) = ReadsOne input left frame
 ReplyComes input left (Err Closed) = IsAtEnd input × Consumes input left []
 ReplyComes input left (Err (Replies fault)) = IfSome input (Tells fault) × ReadsNoFrame input left
 ReplyComes input left (Err _) = ⊥

@@ -43,7 +43,7 @@ pub record Unheard (core : Core) (request : Request) (old new : Option (List ℕ
   pub written : Appends old new (frame_bytes (next_frame core request))
 
 -- a frame was read
-pub record Comes (input left : Option (List ℕ)) (frame : Frame) : Type 0 where
+pub record ReadsOne (input left : Option (List ℕ)) (frame : Frame) : Type 0 where
   pub readable : IsReadable frame
   pub read : Consumes input left (frame_bytes frame)
 
@@ -77,14 +77,14 @@ RequestStops Closed core request input left old new after = Unheard core request
 RequestStops (Replies fault) core request input left old new after = Unheard core request old new after × IfSome input (Tells fault) × ReadsNoFrame input left
 -- a frame came that holds no reply
 RequestStops Malformed core request input left old new after =
-    Unheard core request old new after × (frame : Frame) × Comes input left frame × ((reply : Reply) → ¬ SpellsReply frame.kind frame.body reply)
+    Unheard core request old new after × (frame : Frame) × ReadsOne input left frame × ((reply : Reply) → ¬ SpellsReply frame.kind frame.body reply)
 -- a reply came that the core doesn't take
 RequestStops Stranger core request input left old new after = HeardAs core request input left old new after heard.Stranger
 RequestStops Repeated core request input left old new after = HeardAs core request input left old new after heard.Repeated
 -- memory was refused: before anything was sent; or to hear the reply, which is a Finished; or to print it
 RequestStops Memory core request input left old new after =
     Unsent core input left old new after
-    ⊎ ((Unheard core request old new after × (frame : Frame) × Comes input left frame × (frame.kind ≡ 132))
+    ⊎ ((Unheard core request old new after × (frame : Frame) × ReadsOne input left frame × (frame.kind ≡ 132))
     ⊎ ((text : List ℕ) × Exchanged core request input left old new after text))
 -- these are of no request
 RequestStops Lines core request input left old new after = ⊥
