@@ -1,4 +1,4 @@
-//! Each call once, and what a refused growth leaves.
+//! Each call, with memory to spare.
 
 ghost use Rattle.std.specs.Prelude.{◌≡◌};
 
@@ -9,26 +9,16 @@ use std::io;
 use std::process::Abort;
 use std::test::Fail;
 
-/// A step that has no memory is done once more: tests/memory refuses each allocation in turn.
-fn write(disk: &mut MemoryDisk, at: usize, bytes: &[u8]) -> io::Result<()> {
-    disk.write_at(at, bytes)
-        .or_else(|_| disk.write_at(at, bytes))
-}
-
-fn resize(disk: &mut MemoryDisk, len: usize) -> io::Result<()> {
-    disk.set_len(len).or_else(|_| disk.set_len(len))
-}
-
 /// `abcde`, then three bytes that were never written, then `xyz`.
 fn sample(alloc: Global) -> io::Result<MemoryDisk> {
     let mut disk = MemoryDisk::new(alloc);
-    write(&mut disk, 0, b"abcd!")?;
-    write(&mut disk, 4, b"e")?;
-    write(&mut disk, 8, b"xyz")?;
+    disk.write_at(0, b"abcd!")?;
+    disk.write_at(4, b"e")?;
+    disk.write_at(8, b"xyz")?;
     Ok(disk)
 }
 
-fn expect_bytes(rt: &impl Abort, disk: &mut MemoryDisk, at: usize, bytes: &[u8; 3]) {
+pub fn expect_bytes(rt: &impl Abort, disk: &mut MemoryDisk, at: usize, bytes: &[u8; 3]) {
     let mut read = [1; 3];
     let outcome = disk.read_at(at, &mut read);
     assert!(rt; outcome.is_ok());
@@ -60,10 +50,10 @@ fn writes_are_read(rt: HostRuntime) -> Result<(), Fail> {
 #[test]
 fn cuts_are_read_as_zeros(rt: HostRuntime) -> Result<(), Fail> {
     let mut disk = sample(rt.alloc())?;
-    resize(&mut disk, 2)?;
+    disk.set_len(2)?;
     assert_eq!(rt; disk.len()?, 2);
     expect_end(&rt, &mut disk, 0);
-    resize(&mut disk, 5)?;
+    disk.set_len(5)?;
     assert_eq!(rt; disk.len()?, 5);
     expect_bytes(&rt, &mut disk, 0, b"ab\0");
     expect_bytes(&rt, &mut disk, 2, b"\0\0\0");
@@ -75,9 +65,9 @@ fn cuts_are_read_as_zeros(rt: HostRuntime) -> Result<(), Fail> {
 fn copies_stand_apart(rt: HostRuntime) -> Result<(), Fail> {
     let alloc = rt.alloc();
     let mut disk = sample(alloc)?;
-    let mut copy = disk.copy(alloc).or_else(|_| disk.copy(alloc))?;
-    write(&mut disk, 0, b"A")?;
-    write(&mut copy, 1, b"B")?;
+    let mut copy = disk.copy(alloc)?;
+    disk.write_at(0, b"A")?;
+    copy.write_at(1, b"B")?;
     assert_eq!(rt; copy.len()?, 11);
     expect_bytes(&rt, &mut disk, 0, b"Abc");
     expect_bytes(&rt, &mut copy, 0, b"aBc");
