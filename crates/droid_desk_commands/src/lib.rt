@@ -3,12 +3,12 @@
 #![tactic(auto)]
 
 mod connections;
-mod desk;
 mod ending;
 mod fresh;
 mod port;
 mod program;
 mod sample;
+mod scripts;
 mod sending;
 mod stream;
 

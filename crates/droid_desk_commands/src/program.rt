@@ -3,11 +3,11 @@
 ghost use Rattle.std.specs.Prelude.{◌<◌, ◌^◌};
 
 use crate::connections::serve_connections;
-use crate::desk::{run_desk, run_sample};
 use crate::ending::Ending;
 use crate::fresh::fresh_service;
 use crate::port::Port;
 use crate::sample::sample_registry;
+use crate::scripts::{script_by_registry, script_by_sample};
 use crate::sending::send_lines;
 use crate::stream::answer_stream;
 use droid_core::Service;
@@ -83,10 +83,10 @@ fn script_with<R: Files + Input + Print + AllocGlobal>(rt: &R, path: Option<&str
     let mut input = Unsteady::new(rt.reader());
     let mut output = Unsteady::new(io::writer(rt));
     let Some(path) = path else {
-        return run_sample(rt.alloc(), &mut input, &mut output);
+        return script_by_sample(rt.alloc(), &mut input, &mut output);
     };
     match fs::open(rt, path) {
-        Ok(file) => run_desk(
+        Ok(file) => script_by_registry(
             rt.alloc(),
             &mut Unsteady::new(file),
             &mut input,

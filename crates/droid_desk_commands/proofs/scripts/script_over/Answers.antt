@@ -6,7 +6,7 @@ use Rattle.droid_desk_commands.proofs.ScriptEndings.{ends, if_err_then, keeps_sa
 use Rattle.droid_frame.specs.InTurn.{AtMost}
 use Rattle.droid_frame.proofs.InTurn.{told_as}
 use Rattle.droid_desk_lines.specs.Lines.{lines_of}
-use Rattle.droid_desk_commands.proofs.desk.run_script.Goals as goal
+use Rattle.droid_desk_commands.proofs.scripts.script_over.Goals as goal
 
 pub returns-clause-ends : goal.returns-clause-ends
 returns-clause-ends g c = λ setting empty.

@@ -1,17 +1,17 @@
 use Rattle.droid_desk_commands.proofs.FreshServices.{told_alike, told_neither}
 use Rattle.droid_desk_commands.proofs.ScriptEndings.{ends_over, ends_unmade, unmade_by_no_script, unread, unwritten}
-use Rattle.droid_desk_commands.proofs.desk.run_desk.Goals as goal
+use Rattle.droid_desk_commands.proofs.scripts.script_by_registry.Goals as goal
 
 pub returns-in-Ok-clause-ends : goal.returns-in-Ok-clause-ends
 returns-in-Ok-clause-ends g c =
     let made = c.in-Ok.ensures.made in
-    ends_over (g.F.Read.remaining c.args.file.now) c.run_script.result (g.R.Read.remaining c.args.reader.now) (g.W.Write.contents c.args.writer.now) (g.W.Write.contents c.run_script.new.writer)
-    c.run_script.ensures.registry_read
-    (record { registry = made.registry; is_read = made.is_read; ends = λ setting program. c.run_script.ensures.ends setting (made.made.stands setting program) })
+    ends_over (g.F.Read.remaining c.args.file.now) c.script_over.result (g.R.Read.remaining c.args.reader.now) (g.W.Write.contents c.args.writer.now) (g.W.Write.contents c.script_over.new.writer)
+    c.script_over.ensures.registry_read
+    (record { registry = made.registry; is_read = made.is_read; ends = λ setting program. c.script_over.ensures.ends setting (made.made.stands setting program) })
 
 pub returns-in-Ok-clause-registry_fault : goal.returns-in-Ok-clause-registry_fault
 returns-in-Ok-clause-registry_fault g c = λ sound.
-    told_neither _ _ _ _ (λ e. absurd cc) (λ e. c.run_script.ensures.registry_read _ e) (c.in-Ok.ensures.registry_fault sound)
+    told_neither _ _ _ _ (λ e. absurd cc) (λ e. c.script_over.ensures.registry_read _ e) (c.in-Ok.ensures.registry_fault sound)
 
 pub returns-in-Err-clause-ends : goal.returns-in-Err-clause-ends
 returns-in-Err-clause-ends g c =

@@ -21,7 +21,7 @@ use droid_pronom::RegistryFault;
 use std::alloc::Global;
 
 /// Runs a script over a fresh service, which identifies files by the sample registry.
-pub fn run_sample<R: SteadyRead, W: SteadyWrite>(
+pub fn script_by_sample<R: SteadyRead, W: SteadyWrite>(
     alloc: Global,
     reader: &mut R,
     writer: &mut W,
@@ -33,11 +33,11 @@ pub fn run_sample<R: SteadyRead, W: SteadyWrite>(
         TellsFaultInTurn W.seen (WritesAnswer W.contents) (AtMost (R.remaining reader.old) (λ script. length (lines_of script))) writer.old writer.new (result ≡ Ending.Script ScriptFault.Write) }
 {
     let mut file = sample_registry();
-    run_desk(alloc, &mut file, reader, writer)
+    script_by_registry(alloc, &mut file, reader, writer)
 }
 
 /// Reads a registry file, and runs a script over a fresh service that identifies files by it.
-pub fn run_desk<F: SteadyRead, R: SteadyRead, W: SteadyWrite>(
+pub fn script_by_registry<F: SteadyRead, R: SteadyRead, W: SteadyWrite>(
     alloc: Global,
     file: &mut F,
     reader: &mut R,
@@ -51,13 +51,13 @@ pub fn run_desk<F: SteadyRead, R: SteadyRead, W: SteadyWrite>(
         TellsFaultInTurn W.seen (WritesAnswer W.contents) (AtMost (R.remaining reader.old) (λ script. length (lines_of script))) writer.old writer.new (result ≡ Ending.Script ScriptFault.Write) }
 {
     match fresh_service(alloc, file) {
-        Ok(mut service) => run_script(alloc, &mut service, reader, writer),
+        Ok(mut service) => script_over(alloc, &mut service, reader, writer),
         Err(ending) => ending,
     }
 }
 
 /// Runs a script over a fresh service.
-fn run_script<R: SteadyRead, W: SteadyWrite>(
+fn script_over<R: SteadyRead, W: SteadyWrite>(
     alloc: Global,
     service: &mut Service,
     reader: &mut R,
