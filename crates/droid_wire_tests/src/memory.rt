@@ -3,10 +3,11 @@
 //! answered, or it is the answer to one request; and the same stream again is answered as it would have been.
 
 use crate::vectors::{
-    CREATE, FOLDER, MADE, NODE, NUMBER_REUSED, OTHER_FOLDER, joined, refused, service,
+    CREATE, FOLDER, LIMITS, MADE, NODE, NUMBER_REUSED, OTHER_FOLDER, joined, refused,
 };
 use droid_core::Service;
 use droid_frame::FrameFault;
+use droid_pronom::Registry;
 use droid_wire::{Ended, ServeFault, serve};
 use std::alloc::{AllocError, Global};
 use std::test::Fail;
@@ -67,10 +68,22 @@ fn wants(ended: Result<Ended, ServeFault>, written: &[u8]) -> bool {
     }
 }
 
+/// An empty service. What finds no memory is tried once more.
+fn service_again(alloc: Global) -> Result<Service, Fail> {
+    if let Ok(service) = Service::new(alloc, registry_again(alloc)?, LIMITS) {
+        return Ok(service);
+    }
+    Ok(Service::new(alloc, registry_again(alloc)?, LIMITS)?)
+}
+
+fn registry_again(alloc: Global) -> Result<Registry, Fail> {
+    Ok(Registry::parse(alloc, b"").or_else(|_| Registry::parse(alloc, b""))?)
+}
+
 #[test]
 fn each_growth_of_serving(rt: HostRuntime) -> Result<(), Fail> {
     let alloc = rt.alloc();
-    let mut service = service(alloc)?;
+    let mut service = service_again(alloc)?;
     let requests = requests(alloc).or_else(|_| requests(alloc))?;
     let mut buffer = [0; 128];
     for _ in 0..2 {

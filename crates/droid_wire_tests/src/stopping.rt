@@ -128,24 +128,36 @@ fn ends_at_each(
     Ok(())
 }
 
-/// After the last turn nothing is read.
+/// After the last turn nothing is read, and without a turn nothing at all.
 #[test]
 fn each_byte_of_the_requests(rt: HostRuntime) -> Result<(), Fail> {
     let alloc = rt.alloc();
     let which = Which::Requests;
     ends_at_each(&rt, alloc, (which, REQUESTS, Stop::Fails), STEADY)?;
     ends_at_each(&rt, alloc, (which, REQUESTS, Stop::Ends), BYTE_BY_BYTE)?;
-    let place = (which, 59, Stop::Fails);
-    ends(&rt, alloc, place, STEADY, 2, (Ok(Ended::Turns), 44))
+    for (turns, count, written) in [(2, 59, 44), (0, 0, 0)] {
+        let place = (which, count, Stop::Fails);
+        ends(
+            &rt,
+            alloc,
+            place,
+            STEADY,
+            turns,
+            (Ok(Ended::Turns), written),
+        )?;
+    }
+    Ok(())
 }
 
-/// A fault of writing counts the bytes of all replies.
+/// A fault of writing counts the bytes of all replies. Without a turn nothing is written.
 #[test]
 fn each_byte_of_the_replies(rt: HostRuntime) -> Result<(), Fail> {
     let alloc = rt.alloc();
     let which = Which::Replies;
     ends_at_each(&rt, alloc, (which, REPLIES, Stop::Ends), STEADY)?;
-    ends_at_each(&rt, alloc, (which, REPLIES, Stop::Fails), BYTE_BY_BYTE)
+    ends_at_each(&rt, alloc, (which, REPLIES, Stop::Fails), BYTE_BY_BYTE)?;
+    let place = (which, 0, Stop::Fails);
+    ends(&rt, alloc, place, STEADY, 0, (Ok(Ended::Turns), 0))
 }
 
 /// Sixty-four interruptions are tried again; the next is a fault of the stream.

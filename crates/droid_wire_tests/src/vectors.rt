@@ -48,20 +48,14 @@ pub fn refused(number: u8, refusal: u8) -> [u8; 19] {
     frame
 }
 
-const LIMITS: Limits = Limits {
+pub const LIMITS: Limits = Limits {
     profiles: 64,
     nodes: 100_000,
     unfinished: 64,
 };
 
-/// An empty service with no format. What finds no memory is tried once more.
+/// An empty service with no format.
 pub fn service(alloc: Global) -> Result<Service, Fail> {
-    if let Ok(service) = Service::new(alloc, registry(alloc)?, LIMITS) {
-        return Ok(service);
-    }
-    Ok(Service::new(alloc, registry(alloc)?, LIMITS)?)
-}
-
-fn registry(alloc: Global) -> Result<Registry, Fail> {
-    Ok(Registry::parse(alloc, b"").or_else(|_| Registry::parse(alloc, b""))?)
+    let registry = Registry::parse(alloc, b"")?;
+    Ok(Service::new(alloc, registry, LIMITS)?)
 }
