@@ -1,17 +1,36 @@
 //! The largest registry, and the longest name of a file.
 
 use droid_frame::Method;
-use droid_pronom::Registry;
+use droid_pronom::{Registry, RegistryFault};
 use std::alloc::{AllocError, Global};
 use std::test::Fail;
 
-/// 4,096 formats; 16,384 records each that list an extension, give a priority and begin a signature;
-/// 32,768 byte sequences. The format at place k has the PUID `f/k` and lists `ek`.
-fn largest(alloc: Global) -> Result<String, AllocError> {
+/// So many formats, of which the one at place k has the PUID `f/k`.
+fn formats(alloc: Global, count: u32) -> Result<String, AllocError> {
     let mut text = String::new(alloc);
-    for place in 0..4_096u32 {
+    for place in 0..count {
         text.push_str(format!(in alloc; "F,f/{place},Format {place},,,\n")?.as_str())?;
     }
+    Ok(text)
+}
+
+#[test]
+fn limit_of_formats(rt: HostRuntime) -> Result<(), Fail> {
+    let alloc = rt.alloc();
+    let text = formats(alloc, 4_097)?;
+    assert!(rt;
+        matches!(
+            Registry::parse(alloc, text.as_str().as_bytes()),
+            Err(RegistryFault::TooMany { at: 4_097 })
+        )
+    );
+    Ok(())
+}
+
+/// 4,096 formats; 16,384 records each that list an extension, give a priority and begin a signature;
+/// 32,768 byte sequences. The format at place k lists `ek`.
+fn largest(alloc: Global) -> Result<String, AllocError> {
+    let mut text = formats(alloc, 4_096)?;
     for row in 0..16_384u32 {
         let place = row % 4_096;
         let other = (place + 1) % 4_096;

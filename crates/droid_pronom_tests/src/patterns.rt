@@ -141,6 +141,28 @@ fn matches_at_other_places(rt: HostRuntime) -> Result<(), Fail> {
     Ok(())
 }
 
+/// A text has at most 4,096 bytes.
+#[test]
+fn longest_text(rt: HostRuntime) -> Result<(), Fail> {
+    let alloc = rt.alloc();
+    let mut text = String::new(alloc);
+    for _ in 0..2_048 {
+        text.push_str("61")?;
+    }
+    let bytes = vec![in alloc; b'a'; 2_048]?;
+    let pattern = Pattern::read(alloc, text.as_str())?;
+    assert!(rt; pattern.matches_from(alloc, &bytes, 0)?);
+    assert!(rt; !pattern.matches_from(alloc, &bytes, 1)?);
+    text.push_str("61")?;
+    assert!(rt;
+        matches!(
+            Pattern::read(alloc, text.as_str()),
+            Err(PatternFault::BadPattern)
+        )
+    );
+    Ok(())
+}
+
 #[test]
 fn texts_of_faults(rt: HostRuntime) -> Result<(), Fail> {
     for (fault, want) in &[
