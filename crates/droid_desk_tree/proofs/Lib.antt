@@ -1,0 +1,4 @@
+pub mod Runs
+pub mod Sending
+pub mod Taking
+pub mod Visiting

@@ -1,0 +1,6 @@
+pub mod Asked
+pub mod Order
+pub mod Steps
+pub mod Told
+pub mod Visits
+pub mod Walks

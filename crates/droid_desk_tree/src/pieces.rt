@@ -1,0 +1,182 @@
+//! The pieces of a file: read, and sent.
+
+ghost use Rattle.std.specs.Prelude.{◌≡◌, ◌++◌, ◌-◌, [], min, IfOk, OnOk};
+ghost use Rattle.droid_frame.specs.Fields.{IsBytes, IsU32, u32_bytes};
+ghost use Rattle.droid_frame.specs.types.reply.Reply.TheVariants as replies;
+ghost use Rattle.droid_desk_tree.specs.Steps.{SendsPiece, SendsAll};
+ghost use Rattle.droid_desk_tree.specs.Told.{Read};
+
+use crate::exchange::Exchange;
+use crate::fault::{TreeFault, WalkFault};
+use crate::tree::Tree;
+use crate::watcher::{LeftOut, Watcher};
+use droid_frame::{Blob, Refusal, Reply};
+use std::alloc::{AllocError, Global};
+
+/// How many bytes of a piece's body come before the piece's own.
+const BEFORE_BYTES: usize = 12;
+
+/// The kind of a request that sends a piece.
+const PIECE: u8 = 4;
+
+/// A file of a profile, and how it is sent.
+#[derive(Clone, Copy)]
+pub(crate) struct Target {
+    /// The number of the profile.
+    pub profile: u32,
+    /// The number of the file.
+    pub file: u32,
+    /// How many bytes each piece has but the last.
+    pub piece_size: u32,
+    /// How many bytes the file is said to have.
+    pub size: u64,
+}
+
+/// Reads a file piece by piece, and sends each before the next is read. That the file can't be read, or has more
+/// bytes or fewer, is the inner error; not all of its pieces are sent then.
+pub(crate) fn send_pieces<T: Tree, X: Exchange, W: Watcher>(
+    alloc: Global,
+    tree: &mut T,
+    exchange: &mut X,
+    watcher: &mut W,
+    to: Target,
+    path: &str,
+) -> Result<Result<(), LeftOut>, WalkFault>
+    ensures { IfOk result (λ read. OnOk read (SendsAll T.tells X.asks to.profile to.file to.piece_size to.size path.now tree.old tree.new exchange.old exchange.new)) }
+{
+    let mut from = 0;
+    for index in 0..u32::MAX {
+        let wanted = next_len(to.size, from, to.piece_size);
+        if wanted == 0 {
+            let ended = ends_here(alloc, tree, path, from, to.size)?;
+            return Ok(ended);
+        }
+        match send_piece(alloc, tree, exchange, to, path, index, from, wanted)? {
+            Ok(_held) => from += u64::from(wanted),
+            Err(why) => return Ok(Err(why)),
+        }
+        watcher.took_bytes(wanted);
+    }
+    Ok(Err(LeftOut::Changed))
+}
+
+/// How many bytes the next piece has: as many as pieces have, or what is left.
+fn next_len(size: u64, from: u64, piece_size: u32) -> u32
+    ensures { result ≡ min piece_size (size - from) }
+{
+    let left = size.saturating_sub(from);
+    match u32::try_from(left) {
+        Ok(left) => piece_size.min(left),
+        Err(_) => piece_size,
+    }
+}
+
+/// Sees that a file of this size ends where all its pieces were read.
+fn ends_here<T: Tree>(
+    alloc: Global,
+    tree: &mut T,
+    path: &str,
+    from: u64,
+    size: u64,
+) -> Result<Result<(), LeftOut>, WalkFault>
+    ensures told { IfOk result (λ read. OnOk read (T.tells tree.old (Read path.now from 1 []) tree.new)) }
+    ensures all { IfOk result (λ read. OnOk read (from ≡ size)) }
+{
+    if from != size {
+        return Ok(Err(LeftOut::Changed));
+    }
+    let mut more = Vec::new(alloc);
+    match tree.read(path, from, 1, &mut more) {
+        Ok(()) => Ok(none_more(more.as_slice())),
+        Err(TreeFault::Memory) => Err(WalkFault::Memory),
+        Err(TreeFault::Unreadable) => Ok(Err(LeftOut::Unreadable)),
+    }
+}
+
+/// Nothing more came.
+fn none_more(more: &[u8]) -> Result<(), LeftOut>
+    ensures { OnOk result (more.now ≡ []) }
+{
+    if more.is_empty() {
+        Ok(())
+    } else {
+        Err(LeftOut::Changed)
+    }
+}
+
+/// Reads one piece and sends it, and gives how many pieces are taken then. Its bytes stand in one place only: in the
+/// body of the request.
+fn send_piece<T: Tree, X: Exchange>(
+    alloc: Global,
+    tree: &mut T,
+    exchange: &mut X,
+    to: Target,
+    path: &str,
+    index: u32,
+    from: u64,
+    wanted: u32,
+) -> Result<Result<u32, LeftOut>, WalkFault>
+    ensures { IfOk result (λ sent. IfOk sent (λ held. SendsPiece T.tells X.asks to.profile to.file index path.now from wanted held tree.old tree.new exchange.old exchange.new)) }
+{
+    let mut body = begun_body(alloc, to.profile, to.file, index, wanted)?;
+    let before = body.len();
+    if let Err(fault) = tree.read(path, from, wanted, &mut body) {
+        return unread(fault);
+    }
+    if body.len().saturating_sub(before) != wanted as usize {
+        return Ok(Err(LeftOut::Changed));
+    }
+    let body = whole_body(body);
+    let reply = exchange.ask(PIECE, body)?;
+    let held = taken(reply)?;
+    Ok(Ok(held))
+}
+
+/// The body of a request, which is all there.
+fn whole_body(body: Vec<u8>) -> Blob
+    ensures same { result ≡ body.items }
+    ensures bytes { IsBytes result }
+{
+    let blob = Blob::from(body);
+    let _bytes = blob.as_slice();
+    blob
+}
+
+/// How many pieces the reply says to be taken.
+fn taken(reply: Reply) -> Result<u32, WalkFault>
+    ensures { IfOk result (λ held. reply ≡ replies.Taken held) }
+{
+    match reply {
+        Reply::Taken { held } => Ok(held),
+        Reply::Refused(Refusal::Memory) => Err(WalkFault::Memory),
+        _ => Err(WalkFault::Reply),
+    }
+}
+
+/// What comes of a piece that wasn't read.
+fn unread(fault: TreeFault) -> Result<Result<u32, LeftOut>, WalkFault>
+    ensures { IfOk result (λ sent. OnOk sent ⊥) }
+{
+    match fault {
+        TreeFault::Memory => Err(WalkFault::Memory),
+        TreeFault::Unreadable => Ok(Err(LeftOut::Unreadable)),
+    }
+}
+
+/// The body of a request for a piece up to its bytes, with room for these.
+fn begun_body(
+    alloc: Global,
+    profile: u32,
+    file: u32,
+    index: u32,
+    wanted: u32,
+) -> Result<Vec<u8>, AllocError>
+    ensures begun { IfOk result (λ body. body.items ≡ u32_bytes profile ++ (u32_bytes file ++ u32_bytes index)) }
+    ensures spelled { IsU32 profile × IsU32 file × IsU32 index }
+{
+    let mut body = Vec::with_capacity(alloc, BEFORE_BYTES + wanted as usize)?;
+    body.extend_from_slice(&profile.to_be_bytes())?;
+    body.extend_from_slice(&file.to_be_bytes())?;
+    body.extend_from_slice(&index.to_be_bytes())?;
+    Ok(body)
+}
