@@ -1,0 +1,5 @@
+pub mod Asking
+pub mod Accepting
+pub mod Bytes
+pub mod Parts
+pub mod Holding

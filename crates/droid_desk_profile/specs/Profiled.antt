@@ -1,0 +1,23 @@
+-- The profile of a tree as it was read (this project's own).
+use Rattle.std.specs.Prelude.{◌≡◌, ℕ, List, Option}
+use Rattle.std.specs.List.{flat_map, AllByRecursion}
+use Rattle.std.specs.Io.KnownBytes.{Appends}
+use Rattle.droid_core.specs.Setting.{Setting}
+use Rattle.droid_core.specs.World.{Node}
+use Rattle.droid_desk_tree.specs.Told.{Told, GoesOver}
+use Rattle.droid_desk_tree.specs.Visits.{Visit, IsVisited, told_of_visit}
+use Rattle.droid_desk_tree.specs.Walks.{EachFolderOnce}
+use Rattle.droid_desk_tree.specs.declared.walking.Options.{Options}
+use Rattle.droid_desk_profile.specs.Answering.{text_of}
+use Rattle.droid_desk_profile.specs.Nodes.{AreNodes, all_kids}
+
+-- This is what the tree told, folder by folder, each folder once; the profile has one node for each entry, and no other; and
+-- its export was written.
+pub record WritesProfile {T : Type 0} (tells : T → Told → T → Type 0) (setting : Setting) (options : Options) (tree tree_after : T) (written written_after : Option (List ℕ)) : Type 0 where
+  pub visits : List Visit
+  pub each_folder : EachFolderOnce visits
+  pub visited : AllByRecursion (IsVisited options.piece_size) visits
+  pub told : GoesOver tells tree (flat_map told_of_visit visits) tree_after
+  pub nodes : List Node
+  pub are_theirs : AreNodes 0 (all_kids visits) nodes
+  pub text : Appends written written_after (text_of setting options nodes)

@@ -1,0 +1,11 @@
+//! The profile of a tree: its folders and files are submitted to a service of one's own, and the export of what came is
+//! written.
+#![tactic(auto)]
+
+mod exporting;
+mod fault;
+mod own;
+mod profiling;
+
+pub use fault::ProfileFault;
+pub use profiling::profile;

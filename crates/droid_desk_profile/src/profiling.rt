@@ -1,0 +1,40 @@
+//! The profile of a tree.
+
+ghost use Rattle.std.specs.Prelude.{◌≡◌, [], IfOk, IsTrue};
+ghost use Rattle.droid_core.specs.Setting.{Setting};
+ghost use Rattle.droid_core.specs.Standing.{StandsFor};
+ghost use Rattle.droid_desk_profile.specs.Profiled.{WritesProfile};
+
+use crate::exporting::export;
+use crate::fault::ProfileFault;
+use crate::own::Own;
+use droid_core::Service;
+use droid_desk_tree::{Options, Tree, Watcher, walk};
+use droid_frame::SteadyWrite;
+use std::alloc::Global;
+
+/// Submits everything in a tree to a new service, and writes the export of what came. The answer is whether nothing was left
+/// out; what was, is told at once.
+///
+/// Of a file one piece is held at a time, and of the export one part.
+pub fn profile<T: Tree, W: Watcher, O: SteadyWrite>(
+    alloc: Global,
+    service: Service,
+    tree: &mut T,
+    watcher: &mut W,
+    options: Options,
+    writer: &mut O,
+) -> Result<bool, ProfileFault>
+    // Where nothing was left out, the text is the definition's export of a profile that has exactly the tree's folders and
+    // files, each file with its bytes as they were read.
+    ensures whole { (setting : Setting) → StandsFor setting service [] → IfOk result (λ whole. IsTrue whole →
+        WritesProfile T.tells setting options tree.old tree.new (O.contents writer.old) (O.contents writer.new)) }
+{
+    let mut own = Own::new(service);
+    let walked = match walk(alloc, tree, &mut own, watcher, options) {
+        Ok(walked) => walked,
+        Err(fault) => return Err(ProfileFault::Walk(fault)),
+    };
+    export(alloc, &mut own, walked.profile, writer)?;
+    Ok(walked.whole)
+}
