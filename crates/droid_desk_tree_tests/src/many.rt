@@ -1,0 +1,67 @@
+//! More entries than a profile has nodes.
+
+use crate::notes::{Noting, Watching};
+use droid_desk_tree::{Entry, EntryKind, Options, Tree, TreeFault, walk};
+use droid_frame::Blob;
+use std::alloc::{AllocError, Global};
+use std::test::Fail;
+
+/// One folder of so many folders, each named by its place.
+#[derive(Drop)]
+struct ManyFolders {
+    count: u32,
+}
+
+impl Tree for ManyFolders {
+    ghost tells = { λ old told new. Unit {0} };
+
+    fn entries(&mut self, alloc: Global, path: &str) -> Result<Vec<Entry>, TreeFault> {
+        let count = if path.is_empty() { self.count } else { 0 };
+        match folders(alloc, count) {
+            Ok(entries) => Ok(entries),
+            Err(_) => Err(TreeFault::Memory),
+        }
+    }
+
+    fn read(
+        &mut self,
+        _path: &str,
+        _from: u64,
+        _wanted: u32,
+        _bytes: &mut Vec<u8>,
+    ) -> Result<(), TreeFault> {
+        Err(TreeFault::Unreadable)
+    }
+}
+
+fn folders(alloc: Global, count: u32) -> Result<Vec<Entry>, AllocError> {
+    let mut entries = Vec::new(alloc);
+    for place in 0..count {
+        let entry = Entry {
+            name: Blob::copy_of(alloc, format!(in alloc; "{place:06}")?.as_bytes())?,
+            kind: EntryKind::Folder,
+            modified: 0,
+            len: 0,
+        };
+        entries.push(entry)?;
+    }
+    Ok(entries)
+}
+
+#[test]
+fn one_too_many(rt: HostRuntime) -> Result<(), Fail> {
+    let alloc = rt.alloc();
+    let mut tree = ManyFolders { count: 1_001 };
+    let mut service = Noting::new(alloc);
+    service.quiet = true;
+    service.limit = 1_000;
+    let mut watcher = Watching::new(alloc);
+    let options = Options {
+        scan_limit: 4,
+        match_all: false,
+        piece_size: 4,
+    };
+    let walked = walk(alloc, &mut tree, &mut service, &mut watcher, options)?;
+    assert!(rt; !walked.whole && watcher.left_out.as_slice() == b"/001000 refused\n".as_slice());
+    Ok(())
+}

@@ -1,0 +1,105 @@
+//! A service that notes what it is asked, and a watcher that notes what it is told.
+
+use droid_desk_tree::{Exchange, ExchangeFault, LeftOut, Watcher};
+use droid_frame::{Blob, Limit, Method, Refusal, Reply, Texts};
+use std::alloc::{AllocError, Global};
+
+/// It answers every request as a service without a name does, and refuses nodes past its limit.
+#[derive(Drop)]
+pub struct Noting {
+    pub alloc: Global,
+    /// Of each request its kind and how long its body is, and of a folder or file the name.
+    pub notes: Vec<u8>,
+    pub nodes: u32,
+    pub limit: u32,
+    pub quiet: bool,
+}
+
+impl Noting {
+    pub fn new(alloc: Global) -> Noting {
+        Noting {
+            alloc,
+            notes: Vec::new(alloc),
+            nodes: 0,
+            limit: 100_000,
+            quiet: false,
+        }
+    }
+}
+
+impl Exchange for Noting {
+    ghost asks = { λ old asked new. Unit {0} };
+
+    fn ask(&mut self, kind: u8, body: Blob) -> Result<Reply, ExchangeFault> {
+        if !self.quiet && note(self.alloc, &mut self.notes, kind, body.as_slice()).is_err() {
+            return Err(ExchangeFault);
+        }
+        Ok(match kind {
+            1 => Reply::Made { profile: 1 },
+            2 | 3 => {
+                if self.nodes >= self.limit {
+                    Reply::Refused(Refusal::LimitReached(Limit::Nodes))
+                } else {
+                    self.nodes = self.nodes.wrapping_add(1);
+                    Reply::Node { id: self.nodes }
+                }
+            }
+            4 => Reply::Taken { held: 1 },
+            5 => Reply::Finished {
+                method: Method::Unidentified,
+                mismatch: false,
+                md5: [0; 16],
+                puids: Texts::new(self.alloc),
+            },
+            _ => Reply::Abandoned,
+        })
+    }
+}
+
+fn note(alloc: Global, notes: &mut Vec<u8>, kind: u8, body: &[u8]) -> Result<(), AllocError> {
+    let len = body.len();
+    let text = format!(in alloc; "{kind}:{len} ")?;
+    notes.extend_from_slice(text.as_bytes())?;
+    Ok(())
+}
+
+/// It notes what was left out, and why.
+#[derive(Drop)]
+pub struct Watching {
+    pub alloc: Global,
+    pub left_out: Vec<u8>,
+    pub count: u64,
+    pub bytes: u64,
+}
+
+impl Watching {
+    pub fn new(alloc: Global) -> Watching {
+        Watching {
+            alloc,
+            left_out: Vec::new(alloc),
+            count: 0,
+            bytes: 0,
+        }
+    }
+}
+
+impl Watcher for Watching {
+    fn left_out(&mut self, path: &[u8], why: LeftOut) {
+        self.count = self.count.wrapping_add(1);
+        let word: &[u8] = match why {
+            LeftOut::Kind => b" kind\n",
+            LeftOut::Name => b" name\n",
+            LeftOut::Refused(_) => b" refused\n",
+            LeftOut::Unreadable => b" unreadable\n",
+            LeftOut::Changed => b" changed\n",
+        };
+        let _ = self.left_out.extend_from_slice(path);
+        let _ = self.left_out.extend_from_slice(word);
+    }
+
+    fn took_bytes(&mut self, count: u32) {
+        self.bytes = self.bytes.wrapping_add(u64::from(count));
+    }
+
+    fn took(&mut self, _path: &str) {}
+}

@@ -1,0 +1,94 @@
+//! The profile of a small tree, as CSV. (The digests are those of RFC 1321's test suite.)
+
+use crate::memory_tree::{MemoryTree, Row};
+use crate::notes::Watching;
+use droid_core::{Limits, Service};
+use droid_desk_profile::profile;
+use droid_desk_tree::{EntryKind, Options};
+use droid_frame::Unsteady;
+use droid_pronom::Registry;
+use droid_pronom_sample::SAMPLE;
+use std::alloc::Global;
+use std::test::Fail;
+
+const LIMITS: Limits = Limits {
+    profiles: 64,
+    nodes: 100_000,
+    unfinished: 64,
+};
+
+const OPTIONS: Options = Options {
+    scan_limit: 65_536,
+    match_all: false,
+    piece_size: 4,
+};
+
+const LONG: &[u8] = &[b'n'; 255];
+
+const TOO_LONG: &[u8] = &[b'n'; 256];
+
+const ROWS: [Row; 4] = [
+    ("", b"none.txt", EntryKind::File, 0, Some(b"")),
+    ("", b"d", EntryKind::Folder, 0, Some(b"")),
+    (
+        "/d",
+        b"digest.msg",
+        EntryKind::File,
+        14,
+        Some(b"message digest"),
+    ),
+    ("", b"a.abc", EntryKind::File, 1, Some(b"a")),
+];
+
+const TEXT: &str =
+    "\"ID\",\"PARENT_ID\",\"URI\",\"FILE_PATH\",\"NAME\",\"METHOD\",\"STATUS\",\"SIZE\",\"TYPE\",\"EXT\",\"LAST_MODIFIED\",\"EXTENSION_MISMATCH\",\"MD5_HASH\",\"FORMAT_COUNT\",\"PUID\",\"MIME_TYPE\",\"FORMAT_NAME\",\"FORMAT_VERSION\"\n\
+\"1\",\"\",\"file:/a.abc\",\"/a.abc\",\"a.abc\",\"\",\"Done\",\"1\",\"File\",\"abc\",\"1970-01-01T00:00:00\",\"false\",\"0cc175b9c0f1b6a831c399e269772661\",\"0\",\"\",\"\",\"\",\"\"\n\
+\"2\",\"\",\"file:/d/\",\"/d\",\"d\",\"\",\"Done\",\"\",\"Folder\",\"\",\"1970-01-01T00:00:00\",\"false\",\"\",\"\",\"\",\"\",\"\",\"\"\n\
+\"3\",\"\",\"file:/none.txt\",\"/none.txt\",\"none.txt\",\"Extension\",\"Done\",\"0\",\"File\",\"txt\",\"1970-01-01T00:00:00\",\"false\",\"d41d8cd98f00b204e9800998ecf8427e\",\"1\",\"dev/4\",\"text/plain\",\"Plain\",\"\"\n\
+\"4\",\"2\",\"file:/d/digest.msg\",\"/d/digest.msg\",\"digest.msg\",\"Signature\",\"Done\",\"14\",\"File\",\"msg\",\"1970-01-01T00:00:00\",\"false\",\"f96b697d7cb7938d525a2f31aaf161d0\",\"2\",\"dev/1\",\"\",\"Message\",\"1\"\n\
+\"4\",\"2\",\"file:/d/digest.msg\",\"/d/digest.msg\",\"digest.msg\",\"Signature\",\"Done\",\"14\",\"File\",\"msg\",\"1970-01-01T00:00:00\",\"false\",\"f96b697d7cb7938d525a2f31aaf161d0\",\"2\",\"dev/3\",\"\",\"Letters\",\"\"\n";
+
+fn service(alloc: Global) -> Result<Service, Fail> {
+    let registry = Registry::parse(alloc, SAMPLE.as_bytes())?;
+    Ok(Service::new(alloc, registry, LIMITS)?)
+}
+
+#[test]
+fn small_tree(rt: HostRuntime) -> Result<(), Fail> {
+    let alloc = rt.alloc();
+    let mut tree = MemoryTree { rows: &ROWS };
+    let mut watcher = Watching::new(alloc);
+    let mut output = Unsteady::new(Vec::new(alloc));
+    let whole = profile(
+        alloc,
+        service(alloc)?,
+        &mut tree,
+        &mut watcher,
+        OPTIONS,
+        &mut output,
+    )?;
+    assert!(rt; whole && output.stream.as_slice() == TEXT.as_bytes());
+    Ok(())
+}
+
+#[test]
+fn names_of_255_and_256_bytes(rt: HostRuntime) -> Result<(), Fail> {
+    let alloc = rt.alloc();
+    let rows: [Row; 2] = [
+        ("", TOO_LONG, EntryKind::File, 0, Some(b"")),
+        ("", LONG, EntryKind::Folder, 0, Some(b"")),
+    ];
+    let mut tree = MemoryTree { rows: &rows };
+    let mut watcher = Watching::new(alloc);
+    let mut output = Unsteady::new(Vec::new(alloc));
+    let whole = profile(
+        alloc,
+        service(alloc)?,
+        &mut tree,
+        &mut watcher,
+        OPTIONS,
+        &mut output,
+    )?;
+    assert!(rt; !whole && watcher.count == 1 && watcher.left_out.len() == 266);
+    Ok(())
+}
