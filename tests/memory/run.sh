@@ -24,7 +24,7 @@ for test in droid_core_tests:memory::one_after_the_other droid_core_tests:memory
     droid_wire_client_tests:memory::wanting_and_again droid_desk_sender_tests:memory::each_growth_of_a_sending \
     droid_wire_tests:memory::each_growth_of_serving \
     droid_export_tests:memory::each_growth_of_small_texts droid_export_tests:memory::each_growth_of_an_export \
-    droid_store_disk_tests:memory::each_growth_of_a_file droid_store_tests:memory::each_growth_of_the_store; do
+    droid_store_tests:memory::each_growth_of_the_store; do
     crate=${test%%:*}
     name=${test#*:}
     tests=$top/crates/$crate/out/${crate}_tests
