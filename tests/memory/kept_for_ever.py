@@ -55,29 +55,21 @@ class Repeats(unittest.TestCase):
             self.leave_nothing([row], many=MANY // 10)
 
 
+# An entry of a table or of an index is a node of its tree and a row, which the trees before and after a change share. Each
+# is a block, and a row has its cells and its texts and bytes in two more.
+ENTRY = 64 + 64
+
+
 def reply_row(body):
-    """What the database keeps of a reply with a body of so many bytes, in each of its two copies: a row of seven cells of
-    16 bytes, with 16 bytes of its mark and its body, and in the index by client and number an entry of three cells with
-    room for a fourth."""
-    return 2 * (7 * 16 + 16 + body + 4 * 16)
+    """What the database keeps of a reply with a body of so many bytes: a row of seven cells of 16 bytes, with 16 bytes of
+    its mark and its body, and in the index by client and number an entry of three cells with room for a fourth."""
+    return ENTRY + 7 * 16 + 16 + body + ENTRY + 4 * 16
 
 
 def node_row(name):
     """The same of a node at the top with a name of so many bytes, 8 or more, and no format: a row of 14 cells, with name,
     path and digest, and an entry in the index by number and in that by name."""
-    return 2 * (14 * 16 + name + 1 + name + 16 + 4 * 16 + 4 * 16 + name)
-
-
-# Each table and each index is a list, in each copy. A place in a list takes 48 bytes.
-PLACE = 2 * 48
-
-
-def places(rows):
-    """How many places a list has that holds so many rows: it begins with 4, and doubles."""
-    count = 4
-    while count < rows:
-        count *= 2
-    return count
+    return ENTRY + 14 * 16 + name + 1 + name + 16 + ENTRY + 4 * 16 + ENTRY + 4 * 16 + name
 
 
 def sent(order):
@@ -92,8 +84,8 @@ def answered(count):
 
 
 class Pieces(unittest.TestCase):
-    """Of a piece that isn't needed further the reply alone is kept: with its places 707, 644 and 644 bytes a piece, at the
-    three counts. Not a byte more may be held, so one more number of eight bytes for each is seen, in whatever list."""
+    """Of a piece that isn't needed further the reply alone is kept: 452 bytes a piece. Not a byte more may be held, so one
+    more number of eight bytes for each is seen, in whatever list."""
 
     def held_after(self, order):
         written, counts = counted(sent(order))
@@ -104,8 +96,7 @@ class Pieces(unittest.TestCase):
         few = self.held_after(range(FEW))
         for count in (10_000, 50_000, MANY):
             with self.subTest(count=count):
-                wanted = reply_row(4) * (count - FEW) + 2 * PLACE * (places(2 + count) - places(2 + FEW))
-                self.assertEqual(self.held_after(range(count)) - few, wanted)
+                self.assertEqual(self.held_after(range(count)) - few, reply_row(4) * (count - FEW))
 
     def test_so_it_does_where_each_waits_for_the_next(self):
         """Pieces of which fifteen wait at a time, the first of sixteen coming last."""
@@ -146,18 +137,18 @@ class Files(unittest.TestCase):
         self.assertTrue(written == replies_of(rows))
         return counts.held
 
-    def grow_by(self, kind, each, lists):
-        """Each file leaves so many bytes, and what the places of these lists take after so many files."""
+    def grow_by(self, kind, each):
+        """Each file leaves so many bytes."""
         few, many = (self.held_after(kind, count) for count in (FEW, self.COUNT))
-        self.assertEqual(many - few, each * (self.COUNT - FEW) + lists(self.COUNT) - lists(FEW))
+        self.assertEqual(many - few, each * (self.COUNT - FEW))
 
     def test_abandoned_files_leave_their_replies(self):
         each = reply_row(4) + reply_row(4) + reply_row(0)
-        self.grow_by(abandoned, each, lambda count: 2 * PLACE * places(1 + 3 * count))
+        self.grow_by(abandoned, each)
 
     def test_finished_files_leave_their_rows(self):
         each = node_row(8) + reply_row(4) + reply_row(20)
-        self.grow_by(finished, each, lambda count: 2 * PLACE * places(1 + 2 * count) + 3 * PLACE * places(count))
+        self.grow_by(finished, each)
 
 
 if __name__ == "__main__":

@@ -7,9 +7,8 @@ Where the memory for its body is refused, no request was read, and the stream en
 trace. The last that a request asks for:
 - the buffer in which a small reply is gathered (crates/droid_wire/src/sending.rt): without it the reply goes in parts;
 - what puts a kept reply at hand, after the commit (crates/droid_core/src/service/recent.rt): without it the next repeat
-  reads the reply from the database;
-- what the database takes when a commit stands already, to bring its second copy of the tables to the same rows: without
-  it the next change makes that copy anew. A row takes an allocation for its numbers and one for its texts and bytes.
+  reads the reply from the database.
+The database takes none once a commit stands.
 One more may be refused so in the first request to a service, within its first query: the list in which the database keeps
 what a query worked with for the next one, which else takes that anew. And the first that a repeat asks for behind its body,
 a copy of the reply that is at hand: without it the database is read.
@@ -52,43 +51,34 @@ GATHERED = 1
 BODY = 1
 PLACE = 1
 KEPT_FOR_THE_NEXT = 1
-# a table's or an index's list of rows, where it begins with four places or gets twice as many
-LIST = 1
-# the row of a profile, and of a reply with its entry in the index by client and number
-PROFILE = 1
-REPLY = 2 + 1
-# the row of a node, and with its entries in the indexes by number and by name
-CHANGED_NODE = 2
-NEW_NODE = CHANGED_NODE + 1 + 2
 
 TEXT = ALL_TEXT + folder_row(8, b"f") + LETTERS.replace(b'"2","1"', b'"9","8"').replace(b"/in/", b"/f/")
 
 # requests after the session, their replies, and how many allocations may be refused: of a new one at its end, of a
 # repeat behind its first
 REQUESTS = [
-    (create(40), reply(MADE, 40, 6), PROFILE + REPLY + BODY + PLACE, BODY),
-    (folder(41, b"f"), reply(NODE, 41, 8), NEW_NODE + PROFILE + REPLY + BODY + PLACE, BODY),
-    (file(42, b"a.abc", 26, 16, parent=8), reply(NODE, 42, 9), NEW_NODE + PROFILE + REPLY + BODY + PLACE, BODY),
-    (piece(43, 9, 1, CONTENT[16:]), reply(TAKEN, 43, 1), REPLY + BODY + PLACE, BODY),
-    (piece(44, 9, 0, CONTENT[:16]), reply(TAKEN, 44, 2), REPLY + BODY + PLACE, BODY),
+    (create(40), reply(MADE, 40, 6), BODY + PLACE, BODY),
+    (folder(41, b"f"), reply(NODE, 41, 8), BODY + PLACE, BODY),
+    (file(42, b"a.abc", 26, 16, parent=8), reply(NODE, 42, 9), BODY + PLACE, BODY),
+    (piece(43, 9, 1, CONTENT[16:]), reply(TAKEN, 43, 1), BODY + PLACE, BODY),
+    (piece(44, 9, 0, CONTENT[:16]), reply(TAKEN, 44, 2), BODY + PLACE, BODY),
     (status(45, 9), reply(PROGRESS, 45, 2, 2), 0, 0),
-    (finish(46, 9), frame(FINISHED, CLIENT, 46, FOUND), CHANGED_NODE + REPLY + BODY + PLACE, BODY),
-    (abandon(47, 4), reply(ABANDONED, 47), REPLY + PLACE, 0),
+    (finish(46, 9), frame(FINISHED, CLIENT, 46, FOUND), BODY + PLACE, BODY),
+    (abandon(47, 4), reply(ABANDONED, 47), PLACE, 0),
     (status(48, 9), reply(PROGRESS, 48, 2, 2), 0, 0),
     (folder(49, b"f"), refusal(49, 9), 0, 0),
     (export(50), part(50, 25, TEXT), 0, 0),
 ]
 
-# requests to a service that had none before, in the same way; their first rows begin the lists, and the fifth reply has
-# no place any more
+# requests to a service that had none before, in the same way
 OUT_OF_ORDER = [
-    (*PROFILE_MADE, PROFILE + REPLY + 3 * LIST + BODY + PLACE, BODY),
-    (*FILE_ADDED, NEW_NODE + PROFILE + REPLY + 3 * LIST + BODY + PLACE, BODY),
-    (*PIECES[0], REPLY + BODY + PLACE, BODY),
-    (*PIECES[1], REPLY + BODY + PLACE, BODY),
-    (*PIECES[2], REPLY + 2 * LIST + BODY + PLACE, BODY),
-    (*PIECES[3], REPLY + BODY + PLACE, BODY),
-    (*FILE_FINISHED, CHANGED_NODE + REPLY + BODY + PLACE, BODY),
+    (*PROFILE_MADE, BODY + PLACE, BODY),
+    (*FILE_ADDED, BODY + PLACE, BODY),
+    (*PIECES[0], BODY + PLACE, BODY),
+    (*PIECES[1], BODY + PLACE, BODY),
+    (*PIECES[2], BODY + PLACE, BODY),
+    (*PIECES[3], BODY + PLACE, BODY),
+    (*FILE_FINISHED, BODY + PLACE, BODY),
     (*EXPORTED, 0, 0),
 ]
 
