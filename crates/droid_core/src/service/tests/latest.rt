@@ -3,8 +3,8 @@
 use crate::service::Service;
 use crate::service::recent::RecentReplies;
 use crate::service::tests::scripts::CREATE;
-use crate::service::tests::steps::Ask::{Create, Folder};
-use crate::service::tests::steps::Due::{Node, Refused};
+use crate::service::tests::steps::Ask::{Create, Export, Folder};
+use crate::service::tests::steps::Due::{Node, Part, Refused};
 use crate::service::tests::steps::Step;
 use crate::service::tests::{LARGEST, is_answered, service};
 use droid_frame::Blob;
@@ -81,6 +81,36 @@ fn used_last(rt: HostRuntime) -> Result<(), AllocError> {
         assert!(rt; are_used(alloc, &mut recent, used), "{used:?}");
     }
     Ok(())
+}
+
+/// A step, a number under which a reply is at hand after it, and one under which none is.
+type Turn<'a> = (Step<'a>, u64, u64);
+
+// what is accepted, what is read from the store, and what is neither, one after the other where there is one place
+const TURNS: &[Turn] = &[
+    (CREATE, 1, 2),
+    ((1, 2, Folder(1, 0, 0, "in"), Node(1)), 2, 1),
+    (CREATE, 1, 2),
+    ((1, 2, Folder(1, 0, 0, "out"), Refused(2)), 2, 1),
+    ((1, 3, Folder(1, 0, 0, "in"), Refused(9)), 2, 3),
+    ((1, 3, Export(1, 0, 2), Part(2, 296, &["\"I"])), 2, 3),
+];
+
+fn is_put(alloc: Global, service: &mut Service, turn: &Turn<'_>) -> bool {
+    let (step, near, far) = *turn;
+    let right = is_answered(alloc, service, &step);
+    let there = is_at_hand(&mut service.recent, near);
+    let gone = !is_at_hand(&mut service.recent, far);
+    right & there & gone
+}
+
+/// A reply is put at hand where its request was accepted, and where it was read from the store.
+#[test]
+fn put_at_hand(rt: HostRuntime) {
+    let mut service = service(rt.alloc(), LARGEST, 1).expect(&rt, "a service");
+    for turn in TURNS {
+        assert!(rt; is_put(rt.alloc(), &mut service, turn));
+    }
 }
 
 /// What is asked after a profile and 256 folders: the first of all again, the last, the first folder, and another profile
