@@ -1,3 +1,4 @@
 pub mod Answering
 pub mod Nodes
 pub mod Profiled
+pub mod Shown

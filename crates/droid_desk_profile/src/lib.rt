@@ -4,6 +4,7 @@
 
 mod exporting;
 mod fault;
+pub mod laws;
 mod own;
 mod profiling;
 
