@@ -118,7 +118,7 @@ fn random_edits_agree_with_a_plain_list(rt: HostRuntime) -> Result<(), Fail> {
     }
     let before = entries.copy()?;
     let kept = plain.clone()?;
-    while !plain.is_empty() {
+    for _ in 0..kept.len() {
         let at = numbers.below(plain.len());
         remove(alloc, &mut entries, &mut plain, at)?;
     }
