@@ -1,5 +1,5 @@
 -- What a request that got no refusal makes of the profile.
-use Rattle.std.proofs.Common.{◌≡◌, ℕ, ℤ, zero, suc, ◌+◌, ◌-◌, ◌<◌, ◌≤◌, ◌==◌, ◌&&◌, take, drop, nat_lt, Bool, true, false, cond, not, List, [], ◌∷◌, ◌++◌, length, Option, Some, None, refl, sym, ap, subst, ◌∙◌, arith, add-one}
+use Rattle.std.proofs.Common.{◌≡◌, ℕ, ℤ, suc, ◌+◌, ◌-◌, ◌<◌, ◌==◌, ◌&&◌, take, drop, nat_lt, Bool, true, false, cond, not, List, [], ◌∷◌, ◌++◌, length, Option, Some, None, refl, ap, subst, ◌∙◌, arith}
 use Rattle.std.specs.Prelude.{MatchBool, slice_set}
 use Rattle.std.specs.List.{slice_get}
 use Rattle.std.proofs.Math.Seq.{set-append_seam}
@@ -15,8 +15,7 @@ use Rattle.droid_frame.specs.types.request.Request.TheVariants.{CreateProfile, A
 use Rattle.droid_core.specs.Exported.{part_of}
 use Rattle.droid_core.specs.Files.{count_of, bytes_of, is_due, with_piece, as_finished, finding_of, finished_reply}
 use Rattle.droid_core.specs.Histories.{verdict_reply, world_after}
-use Rattle.droid_core.specs.Judging.{Verdict, Check, Accepted, Answered, Refuses, judge, refusal_of, unless_refused, world_set, with_node, node_set, create_checks, folder_checks, file_checks, piece_checks, finish_checks, export_checks}
-use Rattle.droid_core.specs.Records.{records}
+use Rattle.droid_core.specs.Judging.{Accepted, Answered, judge, refusal_of, unless_refused, world_set, with_node, node_set, create_checks, folder_checks, file_checks, piece_checks, finish_checks, export_checks}
 use Rattle.droid_core.specs.Setting.{Setting}
 use Rattle.droid_core.specs.Verdicts.{is_refused}
 use Rattle.droid_core.specs.Wants.{is_want}

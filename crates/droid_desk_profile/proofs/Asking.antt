@@ -1,6 +1,6 @@
 -- One request to a service of one's own.
-use Rattle.std.proofs.Common.{◌≡◌, ◌≢◌, ℕ, ◌+◌, ◌<◌, ◌≤◌, ◌^◌, ◌==◌, ◌&&◌, inl, inr, nat_lt, Bool, true, false, cond, List, [], ◌∷◌, ◌++◌, find, Option, Some, None, refl, sym, ap, subst, ◌∙◌, arith}
-use Rattle.std.specs.Prelude.{MatchBool, IsSome}
+use Rattle.std.proofs.Common.{◌≡◌, ◌≢◌, ℕ, ◌+◌, ◌<◌, ◌^◌, ◌==◌, ◌&&◌, inl, inr, Bool, true, false, cond, [], ◌∷◌, ◌++◌, find, Option, Some, None, refl, sym, ap, subst, ◌∙◌, arith}
+use Rattle.std.specs.Prelude.{MatchBool}
 use Rattle.std.specs.Option.{option_or}
 use Rattle.std.proofs.lemmas.Bool.{lt-ltb}
 use Rattle.std.proofs.lemmas.Bool.Decides.{eqb_tells}
@@ -12,7 +12,7 @@ use Rattle.droid_frame.specs.types.frame.Frame.{Frame}
 use Rattle.droid_frame.specs.types.reply.Reply.{Reply}
 use Rattle.droid_frame.specs.types.request.Request.{Request}
 use Rattle.droid_frame.proofs.RequestLaws.{spelled_is_value}
-use Rattle.droid_core.specs.Histories.{Entry, History, command, frame_mark, is_under, kept, world_of, world_asked, world_after, verdict_reply, entry_of, history_with, answer, next, Handles, New}
+use Rattle.droid_core.specs.Histories.{Entry, History, command, is_under, kept, world_of, world_asked, world_after, verdict_reply, entry_of, history_with, Handles, New}
 use Rattle.droid_core.specs.Judging.{Verdict, Accepted, Answered, Refuses, judge}
 use Rattle.droid_core.specs.Setting.{Setting}
 use Rattle.droid_core.specs.Standing.{StandsFor}

@@ -1,5 +1,5 @@
 -- The nodes that a service holds after the requests of a tree.
-use Rattle.std.proofs.Common.{◌≡◌, ℕ, ℤ, zero, suc, ◌+◌, ◌≤◌, ◌<◌, true, false, List, [], ◌∷◌, ◌++◌, length, map, Option, refl, sym, ap, subst, ◌∙◌, arith, add-one, append-nil, append_assoc, length-append}
+use Rattle.std.proofs.Common.{◌≡◌, ℕ, ℤ, suc, ◌+◌, ◌≤◌, false, List, [], ◌∷◌, ◌++◌, length, map, Option, refl, sym, subst, arith, add-one, append-nil, append_assoc, length-append}
 use Rattle.std.specs.List.{flat_map, AllByRecursion}
 use Rattle.std.specs.Io.KnownBytes.{Appends}
 use Rattle.droid_frame.specs.types.reply.Reply.{Reply}
@@ -10,11 +10,9 @@ use Rattle.droid_core.specs.Setting.{Setting}
 use Rattle.droid_core.specs.Verdicts.{is_refused}
 use Rattle.droid_core.specs.Wants.{is_want}
 use Rattle.droid_core.specs.World.{Content, Node, Folder, File, empty_world}
-use Rattle.droid_desk_tree.specs.Asked.{Asked}
 use Rattle.droid_desk_tree.specs.Told.{Told, GoesOver}
-use Rattle.droid_desk_tree.specs.Visits.{Sent, Kid, Subfolder, WholeFile, Visit, IsKid, IsVisited, IsFinished, pieces_from, asked_of_kid, asked_of_visit, told_of_visit}
+use Rattle.droid_desk_tree.specs.Visits.{Sent, Kid, Subfolder, WholeFile, Visit, IsKid, IsVisited, IsFinished, pieces_from, asked_of_kid, asked_of_visit}
 use Rattle.droid_desk_tree.specs.Walks.{WalksWhole}
-use Rattle.droid_desk_tree.specs.declared.entry.Entry.{Entry}
 use Rattle.droid_desk_tree.specs.declared.walking.Options.{Options}
 use Rattle.droid_desk_profile.specs.Answering.{At, Answers, Holds, text_of}
 use Rattle.droid_desk_profile.specs.Nodes.{Lying, AreNodes, IsNodeOf, all_kids, number_of}

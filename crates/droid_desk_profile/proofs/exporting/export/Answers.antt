@@ -1,4 +1,4 @@
-use Rattle.std.proofs.Common.{◌≡◌, ◌+◌, length, List, ℕ, ap, refl, subst, sym, ◌∙◌}
+use Rattle.std.proofs.Common.{◌+◌, length, List, ℕ, ap, refl, subst, ◌∙◌}
 use Rattle.std.specs.Io.KnownBytes.{Appends}
 use Rattle.droid_desk_profile.proofs.Parts.{wrote_none, wrote_more, wrote_all}
 use Rattle.droid_desk_profile.proofs.exporting.export.Goals as goal

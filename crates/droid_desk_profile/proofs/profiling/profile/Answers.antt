@@ -1,4 +1,3 @@
-use Rattle.std.proofs.Common.{refl}
 use Rattle.droid_desk_profile.proofs.Asking.{begins}
 use Rattle.droid_desk_profile.proofs.Holding.{submitted}
 use Rattle.droid_desk_profile.proofs.profiling.profile.Goals as goal

@@ -1,4 +1,4 @@
-use Rattle.std.proofs.Common.{◌≡◌, ◌+◌, ◌<◌, ◌^◌, refl, arith}
+use Rattle.std.proofs.Common.{◌+◌, ◌<◌, ◌^◌, refl, arith}
 use Rattle.droid_desk_profile.specs.declared.own.Own.{Own}
 use Rattle.droid_desk_profile.proofs.Asking.{request_answered}
 use Rattle.droid_desk_profile.proofs.own.OwnExchange.ask.Goals as goal
