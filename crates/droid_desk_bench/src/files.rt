@@ -70,8 +70,8 @@ fn hash_in_blocks<R: Print + Clock + AllocGlobal>(rt: &R) -> Result<u128, Error>
     Ok(least)
 }
 
-/// Prints how long a file of 256 MiB with this hash takes beside a hash alone over the same pieces: where what is handed back is
-/// kept aside, as the hash keeps the pieces, and where each piece is dropped as it comes back.
+/// Prints how long a file of 256 MiB with this hash takes beside a hash alone over the same pieces: where what is handed
+/// back is kept aside, as the hash keeps the pieces, and where each piece is dropped as it comes back.
 fn print_large<R: Print + Clock + AllocGlobal>(
     rt: &R,
     what: &str,
@@ -139,8 +139,8 @@ fn print_small<R: Print + Clock + AllocGlobal>(
     Ok(())
 }
 
-/// How many nanoseconds a hash takes alone over the pieces of a large file, and how many an assembly with another hash, or
-/// the same, takes for these very pieces.
+/// How many nanoseconds a hash takes alone over the pieces of a large file, and how many an assembly with the same hash or
+/// another takes for these very pieces.
 fn times_of_large<R: Clock + AllocGlobal>(
     rt: &R,
     order: Order,
