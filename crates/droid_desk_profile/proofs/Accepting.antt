@@ -15,7 +15,7 @@ use Rattle.droid_frame.specs.types.request.Request.TheVariants.{CreateProfile, A
 use Rattle.droid_core.specs.Exported.{part_of}
 use Rattle.droid_core.specs.Files.{count_of, bytes_of, is_due, with_piece, as_finished, finding_of, finished_reply}
 use Rattle.droid_core.specs.Histories.{verdict_reply, world_after}
-use Rattle.droid_core.specs.Judging.{Accepted, Answered, judge, refusal_of, unless_refused, world_set, with_node, node_set, create_checks, folder_checks, file_checks, piece_checks, finish_checks, export_checks}
+use Rattle.droid_core.specs.Judging.{Accepted, Answered, judge, judge_create, judge_folder, judge_file, judge_piece, judge_finish, judge_export, refusal_of, unless_refused, world_set, with_node, node_set, create_checks, folder_checks, file_checks, piece_checks, finish_checks, export_checks}
 use Rattle.droid_core.specs.Setting.{Setting}
 use Rattle.droid_core.specs.Verdicts.{is_refused}
 use Rattle.droid_core.specs.Wants.{is_want}
@@ -29,7 +29,7 @@ use Rattle.droid_desk_profile.specs.declared.own.Own.{Own}
 module _ (setting : Setting) (world : World) (profile : Profile) (found : numbered world.profiles 1 ≡ Some profile) where
   judged_folder : (parent : ℕ) (modified : ℤ) (name : List ℕ)
       → judge setting world (AddFolder 1 parent modified name) ≡ unless_refused (refusal_of (folder_checks setting.limits profile.nodes parent modified name)) (Accepted (replies.Node (length profile.nodes + 1)) (world_set world 1 (with_node profile (Folder parent modified name))))
-  unfolding judge
+  unfolding judge judge_folder
   judged_folder parent modified name = rw found refl
 
   abbrev fresh_content : ℕ → ℕ → Content
@@ -38,28 +38,28 @@ module _ (setting : Setting) (world : World) (profile : Profile) (found : number
   judged_file : (parent : ℕ) (modified : ℤ) (size piece_size : ℕ) (name : List ℕ)
       → judge setting world (AddFile 1 parent modified size piece_size name) ≡ unless_refused (refusal_of (file_checks setting.limits world profile.nodes parent modified size piece_size name))
       (Accepted (replies.Node (length profile.nodes + 1)) (world_set world 1 (with_node profile (File parent modified name (fresh_content size piece_size)))))
-  unfolding judge
+  unfolding judge judge_file
   judged_file parent modified size piece_size name = rw found refl
 
   module _ (file parent : ℕ) (modified : ℤ) (name : List ℕ) (content : Content) (there : node_at profile.nodes file ≡ Some (File parent modified name content)) where
     judged_piece : (index : ℕ) (bytes : List ℕ)
         → judge setting world (Piece 1 file index bytes) ≡ unless_refused (refusal_of (piece_checks content index bytes))
         (Accepted (replies.Taken (length content.pieces + 1)) (world_set world 1 (node_set profile file (File parent modified name (with_piece content index bytes)))))
-    unfolding judge
+    unfolding judge judge_piece
     judged_piece index bytes = rw (found, there) refl
 
     judged_finish : judge setting world (Finish 1 file) ≡ unless_refused (refusal_of (finish_checks content))
-        (Accepted (finished_reply (finding_of setting profile name content) (bytes_of content)) (world_set world 1 (node_set profile file (File parent modified name (as_finished content)))))
-    unfolding judge
+        (Accepted (finished_reply (finding_of setting profile name content)) (world_set world 1 (node_set profile file (File parent modified name (as_finished content)))))
+    unfolding judge judge_finish
     judged_finish = rw (found, there) refl
 
   judged_export : (from max : ℕ) (filter : Filter) → judge setting world (Export 1 from max filter) ≡ unless_refused (refusal_of (export_checks max)) (Answered (part_of setting world.accepted profile from max filter))
-  unfolding judge
+  unfolding judge judge_export
   judged_export from max filter = rw found refl
 
 judged_create : (setting : Setting) (world : World) (scan_limit : ℕ) (match_all : Bool) → judge setting world (CreateProfile scan_limit match_all) ≡ unless_refused (refusal_of (create_checks setting.limits world scan_limit))
     (Accepted (replies.Made (length world.profiles + 1)) (world_with world (world.profiles ++ record { scan_limit = scan_limit; match_all = match_all; nodes = [] } ∷ [])))
-unfolding judge
+unfolding judge judge_create
 judged_create setting world scan_limit match_all = refl
 
 -- ---- what was no refusal was accepted
