@@ -66,7 +66,7 @@ module _ (setting : Setting) (world : World) (number parent : ℕ) (modified : �
     file_accepted is = rw (found, is) refl
 
     pub comes_file : (old new : Parts) (stamp : Stamp) (id : ℕ) (way : List ℕ) (assembly : State) → IsIn setting world old → first_refusal ≡ None
-        → id ≡ length profile.nodes + 1 → way ≡ path profile.nodes parent ++ 47 ∷ name → AreShort name way → IsNew assembly size piece_size profile.scan_limit
+        → id ≡ length profile.nodes + 1 → way ≡ path profile.nodes parent ++ 47 ∷ name → AreShort name way → IsNew assembly size piece_size profile.scan_limit profile.hash
         → new.limits ≡ old.limits → new.registry ≡ old.registry
         → new.store ≡ with_reply (stamped stamp (replies.Node id)) (with_node (new_file number id parent modified size piece_size name way) old.store)
         → new.files.files ≡ old.files.files ++ record { profile = number; file = id; assembly = assembly } ∷ [] → new.files.limit ≡ old.files.limit

@@ -106,7 +106,7 @@ new_content size piece_size = record { size = size; piece_size = piece_size; pie
 module _ (world : World) (number : ℕ) (profile : Profile) (parent : ℕ) (modified : ℤ) (size piece_size : ℕ) (name : List ℕ) (old new : OpenFiles) (assembly : State)
     (found : numbered world.profiles number ≡ Some profile) (has : HasAssemblies world old)
     (files : new.files ≡ old.files ++ record { profile = number; file = length profile.nodes + 1; assembly = assembly } ∷ [])
-    (new_assembly : IsNew assembly size piece_size profile.scan_limit) where
+    (new_assembly : IsNew assembly size piece_size profile.scan_limit profile.hash) where
   abbrev id_of : ℕ
   id_of = length profile.nodes + 1
 

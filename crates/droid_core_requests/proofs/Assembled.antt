@@ -34,23 +34,23 @@ module _ (world : World) (files : OpenFiles) (has : HasAssemblies world files) (
   pub assembly_of : content.finished ≡ false → IsOpenFor profile content (open_at number id files.files)
   assembly_of unfinished = unfinished_only content.finished _ _ unfinished of_file
 
--- which assembly a node has to have depends on its profile's scan limit alone
-same_assembly : (before after : Profile) (node : Option Node) (found : Option OpenFile) → before.scan_limit ≡ after.scan_limit → HasItsAssembly before node found → HasItsAssembly after node found
-same_assembly before after None found limit has = has
-same_assembly before after (Some (Folder parent modified name)) found limit has = has
-same_assembly before after (Some (File parent modified name content)) found limit has = by_finished content.finished _ (IsOpenFor before content found) (IsOpenFor after content found) has (λ it. record {
+-- which assembly a node has to have depends on its profile's scan limit and hash alone
+same_assembly : (before after : Profile) (node : Option Node) (found : Option OpenFile) → before.scan_limit ≡ after.scan_limit → before.hash ≡ after.hash → HasItsAssembly before node found → HasItsAssembly after node found
+same_assembly before after None found limit hash has = has
+same_assembly before after (Some (Folder parent modified name)) found limit hash has = has
+same_assembly before after (Some (File parent modified name content)) found limit hash has = by_finished content.finished _ (IsOpenFor before content found) (IsOpenFor after content found) has (λ it. record {
   file = it.file;
   there = it.there;
   assembled = record {
     size = it.assembled.size;
     piece_size = it.assembled.piece_size;
     limit = it.assembled.limit ∙ limit;
-    hash = it.assembled.hash;
+    hash = it.assembled.hash ∙ hash;
     pieces = it.assembled.pieces;
     none_pending = it.assembled.none_pending;
   };
 })
-same_assembly before after (Some Abandoned) found limit has = has
+same_assembly before after (Some Abandoned) found limit hash has = has
 
 -- ---- one node in the place of another
 
@@ -66,7 +66,7 @@ module _ (world : World) (number : ℕ) (profile : Profile) (id : ℕ) (before a
     | inr unequal ↦ let apart : that_id ≡ id → ⊥ = eqb-false that_id id unequal in
         let was : HasItsAssembly profile (numbered profile.nodes that_id) (open_at number that_id old.files) = (let each = has.each number that_id in rw is at each) in
         rw (numbered_set_other profile.nodes id that_id before after there apart, others number that_id (λ _ same. apart same))
-        (same_assembly profile (node_set profile id after) (numbered profile.nodes that_id) (open_at number that_id old.files) refl was)
+        (same_assembly profile (node_set profile id after) (numbered profile.nodes that_id) (open_at number that_id old.files) refl refl was)
   ]
 
   each_after : (that_number that_id : ℕ) → HasItsAssemblyIn (numbered (world_set world number (node_set profile id after)).profiles that_number) that_id (open_at that_number that_id new.files)

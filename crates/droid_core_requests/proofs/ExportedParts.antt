@@ -87,13 +87,13 @@ part_within max allowed = elim (cases_Bool (is_part_size max)) [
 
 -- the text of the rows' records is the export of the world's profile
 pub text_shown : (setting : Setting) (world : World) (service : Parts) (number : ℕ) (filter : Filter) (profile : Profile) → IsIn setting world service → numbered world.profiles number ≡ Some profile
-    → text service.registry filter (records_of number service.store) ≡ setting.export_text (records setting profile) filter
+    → text service.registry filter profile.hash (records_of number service.store) ≡ setting.export_text (records setting profile) filter profile.hash
 text_shown setting world service number filter profile is_in there =
     let found = records_found setting world service.store number profile is_in.rows.nodes there in
-    let shown = is_in.is_setting.registry.exports (records setting profile) filter in
+    let shown = is_in.is_setting.registry.exports (records setting profile) filter profile.hash in
     rw (found, shown) refl
 
 -- a part of it, with the number of the accepted commands, is the part that is asked for
 pub part_shown : (setting : Setting) (world : World) (service : Parts) (accepted from max : ℕ) (filter : Filter) (profile : Profile) (bytes : List ℕ) → IsIn setting world service → accepted ≡ length service.store.replies
-    → bytes ≡ setting.export_text (records setting profile) filter → part accepted bytes from max ≡ part_of setting world.accepted profile from max filter
+    → bytes ≡ setting.export_text (records setting profile) filter profile.hash → part accepted bytes from max ≡ part_of setting world.accepted profile from max filter
 part_shown setting world service accepted from max filter profile bytes is_in counted shown = rw (counted, is_in.rows.accepted, shown) refl

@@ -2,10 +2,13 @@
 use Rattle.std.proofs.Common.{◌≡◌, ℕ, ◌+◌, List, length, slice_get, true, false, Some, None, refl, sym, ap, subst, ◌∙◌}
 use Rattle.std.specs.Prelude.{ℤ, Bool, MatchBool, ⊤}
 use Rattle.droid_assembly.specs.State.{IsUnchanged}
+use Rattle.droid_frame.specs.types.hash_value.HashValue.{HashValue}
 use Rattle.droid_frame.specs.types.refusal.Refusal.{Refusal}
-use Rattle.droid_frame.specs.types.refusal.Refusal.TheVariants.{AlreadyFinished}
+use Rattle.droid_frame.specs.types.refusal.Refusal.TheVariants.{AlreadyFinished, BadOption}
 use Rattle.droid_frame.specs.types.reply.Reply.{Reply}
 use Rattle.droid_frame.specs.types.reply.Reply.TheVariants as replies
+use Rattle.droid_frame.specs.Hashes.{hash_value_kind}
+use Rattle.droid_core_spec.specs.Conditions.{is_told}
 use Rattle.droid_core_spec.specs.Files.{Finding, as_finished, bytes_of, digest_of, found_as, identified, finding_of, finished_reply}
 use Rattle.droid_core_state.specs.Identified.{as_identification, found_in}
 use Rattle.droid_core_spec.specs.Judging.{Verdict, Accepted, Refuses, unless_refused, refusal_of, finish_checks, judge_finish, world_set, node_set}
@@ -30,6 +33,8 @@ use Rattle.droid_core_state.specs.declared.stamps.Stamp.{Stamp}
 use Rattle.droid_core_requests.specs.LookUps.{HasFile, for_file}
 use Rattle.droid_core_state.specs.Standing.{IsIn}
 use Rattle.droid_core_requests.proofs.Assembled.{assembly_of, assemblies_finished}
+use Rattle.droid_core_requests.proofs.FinishJudged.{hash_untold}
+use Rattle.droid_core_requests.proofs.Hashes.{kind_of_hash}
 use Rattle.droid_core_requests.proofs.FileVerdicts.{judged_there, unfinished_there, finished_there}
 use Rattle.droid_core_state.proofs.Staying.{comes_refused, of_any}
 use Rattle.droid_core_requests.proofs.UnchangedFiles.{assemblies_unchanged, place_still}
@@ -37,7 +42,7 @@ use Rattle.droid_core_requests.proofs.UnchangedFiles.{assemblies_unchanged, plac
 -- what comes of finishing this file
 abbrev pub finish_there : Setting → World → ℕ → ℕ → Profile → ℕ → ℤ → List ℕ → Content → Verdict
 finish_there setting world number id profile parent modified name content =
-    unless_refused (refusal_of (finish_checks content))
+    unless_refused (refusal_of (finish_checks profile.hash content))
     (Accepted (finished_reply (finding_of setting profile name content)) (world_set world number (node_set profile id (File parent modified name (as_finished content)))))
 
 pub finish_for_file : (setting : Setting) (world : World) (number id : ℕ) → judge_finish setting world number id ≡ for_file world number id (finish_there setting world number id)
@@ -88,13 +93,23 @@ module _ (setting : Setting) (world : World) (number id : ℕ) (row : FileRow) (
   abbrev reply_and_world : Verdict
   reply_and_world = Accepted (finished_reply (finding_of setting has.profile has.name has.content)) (world_set world number (node_set has.profile id (File has.parent has.modified has.name (as_finished has.content))))
 
-  refused : (refusal : Refusal) → refusal_of (finish_checks has.content) ≡ Some refusal → judge_finish setting world number id ≡ Refuses refusal
+  -- of a hash that no reply can tell
+  pub refused_untold : is_unfinished row.node.state ≡ true → is_told row.profile.hash ≡ false → judge_finish setting world number id ≡ Refuses BadOption
+  refused_untold is untold =
+      let of_profile = ap (λ (p : ProfileRow). is_told p.hash) (sym has.profile_is) ∙ untold in
+      judged ∙ ap (λ found. unless_refused found reply_and_world) (hash_untold has.profile.hash has.content (unfinished_there world number id row has is) of_profile)
+
+  pub told_there : is_told row.profile.hash ≡ true → is_told has.profile.hash ≡ true
+  told_there told = ap (λ (p : ProfileRow). is_told p.hash) (sym has.profile_is) ∙ told
+
+  refused : (refusal : Refusal) → refusal_of (finish_checks has.profile.hash has.content) ≡ Some refusal → judge_finish setting world number id ≡ Refuses refusal
   refused refusal is = judged ∙ ap (λ found. unless_refused found reply_and_world) is
 
-  accepted : refusal_of (finish_checks has.content) ≡ None → judge_finish setting world number id ≡ reply_and_world
+  accepted : refusal_of (finish_checks has.profile.hash has.content) ≡ None → judge_finish setting world number id ≡ reply_and_world
   accepted is = judged ∙ ap (λ found. unless_refused found reply_and_world) is
 
-  module _ (old : Parts) (place : ℕ) (is_in : IsIn setting world old) (is : is_unfinished row.node.state ≡ true) (at_place : slice_get old.files.files place ≡ open_at number id old.files.files) where
+  module _ (old : Parts) (place : ℕ) (is_in : IsIn setting world old) (is : is_unfinished row.node.state ≡ true) (at_place : slice_get old.files.files place ≡ open_at number id old.files.files)
+      (told : is_told has.profile.hash ≡ true) where
     unfinished : has.content.finished ≡ false
     unfinished = unfinished_there world number id row has is
 
@@ -103,10 +118,10 @@ module _ (setting : Setting) (world : World) (number id : ℕ) (row : FileRow) (
 
     -- it is not identified
     pub comes_unfinished : (stamp : Stamp) (new : Parts) (refusal : Refusal) → Stays setting world old new
-        → At old.files place (λ file. (profile : Profile) (content : Content) → IsAssemblyOf profile content file → content.finished ≡ false → MatchBool (is_want_of refusal) ⊤ (refusal_of (finish_checks content) ≡ Some refusal))
+        → At old.files place (λ file. (profile : Profile) (content : Content) → IsAssemblyOf profile content file → content.finished ≡ false → is_told profile.hash ≡ true → MatchBool (is_want_of refusal) ⊤ (refusal_of (finish_checks profile.hash content) ≡ Some refusal))
         → Comes setting world old new stamp (judge_finish setting world number id) (replies.Refused refusal)
     comes_unfinished stamp new refusal stays said =
-        wanting_or (is_want_of refusal) _ _ _ (said its.file (at_place ∙ its.there) has.profile has.content its.assembled unfinished) stays
+        wanting_or (is_want_of refusal) _ _ _ (said its.file (at_place ∙ its.there) has.profile has.content its.assembled unfinished told) stays
         (λ refuses. comes_refused setting world old new stamp (judge_finish setting world number id) refusal (of_any _ (refused refusal refuses)) stays)
 
     -- what is found is the setting's
@@ -119,22 +134,29 @@ module _ (setting : Setting) (world : World) (number id : ℕ) (row : FileRow) (
         let of_profile = subst (λ (p : ProfileRow). IsFound old.registry has.name (bytes_of has.content) has.profile.scan_limit p.match_all found) has.profile_is named in
         found_is setting world old has.name (bytes_of has.content) has.profile.scan_limit has.profile.match_all found is_in of_profile
 
-    pub digest_is : (digest : List ℕ) → At old.files place (λ file. (profile : Profile) (content : Content) → IsAssemblyOf profile content file → digest ≡ digest_of content) → digest ≡ digest_of has.content
+    pub digest_is : (digest : HashValue) → At old.files place (λ file. (profile : Profile) (content : Content) → IsAssemblyOf profile content file → digest ≡ digest_of profile.hash content) → digest ≡ digest_of has.profile.hash has.content
     digest_is digest said = said its.file (at_place ∙ its.there) has.profile has.content its.assembled
 
-    pub allowed_there : At old.files place (λ file. (profile : Profile) (content : Content) → IsAssemblyOf profile content file → content.finished ≡ false → refusal_of (finish_checks content) ≡ None) → refusal_of (finish_checks has.content) ≡ None
-    allowed_there said = said its.file (at_place ∙ its.there) has.profile has.content its.assembled unfinished
+    -- so it is of the choice that the profile's row names
+    pub kind_is : (digest : HashValue) → At old.files place (λ file. (profile : Profile) (content : Content) → IsAssemblyOf profile content file → digest ≡ digest_of profile.hash content) → hash_value_kind digest ≡ row.profile.hash
+    kind_is digest said =
+        ap hash_value_kind (digest_is digest said)
+        ∙ kind_of_hash has.profile.hash (bytes_of has.content)
+        ∙ ap (λ (p : ProfileRow). p.hash) (sym has.profile_is)
+
+    pub allowed_there : At old.files place (λ file. (profile : Profile) (content : Content) → IsAssemblyOf profile content file → content.finished ≡ false → is_told profile.hash ≡ true → refusal_of (finish_checks profile.hash content) ≡ None) → refusal_of (finish_checks has.profile.hash has.content) ≡ None
+    allowed_there said = said its.file (at_place ∙ its.there) has.profile has.content its.assembled unfinished told
 
     -- the finding, the reply, and the rows with it, as the verdict has them
     abbrev finding : Finding
     finding = finding_of setting has.profile has.name has.content
 
     -- what was seen of the file is that
-    pub seen_is : (found : Found) (digest : List ℕ) → found ≡ found_in (identified setting has.profile has.name has.content) → digest ≡ digest_of has.content
+    pub seen_is : (found : Found) (digest : HashValue) → found ≡ found_in (identified setting has.profile has.name has.content) → digest ≡ digest_of has.profile.hash has.content
         → found_as (as_identification found) digest ≡ finding
     seen_is found digest same_found same_digest =
         ap (λ (it : Found). found_as (as_identification it) digest) same_found
-        ∙ ap (λ (d : List ℕ). found_as (identified setting has.profile has.name has.content) d) same_digest
+        ∙ ap (λ (d : HashValue). found_as (identified setting has.profile has.name has.content) d) same_digest
 
     abbrev reply : Reply
     reply = finished_reply finding
@@ -142,7 +164,7 @@ module _ (setting : Setting) (world : World) (number id : ℕ) (row : FileRow) (
     abbrev finished_rows : Stamp → Rows
     finished_rows stamp = with_reply (stamped stamp reply) (with_finding number id finding old.store)
 
-    pub finished : (stamp : Stamp) (given : Reply) (store : Rows) (mid new : OpenFiles) (seen : Finding) → refusal_of (finish_checks has.content) ≡ None
+    pub finished : (stamp : Stamp) (given : Reply) (store : Rows) (mid new : OpenFiles) (seen : Finding) → refusal_of (finish_checks has.profile.hash has.content) ≡ None
         → seen ≡ finding → given ≡ finished_reply seen → store ≡ with_reply (stamped stamp given) (with_finding number id seen old.store)
         → IsAlikeBut place old.files mid → Turns old.files mid place IsUnchanged
         → ((one : OpenFile) → IsAt mid.files place one → open_at one.profile one.file new.files ≡ None)

@@ -1,15 +1,20 @@
--- What is answered to who finishes a file: which piece is missing first, or nothing refuses it.
-use Rattle.std.proofs.Common.{◌≡◌, ℕ, ◌<◌, false, Some, None, refl, sym, ap, arith}
+-- What is answered to who finishes a file: that no reply can tell its hash, which piece is missing first, or nothing refuses it.
+use Rattle.std.proofs.Common.{◌≡◌, ℕ, ◌<◌, true, false, Some, None, refl, sym, ap, arith}
 use Rattle.std.proofs.lemmas.Bool.{lt-ltb, le-ltb}
-use Rattle.droid_frame.specs.types.refusal.Refusal.TheVariants.{Incomplete}
+use Rattle.droid_frame.specs.types.hash_kind.HashKind.{HashKind}
+use Rattle.droid_frame.specs.types.refusal.Refusal.TheVariants.{BadOption, Incomplete}
+use Rattle.droid_core_spec.specs.Conditions.{is_told}
 use Rattle.droid_core_spec.specs.Files.{count_of, missing_of}
 use Rattle.droid_core_spec.specs.Judging.{refusal_of, finish_checks}
 use Rattle.droid_core_spec.specs.World.{Content}
 
-pub some_missing : (content : Content) (missing : ℕ) → content.finished ≡ false → (missing ≡ missing_of content) × (missing < count_of content) → refusal_of (finish_checks content) ≡ Some (Incomplete missing)
-some_missing content missing unfinished is =
-    let below : missing_of content < count_of content = omega (arith, is.0, is.1) in
-    rw (unfinished, lt-ltb (missing_of content) (count_of content) below) (ap (λ n. Some (Incomplete n)) (sym is.0))
+pub hash_untold : (hash : HashKind) (content : Content) → content.finished ≡ false → is_told hash ≡ false → refusal_of (finish_checks hash content) ≡ Some BadOption
+hash_untold hash content unfinished untold = rw (unfinished, untold) refl
 
-pub none_missing : (content : Content) → content.finished ≡ false → missing_of content ≡ count_of content → refusal_of (finish_checks content) ≡ None
-none_missing content unfinished is = rw (unfinished, le-ltb (missing_of content) (count_of content) (omega (arith, is))) refl
+pub some_missing : (hash : HashKind) (content : Content) (missing : ℕ) → content.finished ≡ false → is_told hash ≡ true → (missing ≡ missing_of content) × (missing < count_of content) → refusal_of (finish_checks hash content) ≡ Some (Incomplete missing)
+some_missing hash content missing unfinished told is =
+    let below : missing_of content < count_of content = omega (arith, is.0, is.1) in
+    rw (unfinished, told, lt-ltb (missing_of content) (count_of content) below) (ap (λ n. Some (Incomplete n)) (sym is.0))
+
+pub none_missing : (hash : HashKind) (content : Content) → content.finished ≡ false → is_told hash ≡ true → missing_of content ≡ count_of content → refusal_of (finish_checks hash content) ≡ None
+none_missing hash content unfinished told is = rw (unfinished, told, le-ltb (missing_of content) (count_of content) (omega (arith, is))) refl

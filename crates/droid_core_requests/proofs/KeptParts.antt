@@ -10,16 +10,16 @@ use Rattle.droid_core_requests.specs.declared.kept_text.KeptText.{KeptText}
 
 -- the last text, where it is of the profile and by the filter that are asked for, is their export
 pub last_shown : (setting : Setting) (world : World) (last : Option KeptText) (number : ℕ) (filter : Filter) (profile : Profile) → IsLastText setting world last → IsFor number filter last
-    → numbered world.profiles number ≡ Some profile → bytes_in last ≡ setting.export_text (records setting profile) filter
+    → numbered world.profiles number ≡ Some profile → bytes_in last ≡ setting.export_text (records setting profile) filter profile.hash
 last_shown setting world None number filter profile is its there = absurd its
 last_shown setting world (Some kept) number filter profile is its there =
     let same : Some is.profile ≡ Some profile = sym is.there ∙ (ap (numbered world.profiles) its.0 ∙ there) in
     let its_profile : is.profile ≡ profile = cc in
-    is.text ∙ (ap (λ p. setting.export_text (records setting p) kept.filter) its_profile ∙ ap (setting.export_text (records setting profile)) its.1)
+    is.text ∙ (ap (λ (p : Profile). setting.export_text (records setting p) kept.filter p.hash) its_profile ∙ ap (λ (f : Filter). setting.export_text (records setting profile) f profile.hash) its.1)
 
 -- a text that is kept, or not, by what is left of it
 pub kept_or_none : (setting : Setting) (world : World) (last : Option KeptText) (number from max : ℕ) (filter : Filter) (bytes : List ℕ) (profile : Profile) → numbered world.profiles number ≡ Some profile
-    → bytes ≡ setting.export_text (records setting profile) filter → (leaves_more (length bytes) from max ≡ true → last ≡ Some (record { profile = number; filter = filter; text = bytes }))
+    → bytes ≡ setting.export_text (records setting profile) filter profile.hash → (leaves_more (length bytes) from max ≡ true → last ≡ Some (record { profile = number; filter = filter; text = bytes }))
     → (leaves_more (length bytes) from max ≡ false → last ≡ None) → IsLastText setting world last
 kept_or_none setting world last number from max filter bytes profile there shown kept only = elim (cases_Bool (leaves_more (length bytes) from max)) [
   | inl more ↦

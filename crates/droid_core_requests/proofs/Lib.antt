@@ -12,6 +12,7 @@ pub mod FileVerdicts
 pub mod FilesFound
 pub mod FinishJudged
 pub mod FolderRows
+pub mod Hashes
 pub mod KeptParts
 pub mod MadeProfiles
 pub mod Moments
@@ -21,5 +22,4 @@ pub mod PlaceChecks
 pub mod PuidTexts
 pub mod PutJudged
 pub mod SameLists
-pub mod Sixteen
 pub mod UnchangedFiles

@@ -60,8 +60,8 @@ module _ (old mid new : OpenFiles) (place : ℕ) (first : IsAlikeBut place old m
     pub grown : Turns old mid place (λ before after. (pieces : List Piece) → StandsFor before pieces → StandsFor after pieces)
         → Turns mid new place (λ before after. (pieces : List Piece) (piece : Piece) → StandsFor before pieces → before.pending ≡ Some piece → StandsFor after (pieces ++ piece ∷ []))
         → Turns mid new place IsOfSameFile → Turns mid new place (λ before after. after.pending ≡ None)
-        → (profile after : Profile) (content : Content) → profile.scan_limit ≡ after.scan_limit → IsAssemblyOf profile content file.assembly → IsAssemblyOf after (with_piece content index bytes) last.after
-    grown stood settled same_file none_pending profile after content limit is =
+        → (profile after : Profile) (content : Content) → profile.scan_limit ≡ after.scan_limit → profile.hash ≡ after.hash → IsAssemblyOf profile content file.assembly → IsAssemblyOf after (with_piece content index bytes) last.after
+    grown stood settled same_file none_pending profile after content limit kind is =
         let was = with_assembly file middle.after in
         let now = with_assembly was last.after in
         let same = same_file was now middle.at last.at in
@@ -69,7 +69,7 @@ module _ (old mid new : OpenFiles) (place : ℕ) (first : IsAlikeBut place old m
           size = same.size ∙ ap (λ (a : State). a.size) put_at ∙ is.size;
           piece_size = same.piece_size ∙ ap (λ (a : State). a.piece_size) put_at ∙ is.piece_size;
           limit = same.limit ∙ ap (λ (a : State). a.limit) put_at ∙ is.limit ∙ limit;
-          hash = same.hash_kind ∙ ap hash_kind_of put_at ∙ is.hash;
+          hash = same.hash_kind ∙ ap hash_kind_of put_at ∙ is.hash ∙ kind;
           pieces = settled was now middle.at last.at content.pieces (index, bytes) (stood file was here middle.at content.pieces is.pieces) (ap (λ (a : State). a.pending) put_at);
           none_pending = none_pending was now middle.at last.at;
         }
@@ -109,7 +109,7 @@ module _ (world : World) (old mid new : OpenFiles) (place : ℕ) (first : IsAlik
       let key = key_found number id old.files its.file its.there in
       let ends = last old mid new place first second its.file here in
       let found : open_at number id new.files ≡ Some (with_assembly its.file ends.after) = ap₂ (λ n i. open_at n i new.files) (sym key.0) (sym key.1) ∙ ends.found in
-      let assembled = grown old mid new place first second its.file here index bytes put stood settled same_file none_pending profile (node_set profile id after) content refl its.assembled in
+      let assembled = grown old mid new place first second its.file here index bytes put stood settled same_file none_pending profile (node_set profile id after) content refl refl its.assembled in
       assemblies_turned world number profile id before after old new has is (at_file (numbered profile.nodes id) parent modified name content there)
       (λ that_number that_id apart. others_same old mid new place first second its.file here that_number that_id (not_this its.file number id that_number that_id key.0 key.1 apart))
       (unfinished_has content.finished _ _ unfinished (record { file = with_assembly its.file ends.after; there = found; assembled = assembled }))

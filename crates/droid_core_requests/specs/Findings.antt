@@ -2,7 +2,6 @@
 use Rattle.droid_core_files.specs.declared.finding.Finding as files
 use Rattle.droid_core_spec.specs.Files.{Finding, found_as}
 use Rattle.droid_core_state.specs.Identified.{as_identification}
-use Rattle.droid_core_requests.specs.Digests.{md5_in}
 
 abbrev pub finding_in : files.Finding → Finding
-finding_in finding = found_as (as_identification finding.found) (md5_in finding.sealed.hash)
+finding_in finding = found_as (as_identification finding.found) finding.sealed.hash

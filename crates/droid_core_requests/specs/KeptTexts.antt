@@ -12,7 +12,7 @@ use Rattle.droid_core_requests.specs.declared.kept_text.KeptText.{KeptText}
 pub record IsTextIn (setting : Setting) (world : World) (kept : KeptText) : Type 0 where
   pub profile : Profile
   pub there : numbered world.profiles kept.profile ≡ Some profile
-  pub text : kept.text ≡ setting.export_text (records setting profile) kept.filter
+  pub text : kept.text ≡ setting.export_text (records setting profile) kept.filter profile.hash
   pub size : length kept.text ≤ 2 ^ 28
 
 -- where a text is kept, it is one of this world

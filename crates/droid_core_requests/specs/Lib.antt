@@ -1,6 +1,5 @@
 -- What the kinds of request look up, take and place.
 pub mod Causes
-pub mod Digests
 pub mod Findings
 pub mod KeptTexts
 pub mod LookUps

@@ -1,14 +1,14 @@
 -- The assembly of a new file. No public clause names it: it only serves proofs.
 use Rattle.std.specs.Prelude.{◌≡◌, ◌≤◌, ℕ, [], None}
 use Rattle.droid_assembly.specs.State.{State, StandsFor, hash_kind_of}
-use Rattle.droid_frame.specs.types.hash_kind.HashKind.TheVariants as kinds
+use Rattle.droid_frame.specs.types.hash_kind.HashKind.{HashKind}
 
--- of this size and piece size, this scan limit and MD5, and no piece was taken
-pub record IsNew (assembly : State) (file_size size_of_pieces scan_limit : ℕ) : Type 0 where
+-- of this size and piece size, this scan limit and this hash, and no piece was taken
+pub record IsNew (assembly : State) (file_size size_of_pieces scan_limit : ℕ) (kind : HashKind) : Type 0 where
   pub size : assembly.size ≡ file_size
   pub piece_size : assembly.piece_size ≡ size_of_pieces
   pub limit : assembly.limit ≡ scan_limit
-  pub hash : hash_kind_of assembly ≡ kinds.Md5
+  pub hash : hash_kind_of assembly ≡ kind
   pub narrow : assembly.limit ≤ 65536
   pub pieces : StandsFor assembly []
   pub none_pending : assembly.pending ≡ None

@@ -39,7 +39,7 @@ pub fn export(
     ensures limits { parts.new.limits ≡ parts.old.limits }
     ensures registry { parts.new.registry ≡ parts.old.registry }
 {
-    profile_of(parts.store.profile(number))?;
+    let row = profile_of(parts.store.profile(number))?;
     if let Some(refusal) = export_refusal(max) {
         return Err(refusal);
     }
@@ -50,7 +50,8 @@ pub fn export(
     }
     forget_text(last);
     let records = records_in(&mut parts.store, number)?;
-    let text = export_text(parts.alloc, records.as_slice(), &parts.registry, &filter)?;
+    let shown = records.as_slice();
+    let text = export_text(parts.alloc, shown, &parts.registry, &filter, row.hash)?;
     let reply = part_of(parts.alloc, accepted, &text, from, max)?;
     keep_text(last, number, filter, text, from, max);
     Ok(reply)

@@ -1,6 +1,6 @@
 //! The rows and the assembly of the file that a request names, looked up.
 
-ghost use Rattle.std.specs.Prelude.{◌≡◌, ◌<◌, length, false, Ok, Some, None, MatchBool, ⊤, IsSome, IfOk, IfErr, OnOk, OnErr};
+ghost use Rattle.std.specs.Prelude.{◌≡◌, ◌<◌, length, false, Ok, Some, None, MatchBool, ⊤, IsSome, IfOk, IfErr, OnOk, OnErr, option_map};
 ghost use Rattle.std.specs.List.{slice_get};
 ghost use Rattle.droid_core_requests.specs.LookUps.{FindsFile, node_in};
 ghost use Rattle.droid_core_spec.specs.Setting.{Setting};
@@ -8,7 +8,7 @@ ghost use Rattle.droid_core_spec.specs.Wants.{is_want_of};
 ghost use Rattle.droid_core_spec.specs.World.{World};
 ghost use Rattle.droid_core_state.specs.Rows.{KeepsWorld};
 ghost use Rattle.droid_store.specs.Changes.{IsOpen};
-ghost use Rattle.droid_store.specs.Rows.{is_unfinished};
+ghost use Rattle.droid_store.specs.Rows.{is_unfinished, profile_at};
 ghost use Rattle.droid_store.specs.declared.rows.NodeState.TheVariants.{Unfinished};
 ghost use Rattle.droid_core_files.specs.Files.{At, open_at};
 
@@ -44,6 +44,7 @@ impl FileRow {
 pub fn file_of(store: &mut Store, number: u32, file: u32) -> Result<FileRow, Refusal>
     ensures same { store.new ≡ store.old }
     ensures open { IfOk result (λ row. row.node.state ≡ Unfinished → IsOpen number file store.old) }
+    ensures hash { IfOk result (λ row. option_map (λ p. p.hash) (profile_at number store.old) ≡ Some row.profile.hash) }
     ensures found { (setting : Setting) (world : World) → KeepsWorld setting world store.old → FindsFile world number file result }
 {
     let profile = profile_of(store.profile(number))?;

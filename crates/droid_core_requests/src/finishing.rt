@@ -1,6 +1,6 @@
 //! The end of a file whose pieces are all there.
 
-ghost use Rattle.std.specs.Prelude.{◌≡◌, ◌<◌, ◌≤◌, ◌^◌, ◌+◌, ℕ, length, false, None, Some, IsTrue, MatchBool, ⊤, IfOk, IfErr, OnOk, OnErr};
+ghost use Rattle.std.specs.Prelude.{◌≡◌, ◌<◌, ◌≤◌, ◌^◌, ◌+◌, ℕ, length, true, false, None, Some, IsOk, IsTrue, MatchBool, ⊤, IfOk, IfErr, OnOk, OnErr};
 ghost use Rattle.std.specs.List.{AllByRecursion};
 ghost use Rattle.droid_assembly.specs.State.{IsUnchanged};
 ghost use Rattle.droid_core_state.specs.Assemblies.{IsAssemblyOf};
@@ -8,10 +8,11 @@ ghost use Rattle.droid_core_state.specs.Changes.{Comes, answered, stamped};
 ghost use Rattle.droid_core_state.specs.Rows.{IsShort, with_finding};
 ghost use Rattle.droid_core_state.specs.Standing.{IsIn};
 ghost use Rattle.droid_core_requests.specs.Causes.{says_store};
-ghost use Rattle.droid_core_requests.specs.Digests.{md5_in};
 ghost use Rattle.droid_core_requests.specs.Findings.{finding_in};
-ghost use Rattle.droid_frame.specs.Replies.{HasReplySpelling, IsDigest};
+ghost use Rattle.droid_frame.specs.Hashes.{IsHashValue, hash_value_kind};
+ghost use Rattle.droid_frame.specs.Replies.{HasReplySpelling, IsSpelledHash};
 ghost use Rattle.droid_frame.specs.types.reply.Reply.TheVariants as replies;
+ghost use Rattle.droid_core_spec.specs.Conditions.{is_told};
 ghost use Rattle.droid_core_spec.specs.Files.{bytes_of, digest_of, finished_reply};
 ghost use Rattle.droid_core_spec.specs.Judging.{judge_finish, refusal_of, finish_checks};
 ghost use Rattle.droid_core_spec.specs.Setting.{Setting};
@@ -19,14 +20,14 @@ ghost use Rattle.droid_core_spec.specs.Wants.{is_want_of};
 ghost use Rattle.droid_core_spec.specs.World.{Content, Profile, World};
 ghost use Rattle.droid_pronom.specs.Found.{IsFound};
 ghost use Rattle.droid_pronom.specs.RegistryFields.{is_puid};
-ghost use Rattle.droid_store.specs.Changes.{IsOpen, with_reply};
+ghost use Rattle.droid_store.specs.Changes.{IsOfKind, IsOpen, with_reply};
 ghost use Rattle.droid_store.specs.Rows.{reply_for};
 ghost use Rattle.droid_core_files.specs.Files.{OpenFile, IsAt, At, Turns, IsAlikeBut, is_of, open_at};
 
 use crate::file_rows::{FileRow, file_of, none_is_pending, place_of_file};
 use droid_core_files::{Finding, IdentifyFault, UnfinishedFiles};
-use droid_core_state::{Parts, Stamp, entry_of};
-use droid_frame::{HashValue, Refusal, Reply};
+use droid_core_state::{Parts, Stamp, entry_of, is_told};
+use droid_frame::{HashKind, HashValue, Refusal, Reply};
 use droid_pronom::Registry;
 use droid_store::Store;
 use std::alloc::Global;
@@ -45,9 +46,13 @@ pub fn finish(parts: &mut Parts, stamp: Stamp, number: u32, file: u32) -> Result
     if !row.is_unfinished() {
         return Err(Refusal::AlreadyFinished);
     }
+    if !is_told(row.profile.hash) {
+        return Err(Refusal::BadOption);
+    }
     let place = place_of_file(&parts.files, number, file)?;
     none_is_pending(&parts.files, place)?;
     let finding = identify_file(parts.alloc, &mut parts.files, place, &parts.registry, &row)?;
+    is_of_kind(finding.sealed.hash, row.profile.hash)?;
     let reply = keep_finding(
         parts.alloc,
         &mut parts.store,
@@ -72,14 +77,14 @@ fn identify_file(
     requires within { place < length files.old.files }
     requires none_pending { At files.old place (λ file. file.pending ≡ None) }
     ensures refused { IfErr result (λ refusal. At files.old place (λ file. (profile : Profile) (content : Content) → IsAssemblyOf profile content file → content.finished ≡ false
-        → MatchBool (is_want_of refusal) ⊤ (refusal_of (finish_checks content) ≡ Some refusal))) }
+        → is_told profile.hash ≡ true → MatchBool (is_want_of refusal) ⊤ (refusal_of (finish_checks profile.hash content) ≡ Some refusal))) }
     ensures allowed { OnOk result (At files.old place (λ file. (profile : Profile) (content : Content) → IsAssemblyOf profile content file → content.finished ≡ false
-        → refusal_of (finish_checks content) ≡ None)) }
+        → is_told profile.hash ≡ true → refusal_of (finish_checks profile.hash content) ≡ None)) }
     ensures digest { IfOk result (λ finding. At files.old place (λ file. (profile : Profile) (content : Content) → IsAssemblyOf profile content file
-        → md5_in finding.sealed.hash ≡ digest_of content)) }
+        → finding.sealed.hash ≡ digest_of profile.hash content)) }
     ensures found { IfOk result (λ finding. At files.old place (λ file. (profile : Profile) (content : Content) → IsAssemblyOf profile content file
         → IsFound registry.now row.now.node.item.name (bytes_of content) profile.scan_limit row.now.profile.match_all finding.found)) }
-    ensures sixteen { IfOk result (λ finding. IsDigest (md5_in finding.sealed.hash)) }
+    ensures sized { IfOk result (λ finding. IsHashValue finding.sealed.hash) }
     ensures few { IfOk result (λ finding. length finding.found.puids ≤ 4096) }
     ensures puids { IfOk result (λ finding. AllByRecursion (λ puid. IsTrue (is_puid puid)) finding.found.puids) }
     ensures unchanged { Turns files.old files.new place IsUnchanged }
@@ -93,6 +98,19 @@ fn identify_file(
         Err(IdentifyFault::Incomplete { missing }) => Err(Refusal::Incomplete { missing }),
         Err(IdentifyFault::Memory) => Err(Refusal::Memory),
     }
+}
+
+/// Finds that a file's hash is of its profile's choice: so it is in each service, and where it wasn't, the
+/// request would be refused as by the database.
+fn is_of_kind(hash: HashValue, kind: HashKind) -> Result<(), Refusal>
+    ensures kind { OnOk result (hash_value_kind hash ≡ kind) }
+    ensures its { hash_value_kind hash ≡ kind → IsOk result }
+    ensures want { IfErr result (λ refusal. refusal ≡ Refusal.Store) }
+{
+    if hash.kind() != kind {
+        return Err(Refusal::Store);
+    }
+    Ok(())
 }
 
 /// Keeps what was found in the file at this place, and drops the file's pieces. Nothing changes where
@@ -111,7 +129,8 @@ fn keep_finding(
     requires small { stamp.number < 2 ^ 63 }
     requires within { place < length files.old.files }
     requires file { IsOpen number file store.old }
-    requires digest { IsDigest (md5_in finding.sealed.hash) }
+    requires kind { IsOfKind number finding.sealed.hash store.old }
+    requires hash { IsSpelledHash finding.sealed.hash }
     requires few { length finding.found.puids ≤ 4096 }
     requires puids { AllByRecursion (λ puid. IsTrue (is_puid puid)) finding.found.puids }
     ensures reply { IfOk result (λ reply. reply ≡ finished_reply (finding_in finding)) }
@@ -129,34 +148,22 @@ fn keep_finding(
     let reply = finished_reply(alloc, &finding)?;
     let entry = entry_of(alloc, stamp, &reply)?;
     let found = &finding.found;
-    let md5 = md5_of(finding.sealed.hash);
     store.commit_finish(
         &entry,
         number,
         file,
         found.method,
         found.mismatch,
-        md5,
+        finding.sealed.hash,
         &found.puids,
     )?;
     files.remove(place);
     Ok(reply)
 }
 
-/// The MD5 of a file: each profile has that hash.
-fn md5_of(value: HashValue) -> [u8; 16]
-    ensures { result ≡ md5_in value }
-{
-    match value {
-        HashValue::Md5(digest) => digest,
-        HashValue::Nothing => [0; 16],
-        HashValue::Sha256(_) => [0; 16],
-    }
-}
-
 /// The reply that says what was found, with a copy of the identifiers: the store is given the others.
 fn finished_reply(alloc: Global, finding: &Finding) -> Result<Reply, Refusal>
-    requires digest { IsDigest (md5_in finding.now.sealed.hash) }
+    requires hash { IsSpelledHash finding.now.sealed.hash }
     requires few { length finding.now.found.puids ≤ 4096 }
     requires puids { AllByRecursion (λ puid. IsTrue (is_puid puid)) finding.now.found.puids }
     ensures reply { IfOk result (λ reply. reply ≡ finished_reply (finding_in finding.now)) }
@@ -168,7 +175,7 @@ fn finished_reply(alloc: Global, finding: &Finding) -> Result<Reply, Refusal>
     Ok(Reply::Finished {
         method: found.method,
         mismatch: found.mismatch,
-        md5: md5_of(finding.sealed.hash),
+        hash: finding.sealed.hash,
         puids,
     })
 }

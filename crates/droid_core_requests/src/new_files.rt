@@ -47,7 +47,7 @@ pub fn add_file(
         return Err(refusal);
     }
     let id = row.nodes + 1;
-    let assembly = new_assembly(parts.alloc, size, piece_size, row.scan_limit)?;
+    let assembly = new_assembly(parts.alloc, size, piece_size, row.scan_limit, row.hash)?;
     has_room(&parts.files, number, id)?;
     let reply = Reply::Node { id };
     let entry = entry_of(parts.alloc, stamp, &reply)?;
@@ -79,16 +79,22 @@ fn unfinished_room(parts: &Parts) -> Room
 
 /// The assembly of a new file, of sizes that are in range. Only want of memory refuses it, or a scan
 /// limit out of range, which no profile has: that is answered as if the database had refused.
-fn new_assembly(alloc: Global, size: u64, piece_size: u32, limit: u32) -> Result<Assembly, Refusal>
+fn new_assembly(
+    alloc: Global,
+    size: u64,
+    piece_size: u32,
+    limit: u32,
+    hash: HashKind,
+) -> Result<Assembly, Refusal>
     requires sizes { (any : ℕ) → IsTrue (is_scan_limit any) → AreSizes size piece_size any }
-    ensures new { IfOk result (λ assembly. IsNew assembly size piece_size limit) }
+    ensures new { IfOk result (λ assembly. IsNew assembly size piece_size limit hash) }
     ensures small { OnOk result (size < 2 ^ 63) }
     ensures memory { IsTrue (is_scan_limit limit) → IfErr result (λ refusal. refusal ≡ Refusal.Memory) }
 {
     if !is_scan_limit(limit) {
         return Err(Refusal::Store);
     }
-    let assembly = Assembly::new(alloc, size, piece_size, limit, HashKind::Md5)?;
+    let assembly = Assembly::new(alloc, size, piece_size, limit, hash)?;
     Ok(assembly)
 }
 

@@ -11,22 +11,23 @@ ghost use Rattle.droid_core_spec.specs.World.{World};
 ghost use Rattle.droid_store.specs.Rows.{reply_for};
 
 use droid_core_state::{Parts, Room, Stamp, create_refusal, entry_of};
-use droid_frame::{Refusal, Reply};
+use droid_frame::{HashKind, Refusal, Reply};
 
-/// Makes a profile.
+/// Makes a profile, whose files get this hash.
 pub fn create_profile(
     parts: &mut Parts,
     stamp: Stamp,
     scan_limit: u32,
     match_all: bool,
+    hash: HashKind,
 ) -> Result<Reply, Refusal>
     requires new { reply_for stamp.client stamp.number parts.old.store ≡ None }
     requires small { stamp.number < 2 ^ 63 }
     ensures comes { (setting : Setting) (world : World) → IsIn setting world parts.old
-        → Comes setting world parts.old parts.new stamp (judge_create setting world scan_limit match_all) (answered result) }
+        → Comes setting world parts.old parts.new stamp (judge_create setting world scan_limit match_all hash) (answered result) }
     // What is refused is refused with no want of memory: no call before it takes any.
     ensures refused { (setting : Setting) (world : World) (refusal : RefusalValue) → IsIn setting world parts.old
-        → judge_create setting world scan_limit match_all ≡ Refuses refusal → result ≡ Err refusal }
+        → judge_create setting world scan_limit match_all hash ≡ Refuses refusal → result ≡ Err refusal }
     ensures spelled { HasReplySpelling (answered result) }
     ensures limits { parts.new.limits ≡ parts.old.limits }
     ensures registry { parts.new.registry ≡ parts.old.registry }
@@ -40,7 +41,7 @@ pub fn create_profile(
     let entry = entry_of(parts.alloc, stamp, &reply)?;
     parts
         .store
-        .commit_profile(&entry, profile, scan_limit, match_all)?;
+        .commit_profile(&entry, profile, scan_limit, match_all, hash)?;
     Ok(reply)
 }
 

@@ -3,10 +3,17 @@ use Rattle.std.proofs.Common.{◌≡◌, ℕ, List, [], ◌∷◌, refl, true, f
 use Rattle.std.specs.Prelude.{pos, codes, map}
 use Rattle.std.specs.List.{flat_map}
 use Rattle.md5.specs.Md5.{md5, block_words, rounds, compress, hash_after, digest_bytes}
+use Rattle.sha2.specs.Sha256.{sha256}
 use Rattle.droid_core_spec.specs.Records.{records}
 use Rattle.droid_frame.specs.Reading.{truth_at, whole}
 use Rattle.droid_frame.specs.Values.{create_profile_value, plain_value, request_value, request_in}
+use Rattle.droid_frame.specs.types.filter.Filter.{Filter}
 use Rattle.droid_frame.specs.types.frame.Frame.{Frame}
+use Rattle.droid_frame.specs.Hashes.{hash_kind_number}
+use Rattle.droid_frame.specs.types.hash_kind.HashKind.{HashKind}
+use Rattle.droid_frame.specs.types.hash_kind.HashKind.TheVariants as hash_kinds
+use Rattle.droid_frame.specs.types.hash_value.HashValue.{HashValue}
+use Rattle.droid_frame.specs.types.hash_value.HashValue.TheVariants as hashes
 use Rattle.droid_frame.specs.types.method.Method.TheVariants.{Unidentified}
 use Rattle.droid_frame.specs.types.refusal.Limit.TheVariants as reached
 use Rattle.droid_frame.specs.types.refusal.Refusal.TheVariants as refusals
@@ -19,14 +26,14 @@ use Rattle.droid_core_spec.specs.Conditions.{is_scan_limit, is_piece_size, is_pa
 use Rattle.droid_core_spec.specs.Histories.{command, world_of, verdict_reply, world_after, meeting, answer, answers, next}
 use Rattle.droid_core_spec.specs.Judging.{judge, judge_create, judge_folder, judge_file, judge_piece, judge_finish, judge_abandon, judge_status, judge_export}
 use Rattle.droid_core_spec.specs.Setting.{Setting}
-use Rattle.droid_core_spec.specs.World.{World, empty_world, is_taken}
+use Rattle.droid_core_spec.specs.World.{Folder, File, World, empty_world, is_taken}
 use Rattle.droid_assembly.specs.Pieces.{missing, file_bytes}
 
 abbrev plain : Limits → Setting
 plain limits = record {
   limits = limits;
   identify = λ name bytes limit all. record { method = Unidentified; mismatch = false; puids = [] };
-  export_text = λ records filter. [];
+  export_text = λ records filter hash. [];
 }
 
 abbrev usual : Setting
@@ -40,7 +47,7 @@ replies_from setting world (request ∷ requests) =
 
 -- too far ahead: w of 20 pieces of one byte
 pub too_far_ahead : replies_from usual empty_world (
-    CreateProfile 65536 false
+    CreateProfile 65536 false hash_kinds.Md5
     ∷ AddFile 1 0 (pos 0) 20 1 (codes "w")
     ∷ Piece 1 1 15 (112 ∷ [])
     ∷ Piece 1 1 16 (113 ∷ [])
@@ -54,7 +61,7 @@ too_far_ahead = refl
 
 -- bad pieces and one that is held: m.msg, 14 bytes in pieces of 4
 pub bad_and_held_pieces : replies_from usual empty_world (
-    CreateProfile 65536 false
+    CreateProfile 65536 false hash_kinds.Md5
     ∷ AddFile 1 0 (pos 0) 14 4 (codes "m.msg")
     ∷ Piece 1 1 0 (codes "mess")
     ∷ Piece 1 1 0 (codes "mess")
@@ -71,7 +78,7 @@ bad_and_held_pieces = refl
 
 -- an abandoned file's number isn't given again, and its name is free
 pub abandoned : replies_from usual empty_world (
-    CreateProfile 65536 false
+    CreateProfile 65536 false hash_kinds.Md5
     ∷ AddFile 1 0 (pos 0) 4 4 (codes "x")
     ∷ Abandon 1 1
     ∷ Piece 1 1 0 (codes "aaaa")
@@ -85,8 +92,8 @@ abandoned = refl
 
 -- one unfinished file at a time; the limit is judged after the size
 pub limit_of_unfinished : replies_from (plain (record { profiles = 1; nodes = 9; unfinished = 1 })) empty_world (
-    CreateProfile 65536 false
-    ∷ CreateProfile 65536 false
+    CreateProfile 65536 false hash_kinds.Md5
+    ∷ CreateProfile 65536 false hash_kinds.Md5
     ∷ AddFile 1 0 (pos 0) 4 4 (codes "x")
     ∷ AddFile 1 0 (pos 0) 4 4 (codes "y")
     ∷ AddFile 1 0 (pos 0) 1099511627777 1048576 (codes "y")
@@ -107,7 +114,7 @@ limit_of_unfinished = refl
 -- pieces out of order, and what is asked after the file is finished
 abbrev message_requests : List Request
 message_requests =
-    CreateProfile 65536 false
+    CreateProfile 65536 false hash_kinds.Md5
     ∷ AddFile 1 0 (pos 0) 14 4 (codes "m.msg")
     ∷ Piece 1 1 3 (codes "st")
     ∷ Piece 1 1 1 (codes "age ")
@@ -122,14 +129,14 @@ message_requests =
 
 pub pieces_out_of_order : replies_from usual empty_world message_requests
     ≡ replies.Made 1 ∷ replies.Node 1 ∷ replies.Taken 1 ∷ replies.Taken 2 ∷ replies.Taken 3 ∷ replies.Taken 4
-    ∷ replies.Finished Unidentified false (md5 (codes "message digest")) [] ∷ replies.Refused refusals.AlreadyFinished ∷ replies.Refused refusals.AlreadyFinished
+    ∷ replies.Finished Unidentified false (hashes.Md5 (md5 (codes "message digest"))) [] ∷ replies.Refused refusals.AlreadyFinished ∷ replies.Refused refusals.AlreadyFinished
     ∷ replies.Refused refusals.AlreadyFinished ∷ replies.Progress 4 4 ∷ []
 unfolding judge judge_create judge_folder judge_file judge_piece judge_finish judge_abandon judge_status judge_export is_scan_limit is_piece_size is_part_size is_too_large is_moment is_bad_name is_missing is_file is_too_deep is_taken missing file_bytes
 pieces_out_of_order = refl
 
 -- an empty file is complete at once; a folder is no file, a file is no folder
 pub empty_file_and_kinds : replies_from usual empty_world (
-    CreateProfile 65536 false
+    CreateProfile 65536 false hash_kinds.Md5
     ∷ AddFile 1 0 (pos 0) 0 4 (codes "e.txt")
     ∷ Finish 1 1
     ∷ AddFolder 1 0 (pos 0) (codes "in")
@@ -142,15 +149,15 @@ pub empty_file_and_kinds : replies_from usual empty_world (
     ∷ AddFile 1 0 (pos 253402300800) 1 1 (codes "f")
     ∷ AddFile 1 2 (pos 0) 1 1 (codes "f")
     ∷ []
-    ) ≡ replies.Made 1 ∷ replies.Node 1 ∷ replies.Finished Unidentified false (md5 []) [] ∷ replies.Node 2 ∷ replies.Refused refusals.NotAFile ∷ replies.Refused refusals.NotAFile
+    ) ≡ replies.Made 1 ∷ replies.Node 1 ∷ replies.Finished Unidentified false (hashes.Md5 (md5 [])) [] ∷ replies.Node 2 ∷ replies.Refused refusals.NotAFile ∷ replies.Refused refusals.NotAFile
     ∷ replies.Refused refusals.NotAFolder ∷ replies.Refused refusals.BadName ∷ replies.Refused refusals.NoSuchNode ∷ replies.Refused refusals.NoSuchProfile
     ∷ replies.Refused refusals.BadOption ∷ replies.Node 3 ∷ []
 unfolding judge judge_create judge_folder judge_file judge_piece judge_finish judge_abandon judge_status judge_export is_scan_limit is_piece_size is_part_size is_too_large is_moment is_bad_name is_missing is_file is_too_deep is_taken missing file_bytes
 empty_file_and_kinds = refl
 
 -- slices of an export, over a text of nine bytes; a query isn't counted as accepted
-pub slices_of_an_export : replies_from (record usual { export_text = λ records filter. codes "ten bytes" }) empty_world (
-    CreateProfile 65536 false
+pub slices_of_an_export : replies_from (record usual { export_text = λ records filter hash. codes "ten bytes" }) empty_world (
+    CreateProfile 65536 false hash_kinds.Md5
     ∷ AddFolder 1 0 (pos 0) (codes "in")
     ∷ Export 1 0 1048576 (record { all = true; criteria = [] })
     ∷ Export 1 4 3 (record { all = true; criteria = [] })
@@ -173,7 +180,7 @@ abbrev records_shown : World → List (ℕ × List ℕ)
 records_shown world = map (λ record_. (record_.id, record_.path)) (flat_map (λ profile. records usual profile) world.profiles)
 
 pub records_of_a_profile : records_shown (world_from usual empty_world (
-    CreateProfile 65536 false
+    CreateProfile 65536 false hash_kinds.Md5
     ∷ AddFolder 1 0 (pos 0) (codes "in")
     ∷ AddFile 1 1 (pos 0) 0 4 (codes "e.txt")
     ∷ AddFile 1 1 (pos 0) 1 4 (codes "u.txt")
@@ -184,6 +191,51 @@ pub records_of_a_profile : records_shown (world_from usual empty_world (
     )) ≡ (1, codes "/in") ∷ (2, codes "/in/e.txt") ∷ []
 unfolding judge judge_create judge_folder judge_file judge_piece judge_finish judge_abandon judge_status judge_export is_scan_limit is_piece_size is_part_size is_too_large is_moment is_bad_name is_missing is_file is_too_deep is_taken missing file_bytes
 records_of_a_profile = refl
+
+-- an export is told which hash its profile's files get; a file whose hash no reply can tell isn't finished, whole or not
+abbrev every_record : Filter
+every_record = record { all = true; criteria = [] }
+
+pub hash_by_profile : replies_from (record usual { export_text = λ records filter hash. hash_kind_number hash ∷ [] }) empty_world (
+    CreateProfile 65536 false hash_kinds.Sha256
+    ∷ CreateProfile 65536 false hash_kinds.Nothing
+    ∷ CreateProfile 65536 false hash_kinds.Md5
+    ∷ AddFile 1 0 (pos 0) 3 3 (codes "abc")
+    ∷ AddFile 2 0 (pos 0) 0 3 (codes "empty")
+    ∷ AddFile 3 0 (pos 0) 0 3 (codes "empty")
+    ∷ Finish 1 1
+    ∷ Finish 2 1
+    ∷ Finish 3 1
+    ∷ Export 1 0 9 every_record
+    ∷ Export 2 0 9 every_record
+    ∷ Export 3 0 9 every_record
+    ∷ []
+    ) ≡ replies.Made 1 ∷ replies.Made 2 ∷ replies.Made 3 ∷ replies.Node 1 ∷ replies.Node 1 ∷ replies.Node 1
+    ∷ replies.Refused refusals.BadOption ∷ replies.Refused refusals.BadOption ∷ replies.Finished Unidentified false (hashes.Md5 (md5 [])) []
+    ∷ replies.Part 7 1 (2 ∷ []) ∷ replies.Part 7 1 (0 ∷ []) ∷ replies.Part 7 1 (1 ∷ []) ∷ []
+unfolding judge judge_create judge_folder judge_file judge_piece judge_finish judge_abandon judge_status judge_export is_scan_limit is_piece_size is_part_size is_too_large is_moment is_bad_name is_missing is_file is_too_deep is_taken missing file_bytes
+hash_by_profile = refl
+
+-- a finished file's record has the hash of its profile's choice, and a folder's has none
+abbrev hashes_shown : HashKind → List HashValue
+hashes_shown kind = map (λ record_. record_.hash) (records usual (record {
+  scan_limit = 65536;
+  match_all = false;
+  hash = kind;
+  nodes = Folder 0 (pos 0) (codes "in") ∷ File 1 (pos 0) (codes "abc") (record { size = 3; piece_size = 3; pieces = (0, codes "abc") ∷ []; finished = true }) ∷ [];
+}))
+
+pub md5_shown : hashes_shown hash_kinds.Md5 ≡ hashes.Nothing ∷ hashes.Md5 (md5 (codes "abc")) ∷ []
+unfolding missing file_bytes
+md5_shown = refl
+
+pub sha256_shown : hashes_shown hash_kinds.Sha256 ≡ hashes.Nothing ∷ hashes.Sha256 (sha256 (codes "abc")) ∷ []
+unfolding missing file_bytes
+sha256_shown = refl
+
+pub no_hash_shown : hashes_shown hash_kinds.Nothing ≡ hashes.Nothing ∷ hashes.Nothing ∷ []
+unfolding missing file_bytes
+no_hash_shown = refl
 
 -- ---- frames, with clients and numbers
 

@@ -1,15 +1,16 @@
 -- Judging a request is what its kind's own definition says.
 use Rattle.std.proofs.Common.{◌≡◌, ℕ, ℤ, Bool, List, refl}
 use Rattle.droid_frame.specs.types.filter.Filter.{Filter}
+use Rattle.droid_frame.specs.types.hash_kind.HashKind.{HashKind}
 use Rattle.droid_frame.specs.types.request.Request.TheVariants.{CreateProfile, AddFolder, AddFile, Piece, Finish, Abandon, Status, Export}
 use Rattle.droid_core_spec.specs.Judging.{judge, judge_create, judge_folder, judge_file, judge_piece, judge_finish, judge_abandon, judge_status, judge_export}
 use Rattle.droid_core_spec.specs.Setting.{Setting}
 use Rattle.droid_core_spec.specs.World.{World}
 
 module _ (setting : Setting) (world : World) where
-  pub is_create : (scan_limit : ℕ) (match_all : Bool) → judge setting world (CreateProfile scan_limit match_all) ≡ judge_create setting world scan_limit match_all
+  pub is_create : (scan_limit : ℕ) (match_all : Bool) (hash : HashKind) → judge setting world (CreateProfile scan_limit match_all hash) ≡ judge_create setting world scan_limit match_all hash
   unfolding judge
-  is_create scan_limit match_all = refl
+  is_create scan_limit match_all hash = refl
 
   pub is_folder : (number parent : ℕ) (modified : ℤ) (name : List ℕ) → judge setting world (AddFolder number parent modified name) ≡ judge_folder setting world number parent modified name
   unfolding judge

@@ -56,9 +56,9 @@ module _ (world : World) (request : Request) where
 
 pub judged : (setting : Setting) (world : World) (request : Request) → MayCome world request (judge setting world request)
 unfolding judge judge_create judge_folder judge_file judge_piece judge_finish judge_abandon judge_status judge_export
-judged setting world (CreateProfile scan_limit match_all) =
-    unless world (CreateProfile scan_limit match_all) (create_checks setting.limits world scan_limit)
-    (Accepted (replies.Made (length world.profiles + 1)) (world_with world (world.profiles ++ record { scan_limit = scan_limit; match_all = match_all; nodes = [] } ∷ [])))
+judged setting world (CreateProfile scan_limit match_all hash) =
+    unless world (CreateProfile scan_limit match_all hash) (create_checks setting.limits world scan_limit)
+    (Accepted (replies.Made (length world.profiles + 1)) (world_with world (world.profiles ++ record { scan_limit = scan_limit; match_all = match_all; hash = hash; nodes = [] } ∷ [])))
     (refl, (refl, tt)) (record { command = refl; no_refusal = refl; one_more = refl })
 judged setting world (AddFolder number parent modified name) =
     let request = AddFolder number parent modified name in
@@ -82,9 +82,9 @@ judged setting world (Piece number file index bytes) =
     (λ profile parent modified name content. record { command = refl; no_refusal = refl; one_more = refl })
 judged setting world (Finish number file) =
     in_file_of world (Finish number file) number file
-    (λ profile parent modified name content. finish_checks content)
+    (λ profile parent modified name content. finish_checks profile.hash content)
     (λ profile parent modified name content. Accepted (finished_reply (finding_of setting profile name content)) (world_set world number (node_set profile file (File parent modified name (as_finished content)))))
-    (λ profile parent modified name content. (refl, (refl, tt)))
+    (λ profile parent modified name content. (refl, (refl, (refl, tt))))
     (λ profile parent modified name content. record { command = refl; no_refusal = refl; one_more = refl })
 judged setting world (Abandon number file) =
     in_file_of world (Abandon number file) number file
@@ -133,5 +133,5 @@ exported_as_of setting world number from max as_of total filter bytes is = by (n
     by : (found : Option Profile) → in_profile found (λ profile. unless_refused (refusal_of (export_checks max)) (Answered (part_of setting world.accepted profile from max filter))) ≡ Answered (replies.Part as_of total bytes) → as_of ≡ world.accepted
     by None told = absurd cc
     by (Some profile) told =
-        let text = setting.export_text (records setting profile) filter in
+        let text = setting.export_text (records setting profile) filter profile.hash in
         number_unless (refusal_of (export_checks max)) as_of total world.accepted (length text) bytes (take max (drop from text)) told

@@ -8,6 +8,7 @@ use Rattle.std.specs.List.{AllByRecursion}
 use Rattle.droid_assembly.specs.Pieces.{due_length, IsDue}
 use Rattle.droid_assembly.proofs.Indexes.{missing_before, length-whole}
 use Rattle.droid_frame.specs.types.refusal.Refusal.{Refusal}
+use Rattle.droid_frame.specs.types.hash_kind.HashKind.{HashKind}
 use Rattle.droid_frame.specs.types.request.Request.{Request}
 use Rattle.droid_frame.specs.types.request.Request.TheVariants.{CreateProfile, AddFolder, AddFile, Piece, Finish, Abandon, Status, Export}
 use Rattle.droid_core_spec.specs.Conditions.{is_moment, is_piece_size}
@@ -80,10 +81,10 @@ counted_taken content index bytes counted none =
           (within, eqb-true (length bytes) (due_length content.size content.piece_size index) due.1);
     }
 
-counted_finished : (content : Content) → IsCounted content → refusal_of (finish_checks content) ≡ None → IsCounted (as_finished content)
-counted_finished content counted none =
-    let all = none_holds (finish_checks content) none in
-    let past = ltb-false (missing_of content) (count_of content) all.1.0 in
+counted_finished : (hash : HashKind) (content : Content) → IsCounted content → refusal_of (finish_checks hash content) ≡ None → IsCounted (as_finished content)
+counted_finished hash content counted none =
+    let all = none_holds (finish_checks hash content) none in
+    let past = ltb-false (missing_of content) (count_of content) all.1.1.0 in
     record {
       taken = counted.taken;
       complete = λ is. omega (arith, past, missing_within (count_of content) content.pieces);
@@ -157,9 +158,9 @@ module _ (world : World) (counted : AreCounted world) where
 
   pub counted_after : (setting : Setting) (request : Request) → AreCounted (world_after world (judge setting world request))
   unfolding judge judge_create judge_folder judge_file judge_piece judge_finish judge_abandon judge_status judge_export
-  counted_after setting (CreateProfile scan_limit match_all) =
+  counted_after setting (CreateProfile scan_limit match_all hash) =
       after_checks _ _ (λ (none : refusal_of (create_checks setting.limits world scan_limit) ≡ None).
-      each_with_one_more IsCountedProfile world.profiles (record { scan_limit = scan_limit; match_all = match_all; nodes = [] }) counted tt)
+      each_with_one_more IsCountedProfile world.profiles (record { scan_limit = scan_limit; match_all = match_all; hash = hash; nodes = [] }) counted tt)
   counted_after setting (AddFolder number parent modified name) =
       after_profile _ _ (λ profile is. after_checks _ _ (λ (none : refusal_of (folder_checks setting.limits profile.nodes parent modified name) ≡ None).
       node_added number profile (Folder parent modified name) is tt))
@@ -173,7 +174,7 @@ module _ (world : World) (counted : AreCounted world) where
   counted_after setting (Finish number id) =
       after_profile _ _ (λ profile is. after_file _ _ (λ parent modified name content at. after_checks _ _ (λ none.
       node_changed number id profile (File parent modified name (as_finished content)) is
-      (counted_finished content (file_in number id parent modified name content profile is at) none))))
+      (counted_finished profile.hash content (file_in number id parent modified name content profile is at) none))))
   counted_after setting (Abandon number id) =
       after_profile _ _ (λ profile is. after_file (node_at profile.nodes id) _ (λ parent modified name content at. after_checks _ _ (λ (none : refusal_of (abandon_checks content) ≡ None).
       node_changed number id profile Abandoned is tt)))

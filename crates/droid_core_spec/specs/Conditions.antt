@@ -3,6 +3,8 @@ use Rattle.std.specs.Prelude.{ℕ, zero, suc, ℤ, pos, negsuc, ◌+◌, ◌^◌
 use Rattle.std.specs.Int.Signed.{lt_z}
 use Rattle.std.specs.List.{list_any}
 use Rattle.std.specs.Str.{bytes_eq}
+use Rattle.droid_frame.specs.types.hash_kind.HashKind.{HashKind}
+use Rattle.droid_frame.specs.types.hash_kind.HashKind.TheVariants as hashes
 use Rattle.droid_assembly.specs.Pieces.{piece_count}
 use Rattle.droid_core_spec.specs.World.{Node, Folder, File, Abandoned, node_at, path}
 
@@ -49,3 +51,9 @@ is_file (Some Abandoned) = false
 -- the path of a new node of this folder would pass 4,096 bytes
 unfoldable pub is_too_deep : List Node → ℕ → List ℕ → Bool
 is_too_deep nodes parent name = nat_lt 4096 (length (path nodes parent) + 1 + length name)
+
+-- a Finished can tell a file's hash of this kind: it has the bytes of an MD5, and no others
+abbrev pub is_told : HashKind → Bool
+is_told hashes.Nothing = false
+is_told hashes.Md5 = true
+is_told hashes.Sha256 = false

@@ -13,4 +13,4 @@ abbrev pub part : ℕ → List ℕ → ℕ → ℕ → Reply
 part accepted text from max = replies.Part accepted (length text) (take max (drop from text))
 
 abbrev pub part_of : Setting → ℕ → Profile → ℕ → ℕ → Filter → Reply
-part_of setting accepted profile from max filter = part accepted (setting.export_text (records setting profile) filter) from max
+part_of setting accepted profile from max filter = part accepted (setting.export_text (records setting profile) filter profile.hash) from max

@@ -1,7 +1,9 @@
 -- The files of a profile: what of them was taken, and what is made of a whole one.
 use Rattle.std.specs.Prelude.{ℕ, ◌+◌, ◌==◌, ◌&&◌, if◌then◌else◌, nat_lt, nat_le, Bool, true, false, not, List, [], ◌∷◌, ◌++◌, length, sum_by, is_some}
 use Rattle.std.specs.List.{count_by}
-use Rattle.md5.specs.Md5.{md5}
+use Rattle.droid_frame.specs.Hashes.{hash}
+use Rattle.droid_frame.specs.types.hash_kind.HashKind.{HashKind}
+use Rattle.droid_frame.specs.types.hash_value.HashValue.{HashValue}
 use Rattle.droid_frame.specs.types.method.Method.{Method}
 use Rattle.droid_frame.specs.types.reply.Reply.{Reply}
 use Rattle.droid_frame.specs.types.reply.Reply.TheVariants as replies
@@ -45,25 +47,25 @@ as_finished content = record content { finished = true }
 pub record Finding : Type 0 where
   pub method : Method
   pub mismatch : Bool
-  pub digest : List ℕ
+  pub digest : HashValue
   pub puids : List (List ℕ)
 
--- the digest of the whole file: its MD5 (RFC 1321)
-abbrev pub digest_of : Content → List ℕ
-digest_of content = md5 (bytes_of content)
+-- the hash of the whole file, of this kind
+abbrev pub digest_of : HashKind → Content → HashValue
+digest_of kind content = hash kind (bytes_of content)
 
 -- what the whole file is identified as, by its profile's scan limit and mode
 abbrev pub identified : Setting → Profile → List ℕ → Content → Identification
 identified setting profile name content = setting.identify name (bytes_of content) profile.scan_limit profile.match_all
 
--- a digest beside what the file is identified as
-abbrev pub found_as : Identification → List ℕ → Finding
+-- a hash beside what the file is identified as
+abbrev pub found_as : Identification → HashValue → Finding
 found_as identification digest =
     record { method = identification.method; mismatch = identification.mismatch; digest = digest; puids = identification.puids }
 
--- what the whole file is found to be
+-- what the whole file is found to be, with the hash of its profile's choice
 abbrev pub finding_of : Setting → Profile → List ℕ → Content → Finding
-finding_of setting profile name content = found_as (identified setting profile name content) (digest_of content)
+finding_of setting profile name content = found_as (identified setting profile name content) (digest_of profile.hash content)
 
 -- the reply to who finishes the file
 abbrev pub finished_reply : Finding → Reply

@@ -2,6 +2,7 @@
 -- the world after it (this project's own).
 use Rattle.std.specs.Prelude.{ℕ, ℤ, ◌+◌, ◌-◌, ◌||◌, nat_lt, nat_le, if◌then◌else◌, Bool, false, not, List, [], ◌∷◌, ◌++◌, length, slice_set, Option, Some, None}
 use Rattle.droid_frame.specs.types.filter.Filter.{Filter}
+use Rattle.droid_frame.specs.types.hash_kind.HashKind.{HashKind}
 use Rattle.droid_frame.specs.types.refusal.Limit.TheVariants as reached
 use Rattle.droid_frame.specs.types.refusal.Refusal.{Refusal}
 use Rattle.droid_frame.specs.types.refusal.Refusal.TheVariants.{NoSuchProfile, NoSuchNode, NotAFolder, NotAFile, BadName, PathTooLong, NameTaken, BadOption, TooLarge, AlreadyFinished, BadPiece, PieceHeld, TooFarAhead, Incomplete, LimitReached}
@@ -10,7 +11,7 @@ use Rattle.droid_frame.specs.types.reply.Reply.TheVariants as replies
 use Rattle.droid_frame.specs.types.request.Request.{Request}
 use Rattle.droid_frame.specs.types.request.Request.TheVariants.{CreateProfile, AddFolder, AddFile, Piece, Finish, Abandon, Status, Export}
 use Rattle.droid_core_spec.specs.Limits.{Limits}
-use Rattle.droid_core_spec.specs.Conditions.{is_scan_limit, is_piece_size, is_part_size, is_too_large, is_moment, is_bad_name, is_missing, is_file, is_too_deep}
+use Rattle.droid_core_spec.specs.Conditions.{is_scan_limit, is_piece_size, is_part_size, is_too_large, is_moment, is_bad_name, is_missing, is_file, is_too_deep, is_told}
 use Rattle.droid_core_spec.specs.Exported.{part_of}
 use Rattle.droid_core_spec.specs.Files.{count_of, missing_of, has_piece, is_due, is_too_far, with_piece, as_finished, finding_of, finished_reply, progress_of, unfinished_in}
 use Rattle.droid_core_spec.specs.Setting.{Setting}
@@ -108,9 +109,11 @@ piece_checks content index bytes =
     ∷ (is_too_far content index, TooFarAhead (missing_of content))
     ∷ []
 
-abbrev pub finish_checks : Content → List Check
-finish_checks content =
+-- of a file that gets this hash
+abbrev pub finish_checks : HashKind → Content → List Check
+finish_checks hash content =
     (content.finished, AlreadyFinished)
+    ∷ (not (is_told hash), BadOption)
     ∷ (nat_lt (missing_of content) (count_of content), Incomplete (missing_of content))
     ∷ []
 
@@ -122,10 +125,10 @@ export_checks max = (not (is_part_size max), BadOption) ∷ []
 
 -- ---- requests, each by its kind; profiles and nodes are numbered from 1, in order of acceptance
 
-unfoldable pub judge_create : Setting → World → ℕ → Bool → Verdict
-judge_create setting world scan_limit match_all =
+unfoldable pub judge_create : Setting → World → ℕ → Bool → HashKind → Verdict
+judge_create setting world scan_limit match_all hash =
     unless_refused (refusal_of (create_checks setting.limits world scan_limit))
-    (Accepted (replies.Made (length world.profiles + 1)) (world_with world (world.profiles ++ record { scan_limit = scan_limit; match_all = match_all; nodes = [] } ∷ [])))
+    (Accepted (replies.Made (length world.profiles + 1)) (world_with world (world.profiles ++ record { scan_limit = scan_limit; match_all = match_all; hash = hash; nodes = [] } ∷ [])))
 
 unfoldable pub judge_folder : Setting → World → ℕ → ℕ → ℤ → List ℕ → Verdict
 judge_folder setting world number parent modified name =
@@ -151,7 +154,7 @@ unfoldable pub judge_finish : Setting → World → ℕ → ℕ → Verdict
 judge_finish setting world number file =
     in_profile (numbered world.profiles number) (λ profile.
     in_file (node_at profile.nodes file) (λ parent modified name content.
-    unless_refused (refusal_of (finish_checks content))
+    unless_refused (refusal_of (finish_checks profile.hash content))
     (Accepted (finished_reply (finding_of setting profile name content)) (world_set world number (node_set profile file (File parent modified name (as_finished content)))))))
 
 unfoldable pub judge_abandon : World → ℕ → ℕ → Verdict
@@ -175,7 +178,7 @@ judge_export setting world number from max filter =
 
 -- by the kind of request
 unfoldable pub judge : Setting → World → Request → Verdict
-judge setting world (CreateProfile scan_limit match_all) = judge_create setting world scan_limit match_all
+judge setting world (CreateProfile scan_limit match_all hash) = judge_create setting world scan_limit match_all hash
 judge setting world (AddFolder number parent modified name) = judge_folder setting world number parent modified name
 judge setting world (AddFile number parent modified size piece_size name) = judge_file setting world number parent modified size piece_size name
 judge setting world (Piece number file index bytes) = judge_piece world number file index bytes

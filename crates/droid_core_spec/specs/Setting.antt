@@ -1,5 +1,6 @@
 -- What a service is made with: its limits, and what its registry finds.
 use Rattle.std.specs.Prelude.{ℕ, Bool, List}
+use Rattle.droid_frame.specs.types.hash_kind.HashKind.{HashKind}
 use Rattle.droid_frame.specs.types.method.Method.{Method}
 use Rattle.droid_frame.specs.types.filter.Filter.{Filter}
 use Rattle.droid_frame.specs.types.record.Record.{Record}
@@ -16,9 +17,9 @@ pub record Identification : Type 0 where
 abbrev pub Identify : Type 0
 Identify = (name bytes : List ℕ) (scan_limit : ℕ) (match_all : Bool) → Identification
 
--- The text of an export: of records and a filter. droid_core_state's Identified.antt says which function this is.
+-- The text of an export: of records, a filter and which hash their files have. droid_core_state's Identified.antt says which function this is.
 abbrev pub ExportText : Type 0
-ExportText = (records : List Record) (filter : Filter) → List ℕ
+ExportText = (records : List Record) (filter : Filter) (hash : HashKind) → List ℕ
 
 pub record Setting : Type 0 where
   pub limits : Limits

@@ -2,6 +2,7 @@
 use Rattle.std.specs.Prelude.{ℕ, zero, suc, ◌+◌, ℤ, ◌==◌, ◌&&◌, Bool, false, List, [], ◌∷◌, ◌++◌, fold, Option, Some, None, unwrap_or}
 use Rattle.std.specs.List.{slice_get, list_any}
 use Rattle.std.specs.Str.{bytes_eq}
+use Rattle.droid_frame.specs.types.hash_kind.HashKind.{HashKind}
 
 -- what a file was announced with, and its pieces so far: each with its index, in the order taken
 pub record Content : Type 0 where
@@ -16,10 +17,11 @@ pub data Node : Type 0 where
   File : (parent : ℕ) (modified : ℤ) (name : List ℕ) (content : Content) → Node
   Abandoned : Node
 
--- the nodes of a profile, in order of acceptance
+-- how the files of a profile are looked at, which hash they get, and its nodes, in order of acceptance
 pub record Profile : Type 0 where
   pub scan_limit : ℕ
   pub match_all : Bool
+  pub hash : HashKind
   pub nodes : List Node
 
 -- how many commands were accepted, and the profiles, in order of acceptance

@@ -52,7 +52,7 @@ module _ (setting : Setting) (world : World) (before : Rows) (e : Entry) (number
   earlier : node_rows_from setting number profile 1 profile.nodes ≡ node_rows_from setting number (with_node profile node) 1 profile.nodes
   earlier =
       rows_changed setting number profile (with_node profile node) (λ these. these) refl (λ these those. refl) 1 profile.nodes profile.nodes refl
-      (λ place less. ap option_list (same_stored setting number profile (with_node profile node) (1 + place) _ refl refl (sym (path_kept profile.nodes node (1 + place) (omega arith)))))
+      (λ place less. ap option_list (same_stored setting number profile (with_node profile node) (1 + place) _ refl refl refl (sym (path_kept profile.nodes node (1 + place) (omega arith)))))
 
   this_grows : rows_in number before ≡ node_rows_from setting number profile 1 profile.nodes
       → filter (λ (n : rows.Node). n.profile == number) (before.nodes ++ row ∷ []) ≡ node_rows_from setting number (with_node profile node) 1 (profile.nodes ++ node ∷ [])

@@ -68,6 +68,6 @@ module _ (change : List rows.Node → List rows.Node) (nothing : change [] ≡ [
             (rw (found, numbered_set_same profile.nodes id old new found) here)
         | inr isnt ↦ let apart = eqb-false other id isnt in
             leaves_row setting number profile other (numbered profile.nodes other) apart
-            ∙ ap option_list (same_stored setting number profile (node_set profile id new) other (numbered profile.nodes other) refl refl (ways other apart))
+            ∙ ap option_list (same_stored setting number profile (node_set profile id new) other (numbered profile.nodes other) refl refl refl (ways other apart))
             ∙ ap (λ one. option_list (stored_in setting number (node_set profile id new) other one)) (sym (numbered_set_other profile.nodes id other old new found apart))
       ]

@@ -7,13 +7,19 @@ use Rattle.std.proofs.lemmas.List.Folds.{find-append, list_any-append}
 use Rattle.std.proofs.lemmas.Option.{slice_get-map}
 use Rattle.std.specs.List.{list_any}
 use Rattle.std.specs.Option.{option_or}
+use Rattle.droid_frame.specs.Hashes.{IsHashValue, hash, hash_bytes}
+use Rattle.droid_frame.specs.types.hash_kind.HashKind.{HashKind}
+use Rattle.droid_frame.specs.types.hash_value.HashValue.{HashValue}
+use Rattle.droid_frame.specs.types.hash_value.HashValue.TheVariants as hashes
+use Rattle.droid_assembly.proofs.Digests.{is_hash_value}
+use Rattle.droid_core_spec.specs.Files.{bytes_of}
 use Rattle.droid_core_spec.specs.Histories.{History, kept}
 use Rattle.droid_core_spec.specs.Records as shown
 use Rattle.droid_core_spec.specs.Records.{option_list}
 use Rattle.droid_core_spec.specs.Setting.{Setting}
 use Rattle.droid_core_spec.specs.World.{Node, Folder, File, Abandoned, Profile, World, numbered, is_called, is_taken}
 use Rattle.droid_store.specs.Rows as stores
-use Rattle.droid_store.specs.Rows.{Rows, profile_at, node_at, is_node, child_at, is_child, reply_for, is_for, records_of, is_listed, is_unfinished, record_of}
+use Rattle.droid_store.specs.Rows.{Rows, profile_at, node_at, is_node, child_at, is_child, reply_for, is_for, records_of, hash_of, is_listed, is_unfinished, record_of}
 use Rattle.droid_core_state.specs.Replies.{entry_row, KeepsReplies}
 use Rattle.droid_core_state.specs.Rows.{profile_row, node_row, node_rows_from, node_rows, rows_in, KeepsProfiles, KeepsNodes, stored_in, stored}
 use Rattle.droid_core_state.proofs.Lists.{find_both, filter_both, some_found, find_mapped}
@@ -124,6 +130,15 @@ child_found setting world rows number parent name profile keeps is =
 
 -- ---- the records of a profile
 
+-- the hash that is read of a value's bytes is the value
+read_again : (value : HashValue) → IsHashValue value → hash_of (hash_bytes value) ≡ value
+read_again hashes.Nothing is = refl
+read_again (hashes.Md5 digest) is = rw is.0 refl
+read_again (hashes.Sha256 digest) is = rw is.0 refl
+
+kept_hash : (kind : HashKind) (bytes : List ℕ) → hash_of (hash_bytes (hash kind bytes)) ≡ hash kind bytes
+kept_hash kind bytes = read_again (hash kind bytes) (is_hash_value kind bytes)
+
 abbrev is_shown : stores.Node → Bool
 is_shown node = not (is_unfinished node.state)
 
@@ -131,7 +146,7 @@ shown_as_node : (setting : Setting) (number : ℕ) (profile : Profile) (id : ℕ
     → map record_of (filter is_shown (option_list (node_row setting number profile id node))) ≡ option_list (shown.record_of setting profile id node)
 shown_as_node setting number profile id (Folder parent modified name) = refl
 shown_as_node setting number profile id (File parent modified name content) = elim (cases_Bool content.finished) [
-  | inl is ↦ rw is refl
+  | inl is ↦ rw (is, kept_hash profile.hash (bytes_of content)) refl
   | inr isnt ↦ rw isnt refl
 ]
 shown_as_node setting number profile id Abandoned = refl

@@ -3,6 +3,7 @@ use Rattle.std.proofs.Common.{◌≡◌, ◌⊎◌, inl, inr, ℕ, zero, suc, �
 use Rattle.std.proofs.lemmas.Bool.{cases_Bool, ltb-true, ltb-false, eqb-true, eqb-false}
 use Rattle.std.proofs.lemmas.List.{map-append}
 use Rattle.std.specs.Prelude.{nat_lt}
+use Rattle.droid_frame.specs.types.hash_kind.HashKind.{HashKind}
 use Rattle.droid_core_spec.specs.Setting.{Setting}
 use Rattle.droid_core_spec.specs.World.{Profile, World, empty_world, world_with, numbered}
 use Rattle.droid_store.specs.Changes.{with_reply, with_profile}
@@ -39,10 +40,10 @@ fresh_nodes setting profiles fresh number bare = elim (cases_Bool (nat_lt number
         let long = length-append profiles (fresh ∷ []) in
         rw (numbered_past (profiles ++ fresh ∷ []) number (omega arith)) refl
 
-pub profile_made : (setting : Setting) (world : World) (rows : Rows) (e : Entry) (scan_limit : ℕ) (match_all : Bool) → KeepsWorld setting world rows
-    → KeepsWorld setting (world_with world (world.profiles ++ record { scan_limit = scan_limit; match_all = match_all; nodes = [] } ∷ [])) (with_reply e (with_profile scan_limit match_all rows))
-profile_made setting world rows e scan_limit match_all has =
-    let fresh : Profile = record { scan_limit = scan_limit; match_all = match_all; nodes = [] } in
+pub profile_made : (setting : Setting) (world : World) (rows : Rows) (e : Entry) (scan_limit : ℕ) (match_all : Bool) (hash : HashKind) → KeepsWorld setting world rows
+    → KeepsWorld setting (world_with world (world.profiles ++ record { scan_limit = scan_limit; match_all = match_all; hash = hash; nodes = [] } ∷ [])) (with_reply e (with_profile scan_limit match_all hash rows))
+profile_made setting world rows e scan_limit match_all hash has =
+    let fresh : Profile = record { scan_limit = scan_limit; match_all = match_all; hash = hash; nodes = [] } in
     record {
       profiles = ap (λ these. these ++ profile_row fresh ∷ []) has.profiles ∙ sym (map-append profile_row world.profiles (fresh ∷ []));
       nodes = λ number. has.nodes number ∙ fresh_nodes setting world.profiles fresh number refl;

@@ -10,13 +10,13 @@ use Rattle.droid_store.specs.Rows.{Rows}
 use Rattle.droid_core_state.specs.Rows.{node_row, node_rows_from, node_rows, rows_in, KeepsNodes, stored_in}
 use Rattle.droid_core_state.proofs.Items.{numbered_set_same, numbered_set_other}
 
--- a row depends on the profile only through its scan limit, its mode and the path of this node
-pub same_stored : (setting : Setting) (number : ℕ) (before after : Profile) (id : ℕ) (found : Option Node) → before.scan_limit ≡ after.scan_limit → before.match_all ≡ after.match_all
+-- a row depends on the profile only through its scan limit, its mode, its hash and the path of this node
+pub same_stored : (setting : Setting) (number : ℕ) (before after : Profile) (id : ℕ) (found : Option Node) → before.scan_limit ≡ after.scan_limit → before.match_all ≡ after.match_all → before.hash ≡ after.hash
     → path before.nodes id ≡ path after.nodes id → stored_in setting number before id found ≡ stored_in setting number after id found
-same_stored setting number before after id None limit mode way = refl
-same_stored setting number before after id (Some (Folder parent modified name)) limit mode way = rw way refl
-same_stored setting number before after id (Some (File parent modified name content)) limit mode way = rw (limit, mode, way) refl
-same_stored setting number before after id (Some Abandoned) limit mode way = refl
+same_stored setting number before after id None limit mode hash way = refl
+same_stored setting number before after id (Some (Folder parent modified name)) limit mode hash way = rw way refl
+same_stored setting number before after id (Some (File parent modified name content)) limit mode hash way = rw (limit, mode, hash, way) refl
+same_stored setting number before after id (Some Abandoned) limit mode hash way = refl
 
 -- a change of the rows that goes through them one by one
 module _ (setting : Setting) (number : ℕ) (before after : Profile) (change : List rows.Node → List rows.Node) (nothing : change [] ≡ [])

@@ -7,7 +7,10 @@ use Rattle.std.specs.Prelude.{nat_lt}
 use Rattle.std.specs.Str.{bytes_eq}
 use Rattle.droid_frame.proofs.ReplyParts.{puids_are_short}
 use Rattle.droid_frame.specs.Fields.{truth_bytes, u16_bytes}
+use Rattle.droid_frame.specs.Hashes.{IsHashValue, hash_bytes}
 use Rattle.droid_frame.specs.Replies.{HasReplySpelling, IsPuidText, refusal_bytes, reply_bytes}
+use Rattle.droid_frame.specs.types.hash_value.HashValue.{HashValue}
+use Rattle.droid_frame.specs.types.hash_value.HashValue.TheVariants as hashes
 use Rattle.droid_frame.specs.types.method.Method.{Method}
 use Rattle.droid_frame.specs.types.refusal.Refusal.{Refusal}
 use Rattle.droid_frame.specs.types.refusal.Refusal.TheVariants as refusals
@@ -75,13 +78,18 @@ joined_is_short (puid ∷ other ∷ puids) are =
     let rest = joined_is_short (other ∷ puids) are.1 in
     omega (arith, are.0.at_most, rest, length-append puid (32 ∷ joined (other ∷ puids)))
 
-pub finished_fits : (store : Rows) (profile file : ℕ) (method : Method) (mismatch : Bool) (digest : List ℕ) (puids : List (List ℕ)) → AllByRecursion IsShort store.nodes
-    → length digest ≡ 16 → length puids ≤ 4096 → AllByRecursion IsPuidText puids
-    → (n : rows.Node) → node_at profile file store ≡ Some n → FitsARow (node_size (finished method mismatch digest puids n))
-finished_fits store profile file method mismatch digest puids short sixteen few are n there =
+pub hash_is_short : (value : HashValue) → IsHashValue value → length (hash_bytes value) ≤ 32
+hash_is_short hashes.Nothing is = omega arith
+hash_is_short (hashes.Md5 digest) is = omega (arith, is.0)
+hash_is_short (hashes.Sha256 digest) is = omega (arith, is.0)
+
+pub finished_fits : (store : Rows) (profile file : ℕ) (method : Method) (mismatch : Bool) (value : HashValue) (puids : List (List ℕ)) → AllByRecursion IsShort store.nodes
+    → IsHashValue value → length puids ≤ 4096 → AllByRecursion IsPuidText puids
+    → (n : rows.Node) → node_at profile file store ≡ Some n → FitsARow (node_size (finished method mismatch value puids n))
+finished_fits store profile file method mismatch value puids short sized few are n there =
     let it = short_found (is_node profile file) store.nodes n short there in
     let all = joined_is_short puids are in
-    omega (arith, it.name, it.path, all, few, sixteen)
+    omega (arith, it.name, it.path, all, few, hash_is_short value sized)
 
 -- ---- an entry
 
@@ -99,7 +107,9 @@ body_is_short : (reply : Reply) → HasReplySpelling reply → length (reply_byt
 body_is_short (Made profile) has = omega arith
 body_is_short (Node id) has = omega arith
 body_is_short (Taken held) has = omega arith
-body_is_short (Finished method mismatch md5 puids) has =
+body_is_short (Finished method mismatch hashes.Nothing puids) has = absurd has.0
+body_is_short (Finished method mismatch (hashes.Sha256 digest) puids) has = absurd has.0
+body_is_short (Finished method mismatch (hashes.Md5 md5) puids) has =
     let list = u16_bytes (length puids) ++ texts_bytes puids in
     omega (arith, has.0.0, has.1, puids_are_short puids has.2, one_byte mismatch, length-append (truth_bytes mismatch) (md5 ++ list), length-append md5 list)
 body_is_short Abandoned has = omega arith

@@ -2,6 +2,7 @@
 use Rattle.std.proofs.Common.{◌≡◌, inl, inr, ℕ, zero, suc, ℤ, ◌-◌, List, [], ◌∷◌, ◌++◌, Bool, false, not, Option, Some, None, is_none, IsTrue, slice_get, slice_set, refl, sym, ap, ◌∙◌, arith}
 use Rattle.std.proofs.lemmas.Bool.{cases_Bool, false≢true, true≢false, not-false, or_parts}
 use Rattle.std.specs.List.{AllByRecursion}
+use Rattle.droid_frame.specs.types.hash_kind.HashKind.{HashKind}
 use Rattle.droid_core_spec.specs.Conditions.{is_moment, is_piece_size, is_scan_limit, is_missing, is_file}
 use Rattle.droid_core_spec.specs.Judging.{Check, refusal_of, create_checks, place_checks, folder_checks, file_checks, world_set, with_node, node_set}
 use Rattle.droid_core_spec.specs.Limits.{Limits}
@@ -13,10 +14,10 @@ use Rattle.droid_core_state.proofs.Lists.{each_weaker}
 pub sound_empty : IsSound empty_world
 sound_empty = tt
 
-pub sound_made : (world : World) (scan_limit : ℕ) (match_all : Bool) → IsSound world → IsTrue (is_scan_limit scan_limit)
-    → IsSound (world_with world (world.profiles ++ record { scan_limit = scan_limit; match_all = match_all; nodes = [] } ∷ []))
-sound_made world scan_limit match_all sound within =
-    each_with_one_more IsSoundProfile world.profiles (record { scan_limit = scan_limit; match_all = match_all; nodes = [] }) sound (record { limit = within; nodes = tt })
+pub sound_made : (world : World) (scan_limit : ℕ) (match_all : Bool) (hash : HashKind) → IsSound world → IsTrue (is_scan_limit scan_limit)
+    → IsSound (world_with world (world.profiles ++ record { scan_limit = scan_limit; match_all = match_all; hash = hash; nodes = [] } ∷ []))
+sound_made world scan_limit match_all hash sound within =
+    each_with_one_more IsSoundProfile world.profiles (record { scan_limit = scan_limit; match_all = match_all; hash = hash; nodes = [] }) sound (record { limit = within; nodes = tt })
 
 pub sound_profile : (world : World) (number : ℕ) (profile : Profile) → IsSound world → numbered world.profiles number ≡ Some profile → IsSoundProfile profile
 sound_profile world zero profile sound is = absurd cc

@@ -2,18 +2,17 @@
 use Rattle.std.specs.Prelude.{◌≡◌, ℕ, length, Option, None, Some, MatchBool}
 use Rattle.droid_assembly.specs.State.{State, hash_kind_of}
 use Rattle.droid_assembly.specs.State as assemblies
-use Rattle.droid_frame.specs.types.hash_kind.HashKind.TheVariants as kinds
 use Rattle.droid_core_spec.specs.Files.{unfinished_in}
 use Rattle.droid_core_spec.specs.World.{Content, Node, Folder, File, Abandoned, Profile, World, numbered}
 use Rattle.droid_core_files.specs.Files.{OpenFile, OpenFiles, open_at}
 
--- the assembly is of the file's size and piece size, of its profile's scan limit and of MD5, which is every
--- profile's hash, and stands for its pieces, with none pending
+-- the assembly is of the file's size and piece size and of its profile's scan limit and choice of hash, and stands
+-- for its pieces, with none pending
 pub record IsAssemblyOf (profile : Profile) (content : Content) (assembly : State) : Type 0 where
   pub size : assembly.size ≡ content.size
   pub piece_size : assembly.piece_size ≡ content.piece_size
   pub limit : assembly.limit ≡ profile.scan_limit
-  pub hash : hash_kind_of assembly ≡ kinds.Md5
+  pub hash : hash_kind_of assembly ≡ profile.hash
   pub pieces : assemblies.StandsFor assembly content.pieces
   pub none_pending : assembly.pending ≡ None
 

@@ -1,6 +1,7 @@
 -- Which functions a service's setting has: what its registry finds, and what an export of it says.
 use Rattle.std.specs.Prelude.{◌≡◌, ℕ, Bool, List}
 use Rattle.droid_frame.specs.types.filter.Filter.{Filter}
+use Rattle.droid_frame.specs.types.hash_kind.HashKind.{HashKind}
 use Rattle.droid_frame.specs.types.record.Record.{Record}
 use Rattle.droid_export.specs.Text.{text}
 use Rattle.droid_pronom.specs.types.found.Found.{Found}
@@ -18,7 +19,7 @@ found_in identification = record { method = identification.method; mismatch = id
 -- its exports are the texts of this registry.
 pub record IsOf (registry : Contents) (setting : Setting) : Type 0 where
   pub identifies : (name bytes : List ℕ) (limit : ℕ) (match_all : Bool) → IsFound registry name bytes limit match_all (found_in (setting.identify name bytes limit match_all))
-  pub exports : (records : List Record) (filter : Filter) → setting.export_text records filter ≡ text registry filter records
+  pub exports : (records : List Record) (filter : Filter) (hash : HashKind) → setting.export_text records filter hash ≡ text registry filter hash records
 
 -- what a file is identified as, as a world has it
 abbrev pub as_identification : Found → Identification
@@ -29,5 +30,5 @@ abbrev pub setting_of : Limits → Contents → Setting
 setting_of limits registry = record {
   limits = limits;
   identify = λ name bytes scan_limit match_all. as_identification (answers.found_in registry name bytes scan_limit match_all);
-  export_text = λ records filter. text registry filter records;
+  export_text = λ records filter hash. text registry filter hash records;
 }

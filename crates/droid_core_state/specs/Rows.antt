@@ -12,7 +12,7 @@ use Rattle.droid_store.specs.Rows.{Rows}
 
 -- the row of a profile; its nodes are counted, also those that were abandoned
 abbrev pub profile_row : Profile → ProfileRow
-profile_row profile = record { scan_limit = profile.scan_limit; match_all = profile.match_all; nodes = length profile.nodes }
+profile_row profile = record { scan_limit = profile.scan_limit; match_all = profile.match_all; nodes = length profile.nodes; hash = profile.hash }
 
 -- the row of a finished file, with what it was found to be
 abbrev pub found_row : Finding → rows.Node → rows.Node

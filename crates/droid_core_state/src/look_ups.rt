@@ -1,6 +1,6 @@
 //! The profile that a request names, by what the store answered.
 
-ghost use Rattle.std.specs.Prelude.{◌≡◌, ℕ, Option, Ok, Err, None, IfOk, IfErr};
+ghost use Rattle.std.specs.Prelude.{◌≡◌, ℕ, Option, Ok, Err, Some, None, IfOk, IfErr};
 ghost use Rattle.droid_frame.specs.types.refusal.Refusal.TheVariants.{NoSuchProfile};
 ghost use Rattle.droid_core_spec.specs.Setting.{Setting};
 ghost use Rattle.droid_core_spec.specs.World.{World};
@@ -17,6 +17,7 @@ use droid_store::{ProfileRow, StoreFault};
 pub fn profile_of(found: Result<Option<ProfileRow>, StoreFault>) -> Result<ProfileRow, Refusal>
     requires memory { IfErr found (λ fault. fault ≡ Memory) }
     ensures told { result ≡ profile_in found }
+    ensures row { IfOk result (λ row. found ≡ Ok (Some row)) }
     ensures found { (setting : Setting) (world : World) (number : ℕ) (rows : Rows) → KeepsWorld setting world rows
         → IfOk found (λ row. row ≡ profile_at number rows) → FindsProfile world number result }
 {

@@ -1,7 +1,9 @@
-//! Which numbers a request may have.
+//! Which numbers a request may have, and which hash a reply can tell.
 
 ghost use Rattle.std.specs.Prelude.{◌≡◌, IsTrue};
-ghost use Rattle.droid_core_spec.specs.Conditions.{is_scan_limit, is_piece_size, is_part_size, is_too_large, is_moment};
+ghost use Rattle.droid_core_spec.specs.Conditions.{is_scan_limit, is_piece_size, is_part_size, is_too_large, is_moment, is_told};
+
+use droid_frame::HashKind;
 
 /// Whether a scan limit lies from 1 to 65,536.
 #[tactic(auto, using(crate::proofs::Meanings::scan_limit_is))]
@@ -42,4 +44,15 @@ pub fn is_moment(seconds: i64) -> bool
     ensures { result ≡ is_moment seconds }
 {
     !(seconds < -62_135_596_800) && !(253_402_300_799 < seconds)
+}
+
+/// Whether a reply can tell a file's hash of this kind.
+pub fn is_told(hash: HashKind) -> bool
+    ensures { result ≡ is_told hash }
+{
+    match hash {
+        HashKind::Nothing => false,
+        HashKind::Md5 => true,
+        HashKind::Sha256 => false,
+    }
 }

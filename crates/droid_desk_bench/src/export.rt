@@ -5,7 +5,9 @@ ghost use Rattle.droid_export.specs.Moments.{IsMoment};
 ghost use Rattle.droid_export.specs.Text.{HaveMoments};
 
 use droid_export::export_text;
-use droid_frame::{Blob, Criteria, Filter, Method, NodeKind, Record, Text, Texts};
+use droid_frame::{
+    Blob, Criteria, Filter, HashKind, HashValue, Method, NodeKind, Record, Text, Texts,
+};
 use droid_pronom::Registry;
 use std::alloc::{AllocError, Global};
 
@@ -31,7 +33,7 @@ pub fn text(alloc: Global, records: &[Record], registry: &Registry) -> Result<Bl
         all: true,
         criteria: Criteria::new(alloc),
     };
-    export_text(alloc, records, registry, &filter)
+    export_text(alloc, records, registry, &filter, HashKind::Md5)
 }
 
 fn record(alloc: Global, id: u32) -> Result<Record, AllocError>
@@ -58,7 +60,11 @@ fn record(alloc: Global, id: u32) -> Result<Record, AllocError>
             Method::Unidentified
         },
         mismatch: false,
-        md5: [0xd4; 16],
+        hash: if is_file {
+            HashValue::Md5([0xd4; 16])
+        } else {
+            HashValue::Nothing
+        },
         puids: formats(alloc, if is_file { id / 2 % 3 + 1 } else { 0 })?,
     })
 }

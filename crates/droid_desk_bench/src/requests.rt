@@ -2,7 +2,7 @@
 
 use crate::assembly::content;
 use anyhow::{Context, Error};
-use droid_frame::{Blob, Frame, Request, Text, request_frame};
+use droid_frame::{Blob, Frame, HashKind, Request, Text, request_frame};
 use std::alloc::Global;
 
 /// How many bytes each piece of a file has.
@@ -46,6 +46,7 @@ pub fn of_profile(alloc: Global) -> Result<Frame, Error> {
     let request = Request::CreateProfile {
         scan_limit: 65_536,
         match_all: false,
+        hash: HashKind::Md5,
     };
     frame(alloc, 0, &request)
 }

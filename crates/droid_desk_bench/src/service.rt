@@ -4,7 +4,7 @@ use crate::files::percent;
 use crate::requests;
 use anyhow::{Context, Error};
 use droid_core::{Limits, Service};
-use droid_frame::{Frame, Reply};
+use droid_frame::{Frame, HashValue, Reply};
 use droid_pronom::Registry;
 use md5::{Digest, Md5};
 use std::alloc::Global;
@@ -76,7 +76,7 @@ fn send_file<R: Clock + AllocGlobal>(
     let replies = service.run(frames)?;
     let took = start.elapsed(rt)?;
     match replies.as_slice().last() {
-        Some(Reply::Finished { md5, .. }) if *md5 == digest => Ok(took),
+        Some(Reply::Finished { hash, .. }) if *hash == HashValue::Md5(digest) => Ok(took),
         _ => None.context("the file was not finished"),
     }
 }

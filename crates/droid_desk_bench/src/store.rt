@@ -3,7 +3,7 @@
 ghost use Rattle.std.specs.Prelude.{◌≡◌, IfOk};
 ghost use Rattle.droid_store.specs.Changes.{IsNext};
 
-use droid_frame::Blob;
+use droid_frame::{Blob, HashKind};
 use droid_store::{Entry, Store, StoreFault};
 use std::alloc::{AllocError, Global};
 
@@ -20,7 +20,7 @@ pub fn with_profile(alloc: Global) -> Result<Store, StoreFault> {
         return Err(StoreFault::Refused);
     }
     let entry = entry(alloc, 0)?;
-    store.commit_profile(&entry, 1, 65_536, false)?;
+    store.commit_profile(&entry, 1, 65_536, false, HashKind::Md5)?;
     Ok(store)
 }
 

@@ -5,11 +5,13 @@ use Rattle.std.specs.List.{list_all, AllByRecursion}
 use Rattle.std.proofs.lemmas.Bool.Decides.{leb_tells}
 use Rattle.droid_frame.specs.types.criterion.Criterion.{Criterion}
 use Rattle.droid_frame.specs.types.criterion.Criterion.TheVariants.{MethodIs, PuidIn, ExtIn, MismatchIs, SizeAtLeast, SizeAtMost, KindIs}
+use Rattle.droid_frame.specs.types.hash_kind.HashKind.{HashKind}
+use Rattle.droid_frame.specs.types.hash_kind.HashKind.TheVariants as kinds
 use Rattle.droid_frame.specs.types.request.Request.{Request}
 use Rattle.droid_frame.specs.types.request.Request.TheVariants.{CreateProfile, AddFolder, AddFile, Piece, Finish, Abandon, Status, Export}
-use Rattle.droid_frame.specs.Bodies.{request_body, ListsFit, Fits}
+use Rattle.droid_frame.specs.Bodies.{request_body, ListsFit, HashFits, Fits}
 use Rattle.droid_frame.specs.Filters.{ListFits, CriterionFits}
-use Rattle.droid_desk_lines.specs.Lines.{list_fits, criterion_fits, lists_fit, request_fits}
+use Rattle.droid_desk_lines.specs.Lines.{list_fits, criterion_fits, lists_fit, is_md5, hash_fits, request_fits}
 
 -- ---- tests
 
@@ -79,7 +81,7 @@ criterion_is (SizeAtMost size) e = tt
 criterion_is (KindIs kind) e = tt
 
 lists_pass : (request : Request) → ListsFit request → lists_fit request ≡ true
-lists_pass (CreateProfile scan_limit match_all) fit = refl
+lists_pass (CreateProfile scan_limit match_all hash) fit = refl
 lists_pass (AddFolder profile parent modified name) fit = refl
 lists_pass (AddFile profile parent modified size piece_size name) fit = refl
 lists_pass (Piece profile file index bytes) fit = refl
@@ -91,7 +93,7 @@ lists_pass (Export profile from max filter) fit =
     (all_pass CriterionFits criterion_fits criterion_passes filter.criteria fit.each)
 
 lists_are : (request : Request) → lists_fit request ≡ true → ListsFit request
-lists_are (CreateProfile scan_limit match_all) e = tt
+lists_are (CreateProfile scan_limit match_all hash) e = tt
 lists_are (AddFolder profile parent modified name) e = tt
 lists_are (AddFile profile parent modified size piece_size name) e = tt
 lists_are (Piece profile file index bytes) e = tt
@@ -105,18 +107,52 @@ lists_are (Export profile from max filter) e =
       each = all_are CriterionFits criterion_fits criterion_is filter.criteria parts.1;
     }
 
+-- ---- the hash
+
+md5_passes : (hash : HashKind) → hash ≡ kinds.Md5 → is_md5 hash ≡ true
+md5_passes kinds.Nothing is = absurd cc
+md5_passes kinds.Md5 is = refl
+md5_passes kinds.Sha256 is = absurd cc
+
+md5_is : (hash : HashKind) → is_md5 hash ≡ true → hash ≡ kinds.Md5
+md5_is kinds.Nothing e = absurd cc
+md5_is kinds.Md5 e = refl
+md5_is kinds.Sha256 e = absurd cc
+
+hash_passes : (request : Request) → HashFits request → hash_fits request ≡ true
+hash_passes (CreateProfile scan_limit match_all hash) fit = md5_passes hash fit
+hash_passes (AddFolder profile parent modified name) fit = refl
+hash_passes (AddFile profile parent modified size piece_size name) fit = refl
+hash_passes (Piece profile file index bytes) fit = refl
+hash_passes (Finish profile file) fit = refl
+hash_passes (Abandon profile file) fit = refl
+hash_passes (Status profile file) fit = refl
+hash_passes (Export profile from max filter) fit = refl
+
+hash_is : (request : Request) → hash_fits request ≡ true → HashFits request
+hash_is (CreateProfile scan_limit match_all hash) e = md5_is hash e
+hash_is (AddFolder profile parent modified name) e = tt
+hash_is (AddFile profile parent modified size piece_size name) e = tt
+hash_is (Piece profile file index bytes) e = tt
+hash_is (Finish profile file) e = tt
+hash_is (Abandon profile file) e = tt
+hash_is (Status profile file) e = tt
+hash_is (Export profile from max filter) e = tt
+
 -- ---- requests
 
 passes : (request : Request) → Fits request → request_fits request ≡ true
 unfolding request_fits
 passes request fit =
-    both (nat_le (length (request_body request)) 1048640) (lists_fit request) (at_most (length (request_body request)) 1048640 fit.body) (lists_pass request fit.lists)
+    both (nat_le (length (request_body request)) 1048640) (lists_fit request && hash_fits request) (at_most (length (request_body request)) 1048640 fit.body)
+    (both (lists_fit request) (hash_fits request) (lists_pass request fit.lists) (hash_passes request fit.hash))
 
 fits : (request : Request) → request_fits request ≡ true → Fits request
 unfolding request_fits
 fits request e =
-    let parts = both_are (nat_le (length (request_body request)) 1048640) (lists_fit request) e in
-    record { body = is_at_most (length (request_body request)) 1048640 parts.0; lists = lists_are request parts.1 }
+    let parts = both_are (nat_le (length (request_body request)) 1048640) (lists_fit request && hash_fits request) e in
+    let more = both_are (lists_fit request) (hash_fits request) parts.1 in
+    record { body = is_at_most (length (request_body request)) 1048640 parts.0; lists = lists_are request more.0; hash = hash_is request more.1 }
 
 same : (a b : Bool) → (a ≡ true → b ≡ true) → (b ≡ true → a ≡ true) → a ≡ b
 same true b to from = let e : b ≡ true = to refl in rw e refl

@@ -1,10 +1,12 @@
 -- The lines of a script, and what each asks for (this project's own).
-use Rattle.std.specs.Prelude.{ℕ, ◌^◌, ◌==◌, ◌&&◌, nat_le, if◌then◌else◌, Bool, true, List, [], ◌∷◌, length, Option, Some, None}
+use Rattle.std.specs.Prelude.{ℕ, ◌^◌, ◌==◌, ◌&&◌, nat_le, if◌then◌else◌, Bool, true, false, List, [], ◌∷◌, length, Option, Some, None}
 use Rattle.std.specs.List.{slice_split, list_all}
 use Rattle.droid_frame.specs.types.criterion.Criterion.{Criterion}
 use Rattle.droid_frame.specs.types.criterion.Criterion.TheVariants.{PuidIn, ExtIn}
+use Rattle.droid_frame.specs.types.hash_kind.HashKind.{HashKind}
+use Rattle.droid_frame.specs.types.hash_kind.HashKind.TheVariants as kinds
 use Rattle.droid_frame.specs.types.request.Request.{Request}
-use Rattle.droid_frame.specs.types.request.Request.TheVariants.{Export}
+use Rattle.droid_frame.specs.types.request.Request.TheVariants.{CreateProfile, Export}
 use Rattle.droid_frame.specs.Bodies.{request_body}
 use Rattle.droid_frame.specs.Reading.{◌>>=◌, text_at}
 use Rattle.droid_desk_lines.specs.Requests.{request_words}
@@ -46,9 +48,19 @@ abbrev pub lists_fit : Request → Bool
 lists_fit (Export profile from max filter) = criteria_fit filter.criteria
 lists_fit _ = true
 
+abbrev pub is_md5 : HashKind → Bool
+is_md5 kinds.Nothing = false
+is_md5 kinds.Md5 = true
+is_md5 kinds.Sha256 = false
+
+-- a frame can ask for MD5 alone
+abbrev pub hash_fits : Request → Bool
+hash_fits (CreateProfile scan_limit match_all hash) = is_md5 hash
+hash_fits _ = true
+
 -- a body has at most 1,048,640 bytes
 unfoldable pub request_fits : Request → Bool
-request_fits request = nat_le (length (request_body request)) 1048640 && lists_fit request
+request_fits request = nat_le (length (request_body request)) 1048640 && (lists_fit request && hash_fits request)
 
 -- ---- what a line asks for
 

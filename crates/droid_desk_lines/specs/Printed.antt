@@ -3,6 +3,8 @@ use Rattle.std.specs.Prelude.{ℕ, Bool, if◌then◌else◌, List, [], ◌∷�
 use Rattle.std.specs.Fmt.{decimal}
 use Rattle.std.specs.List.{flat_map}
 use Rattle.hex.specs.Hex.{encode_lower}
+use Rattle.droid_frame.specs.types.hash_value.HashValue.{HashValue}
+use Rattle.droid_frame.specs.types.hash_value.HashValue.TheVariants as values
 use Rattle.droid_frame.specs.types.method.Method.{Method}
 use Rattle.droid_frame.specs.types.method.Method.TheVariants.{Unidentified, Signature, Extension}
 use Rattle.droid_frame.specs.types.refusal.Limit.{Limit}
@@ -43,17 +45,23 @@ detail_text (Incomplete missing) = codes " " ++ decimal missing
 detail_text (LimitReached which) = codes " " ++ limit_text which
 detail_text _ = []
 
--- what is told of a finished file: method, mismatch, the MD5 in 32 lower-case digits, and its formats
-unfoldable pub finished_text : Method → Bool → List ℕ → List (List ℕ) → List ℕ
-finished_text method mismatch md5 puids =
-    codes "finished " ++ (method_text method ++ (codes " " ++ (truth_text mismatch ++ (codes " " ++ (encode_lower md5 ++ (codes " " ++ puids_text puids))))))
+-- the digits of a hash in lower case, or `-` where there is none
+abbrev pub hash_text : HashValue → List ℕ
+hash_text values.Nothing = codes "-"
+hash_text (values.Md5 digest) = encode_lower digest
+hash_text (values.Sha256 digest) = encode_lower digest
+
+-- what is told of a finished file: method, mismatch, its hash, and its formats
+unfoldable pub finished_text : Method → Bool → HashValue → List (List ℕ) → List ℕ
+finished_text method mismatch hash puids =
+    codes "finished " ++ (method_text method ++ (codes " " ++ (truth_text mismatch ++ (codes " " ++ (hash_text hash ++ (codes " " ++ puids_text puids))))))
 
 -- the line of a reply; that of a part of an export tells how many bytes follow
 unfoldable pub reply_text : Reply → List ℕ
 reply_text (Made profile) = codes "made " ++ decimal profile
 reply_text (Node id) = codes "node " ++ decimal id
 reply_text (Taken held) = codes "taken " ++ decimal held
-reply_text (Finished method mismatch md5 puids) = finished_text method mismatch md5 puids
+reply_text (Finished method mismatch hash puids) = finished_text method mismatch hash puids
 reply_text Abandoned = codes "abandoned"
 reply_text (Progress held missing) = codes "progress " ++ (decimal held ++ (codes " " ++ decimal missing))
 reply_text (Part as_of total bytes) = codes "part " ++ (decimal as_of ++ (codes " " ++ (decimal total ++ (codes " " ++ decimal (length bytes)))))

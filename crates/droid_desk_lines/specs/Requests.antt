@@ -3,18 +3,19 @@ use Rattle.std.specs.Prelude.{ℕ, ℤ, ◌^◌, ◌==◌, if◌then◌else◌, 
 use Rattle.std.specs.Result.{result_ok}
 use Rattle.std.specs.Str.{bytes_eq}
 use Rattle.hex.specs.Hex.{decode_of}
+use Rattle.droid_frame.specs.types.hash_kind.HashKind.TheVariants as kinds
 use Rattle.droid_frame.specs.types.request.Request.{Request}
 use Rattle.droid_frame.specs.types.request.Request.TheVariants.{CreateProfile, AddFolder, AddFile, Piece, Finish, Abandon, Status}
 use Rattle.droid_frame.specs.Reading.{◌>>=◌}
 use Rattle.droid_desk_lines.specs.Exports.{export_words}
 use Rattle.droid_desk_lines.specs.Words.{number_below, number_word, signed_word, truth_word}
 
--- `LIMIT ALL`
+-- `LIMIT ALL`: the profile gets MD5
 unfoldable pub create_words : List ℕ → Option Request
 create_words text = do
   limit ← number_word (2 ^ 32) text
   match_all ← truth_word limit.1
-  Some (CreateProfile limit.0 match_all)
+  Some (CreateProfile limit.0 match_all kinds.Md5)
 
 -- `PROFILE PARENT MODIFIED`, and what stands after the space
 unfoldable pub node_place : List ℕ → Option (ℕ × ℕ × ℤ × List ℕ)

@@ -1,9 +1,9 @@
 //! How replies are printed.
 
 ghost use Rattle.std.specs.Prelude.{◌≡◌, ◌++◌, IfOk, OnOk, string_bytes};
-ghost use Rattle.droid_desk_lines.specs.Printed.{after_commas, answer_line, detail_text, finished_text, following_bytes, limit_text, method_text, puids_text, reply_text};
+ghost use Rattle.droid_desk_lines.specs.Printed.{after_commas, answer_line, detail_text, finished_text, following_bytes, hash_text, limit_text, method_text, puids_text, reply_text};
 
-use droid_frame::{Limit, Method, Refusal, Reply, Text, Texts};
+use droid_frame::{HashValue, Limit, Method, Refusal, Reply, Text, Texts};
 use std::alloc::{AllocError, Global};
 
 /// What stands for a line, as it is printed: the reply to its request, or that it is bad; a line feed; and
@@ -53,9 +53,9 @@ fn reply_text(alloc: Global, reply: &Reply) -> Result<String, AllocError>
         Reply::Finished {
             method,
             mismatch,
-            md5,
+            hash,
             puids,
-        } => finished_text(alloc, *method, *mismatch, md5, puids),
+        } => finished_text(alloc, *method, *mismatch, hash, puids),
         Reply::Abandoned => format!(in alloc; "abandoned"),
         Reply::Progress { held, missing } => format!(in alloc; "progress {held} {missing}"),
         Reply::Part {
@@ -80,13 +80,13 @@ fn finished_text(
     alloc: Global,
     method: Method,
     mismatch: bool,
-    md5: &[u8; 16],
+    hash: &HashValue,
     puids: &Texts,
 ) -> Result<String, AllocError>
-    ensures { IfOk result (λ text. string_bytes text ≡ finished_text method mismatch md5.now puids.now) }
+    ensures { IfOk result (λ text. string_bytes text ≡ finished_text method mismatch hash.now puids.now) }
 {
     let method = method_text(method);
-    let digits = hex::encode(alloc, md5.as_slice())?;
+    let digits = hash_text(alloc, hash)?;
     let puids = puids_text(alloc, puids)?;
     format!(in alloc; "finished {method} {mismatch} {digits} {puids}")
 }
@@ -98,6 +98,17 @@ fn method_text(method: Method) -> &'static str
         Method::Unidentified => "none",
         Method::Signature => "Signature",
         Method::Extension => "Extension",
+    }
+}
+
+/// The hash in lower-case digits, or `-` where there is none.
+fn hash_text(alloc: Global, hash: &HashValue) -> Result<String, AllocError>
+    ensures { IfOk result (λ text. string_bytes text ≡ hash_text hash.now) }
+{
+    match hash {
+        HashValue::Nothing => String::from_str(alloc, "-"),
+        HashValue::Md5(digest) => hex::encode(alloc, digest.as_slice()),
+        HashValue::Sha256(digest) => hex::encode(alloc, digest.as_slice()),
     }
 }
 

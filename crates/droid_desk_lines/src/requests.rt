@@ -8,7 +8,7 @@ ghost use Rattle.droid_desk_lines.specs.Requests.{create_words, folder_words, fi
 
 use crate::exports::parse_export;
 use crate::words::{i64_word, truth_in, u32_in, u32_word, u64_word};
-use droid_frame::{Blob, Request, Text};
+use droid_frame::{Blob, HashKind, Request, Text};
 use hex::FromHexError;
 use std::alloc::{AllocError, Global};
 
@@ -38,7 +38,7 @@ pub fn parse_request(alloc: Global, kind: &str, text: &str) -> Result<Option<Req
     }
 }
 
-/// `LIMIT ALL`.
+/// `LIMIT ALL`: the profile gets MD5.
 #[tactic(auto, unfolding(crate::specs::Requests::create_words))]
 fn parse_create(text: &str) -> Option<Request>
     ensures { result ≡ create_words text.now }
@@ -48,6 +48,7 @@ fn parse_create(text: &str) -> Option<Request>
     Some(Request::CreateProfile {
         scan_limit,
         match_all,
+        hash: HashKind::Md5,
     })
 }
 

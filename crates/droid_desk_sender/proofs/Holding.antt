@@ -99,7 +99,7 @@ refusal_pending : (reply : Reply) → heard_pending reply ≡ heard.Refused → 
 refusal_pending (Made profile) is = absurd cc
 refusal_pending (Node id) is = absurd cc
 refusal_pending (Taken held) is = absurd cc
-refusal_pending (Finished method mismatch md5 puids) is = absurd cc
+refusal_pending (Finished method mismatch hash puids) is = absurd cc
 refusal_pending Abandoned is = absurd cc
 refusal_pending (Progress held missing) is = absurd cc
 refusal_pending (Part as_of total bytes) is = absurd cc

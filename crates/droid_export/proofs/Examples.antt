@@ -1,5 +1,6 @@
 -- Rows worked by hand, computed in the definitions.
 use Rattle.std.proofs.Common.{◌≡◌, [], ◌∷◌, length, true, refl, codes, pos, negsuc}
+use Rattle.droid_frame.specs.types.hash_kind.HashKind.TheVariants as hashes
 use Rattle.droid_frame.specs.types.node_kind.NodeKind.TheVariants.{File, Folder}
 use Rattle.droid_pronom.specs.Registry.{nothing}
 use Rattle.droid_export.specs.Civil.{day_after, day_before, days_after, days_before}
@@ -35,6 +36,14 @@ unfolding uri
 outside_ascii = refl
 
 -- the names of the columns and the line feed
-the_header_alone : length (text nothing (record { all = true; criteria = [] }) []) ≡ 193
+header_without_a_hash : length (text nothing (record { all = true; criteria = [] }) hashes.Nothing []) ≡ 189
 unfolding text line joined quoted
-the_header_alone = refl
+header_without_a_hash = refl
+
+header_with_md5 : length (text nothing (record { all = true; criteria = [] }) hashes.Md5 []) ≡ 193
+unfolding text line joined quoted
+header_with_md5 = refl
+
+header_with_sha256 : length (text nothing (record { all = true; criteria = [] }) hashes.Sha256 []) ≡ 196
+unfolding text line joined quoted
+header_with_sha256 = refl

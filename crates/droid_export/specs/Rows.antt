@@ -3,6 +3,9 @@ use Rattle.std.specs.Prelude.{ℕ, ◌==◌, Bool, List, [], ◌∷◌, length, 
 use Rattle.std.specs.Option.{option_and_then}
 use Rattle.std.specs.Fmt.{decimal}
 use Rattle.hex.specs.Hex.{encode_lower}
+use Rattle.droid_frame.specs.Hashes.{hash_bytes}
+use Rattle.droid_frame.specs.types.hash_kind.HashKind.{HashKind}
+use Rattle.droid_frame.specs.types.hash_kind.HashKind.TheVariants as hashes
 use Rattle.droid_frame.specs.types.method.Method.{Method}
 use Rattle.droid_frame.specs.types.method.Method.TheVariants.{Unidentified, Signature, Extension}
 use Rattle.droid_frame.specs.types.node_kind.NodeKind.{NodeKind}
@@ -27,7 +30,7 @@ pub record Row : Type 0 where
   pub ext : List ℕ
   pub last_modified : List ℕ
   pub extension_mismatch : List ℕ
-  pub md5_hash : List ℕ
+  pub hash : List ℕ
   pub format_count : List ℕ
   pub puid : List ℕ
   pub mime_type : List ℕ
@@ -38,12 +41,18 @@ pub record Row : Type 0 where
 abbrev pub fields : Row → List (List ℕ)
 fields row =
     row.id ∷ row.parent_id ∷ row.uri ∷ row.file_path ∷ row.name ∷ row.method ∷ row.status ∷ row.size ∷ row.kind
-    ∷ row.ext ∷ row.last_modified ∷ row.extension_mismatch ∷ row.md5_hash ∷ row.format_count
+    ∷ row.ext ∷ row.last_modified ∷ row.extension_mismatch ∷ row.hash ∷ row.format_count
     ∷ row.puid ∷ row.mime_type ∷ row.format_name ∷ row.format_version ∷ []
 
+-- the name of the column that shows this hash
+abbrev pub hash_column : HashKind → List ℕ
+hash_column hashes.Nothing = codes "HASH"
+hash_column hashes.Md5 = codes "MD5_HASH"
+hash_column hashes.Sha256 = codes "SHA256_HASH"
+
 -- the names of the columns
-abbrev pub header : Row
-header = record {
+abbrev pub header : HashKind → Row
+header kind = record {
   id = codes "ID";
   parent_id = codes "PARENT_ID";
   uri = codes "URI";
@@ -56,7 +65,7 @@ header = record {
   ext = codes "EXT";
   last_modified = codes "LAST_MODIFIED";
   extension_mismatch = codes "EXTENSION_MISMATCH";
-  md5_hash = codes "MD5_HASH";
+  hash = hash_column kind;
   format_count = codes "FORMAT_COUNT";
   puid = codes "PUID";
   mime_type = codes "MIME_TYPE";
@@ -133,7 +142,7 @@ row node format = record {
   ext = extension node;
   last_modified = moment_text node.modified;
   extension_mismatch = truth (mismatch node);
-  md5_hash = of_file node (encode_lower node.md5);
+  hash = of_file node (encode_lower (hash_bytes node.hash));
   format_count = of_file node (decimal (length node.puids));
   puid = format.puid;
   mime_type = format.mime_type;

@@ -2,6 +2,7 @@
 use Rattle.std.specs.Prelude.{ℕ, List, ◌∷◌, filter}
 use Rattle.std.specs.List.{flat_map, AllByRecursion}
 use Rattle.droid_frame.specs.types.filter.Filter.{Filter}
+use Rattle.droid_frame.specs.types.hash_kind.HashKind.{HashKind}
 use Rattle.droid_frame.specs.types.record.Record.{Record}
 use Rattle.droid_pronom.specs.Registry.{Contents}
 use Rattle.droid_export.specs.Csv.{line}
@@ -18,12 +19,12 @@ abbrev pub chosen_rows : Contents → Filter → List Record → List Row
 chosen_rows registry criteria records = flat_map (rows registry) (filter (meets criteria) records)
 
 -- the rows that an export shows
-abbrev pub shown_rows : Contents → Filter → List Record → List Row
-shown_rows registry criteria records = header ∷ chosen_rows registry criteria records
+abbrev pub shown_rows : Contents → Filter → HashKind → List Record → List Row
+shown_rows registry criteria hash records = header hash ∷ chosen_rows registry criteria records
 
--- the text of an export
-unfoldable pub text : Contents → Filter → List Record → List ℕ
-text registry criteria records = flat_map row_text (shown_rows registry criteria records)
+-- the text of an export whose column for hashes is named for this one
+unfoldable pub text : Contents → Filter → HashKind → List Record → List ℕ
+text registry criteria hash records = flat_map row_text (shown_rows registry criteria hash records)
 
 -- each record was modified at a moment that can be written
 abbrev pub HaveMoments : List Record → Type 0

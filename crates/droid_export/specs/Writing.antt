@@ -8,6 +8,7 @@ use Rattle.csv.specs.declared.writer.QuoteStyle.TheVariants as style
 use Rattle.csv.specs.declared.writer.Writer.{Writer}
 use Rattle.csv.specs.declared.writer.WriterBuilder.{WriterBuilder}
 use Rattle.hex.specs.Hex.{encode_lower}
+use Rattle.droid_frame.specs.Hashes.{hash_bytes}
 use Rattle.droid_frame.specs.types.record.Record.{Record}
 use Rattle.droid_export.specs.Moments.{moment_text}
 use Rattle.droid_export.specs.Rows.{of_file, parent_text}
@@ -32,5 +33,5 @@ pub record IsCommon (node : Record) (common : Common) : Type 0 where
   pub uri : common.uri ≡ uri node.path node.kind
   pub size : string_bytes common.size ≡ of_file node (decimal node.size)
   pub last_modified : common.last_modified ≡ moment_text node.modified
-  pub md5_hash : string_bytes common.md5_hash ≡ of_file node (encode_lower node.md5)
+  pub hash : string_bytes common.hash ≡ of_file node (encode_lower (hash_bytes node.hash))
   pub format_count : string_bytes common.format_count ≡ of_file node (decimal (length node.puids))

@@ -3,6 +3,7 @@
 ghost use Rattle.std.specs.Prelude.{◌≡◌, IfOk, length, string_bytes};
 ghost use Rattle.std.specs.Fmt.{decimal};
 ghost use Rattle.hex.specs.Hex.{encode_lower};
+ghost use Rattle.droid_frame.specs.Hashes.{hash_bytes};
 ghost use Rattle.droid_export.specs.Moments.{IsMoment};
 ghost use Rattle.droid_export.specs.Rows.{of_file, parent_text};
 
@@ -20,7 +21,7 @@ pub(crate) struct Common {
     pub(crate) uri: Text,
     pub(crate) size: String,
     pub(crate) last_modified: [u8; 19],
-    pub(crate) md5_hash: String,
+    pub(crate) hash: String,
     pub(crate) format_count: String,
 }
 
@@ -39,7 +40,7 @@ impl Common {
             uri: uri(alloc, node.path.as_str(), node.kind)?,
             size: size_text(alloc, node)?,
             last_modified,
-            md5_hash: hash_text(alloc, node)?,
+            hash: hash_text(alloc, node)?,
             format_count: count_text(alloc, node)?,
         })
     }
@@ -65,14 +66,14 @@ fn size_text(alloc: Global, node: &Record) -> Result<String, AllocError>
     format!(in alloc; "{}", node.size)
 }
 
-/// The MD5 of a file in lower-case digits, and nothing for a folder.
+/// The hash of a file in lower-case digits, and nothing for a folder or where there is none.
 fn hash_text(alloc: Global, node: &Record) -> Result<String, AllocError>
-    ensures { IfOk result (λ text. string_bytes text ≡ of_file node.now (encode_lower node.now.md5)) }
+    ensures { IfOk result (λ text. string_bytes text ≡ of_file node.now (encode_lower (hash_bytes node.now.hash))) }
 {
     if !is_file(node.kind) {
         return Ok(String::new(alloc));
     }
-    hex::encode(alloc, node.md5.as_slice())
+    hex::encode(alloc, node.hash.as_slice())
 }
 
 /// How many formats a file has, and nothing for a folder.

@@ -4,6 +4,7 @@ ghost use Rattle.std.specs.Prelude.{List, map};
 ghost use Rattle.csv.specs.Reading.{AreRecords, default_config, strip_bom};
 ghost use Rattle.csv.specs.declared.parser.State.TheVariants as st;
 ghost use Rattle.droid_frame.specs.types.filter.Filter.{Filter};
+ghost use Rattle.droid_frame.specs.types.hash_kind.HashKind.{HashKind};
 ghost use Rattle.droid_frame.specs.types.record.Record.{Record};
 ghost use Rattle.droid_pronom.specs.Registry.{Contents};
 ghost use Rattle.droid_export.specs.Rows.{fields};
@@ -12,6 +13,6 @@ ghost use Rattle.droid_export.specs.Text.{shown_rows, text};
 /// The text of an export, read as CSV with the default settings of the kit's `csv`, gives back exactly the
 /// fields of its rows, and no more.
 pub fn text_is_read_back()
-    ensures { (registry : Contents) (criteria : Filter) (nodes : List Record) →
-        AreRecords default_config st.StartRecord (strip_bom (text registry criteria nodes)) (map fields (shown_rows registry criteria nodes)) }
+    ensures { (registry : Contents) (criteria : Filter) (hash : HashKind) (nodes : List Record) →
+        AreRecords default_config st.StartRecord (strip_bom (text registry criteria hash nodes)) (map fields (shown_rows registry criteria hash nodes)) }
 {}

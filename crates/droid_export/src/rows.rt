@@ -15,13 +15,13 @@ use crate::extension::extension;
 use crate::filter::{found_by, mismatch};
 use crate::table::write_record;
 use csv::Writer;
-use droid_frame::{Method, NodeKind, Record};
+use droid_frame::{HashKind, Method, NodeKind, Record};
 use droid_pronom::{Format, Registry};
 use std::alloc::{AllocError, Global};
 
-/// Writes the names of the columns.
-pub(crate) fn write_header(writer: &mut Writer<Vec<u8>>) -> Result<(), AllocError>
-    ensures { OnOk result ((text : List ℕ) → Holds writer.old text → Holds writer.new (text ++ row_text header)) }
+/// Writes the names of the columns, of which one tells the hash.
+pub(crate) fn write_header(writer: &mut Writer<Vec<u8>>, hash: HashKind) -> Result<(), AllocError>
+    ensures { OnOk result ((text : List ℕ) → Holds writer.old text → Holds writer.new (text ++ row_text (header hash))) }
 {
     let names: [&[u8]; 18] = [
         b"ID",
@@ -36,7 +36,7 @@ pub(crate) fn write_header(writer: &mut Writer<Vec<u8>>) -> Result<(), AllocErro
         b"EXT",
         b"LAST_MODIFIED",
         b"EXTENSION_MISMATCH",
-        b"MD5_HASH",
+        hash_column(hash).as_bytes(),
         b"FORMAT_COUNT",
         b"PUID",
         b"MIME_TYPE",
@@ -44,6 +44,17 @@ pub(crate) fn write_header(writer: &mut Writer<Vec<u8>>) -> Result<(), AllocErro
         b"FORMAT_VERSION",
     ];
     write_record(writer, &names)
+}
+
+/// The name of the column that shows this hash.
+fn hash_column(hash: HashKind) -> &'static str
+    ensures { result.now ≡ spec.hash_column hash }
+{
+    match hash {
+        HashKind::Nothing => "HASH",
+        HashKind::Md5 => "MD5_HASH",
+        HashKind::Sha256 => "SHA256_HASH",
+    }
 }
 
 /// Writes the rows of a record: one for each of its formats, in order, or one without a format.
@@ -116,7 +127,7 @@ fn write_row<'a>(
         extension(node).as_bytes(),
         common.last_modified.as_slice(),
         mismatch_text(node).as_bytes(),
-        common.md5_hash.as_bytes(),
+        common.hash.as_bytes(),
         common.format_count.as_bytes(),
         puid.as_bytes(),
         mime_type(format).as_bytes(),

@@ -11,14 +11,16 @@ use crate::index::Index;
 use crate::rows::{write_header, write_rows};
 use crate::table::{finish, new_writer};
 use csv::Writer;
-use droid_frame::{Blob, Filter, Record};
+use droid_frame::{Blob, Filter, HashKind, Record};
 use droid_pronom::Registry;
 use std::alloc::{AllocError, Global};
 
 /// The text of an export, as CSV (RFC 4180) with every field between double quotes and a line feed after each
-/// row: the names of the columns, and the rows of each record that meets the filter, in the order of the
-/// records. A record has a row for each of its formats, in order, or one whose last four fields are empty. Of a
-/// format that the registry lacks only its identifier is shown. Only want of memory refuses it.
+/// row: the names of the columns, of which one names the hash, and the rows of each record that meets the filter, in
+/// the order of the records. A record has a row for each of its formats, in order, or one whose last four fields are
+/// empty. Of a format that the registry lacks only its identifier is shown. Only want of memory refuses it.
+///
+/// A record's own hash is shown, of whichever kind it is, so the caller names the one that its files have.
 ///
 /// Each record has to be modified at a moment from 0001-01-01T00:00:00 to 9999-12-31T23:59:59, so the caller
 /// sees to that.
@@ -28,13 +30,14 @@ pub fn export_text(
     records: &[Record],
     registry: &Registry,
     filter: &Filter,
+    hash: HashKind,
 ) -> Result<Blob, AllocError>
     requires { HaveMoments records.now }
-    ensures { IfOk result (λ bytes. bytes ≡ text registry.now filter.now records.now) }
+    ensures { IfOk result (λ bytes. bytes ≡ text registry.now filter.now hash records.now) }
 {
     let index = Index::build(alloc, &filter.criteria)?;
     let mut writer = new_writer(alloc);
-    write_header(&mut writer)?;
+    write_header(&mut writer, hash)?;
     write_records(alloc, &mut writer, records, registry, filter, &index)?;
     Ok(Blob::from(finish(writer)?))
 }

@@ -9,7 +9,7 @@ ghost use Rattle.droid_export.specs.Text.{HaveMoments, text};
 
 use crate::fault::ExportFault;
 use crate::text::export_text;
-use droid_frame::{Filter, Progress, Record, SteadyWrite, WriteFault, write_all};
+use droid_frame::{Filter, HashKind, Progress, Record, SteadyWrite, WriteFault, write_all};
 use droid_pronom::Registry;
 use std::alloc::Global;
 
@@ -24,20 +24,21 @@ pub fn export<W: SteadyWrite>(
     records: &[Record],
     registry: &Registry,
     filter: &Filter,
+    hash: HashKind,
     writer: &mut W,
 ) -> Result<(), ExportFault>
     requires { HaveMoments records.now }
     // All of the text went out; or nothing; or exactly its first `written` bytes.
-    ensures bytes { GoesOut (W.contents writer.old) (W.contents writer.new) (text registry.now filter.now records.now) result }
+    ensures bytes { GoesOut (W.contents writer.old) (W.contents writer.new) (text registry.now filter.now hash records.now) result }
     // Want of memory leaves the writer as it was.
     ensures memory { IsErrOf result ExportFault.Memory → writer.new ≡ writer.old }
-    ensures room { UsesRoom (W.room writer.old) (W.room writer.new) (text registry.now filter.now records.now) result }
+    ensures room { UsesRoom (W.room writer.old) (W.room writer.new) (text registry.now filter.now hash records.now) result }
     // The writer is said to have stopped exactly where it did: it failed, was interrupted for the 65th time, or
     // had no room for the rest.
     ensures stopped { IsSound (W.seen writer.old) → SaysStopped result → WriterStops (W.seen writer.old).interruptions (W.seen writer.new) (W.room writer.new) }
     ensures steady { IsSound (W.seen writer.old) → (SaysStopped result → ⊥) → Lasts (W.seen writer.old).interruptions (W.seen writer.new) }
 {
-    let text = export_text(alloc, records, registry, filter)?;
+    let text = export_text(alloc, records, registry, filter, hash)?;
     write_text(writer, text.as_slice())?;
     Ok(())
 }

@@ -5,7 +5,7 @@ ghost use Rattle.droid_export.specs.Text.{HaveMoments};
 
 use crate::nodes::{Identified, MD5_OF_NOTHING, everything, file, folder, message, texts};
 use droid_export::{export_text, meets};
-use droid_frame::{Criteria, Criterion, Filter, Method, NodeKind, Record};
+use droid_frame::{Criteria, Criterion, Filter, HashKind, Method, NodeKind, Record};
 use droid_pronom::Registry;
 use droid_pronom_sample::SAMPLE;
 use std::alloc::{AllocError, Global};
@@ -109,7 +109,7 @@ fn is_right(
     requires { HaveMoments records.now }
 {
     let registry = Registry::parse(alloc, SAMPLE.as_bytes())?;
-    let bytes = export_text(alloc, records, &registry, filter)?;
+    let bytes = export_text(alloc, records, &registry, filter, HashKind::Md5)?;
     let text = str::from_utf8(bytes.as_slice())?;
     let shown = (
         text.contains("\"/in\""),
@@ -185,7 +185,7 @@ fn method_of_a_folder(rt: HostRuntime) -> Result<(), Fail> {
         )
     );
     let registry = Registry::parse(alloc, SAMPLE.as_bytes())?;
-    let bytes = export_text(alloc, &[node], &registry, &everything(alloc))?;
+    let bytes = export_text(alloc, &[node], &registry, &everything(alloc), HashKind::Md5)?;
     assert!(rt; !str::from_utf8(bytes.as_slice())?.contains("Signature"));
     Ok(())
 }

@@ -7,6 +7,8 @@ mod columns;
 #[cfg(test)]
 mod filters;
 #[cfg(test)]
+mod hashes;
+#[cfg(test)]
 mod memory;
 #[cfg(test)]
 mod moments;

@@ -6,7 +6,7 @@ ghost use Rattle.droid_export.specs.Text.{HaveMoments};
 
 use crate::nodes::{folder, message, texts};
 use droid_export::{ExportFault, export, export_text, moment_text, uri};
-use droid_frame::{Criteria, Criterion, Filter, NodeKind, Record, Unsteady};
+use droid_frame::{Criteria, Criterion, Filter, HashKind, NodeKind, Record, Unsteady};
 use droid_pronom::Registry;
 use droid_pronom_sample::SAMPLE;
 use std::alloc::{AllocError, Global};
@@ -66,15 +66,16 @@ fn each_growth_of_an_export(rt: HostRuntime) -> Result<(), Fail> {
     let registry = registry_of(alloc)?;
     let nodes = two_nodes(alloc)?;
     let filter = filter_with_lists(alloc).or_else(|_| filter_with_lists(alloc))?;
-    let text = export_text(alloc, &nodes, &registry, &filter).or_else(|_| export_text(
-        alloc, &nodes, &registry, &filter,
+    let hash = HashKind::Md5;
+    let text = export_text(alloc, &nodes, &registry, &filter, hash).or_else(|_| export_text(
+        alloc, &nodes, &registry, &filter, hash,
     ))?;
     let mut writer = Unsteady::new(Vec::new(alloc));
-    let mut answer = export(alloc, &nodes, &registry, &filter, &mut writer);
+    let mut answer = export(alloc, &nodes, &registry, &filter, hash, &mut writer);
     if answer.is_err() {
         // The writer is a buffer, so want of memory may be its own.
         writer = Unsteady::new(Vec::new(alloc));
-        answer = export(alloc, &nodes, &registry, &filter, &mut writer);
+        answer = export(alloc, &nodes, &registry, &filter, hash, &mut writer);
     }
     assert_eq!(rt; answer, Ok::<(), ExportFault>(()));
     assert_eq!(rt; writer.stream.as_slice(), text.as_slice());

@@ -3,7 +3,7 @@
 use crate::columns::HEADER;
 use crate::nodes::{everything, folder};
 use droid_export::{export_text, uri};
-use droid_frame::{Blob, NodeKind};
+use droid_frame::{Blob, HashKind, NodeKind};
 use droid_pronom::Registry;
 use droid_pronom_sample::SAMPLE;
 use std::alloc::{AllocError, Global};
@@ -178,7 +178,7 @@ fn uris_of_names(rt: HostRuntime) -> Result<(), Fail> {
 /// The export of a folder of this name.
 fn text_of_folder(alloc: Global, registry: &Registry, name: &str) -> Result<Blob, AllocError> {
     let records = [folder(alloc, 1, name)?];
-    export_text(alloc, &records, registry, &everything(alloc))
+    export_text(alloc, &records, registry, &everything(alloc), HashKind::Md5)
 }
 
 /// What it has to be, where the URI of a file of this name is known: the name as it is, but that a double quote is

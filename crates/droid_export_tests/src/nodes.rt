@@ -3,7 +3,7 @@
 ghost use Rattle.std.specs.Prelude.{◌≡◌, IfOk, pos};
 ghost use Rattle.droid_export.specs.Moments.{IsMoment};
 
-use droid_frame::{Criteria, Filter, Method, NodeKind, Record, Text, Texts};
+use droid_frame::{Criteria, Filter, HashValue, Method, NodeKind, Record, Text, Texts};
 use std::alloc::{AllocError, Global};
 
 /// The MD5 of no bytes (RFC 1321, its test suite).
@@ -30,7 +30,7 @@ pub fn folder(alloc: Global, id: u32, name: &str) -> Result<Record, AllocError>
         modified: 0,
         method: Method::Unidentified,
         mismatch: false,
-        md5: [0; 16],
+        hash: HashValue::Nothing,
         puids: Texts::new(alloc),
     })
 }
@@ -67,7 +67,7 @@ pub fn file(
         modified: 0,
         method: found.method,
         mismatch: found.mismatch,
-        md5,
+        hash: HashValue::Md5(md5),
         puids: texts(alloc, found.puids)?,
     })
 }

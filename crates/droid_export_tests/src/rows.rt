@@ -3,7 +3,7 @@
 use crate::columns::HEADER;
 use crate::nodes::{Identified, MD5_OF_NOTHING, everything, file, folder, message};
 use droid_export::{export_text, text_is_read_back};
-use droid_frame::{Method, NodeKind, Record, Text};
+use droid_frame::{HashKind, Method, NodeKind, Record, Text};
 use droid_pronom::Registry;
 use droid_pronom_sample::SAMPLE;
 use std::alloc::Global;
@@ -14,7 +14,7 @@ fn rows_of(alloc: Global, node: Record) -> Result<String, Fail> {
     let registry = Registry::parse(alloc, SAMPLE.as_bytes())?;
     let mut node = node;
     node.modified = 0;
-    let bytes = export_text(alloc, &[node], &registry, &everything(alloc))?;
+    let bytes = export_text(alloc, &[node], &registry, &everything(alloc), HashKind::Md5)?;
     let text = str::from_utf8(bytes.as_slice())?;
     let Some(rows) = text.strip_prefix(HEADER) else {
         return Err(Fail::from("no header"));

@@ -6,7 +6,7 @@ ghost use Rattle.droid_export.specs.Text.{HaveMoments};
 use crate::columns::HEADER;
 use crate::nodes::{everything, folder, message};
 use droid_export::{ExportFault, export, export_text};
-use droid_frame::{Record, Unsteady};
+use droid_frame::{HashKind, Record, Unsteady};
 use droid_frame_shaky::{BYTE_BY_BYTE, Manner, STEADY, ShakyWriter, Stop};
 use droid_pronom::Registry;
 use droid_pronom_sample::SAMPLE;
@@ -33,7 +33,14 @@ fn exported(
 {
     let registry = Registry::parse(alloc, SAMPLE.as_bytes())?;
     let mut stream = Unsteady::new(writer);
-    let answer = export(alloc, records, &registry, &everything(alloc), &mut stream);
+    let answer = export(
+        alloc,
+        records,
+        &registry,
+        &everything(alloc),
+        HashKind::Md5,
+        &mut stream,
+    );
     Ok((answer, stream.stream))
 }
 
@@ -71,7 +78,13 @@ fn gives(alloc: Global, text: &[u8], writer: ShakyWriter, written: usize) -> Res
 /// Whether the text of the three records is what is written for them.
 fn is_written(alloc: Global) -> Result<bool, Fail> {
     let registry = Registry::parse(alloc, SAMPLE.as_bytes())?;
-    let text = export_text(alloc, &three_nodes(alloc)?, &registry, &everything(alloc))?;
+    let text = export_text(
+        alloc,
+        &three_nodes(alloc)?,
+        &registry,
+        &everything(alloc),
+        HashKind::Md5,
+    )?;
     Ok(text.as_slice() == text_of_three(alloc)?.as_slice())
 }
 

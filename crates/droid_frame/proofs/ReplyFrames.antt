@@ -4,6 +4,7 @@ use Rattle.std.specs.Int.{w16, w32, w64}
 use Rattle.std.specs.List.{AllByRecursion}
 use Rattle.std.proofs.lemmas.List.{length-append}
 use Rattle.droid_frame_values.specs.Limits.{body_limit}
+use Rattle.droid_frame_values.specs.declared.hash_value.HashValue.TheVariants as values
 use Rattle.droid_frame_values.specs.declared.method.Method.{Method}
 use Rattle.droid_frame_values.specs.declared.method.Method.TheVariants.{Unidentified, Signature, Extension}
 use Rattle.droid_frame_values.specs.declared.refusal.Limit.{Limit}
@@ -69,7 +70,7 @@ puids_bytes (puid ∷ puids) are =
     (IsBytes-cons (length puid) puid (omega (arith, are.0.at_most)) (text_bytes puid are.0.utf8))
     (puids_bytes puids are.1)
 
-finished_is_short : (method : Method) (mismatch : Bool) (md5 : List ℕ) (puids : List (List ℕ)) → HasReplySpelling (Finished method mismatch md5 puids) → IsShort body_limit (reply_bytes (Finished method mismatch md5 puids))
+finished_is_short : (method : Method) (mismatch : Bool) (md5 : List ℕ) (puids : List (List ℕ)) → HasReplySpelling (Finished method mismatch (values.Md5 md5) puids) → IsShort body_limit (reply_bytes (Finished method mismatch (values.Md5 md5) puids))
 finished_is_short method mismatch md5 puids fits =
     let list : List ℕ = texts_bytes puids in
     let counted : List ℕ = u16_bytes (length puids) ++ list in
@@ -91,7 +92,9 @@ pub reply_is_short : (reply : Reply) → HasReplySpelling reply → IsShort body
 reply_is_short (Made profile) fits = (number_bytes w32 profile, omega arith)
 reply_is_short (Node id) fits = (number_bytes w32 id, omega arith)
 reply_is_short (Taken held) fits = (number_bytes w32 held, omega arith)
-reply_is_short (Finished method mismatch md5 puids) fits = finished_is_short method mismatch md5 puids fits
+reply_is_short (Finished method mismatch values.Nothing puids) fits = absurd fits.0
+reply_is_short (Finished method mismatch (values.Md5 md5) puids) fits = finished_is_short method mismatch md5 puids fits
+reply_is_short (Finished method mismatch (values.Sha256 digest) puids) fits = absurd fits.0
 reply_is_short Abandoned fits = (IsBytes-nil, omega arith)
 reply_is_short (Progress held missing) fits = (IsBytes-append (u32_bytes held) (u32_bytes missing) (number_bytes w32 held) (number_bytes w32 missing), omega arith)
 reply_is_short (Part as_of total bytes) fits = part_is_short as_of total bytes fits
@@ -101,7 +104,7 @@ kind_small : (reply : Reply) → reply_kind reply < 256
 kind_small (Made profile) = omega arith
 kind_small (Node id) = omega arith
 kind_small (Taken held) = omega arith
-kind_small (Finished method mismatch md5 puids) = omega arith
+kind_small (Finished method mismatch hash puids) = omega arith
 kind_small Abandoned = omega arith
 kind_small (Progress held missing) = omega arith
 kind_small (Part as_of total bytes) = omega arith

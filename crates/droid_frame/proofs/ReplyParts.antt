@@ -15,7 +15,7 @@ pub front_and_rest : (reply : Reply) â†’ reply_front reply ++ reply_rest reply â
 front_and_rest (Made profile) = append-nil _
 front_and_rest (Node id) = append-nil _
 front_and_rest (Taken held) = append-nil _
-front_and_rest (Finished method mismatch md5 puids) = simp append_assoc
+front_and_rest (Finished method mismatch hash puids) = simp append_assoc
 front_and_rest Abandoned = refl
 front_and_rest (Progress held missing) = append-nil _
 front_and_rest (Part as_of total bytes) = append_assoc (u64_bytes as_of) (u64_bytes total) bytes

@@ -3,6 +3,7 @@ use Rattle.std.specs.Prelude.{ℕ, List, [], ◌++◌, length}
 use Rattle.droid_frame_values.specs.declared.reply.Reply.{Reply}
 use Rattle.droid_frame_values.specs.declared.reply.Reply.TheVariants.{Made, Node, Taken, Finished, Abandoned, Progress, Part, Refused}
 use Rattle.droid_frame_values.specs.Fields.{u16_bytes, u32_bytes, u64_bytes, truth_bytes, method_bytes}
+use Rattle.droid_frame_values.specs.Hashes.{hash_bytes}
 use Rattle.droid_frame_values.specs.Replies.{refusal_bytes}
 use Rattle.droid_frame_values.specs.TextLists.{texts_bytes}
 
@@ -11,7 +12,7 @@ abbrev pub reply_front : Reply → List ℕ
 reply_front (Made profile) = u32_bytes profile
 reply_front (Node id) = u32_bytes id
 reply_front (Taken held) = u32_bytes held
-reply_front (Finished method mismatch md5 puids) = method_bytes method ++ (truth_bytes mismatch ++ (md5 ++ u16_bytes (length puids)))
+reply_front (Finished method mismatch hash puids) = method_bytes method ++ (truth_bytes mismatch ++ (hash_bytes hash ++ u16_bytes (length puids)))
 reply_front Abandoned = []
 reply_front (Progress held missing) = u32_bytes held ++ u32_bytes missing
 reply_front (Part as_of total bytes) = u64_bytes as_of ++ u64_bytes total
@@ -22,7 +23,7 @@ abbrev pub reply_rest : Reply → List ℕ
 reply_rest (Made profile) = []
 reply_rest (Node id) = []
 reply_rest (Taken held) = []
-reply_rest (Finished method mismatch md5 puids) = texts_bytes puids
+reply_rest (Finished method mismatch hash puids) = texts_bytes puids
 reply_rest Abandoned = []
 reply_rest (Progress held missing) = []
 reply_rest (Part as_of total bytes) = bytes

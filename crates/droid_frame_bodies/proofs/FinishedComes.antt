@@ -6,6 +6,7 @@ use Rattle.droid_frame_bodies.specs.declared.replies.finished.FinishedHead.{Fini
 use Rattle.droid_frame_bodies.specs.declared.body_fault.BodyFault.{BodyFault}
 use Rattle.droid_frame_bodies.specs.declared.body_fault.BodyFault.TheVariants.{Malformed, Memory}
 use Rattle.droid_frame_values.specs.Limits.{puid_limit}
+use Rattle.droid_frame_values.specs.declared.hash_value.HashValue.TheVariants as values
 use Rattle.droid_frame_values.specs.declared.reply.Reply.{Reply}
 use Rattle.droid_frame_values.specs.declared.reply.Reply.TheVariants.{Finished}
 use Rattle.droid_frame_bodies.specs.Outcomes.{Fails}
@@ -37,7 +38,7 @@ pub record HasHead (body : List ℕ) (head : FinishedHead) (rest : List ℕ) : T
   pub head_is : finished_head_at body ≡ Some (head, rest)
 
 abbrev made_of : FinishedHead → List (List ℕ) → Reply
-made_of head puids = Finished head.method head.mismatch head.md5 puids
+made_of head puids = Finished head.method head.mismatch (values.Md5 head.md5) puids
 
 pub no_puids : (body : List ℕ) (head : FinishedHead) (rest : List ℕ) → HasHead body head rest → (ArePuids head.count rest → ⊥) → finished_value body ≡ None
 unfolding finished_value

@@ -7,6 +7,7 @@ use Rattle.std.proofs.lemmas.List.{append-nil}
 use Rattle.droid_frame_bodies.specs.declared.replies.finished.FinishedHead.{FinishedHead}
 use Rattle.droid_frame_values.specs.declared.method.Method.{Method}
 use Rattle.droid_frame_values.specs.Limits.{part_limit, puid_limit, puids_limit}
+use Rattle.droid_frame_values.specs.declared.hash_value.HashValue.TheVariants as values
 use Rattle.droid_frame_values.specs.declared.reply.Reply.{Reply}
 use Rattle.droid_frame_values.specs.declared.reply.Reply.TheVariants.{Made, Node, Taken, Finished, Abandoned, Progress, Part, Refused}
 use Rattle.droid_frame_values.specs.Fields.{IsBytes, IsU32, u32_bytes, u64_bytes}
@@ -118,14 +119,14 @@ refused_reads body reply are e =
 finished_reads : (body : List ℕ) (reply : Reply) → IsBytes body → finished_value body ≡ Some reply → SpellsReply 132 body reply
 unfolding finished_value
 finished_reads body reply are e =
-    let head = bind_some (finished_head_at body) (λ h. texts_at h.0.count 1 puid_limit h.1 >>= λ p. whole p.1 (Finished h.0.method h.0.mismatch h.0.md5 p.0)) reply e in
+    let head = bind_some (finished_head_at body) (λ h. texts_at h.0.count 1 puid_limit h.1 >>= λ p. whole p.1 (Finished h.0.method h.0.mismatch (values.Md5 h.0.md5) p.0)) reply e in
     let h = head.0 in
     let front = head_field.reads body h are head.1 in
-    let last = last_reads (texts_at h.0.count 1 puid_limit) texts_bytes (AreTexts h.0.count 1 puid_limit) (Finished h.0.method h.0.mismatch h.0.md5) h.1 reply (texts_field h.0.count 1 puid_limit) front.0.bytes_follow head.2 in
+    let last = last_reads (texts_at h.0.count 1 puid_limit) texts_bytes (AreTexts h.0.count 1 puid_limit) (Finished h.0.method h.0.mismatch (values.Md5 h.0.md5)) h.1 reply (texts_field h.0.count 1 puid_limit) front.0.bytes_follow head.2 in
     let puids = last.value in
     let few : length puids ≤ puids_limit = omega (arith, last.has_one.0, front.1.1) in
     let parts : body ≡ head_bytes h.0 ++ texts_bytes puids = front.0.parts ∙ ap (λ (r : List ℕ). head_bytes h.0 ++ r) last.bytes_are in
-    let same : head_bytes h.0 ++ texts_bytes puids ≡ reply_bytes (Finished h.0.method h.0.mismatch h.0.md5 puids) = rw last.has_one.0 (head_regroups h.0 (texts_bytes puids)) in
+    let same : head_bytes h.0 ++ texts_bytes puids ≡ reply_bytes (Finished h.0.method h.0.mismatch (values.Md5 h.0.md5) puids) = rw last.has_one.0 (head_regroups h.0 (texts_bytes puids)) in
     subst (SpellsReply 132 body) last.makes (record { kind_is = refl; body_is = parts ∙ same; has_spelling = (front.1.0, few, last.has_one.1) })
 
 -- ---- what is spelled is read
@@ -133,12 +134,12 @@ finished_reads body reply are e =
 abbrev head_of : Method → Bool → List ℕ → List (List ℕ) → FinishedHead
 head_of method mismatch md5 puids = record { method = method; mismatch = mismatch; md5 = md5; count = length puids }
 
-finished_again : (method : Method) (mismatch : Bool) (md5 : List ℕ) (puids : List (List ℕ)) → HasReplySpelling (Finished method mismatch md5 puids) → finished_value (reply_bytes (Finished method mismatch md5 puids)) ≡ Some (Finished method mismatch md5 puids)
+finished_again : (method : Method) (mismatch : Bool) (md5 : List ℕ) (puids : List (List ℕ)) → HasReplySpelling (Finished method mismatch (values.Md5 md5) puids) → finished_value (reply_bytes (Finished method mismatch (values.Md5 md5) puids)) ≡ Some (Finished method mismatch (values.Md5 md5) puids)
 unfolding finished_value
 finished_again method mismatch md5 puids fits =
     let head = head_of method mismatch md5 puids in
     ap finished_value (sym (head_regroups head (texts_bytes puids)))
-    ∙ rw (head_field.again head (texts_bytes puids) (fits.0, fits.1)) (last_again (texts_at (length puids) 1 puid_limit) texts_bytes (AreTexts (length puids) 1 puid_limit) (Finished method mismatch md5) puids (texts_field (length puids) 1 puid_limit) (refl, fits.2))
+    ∙ rw (head_field.again head (texts_bytes puids) (fits.0, fits.1)) (last_again (texts_at (length puids) 1 puid_limit) texts_bytes (AreTexts (length puids) 1 puid_limit) (Finished method mismatch (values.Md5 md5)) puids (texts_field (length puids) 1 puid_limit) (refl, fits.2))
 
 progress_again : (held missing : ℕ) → HasReplySpelling (Progress held missing) → progress_value (reply_bytes (Progress held missing)) ≡ Some (Progress held missing)
 unfolding progress_value
@@ -157,7 +158,9 @@ unfolding reply_value plain_value made_value node_value taken_value abandoned_va
 again (Made profile) fits = last_again (number_at w32) u32_bytes IsU32 Made profile u32_field fits
 again (Node id) fits = last_again (number_at w32) u32_bytes IsU32 Node id u32_field fits
 again (Taken held) fits = last_again (number_at w32) u32_bytes IsU32 Taken held u32_field fits
-again (Finished method mismatch md5 puids) fits = finished_again method mismatch md5 puids fits
+again (Finished method mismatch values.Nothing puids) fits = absurd fits.0
+again (Finished method mismatch (values.Md5 md5) puids) fits = finished_again method mismatch md5 puids fits
+again (Finished method mismatch (values.Sha256 digest) puids) fits = absurd fits.0
 again Abandoned fits = whole_again Abandoned
 again (Progress held missing) fits = progress_again held missing fits
 again (Part as_of total bytes) fits = part_again as_of total bytes fits

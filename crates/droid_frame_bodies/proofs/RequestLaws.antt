@@ -4,6 +4,7 @@ use Rattle.std.proofs.Common.{◌≡◌, ℕ, pos, List, [], ◌++◌, Option, S
 use Rattle.std.specs.Int.{w32, w64}
 use Rattle.std.proofs.lemmas.List.{append-nil}
 use Rattle.droid_frame_bodies.specs.declared.requests.node_head.NodeHead.{NodeHead}
+use Rattle.droid_frame_values.specs.declared.hash_kind.HashKind.TheVariants as kinds
 use Rattle.droid_frame_values.specs.declared.request.Request.{Request}
 use Rattle.droid_frame_values.specs.declared.request.Request.TheVariants.{CreateProfile, AddFolder, AddFile, Piece, Finish, Abandon, Status, Export}
 use Rattle.droid_frame_values.specs.Fields.{IsBytes, IsU32, u32_bytes, u64_bytes, truth_bytes}
@@ -23,16 +24,16 @@ use Rattle.droid_frame_bodies.proofs.Utf8.{text_at-utf8}
 create_profile_reads : (body : List ℕ) (request : Request) → IsBytes body → create_profile_value body ≡ Some request → SpellsRequest 1 body request
 unfolding create_profile_value
 create_profile_reads body request are e =
-    let limit = bind_some (number_at w32 body) (λ n. truth_at n.1 >>= λ all. whole all.1 (CreateProfile n.0 all.0)) request e in
-    let all = bind_some (truth_at limit.0.1) (λ all. whole all.1 (CreateProfile limit.0.0 all.0)) request limit.2 in
-    let end = whole_reads all.0.1 (CreateProfile limit.0.0 all.0.0) request all.2 in
+    let limit = bind_some (number_at w32 body) (λ n. truth_at n.1 >>= λ all. whole all.1 (CreateProfile n.0 all.0 kinds.Md5)) request e in
+    let all = bind_some (truth_at limit.0.1) (λ all. whole all.1 (CreateProfile limit.0.0 all.0 kinds.Md5)) request limit.2 in
+    let end = whole_reads all.0.1 (CreateProfile limit.0.0 all.0.0 kinds.Md5) request all.2 in
     let limit_front = u32_field.reads body limit.0 are limit.1 in
     let all_front = truth_field.reads limit.0.1 all.0 limit_front.0.bytes_follow all.1 in
     let rest : limit.0.1 ≡ truth_bytes all.0.0 = all_front.0.parts ∙ (ap (λ (r : List ℕ). truth_bytes all.0.0 ++ r) end.0 ∙ append-nil (truth_bytes all.0.0)) in
     subst (SpellsRequest 1 body) end.1 (record {
       kind_is = refl;
       body_is = limit_front.0.parts ∙ ap (λ (r : List ℕ). u32_bytes limit.0.0 ++ r) rest;
-      has_spelling = limit_front.1;
+      has_spelling = (limit_front.1, refl);
     })
 
 add_folder_reads : (body : List ℕ) (request : Request) → IsBytes body → add_folder_value body ≡ Some request → SpellsRequest 2 body request
@@ -188,8 +189,8 @@ head_of _ = record { profile = 0; parent = 0; modified = pos 0 }
 
 again : (request : Request) → HasSpelling request → request_value (request_kind request) (request_body request) ≡ Some request
 unfolding request_value plain_value create_profile_value add_folder_value add_file_value piece_value finish_value abandon_value status_value export_value
-again (CreateProfile limit all) fits =
-    rw (u32_field.again limit (truth_bytes all) fits, ap truth_at (sym (append-nil (truth_bytes all))) ∙ truth_field.again all [] tt, whole_again (CreateProfile limit all)) refl
+again (CreateProfile limit all hash) fits =
+    rw (fits.1, u32_field.again limit (truth_bytes all) fits.0, ap truth_at (sym (append-nil (truth_bytes all))) ∙ truth_field.again all [] tt, whole_again (CreateProfile limit all kinds.Md5)) refl
 again (AddFolder profile parent modified name) fits =
     rw (node_head_field.again (head_of (AddFolder profile parent modified name)) name (fits.0, fits.1, fits.2), text_at-utf8 name fits.3) refl
 again (AddFile profile parent modified size piece_size name) fits =

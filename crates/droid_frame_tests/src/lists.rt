@@ -77,4 +77,7 @@ fn numbers(rt: HostRuntime) {
     assert!(rt; HashValue::Nothing.kind().number() == 0);
     assert!(rt; HashValue::Md5([0; 16]).kind().number() == 1);
     assert!(rt; HashValue::Sha256([0; 32]).kind().number() == 2);
+    assert!(rt; HashValue::Nothing.as_slice().is_empty());
+    assert!(rt; HashValue::Md5([7; 16]).as_slice() == [7; 16].as_slice());
+    assert!(rt; HashValue::Sha256([9; 32]).as_slice() == [9; 32].as_slice());
 }

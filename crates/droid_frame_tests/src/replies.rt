@@ -4,8 +4,8 @@ ghost use Rattle.droid_frame.specs.Replies.{HasReplySpelling};
 
 use crate::faults::is_shown;
 use droid_frame::{
-    Arrival, Frame, Method, NodeKind, Record, Reply, Text, Texts, read_frame, reply_body, reply_of,
-    write_reply,
+    Arrival, Frame, HashValue, Method, NodeKind, Record, Reply, Text, Texts, read_frame,
+    reply_body, reply_of, write_reply,
 };
 use droid_frame_vectors::{
     FINISHED, INCOMPLETE, MADE, MALFORMED, NODE, NODES_REACHED, NUMBER_REUSED, body_of,
@@ -91,7 +91,7 @@ const FRAMES: [(&[u8], &str); 7] = [
     (NODES_REACHED, "Refused(LimitReached(Nodes))"),
     (
         FINISHED,
-        "Finished { method: Extension, mismatch: false, md5: [212, 29, 140, 217, 143, 0, 178, 4, 233, 128, 9, 152, 236, 248, 66, 126], puids: Texts { items: [Text { text: \"dev/4\" }] } }",
+        "Finished { method: Extension, mismatch: false, hash: Md5([212, 29, 140, 217, 143, 0, 178, 4, 233, 128, 9, 152, 236, 248, 66, 126]), puids: Texts { items: [Text { text: \"dev/4\" }] } }",
     ),
 ];
 
@@ -174,7 +174,7 @@ fn each_body(rt: &impl Abort, alloc: Global, rows: &[(u8, &[u8], &str)]) -> Resu
 }
 
 const RECORD: &str =
-    "Record { id: 2, parent: 1, path: Text { text: \"/in/a.txt\" }, name: Text { text: \"a.txt\" }, kind: File, size: 3, modified: -1, method: Extension, mismatch: true, md5: [212, 29, 140, 217, 143, 0, 178, 4, 233, 128, 9, 152, 236, 248, 66, 126], puids: Texts { items: [Text { text: \"dev/4\" }] } }";
+    "Record { id: 2, parent: 1, path: Text { text: \"/in/a.txt\" }, name: Text { text: \"a.txt\" }, kind: File, size: 3, modified: -1, method: Extension, mismatch: true, hash: Md5([212, 29, 140, 217, 143, 0, 178, 4, 233, 128, 9, 152, 236, 248, 66, 126]), puids: Texts { items: [Text { text: \"dev/4\" }] } }";
 
 fn record(alloc: Global) -> Result<Record, AllocError> {
     let mut puids = Texts::new(alloc);
@@ -189,7 +189,7 @@ fn record(alloc: Global) -> Result<Record, AllocError> {
         modified: -1,
         method: Method::Extension,
         mismatch: true,
-        md5: MD5_OF_NOTHING,
+        hash: HashValue::Md5(MD5_OF_NOTHING),
         puids,
     })
 }

@@ -1,7 +1,9 @@
 //! Requests: bytes to values and values to bytes, and what is no request.
 
 use crate::faults::is_shown;
-use droid_frame::{BodyFault, Frame, NUMBER_LIMIT, mark, request_frame, request_of};
+use droid_frame::{
+    BodyFault, Frame, HashKind, NUMBER_LIMIT, Request, mark, request_frame, request_of,
+};
 use droid_frame_vectors::frame;
 use std::alloc::Global;
 use std::process::Abort;
@@ -46,7 +48,7 @@ const KINDS: [(u8, &[u8], &str); 9] = [
     (
         1,
         &CREATE,
-        "CreateProfile { scan_limit: 65536, match_all: false }",
+        "CreateProfile { scan_limit: 65536, match_all: false, hash: Md5 }",
     ),
     (
         2,
@@ -199,4 +201,21 @@ fn each_shortest(rt: &impl Abort, alloc: Global, rows: &[(u8, &[u8], usize)]) ->
         assert!(rt; request_of(alloc, frame).is_ok(), "{kind}");
     }
     Ok(())
+}
+
+#[test]
+fn hashes_that_fit(rt: HostRuntime) {
+    let rows = [
+        (HashKind::Nothing, false),
+        (HashKind::Md5, true),
+        (HashKind::Sha256, false),
+    ];
+    for (hash, wanted) in rows {
+        let request = Request::CreateProfile {
+            scan_limit: 65_536,
+            match_all: false,
+            hash,
+        };
+        assert!(rt; request.fits() == wanted);
+    }
 }

@@ -2,6 +2,7 @@
 use Rattle.std.specs.Prelude.{◌≡◌, ℕ, ◌≤◌, List, ◌++◌, length}
 use Rattle.std.specs.Str.{IsUtf8}
 use Rattle.droid_frame_values.specs.Limits.{body_limit}
+use Rattle.droid_frame_values.specs.declared.hash_kind.HashKind.TheVariants as kinds
 use Rattle.droid_frame_values.specs.declared.request.Request.{Request}
 use Rattle.droid_frame_values.specs.declared.request.Request.TheVariants.{CreateProfile, AddFolder, AddFile, Piece, Finish, Abandon, Status, Export}
 use Rattle.droid_frame_values.specs.Fields.{IsBytes, u32_bytes, u64_bytes, i64_bytes, truth_bytes, IsU32, IsU64, IsI64}
@@ -9,7 +10,7 @@ use Rattle.droid_frame_values.specs.Filters.{filter_bytes, IsFilter, FilterFits}
 
 -- the kind of a request
 abbrev pub request_kind : Request → ℕ
-request_kind (CreateProfile scan_limit match_all) = 1
+request_kind (CreateProfile scan_limit match_all hash) = 1
 request_kind (AddFolder profile parent modified name) = 2
 request_kind (AddFile profile parent modified size piece_size name) = 3
 request_kind (Piece profile file index bytes) = 4
@@ -20,7 +21,7 @@ request_kind (Export profile from max filter) = 8
 
 -- the fields of a request, one after the other; a name and a piece's bytes run to the end
 abbrev pub request_body : Request → List ℕ
-request_body (CreateProfile scan_limit match_all) = u32_bytes scan_limit ++ truth_bytes match_all
+request_body (CreateProfile scan_limit match_all hash) = u32_bytes scan_limit ++ truth_bytes match_all
 request_body (AddFolder profile parent modified name) = u32_bytes profile ++ (u32_bytes parent ++ (i64_bytes modified ++ name))
 request_body (AddFile profile parent modified size piece_size name) =
     u32_bytes profile ++ (u32_bytes parent ++ (i64_bytes modified ++ (u64_bytes size ++ (u32_bytes piece_size ++ name))))
@@ -30,9 +31,10 @@ request_body (Abandon profile file) = u32_bytes profile ++ u32_bytes file
 request_body (Status profile file) = u32_bytes profile ++ u32_bytes file
 request_body (Export profile from max filter) = u32_bytes profile ++ (u64_bytes from ++ (u32_bytes max ++ filter_bytes filter))
 
--- each number is in its field's range, each text is UTF-8, and each list is short enough for its count
+-- each number is in its field's range, each text is UTF-8, and each list is short enough for its count; a profile's
+-- hash has no field: it is MD5
 abbrev pub HasSpelling : Request → Type 0
-HasSpelling (CreateProfile scan_limit match_all) = IsU32 scan_limit
+HasSpelling (CreateProfile scan_limit match_all hash) = IsU32 scan_limit × (hash ≡ kinds.Md5)
 HasSpelling (AddFolder profile parent modified name) = IsU32 profile × IsU32 parent × IsI64 modified × IsUtf8 name
 HasSpelling (AddFile profile parent modified size piece_size name) = IsU32 profile × IsU32 parent × IsI64 modified × IsU64 size × IsU32 piece_size × IsUtf8 name
 HasSpelling (Piece profile file index bytes) = IsU32 profile × IsU32 file × IsU32 index × IsBytes bytes
@@ -52,7 +54,13 @@ abbrev pub ListsFit : Request → Type 0
 ListsFit (Export profile from max filter) = FilterFits filter
 ListsFit _ = Unit {0}
 
--- short enough to be sent
+-- a profile has the one hash that a frame can ask for
+abbrev pub HashFits : Request → Type 0
+HashFits (CreateProfile scan_limit match_all hash) = hash ≡ kinds.Md5
+HashFits _ = Unit {0}
+
+-- short enough to be sent, and with the one hash
 pub record Fits (request : Request) : Type 0 where
   pub body : length (request_body request) ≤ body_limit
   pub lists : ListsFit request
+  pub hash : HashFits request

@@ -1,5 +1,5 @@
 -- The hash that a profile's files get, by its kind: none, MD5 (RFC 1321) or SHA-256 (FIPS 180-4).
-use Rattle.std.specs.Prelude.{◌≡◌, ℕ, List, length}
+use Rattle.std.specs.Prelude.{◌≡◌, ℕ, List, [], length}
 use Rattle.md5.specs.Md5.{md5}
 use Rattle.sha2.specs.Sha256.{sha256}
 use Rattle.droid_frame_values.specs.Fields.{IsBytes}
@@ -25,6 +25,12 @@ abbrev pub IsHashValue : HashValue → Type 0
 IsHashValue values.Nothing = Unit {0}
 IsHashValue (values.Md5 digest) = (length digest ≡ 16) × IsBytes digest
 IsHashValue (values.Sha256 digest) = (length digest ≡ 32) × IsBytes digest
+
+-- the digest, and no byte where there is none
+abbrev pub hash_bytes : HashValue → List ℕ
+hash_bytes values.Nothing = []
+hash_bytes (values.Md5 digest) = digest
+hash_bytes (values.Sha256 digest) = digest
 
 -- the hash of bytes: nothing, or the digest of the whole list
 abbrev pub hash : HashKind → List ℕ → HashValue

@@ -1,8 +1,11 @@
 -- The grammar of replies: which kind and bytes spell which reply (this project's own).
 use Rattle.std.specs.Prelude.{◌≡◌, ℕ, ◌≤◌, List, [], ◌∷◌, ◌++◌, length}
 use Rattle.std.specs.List.{AllByRecursion}
+use Rattle.droid_frame_values.specs.declared.hash_value.HashValue.{HashValue}
+use Rattle.droid_frame_values.specs.declared.hash_value.HashValue.TheVariants as values
 use Rattle.droid_frame_values.specs.declared.refusal.Refusal.{Refusal}
 use Rattle.droid_frame_values.specs.declared.refusal.Refusal.TheVariants as refusals
+use Rattle.droid_frame_values.specs.Hashes.{hash_bytes}
 use Rattle.droid_frame_values.specs.Limits.{puids_limit, puid_limit, part_limit}
 use Rattle.droid_frame_values.specs.declared.reply.Reply.{Reply}
 use Rattle.droid_frame_values.specs.declared.reply.Reply.TheVariants.{Made, Node, Taken, Finished, Abandoned, Progress, Part, Refused}
@@ -15,7 +18,7 @@ abbrev pub reply_kind : Reply → ℕ
 reply_kind (Made profile) = 129
 reply_kind (Node id) = 130
 reply_kind (Taken held) = 131
-reply_kind (Finished method mismatch md5 puids) = 132
+reply_kind (Finished method mismatch hash puids) = 132
 reply_kind Abandoned = 133
 reply_kind (Progress held missing) = 134
 reply_kind (Part as_of total bytes) = 135
@@ -36,8 +39,8 @@ abbrev pub reply_bytes : Reply → List ℕ
 reply_bytes (Made profile) = u32_bytes profile
 reply_bytes (Node id) = u32_bytes id
 reply_bytes (Taken held) = u32_bytes held
-reply_bytes (Finished method mismatch md5 puids) =
-    method_bytes method ++ (truth_bytes mismatch ++ (md5 ++ (u16_bytes (length puids) ++ texts_bytes puids)))
+reply_bytes (Finished method mismatch hash puids) =
+    method_bytes method ++ (truth_bytes mismatch ++ (hash_bytes hash ++ (u16_bytes (length puids) ++ texts_bytes puids)))
 reply_bytes Abandoned = []
 reply_bytes (Progress held missing) = u32_bytes held ++ u32_bytes missing
 reply_bytes (Part as_of total bytes) = u64_bytes as_of ++ (u64_bytes total ++ bytes)
@@ -53,6 +56,11 @@ HasRefusalSpelling _ = Unit {0}
 abbrev pub IsDigest : List ℕ → Type 0
 IsDigest md5 = (length md5 ≡ 16) × IsBytes md5
 
+-- a hash that a Finished can tell: an MD5
+abbrev pub IsSpelledHash : HashValue → Type 0
+IsSpelledHash (values.Md5 digest) = IsDigest digest
+IsSpelledHash _ = ⊥
+
 -- the identifier of a format: UTF-8, of 1 to 32 bytes
 abbrev pub IsPuidText : List ℕ → Type 0
 IsPuidText puid = IsSizedText 1 puid_limit puid
@@ -62,8 +70,8 @@ abbrev pub HasReplySpelling : Reply → Type 0
 HasReplySpelling (Made profile) = IsU32 profile
 HasReplySpelling (Node id) = IsU32 id
 HasReplySpelling (Taken held) = IsU32 held
-HasReplySpelling (Finished method mismatch md5 puids) =
-    IsDigest md5 × (length puids ≤ puids_limit) × AllByRecursion IsPuidText puids
+HasReplySpelling (Finished method mismatch hash puids) =
+    IsSpelledHash hash × (length puids ≤ puids_limit) × AllByRecursion IsPuidText puids
 HasReplySpelling Abandoned = Unit {0}
 HasReplySpelling (Progress held missing) = IsU32 held × IsU32 missing
 HasReplySpelling (Part as_of total bytes) = IsU64 as_of × IsU64 total × (length bytes ≤ part_limit) × IsBytes bytes

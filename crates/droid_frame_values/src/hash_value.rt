@@ -1,7 +1,7 @@
 //! The hash of a file.
 
 ghost use Rattle.std.specs.Prelude.{◌≡◌};
-ghost use Rattle.droid_frame_values.specs.Hashes.{hash_value_kind};
+ghost use Rattle.droid_frame_values.specs.Hashes.{hash_bytes, hash_value_kind};
 
 use crate::hash_kind::HashKind;
 
@@ -25,6 +25,17 @@ impl HashValue {
             HashValue::Nothing => HashKind::Nothing,
             HashValue::Md5(_) => HashKind::Md5,
             HashValue::Sha256(_) => HashKind::Sha256,
+        }
+    }
+
+    /// The digest, and no byte where none was taken.
+    pub fn as_slice(&self) -> &[u8]
+        ensures { result.now ≡ hash_bytes self.now }
+    {
+        match self {
+            HashValue::Nothing => &[],
+            HashValue::Md5(digest) => digest.as_slice(),
+            HashValue::Sha256(digest) => digest.as_slice(),
         }
     }
 }

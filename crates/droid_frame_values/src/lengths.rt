@@ -1,13 +1,15 @@
 //! How long bodies are.
 
-ghost use Rattle.std.specs.Prelude.{◌≡◌, ◌↔◌, ◌<◌, ◌≤◌, ◌+◌, IsTrue, MatchOption, length};
+ghost use Rattle.std.specs.Prelude.{◌≡◌, ◌≢◌, ◌↔◌, ◌<◌, ◌≤◌, ◌+◌, IsTrue, MatchOption, length};
 ghost use Rattle.droid_frame_values.specs.Bodies.{Fits, request_body};
 ghost use Rattle.droid_frame_values.specs.Filters.{ListFits, CriterionFits, FilterFits, list_bytes, criterion_bytes, filter_bytes};
 ghost use Rattle.droid_frame_values.specs.Limits.{body_limit};
+ghost use Rattle.droid_frame_values.specs.declared.hash_kind.HashKind.TheVariants as kinds;
 
 use crate::criterion::Criterion;
 use crate::filter::Filter;
 use crate::frame::BODY_LIMIT;
+use crate::hash_kind::HashKind;
 use crate::request::Request;
 use crate::texts::Texts;
 
@@ -17,7 +19,7 @@ const COUNT_LIMIT: usize = 255;
 impl Request {
     /// Whether the request is short enough to be sent: its body has at most [`BODY_LIMIT`] bytes, a
     /// filter at most 255 criteria, each list of a criterion at most 255 texts, and each of these at
-    /// most 255 bytes. It takes no memory.
+    /// most 255 bytes; and whether a profile's hash is MD5. It takes no memory.
     pub fn fits(&self) -> bool
         ensures { IsTrue result ↔ Fits self.now }
     {
@@ -29,7 +31,7 @@ impl Request {
         ensures { MatchOption result (¬ Fits self.now) (λ len. Fits self.now × (len ≡ length (request_body self.now))) }
     {
         match self {
-            Request::CreateProfile { .. } => Some(5),
+            Request::CreateProfile { hash, .. } => options_len(*hash),
             Request::AddFolder { name, .. } => len_with(16, name.len()),
             Request::AddFile { name, .. } => len_with(28, name.len()),
             Request::Piece { bytes, .. } => len_with(12, bytes.len()),
@@ -38,6 +40,17 @@ impl Request {
             Request::Status { .. } => Some(8),
             Request::Export { filter, .. } => len_with(16, filter_len(filter)?),
         }
+    }
+}
+
+/// The length of the body of a profile's options, which names no hash.
+fn options_len(hash: HashKind) -> Option<usize>
+    ensures { MatchOption result (hash ≢ kinds.Md5) (λ len. (hash ≡ kinds.Md5) × (len ≡ 5)) }
+{
+    match hash {
+        HashKind::Nothing => None,
+        HashKind::Md5 => Some(5),
+        HashKind::Sha256 => None,
     }
 }
 

@@ -2,6 +2,7 @@
 
 ghost use Rattle.std.specs.Prelude.{◌≡◌, IfOk};
 
+use crate::hash_value::HashValue;
 use crate::method::Method;
 use crate::node_kind::NodeKind;
 use crate::text::Text;
@@ -29,8 +30,8 @@ pub struct Record {
     pub method: Method,
     /// Whether the file's extension is none of its formats'. A folder has `false`.
     pub mismatch: bool,
-    /// The MD5 of the file's bytes. A folder has 16 zero bytes.
-    pub md5: [u8; 16],
+    /// The hash of the file's bytes. A folder has none.
+    pub hash: HashValue,
     /// The identifiers of the formats, in the registry's order. A folder has none.
     pub puids: Texts,
 }
@@ -50,7 +51,7 @@ impl Record {
             modified: self.modified,
             method: self.method,
             mismatch: self.mismatch,
-            md5: self.md5,
+            hash: self.hash,
             puids: self.puids.try_clone(alloc)?,
         })
     }

@@ -4,6 +4,7 @@ ghost use Rattle.std.specs.Prelude.{◌≡◌, IfOk};
 ghost use Rattle.droid_frame_values.specs.Replies.{reply_kind};
 
 use crate::blob::Blob;
+use crate::hash_value::HashValue;
 use crate::method::Method;
 use crate::refusal::Refusal;
 use crate::texts::Texts;
@@ -42,8 +43,8 @@ pub enum Reply {
         method: Method,
         /// Whether the file's extension is none of its formats'.
         mismatch: bool,
-        /// The MD5 of the file's bytes.
-        md5: [u8; 16],
+        /// The hash of the file's bytes. A frame can tell an MD5 alone.
+        hash: HashValue,
         /// The identifiers of the formats, in the registry's order: at most [`PUIDS_LIMIT`], each of 1
         /// to [`PUID_LIMIT`] bytes.
         puids: Texts,
@@ -98,12 +99,12 @@ impl Reply {
             Reply::Finished {
                 method,
                 mismatch,
-                md5,
+                hash,
                 puids,
             } => Reply::Finished {
                 method: *method,
                 mismatch: *mismatch,
-                md5: *md5,
+                hash: *hash,
                 puids: puids.try_clone(alloc)?,
             },
             Reply::Abandoned => Reply::Abandoned,

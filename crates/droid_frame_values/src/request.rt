@@ -5,6 +5,7 @@ ghost use Rattle.droid_frame_values.specs.Bodies.{request_kind};
 
 use crate::blob::Blob;
 use crate::filter::Filter;
+use crate::hash_kind::HashKind;
 use crate::text::Text;
 
 /// One request, as a frame's kind and body spell it.
@@ -16,6 +17,8 @@ pub enum Request {
         scan_limit: u32,
         /// Whether a format with signatures may be found by its extension too.
         match_all: bool,
+        /// Which hash its files get. A frame can ask for MD5 alone.
+        hash: HashKind,
     },
     /// Add a folder to a profile.
     AddFolder {

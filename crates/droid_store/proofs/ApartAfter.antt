@@ -3,6 +3,8 @@ use Rattle.std.proofs.Common.{◌≡◌, inl, inr, ℕ, ◌<◌, ◌≤◌, ◌=
 use Rattle.std.proofs.lemmas.Bool.{cases_Bool, and_parts, eqb-true}
 use Rattle.std.proofs.lemmas.Slice.Eq.{bytes_eq-Decides}
 use Rattle.std.specs.List.{AllByRecursion}
+use Rattle.droid_frame.specs.types.hash_kind.HashKind.{HashKind}
+use Rattle.droid_frame.specs.types.hash_value.HashValue.{HashValue}
 use Rattle.droid_frame.specs.types.method.Method.{Method}
 use Rattle.droid_store_sql.specs.KeyedRows.{changed_where}
 use Rattle.droid_store_sql.proofs.AtMostOne.{one_after_none, fewer, as_many}
@@ -65,12 +67,12 @@ all_last P (y ∷ ys) x all has = (all.0, all_last P ys x all.1 has)
 
 -- ---- one row more
 
-pub apart_with_profile : (scan_limit : ℕ) (match_all : Bool) (rows : Rows) → AreApart rows → AreApart (with_profile scan_limit match_all rows)
-apart_with_profile scan_limit match_all rows apart = record {
+pub apart_with_profile : (scan_limit : ℕ) (match_all : Bool) (hash : HashKind) (rows : Rows) → AreApart rows → AreApart (with_profile scan_limit match_all hash rows)
+apart_with_profile scan_limit match_all hash rows apart = record {
   replies = apart.replies;
   children = apart.children;
   numbers = apart.numbers;
-  accepted = still_accepted rows (with_profile scan_limit match_all rows) rows.nodes (λ m. more_profiles m rows.profiles _ rows.nodes rows.replies) apart.accepted;
+  accepted = still_accepted rows (with_profile scan_limit match_all hash rows) rows.nodes (λ m. more_profiles m rows.profiles _ rows.nodes rows.replies) apart.accepted;
 }
 
 pub apart_with_reply : (e : Entry) (rows : Rows) → reply_for e.client e.number rows ≡ None → AreApart rows → AreApart (with_reply e rows)
@@ -112,9 +114,9 @@ apart_with_node n rows next free apart =
 
 -- ---- a row changed, which keeps its keys
 
-module _ (profile file : ℕ) (method : Method) (mismatch : Bool) (md5 : List ℕ) (puids : List (List ℕ)) where
+module _ (profile file : ℕ) (method : Method) (mismatch : Bool) (hash : HashValue) (puids : List (List ℕ)) where
   abbrev change : Node → Node
-  change = changed_where (is_node profile file) (finished method mismatch md5 puids)
+  change = changed_where (is_node profile file) (finished method mismatch hash puids)
 
   same_keys : (n : Node) → ((change n).profile ≡ n.profile) × ((change n).id ≡ n.id) × ((change n).parent ≡ n.parent) × ((change n).name ≡ n.name)
   same_keys n = elim (cases_Bool (is_node profile file n)) [ inl is ↦ rw is (refl, refl, refl, refl) | inr isnt ↦ rw isnt (refl, refl, refl, refl) ]
@@ -139,12 +141,12 @@ module _ (profile file : ℕ) (method : Method) (mismatch : Bool) (md5 : List �
   accepted_changed rows (n ∷ ns) all =
       (let same = same_keys n in subst (λ m. (change n).id ≤ accepted_in m rows) (sym same.0) (let here = all.0 in omega (arith, same.1)), accepted_changed rows ns all.1)
 
-  pub apart_with_finished : (rows : Rows) → AreApart rows → AreApart (with_finished profile file method mismatch md5 puids rows)
+  pub apart_with_finished : (rows : Rows) → AreApart rows → AreApart (with_finished profile file method mismatch hash puids rows)
   apart_with_finished rows apart = record {
     replies = apart.replies;
     children = λ at parent name. let few = apart.children at parent name in let same = as_many (is_child at parent name) change (same_child at parent name) rows.nodes in omega (arith, few, same);
     numbers = order_changed rows.nodes apart.numbers;
-    accepted = still_accepted rows (with_finished profile file method mismatch md5 puids rows) (map change rows.nodes) (as_before rows (with_finished profile file method mismatch md5 puids rows) refl) (accepted_changed rows rows.nodes apart.accepted);
+    accepted = still_accepted rows (with_finished profile file method mismatch hash puids rows) (map change rows.nodes) (as_before rows (with_finished profile file method mismatch hash puids rows) refl) (accepted_changed rows rows.nodes apart.accepted);
   }
 
 -- ---- a row taken out

@@ -17,6 +17,8 @@ use Rattle.droid_store_sql.proofs.Rising.{rising_filter, rising_map, changed_kee
 use Rattle.droid_store_sql.proofs.SeenRows.{few_seen}
 use Rattle.droid_store_sql.proofs.Selects.{selects}
 use Rattle.droid_store_sql.proofs.Values.{cast_int}
+use Rattle.droid_frame.specs.Hashes.{hash_bytes}
+use Rattle.droid_frame.specs.types.hash_value.HashValue.{HashValue}
 use Rattle.droid_frame.specs.types.method.Method.{Method}
 use Rattle.droid_store.specs.declared.statements.TheConstants.{FINISH_NODE, REMOVE_NODE}
 use Rattle.droid_store.specs.Changes.{IsWord, finished, with_finished, without_node}
@@ -39,8 +41,8 @@ pub stored : (x : ℕ × Node) → cast_row node_table (node_row x) ≡ node_row
 stored x =
     rw (cast_int (pos x.0), cast_int (pos x.1.profile), cast_int (pos x.1.id), cast_int (pos x.1.parent), cast_int x.1.modified, cast_int (pos (state_number x.1.state)), cast_int (pos x.1.size), cast_int (pos x.1.piece_size), cast_int (pos (method_number x.1.method)), cast_int _) refl
 
-abbrev pub with_puids : Method → Bool → List ℕ → List (List ℕ) → ℕ × Node → ℕ × Node
-with_puids method mismatch md5 puids x = (x.0, finished method mismatch md5 puids x.1)
+abbrev pub with_puids : Method → Bool → HashValue → List (List ℕ) → ℕ × Node → ℕ × Node
+with_puids method mismatch hash puids x = (x.0, finished method mismatch hash puids x.1)
 
 words_changed : (p : Node → Bool) (change : Node → Node) (ns : List Node) → ((n : Node) → AllByRecursion IsWord (change n).puids) → AllByRecursion (λ (n : Node). AllByRecursion IsWord n.puids) ns
     → AllByRecursion (λ (n : Node). AllByRecursion IsWord n.puids) (map (changed_where p change) ns)
@@ -58,13 +60,13 @@ words_left p (n ∷ ns) all = elim (cases_Bool (p n)) [
   | inr isnt ↦ rw isnt (words_left p ns all.1)
 ]
 
-pub finishes_node : (old new : State) (profile file : ℕ) (method : Method) (mismatch : Bool) (md5 : List ℕ) (puids : List (List ℕ)) (rows : Rows) (count : ℕ) → Holds rows old.now → AreApart rows → AllByRecursion IsWord puids
-    → Executes FINISH_NODE.now (number profile ∷ number file ∷ number (method_number method) ∷ flag mismatch ∷ Text (joined puids) ∷ Blob md5 ∷ []) old new (Ok count)
-    → Holds (with_finished profile file method mismatch md5 puids rows) new.now
-finishes_node old new profile file method mismatch md5 puids rows count has apart are h =
-    let more = number (method_number method) ∷ flag mismatch ∷ Text (joined puids) ∷ Blob md5 ∷ [] in
+pub finishes_node : (old new : State) (profile file : ℕ) (method : Method) (mismatch : Bool) (hash : HashValue) (puids : List (List ℕ)) (rows : Rows) (count : ℕ) → Holds rows old.now → AreApart rows → AllByRecursion IsWord puids
+    → Executes FINISH_NODE.now (number profile ∷ number file ∷ number (method_number method) ∷ flag mismatch ∷ Text (joined puids) ∷ Blob (hash_bytes hash) ∷ []) old new (Ok count)
+    → Holds (with_finished profile file method mismatch hash puids rows) new.now
+finishes_node old new profile file method mismatch hash puids rows count has apart are h =
+    let more = number (method_number method) ∷ flag mismatch ∷ Text (joined puids) ∷ Blob (hash_bytes hash) ∷ [] in
     let params = number profile ∷ number file ∷ more in
-    let change = with_puids method mismatch md5 puids in
+    let change = with_puids method mismatch hash puids in
     let test : ℕ × Node → Bool = λ x. is_node profile file x.1 in
     let it = updates store_schema 1 node_table refl (λ db edit. refl) FINISH_NODE.now params old new (record { lets = []; body = finish_query }) count has.schema finish_is finish_plain h in
     let few = few_seen (is_node profile file) has.nodes rows.nodes has.nodes_are (few_numbered profile file rows.nodes apart.numbers) in
@@ -74,11 +76,11 @@ finishes_node old new profile file method mismatch md5 puids rows count has apar
       schema = it.schema_is;
       profiles = it.applies.tables.0 (omega arith) ∙ has.profiles;
       nodes = map (changed_where test change) has.nodes;
-      nodes_are = changed_seen (λ x. x.1) (is_node profile file) change (finished method mismatch md5 puids) (λ x. refl) has.nodes ∙ ap (map (changed_where (is_node profile file) (finished method mismatch md5 puids))) has.nodes_are;
+      nodes_are = changed_seen (λ x. x.1) (is_node profile file) change (finished method mismatch hash puids) (λ x. refl) has.nodes ∙ ap (map (changed_where (is_node profile file) (finished method mismatch hash puids))) has.nodes_are;
       rising = rising_map (λ x. x.0) (changed_where test change) (changed_keeps (λ x. x.0) test change (λ x. refl)) has.nodes has.rising;
       node_rows = it.applies.rows ∙ wrote;
       replies = it.applies.tables.1.1.0 (omega arith) ∙ has.replies;
-      words = words_changed (is_node profile file) (finished method mismatch md5 puids) rows.nodes (λ n. are) has.words;
+      words = words_changed (is_node profile file) (finished method mismatch hash puids) rows.nodes (λ n. are) has.words;
     }
 
 pub removes_node : (old new : State) (profile file : ℕ) (rows : Rows) (count : ℕ) → Holds rows old.now → AreApart rows

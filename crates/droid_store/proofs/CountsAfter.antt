@@ -4,6 +4,8 @@ use Rattle.std.proofs.lemmas.Bool.{cases_Bool}
 use Rattle.std.proofs.lemmas.List.Elements.{filter-append}
 use Rattle.std.proofs.lemmas.List.Sums.{length-filter}
 use Rattle.std.specs.List.{count_by}
+use Rattle.droid_frame.specs.types.hash_kind.HashKind.{HashKind}
+use Rattle.droid_frame.specs.types.hash_value.HashValue.{HashValue}
 use Rattle.droid_frame.specs.types.method.Method.{Method}
 use Rattle.droid_store_sql.specs.KeyedRows.{changed_where}
 use Rattle.droid_store.specs.declared.rows.Counts.{Counts}
@@ -27,9 +29,9 @@ counts_are profiles unfinished accepted a b c p q r = rw (p, q, r) refl
 pub counts_with_reply : (e : Entry) (rows : Rows) → counts_of (with_reply e rows) ≡ record (counts_of rows) { accepted = (counts_of rows).accepted + 1 }
 counts_with_reply e rows = counts_are _ _ _ (length rows.profiles) (count_by waits rows.nodes) (length rows.replies + 1) refl refl (length-append rows.replies (e ∷ []))
 
-pub counts_with_profile : (scan_limit : ℕ) (match_all : Bool) (rows : Rows) → counts_of (with_profile scan_limit match_all rows) ≡ record (counts_of rows) { profiles = (counts_of rows).profiles + 1 }
-counts_with_profile scan_limit match_all rows =
-    counts_are _ _ _ (length rows.profiles + 1) (count_by waits rows.nodes) (length rows.replies) (length-append rows.profiles (record { scan_limit = scan_limit; match_all = match_all; nodes = 0 } ∷ [])) refl refl
+pub counts_with_profile : (scan_limit : ℕ) (match_all : Bool) (hash : HashKind) (rows : Rows) → counts_of (with_profile scan_limit match_all hash rows) ≡ record (counts_of rows) { profiles = (counts_of rows).profiles + 1 }
+counts_with_profile scan_limit match_all hash rows =
+    counts_are _ _ _ (length rows.profiles + 1) (count_by waits rows.nodes) (length rows.replies) (length-append rows.profiles (record { scan_limit = scan_limit; match_all = match_all; nodes = 0; hash = hash } ∷ [])) refl refl
 
 as_many_profiles : (profile nodes : ℕ) (ps : List ProfileRow) → length (counted profile nodes ps) ≡ length ps
 as_many_profiles profile nodes [] = refl
@@ -116,8 +118,8 @@ module _ (profile file : ℕ) (rows : Rows) (apart : AreApart rows) (is_open : I
   counts_without_node =
       counts_are _ _ _ (length rows.profiles) (count_by waits rows.nodes - 1) (length rows.replies) refl (by_length (without_node profile file rows).nodes ∙ omega (arith, left, by_length rows.nodes)) refl
 
-  pub counts_with_finished : (method : Method) (mismatch : Bool) (md5 : List ℕ) (puids : List (List ℕ))
-      → counts_of (with_finished profile file method mismatch md5 puids rows) ≡ record (counts_of rows) { unfinished = (counts_of rows).unfinished - 1 }
-  counts_with_finished method mismatch md5 puids =
-      let done = one_finished (is_node profile file) (finished method mismatch md5 puids) (λ n. refl) rows.nodes (few_numbered profile file rows.nodes apart.numbers) is_open in
-      counts_are _ _ _ (length rows.profiles) (count_by waits rows.nodes - 1) (length rows.replies) refl (by_length (with_finished profile file method mismatch md5 puids rows).nodes ∙ omega (arith, done, by_length rows.nodes)) refl
+  pub counts_with_finished : (method : Method) (mismatch : Bool) (hash : HashValue) (puids : List (List ℕ))
+      → counts_of (with_finished profile file method mismatch hash puids rows) ≡ record (counts_of rows) { unfinished = (counts_of rows).unfinished - 1 }
+  counts_with_finished method mismatch hash puids =
+      let done = one_finished (is_node profile file) (finished method mismatch hash puids) (λ n. refl) rows.nodes (few_numbered profile file rows.nodes apart.numbers) is_open in
+      counts_are _ _ _ (length rows.profiles) (count_by waits rows.nodes - 1) (length rows.replies) refl (by_length (with_finished profile file method mismatch hash puids rows).nodes ∙ omega (arith, done, by_length rows.nodes)) refl

@@ -5,6 +5,9 @@ use Rattle.std.proofs.lemmas.List.Splits.{slice_split_at, slice_split_none}
 use Rattle.std.proofs.lemmas.Bool.Decides.{nat_tests}
 use Rattle.sqlite.specs.Effect.{Database}
 use Rattle.droid_store_sql.specs.KeyedRows.{numbered_from}
+use Rattle.droid_frame.specs.Hashes.{hash_kind_number}
+use Rattle.droid_frame.specs.types.hash_kind.HashKind.{HashKind}
+use Rattle.droid_frame.specs.types.hash_kind.HashKind.TheVariants as kinds
 use Rattle.droid_frame.specs.types.method.Method.{Method}
 use Rattle.droid_frame.specs.types.method.Method.TheVariants.{Unidentified, Signature, Extension}
 use Rattle.droid_store.specs.declared.rows.Entry.{Entry}
@@ -12,7 +15,7 @@ use Rattle.droid_store.specs.declared.rows.NodeState.{NodeState}
 use Rattle.droid_store.specs.declared.rows.NodeState.TheVariants.{Folder, Unfinished, Finished}
 use Rattle.droid_store.specs.declared.rows.ProfileRow.{ProfileRow}
 use Rattle.droid_store.specs.Changes.{IsWord}
-use Rattle.droid_store.specs.Encoded.{number, flag, flag_in, state_number, state_in, method_number, method_in, joined, words_of, profile_row, profile_in, node_row, node_in, reply_row, entry_in, rows_in}
+use Rattle.droid_store.specs.Encoded.{number, flag, flag_in, hash_kind_in, state_number, state_in, method_number, method_in, joined, words_of, profile_row, profile_in, node_row, node_in, reply_row, entry_in, rows_in}
 use Rattle.droid_store.specs.Kept.{Holds}
 use Rattle.droid_store.specs.Rows.{Node, Rows}
 
@@ -29,6 +32,11 @@ pub method_again : (m : Method) → method_in (number (method_number m)) ≡ m
 method_again Unidentified = refl
 method_again Signature = refl
 method_again Extension = refl
+
+hash_kind_again : (k : HashKind) → hash_kind_in (number (hash_kind_number k)) ≡ k
+hash_kind_again kinds.Nothing = refl
+hash_kind_again kinds.Md5 = refl
+hash_kind_again kinds.Sha256 = refl
 
 -- ---- words joined by a space, and cut again
 
@@ -52,7 +60,9 @@ words_again ((b ∷ bs) ∷ w ∷ ws) all = cut_again (b ∷ bs) (w ∷ ws) all.
 
 profiles_again : (n : ℕ) (ps : List ProfileRow) → map profile_in (map profile_row (numbered_from n ps)) ≡ ps
 profiles_again n [] = refl
-profiles_again n (p ∷ ps) = ap (λ b. record p { match_all = b } ∷ map profile_in (map profile_row (numbered_from (suc n) ps))) (flag_again p.match_all) ∙ ap (λ qs. p ∷ qs) (profiles_again (suc n) ps)
+profiles_again n (p ∷ ps) =
+    ap (λ b. record p { match_all = b; hash = hash_kind_in (number (hash_kind_number p.hash)) } ∷ map profile_in (map profile_row (numbered_from (suc n) ps))) (flag_again p.match_all)
+    ∙ ap (λ k. record p { hash = k } ∷ map profile_in (map profile_row (numbered_from (suc n) ps))) (hash_kind_again p.hash) ∙ ap (λ qs. p ∷ qs) (profiles_again (suc n) ps)
 
 pub node_again : (key : ℕ) (n : Node) → AllByRecursion IsWord n.puids → node_in (node_row (key, n)) ≡ n
 node_again key n all =

@@ -10,6 +10,8 @@ use Rattle.droid_store_sql.proofs.RowEdits.{added, added_next}
 use Rattle.droid_store_sql.proofs.Rising.{rising_numbered, numbered_append, next_numbered, numbered_below}
 use Rattle.droid_store_sql.proofs.Transactions.{steps, committed_kept}
 use Rattle.droid_store_sql.proofs.Values.{cast_null, cast_int}
+use Rattle.droid_frame.specs.Hashes.{hash_kind_number}
+use Rattle.droid_frame.specs.types.hash_kind.HashKind.{HashKind}
 use Rattle.droid_store.specs.declared.rows.Entry.{Entry}
 use Rattle.droid_store.specs.declared.rows.ProfileRow.{ProfileRow}
 use Rattle.droid_store.specs.declared.statements.TheConstants.{ADD_PROFILE, ADD_REPLY}
@@ -31,17 +33,17 @@ kept_safe sql params old new (Ok count) before live ran saved has = tt
 kept_safe sql params old new (Err e) before live ran saved has = subst (Holds saved) (sym (committed_kept sql params old new (Err e) live (ran has.within))) has.saved
 
 abbrev pub profile_tail : ℕ × ProfileRow → Row
-profile_tail p = Null ∷ number p.1.scan_limit ∷ flag p.1.match_all ∷ number p.1.nodes ∷ []
+profile_tail p = Null ∷ number p.1.scan_limit ∷ flag p.1.match_all ∷ number p.1.nodes ∷ number (hash_kind_number p.1.hash) ∷ []
 
-pub adds_profile : (old new : State) (profile limit : ℕ) (all : Bool) (rows : Rows) → profile ≡ length rows.profiles + 1 → (count : ℕ) → Holds rows old.now
-    → Executes ADD_PROFILE.now (number profile ∷ number limit ∷ flag all ∷ []) old new (Ok count) → Holds (with_profile limit all rows) new.now
-adds_profile old new profile limit all rows next count has h =
-    let params = number profile ∷ number limit ∷ flag all ∷ [] in
-    let it = inserts store_schema 0 profiles refl (λ db edit none. refl) ADD_PROFILE.now params old new profile_terms 5 count has.schema add_profile_is add_profile_plain h in
-    let row : ProfileRow = record { scan_limit = limit; match_all = all; nodes = 0 } in
-    let values = number profile ∷ Null ∷ number limit ∷ flag all ∷ number 0 ∷ [] in
-    let added = added (λ p. p.0) profile_tail old.now.trees profiles (numbered_from 1 rows.profiles) has.profiles params profile_terms 5 values (profile, row) refl
-    (rw (cast_null, cast_int (pos profile), cast_int (pos limit), cast_int _, cast_int (pos 0)) refl) (numbered_below 1 profile rows.profiles (omega arith)) in
+pub adds_profile : (old new : State) (profile limit : ℕ) (all : Bool) (hash : HashKind) (rows : Rows) → profile ≡ length rows.profiles + 1 → (count : ℕ) → Holds rows old.now
+    → Executes ADD_PROFILE.now (number profile ∷ number limit ∷ flag all ∷ number (hash_kind_number hash) ∷ []) old new (Ok count) → Holds (with_profile limit all hash rows) new.now
+adds_profile old new profile limit all hash rows next count has h =
+    let params = number profile ∷ number limit ∷ flag all ∷ number (hash_kind_number hash) ∷ [] in
+    let it = inserts store_schema 0 profiles refl (λ db edit none. refl) ADD_PROFILE.now params old new profile_terms 6 count has.schema add_profile_is add_profile_plain h in
+    let row : ProfileRow = record { scan_limit = limit; match_all = all; nodes = 0; hash = hash } in
+    let values = number profile ∷ Null ∷ number limit ∷ flag all ∷ number 0 ∷ number (hash_kind_number hash) ∷ [] in
+    let added = added (λ p. p.0) profile_tail old.now.trees profiles (numbered_from 1 rows.profiles) has.profiles params profile_terms 6 values (profile, row) refl
+    (rw (cast_null, cast_int (pos profile), cast_int (pos limit), cast_int _, cast_int (pos 0), cast_int (pos (hash_kind_number hash))) refl) (numbered_below 1 profile rows.profiles (omega arith)) in
     let place : profile ≡ 1 + length rows.profiles = omega arith in
     record {
       schema = it.0;

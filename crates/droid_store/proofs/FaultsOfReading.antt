@@ -5,6 +5,9 @@ use Rattle.std.specs.List.{AllByRecursion}
 use Rattle.sqlite.specs.Order.{Row}
 use Rattle.droid_store.specs.declared.fault.StoreFault.{StoreFault}
 use Rattle.droid_store.specs.declared.fault.StoreFault.TheVariants.{Memory}
+use Rattle.droid_frame.specs.Hashes.{hash_kind_number}
+use Rattle.droid_frame.specs.types.hash_kind.HashKind.{HashKind}
+use Rattle.droid_frame.specs.types.hash_kind.HashKind.TheVariants as kinds
 use Rattle.droid_frame.specs.types.method.Method.{Method}
 use Rattle.droid_frame.specs.types.method.Method.TheVariants.{Unidentified, Signature, Extension}
 use Rattle.droid_store.specs.declared.rows.NodeState.{NodeState}
@@ -49,3 +52,8 @@ pub method_is_short : (m : Method) → IsShort (number (method_number m))
 method_is_short Unidentified = (0, refl, omega arith)
 method_is_short Signature = (1, refl, omega arith)
 method_is_short Extension = (2, refl, omega arith)
+
+pub hash_kind_is_short : (k : HashKind) → IsShort (number (hash_kind_number k))
+hash_kind_is_short kinds.Nothing = (0, refl, omega arith)
+hash_kind_is_short kinds.Md5 = (1, refl, omega arith)
+hash_kind_is_short kinds.Sha256 = (2, refl, omega arith)

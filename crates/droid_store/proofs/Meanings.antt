@@ -43,9 +43,9 @@ replies_plain = (refl, refl)
 -- ---- inserts
 
 abbrev pub profile_terms : List Term
-profile_terms = col 0 0 ∷ lit Null ∷ col 0 1 ∷ col 0 2 ∷ lit (Int (pos 0)) ∷ []
+profile_terms = col 0 0 ∷ lit Null ∷ col 0 1 ∷ col 0 2 ∷ lit (Int (pos 0)) ∷ col 0 3 ∷ []
 
-pub add_profile_is : command_of (understood store_schema ADD_PROFILE.now) ≡ Insert 0 (Values profile_terms 5)
+pub add_profile_is : command_of (understood store_schema ADD_PROFILE.now) ≡ Insert 0 (Values profile_terms 6)
 unfolding understood everything
 add_profile_is = refl
 
@@ -56,7 +56,7 @@ add_profile_plain = (refl, refl)
 abbrev pub node_terms : List Term
 node_terms =
     lit Null ∷ col 0 0 ∷ col 0 1 ∷ col 0 2 ∷ col 0 3 ∷ col 0 4 ∷ col 0 5 ∷ col 0 6 ∷ lit (Int (pos 0)) ∷ lit (Int (pos 0)) ∷ col 0 7 ∷ col 0 8 ∷ lit (Text [])
-    ∷ lit (Blob (0 ∷ 0 ∷ 0 ∷ 0 ∷ 0 ∷ 0 ∷ 0 ∷ 0 ∷ 0 ∷ 0 ∷ 0 ∷ 0 ∷ 0 ∷ 0 ∷ 0 ∷ 0 ∷ [])) ∷ []
+    ∷ lit (Blob []) ∷ []
 
 pub add_node_is : command_of (understood store_schema ADD_NODE.now) ≡ Insert 1 (Values node_terms 14)
 unfolding understood everything
@@ -86,7 +86,7 @@ abbrev pub by_number : List Term
 by_number = equals (col 1 1) (col 0 0) ∷ equals (col 1 2) (col 0 1) ∷ []
 
 abbrev pub count_columns : List Term
-count_columns = col 1 0 ∷ col 1 0 ∷ lit Null ∷ col 1 2 ∷ col 1 3 ∷ col 0 1 ∷ []
+count_columns = col 1 0 ∷ col 1 0 ∷ lit Null ∷ col 1 2 ∷ col 1 3 ∷ col 0 1 ∷ col 1 5 ∷ []
 
 abbrev pub count_query : Query
 count_query = select 0 by_id count_columns []
@@ -128,9 +128,9 @@ remove_plain = (refl, refl)
 -- ---- look-ups
 
 abbrev pub find_profile_query : Query
-find_profile_query = select 0 by_id (col 1 2 ∷ col 1 3 ∷ col 1 4 ∷ []) []
+find_profile_query = select 0 by_id (col 1 2 ∷ col 1 3 ∷ col 1 4 ∷ col 1 5 ∷ []) []
 
-pub find_profile_is : (command_of (understood store_schema FIND_PROFILE.now) ≡ Select (record { lets = []; body = find_profile_query }) (codes "scan_limit" ∷ codes "match_all" ∷ codes "nodes" ∷ [])) × (reads_listing store_schema FIND_PROFILE.now ≡ false)
+pub find_profile_is : (command_of (understood store_schema FIND_PROFILE.now) ≡ Select (record { lets = []; body = find_profile_query }) (codes "scan_limit" ∷ codes "match_all" ∷ codes "nodes" ∷ codes "hash" ∷ [])) × (reads_listing store_schema FIND_PROFILE.now ≡ false)
 unfolding understood everything
 find_profile_is = (refl, refl)
 
@@ -143,7 +143,7 @@ node_columns = col 1 2 ∷ col 1 3 ∷ col 1 4 ∷ col 1 5 ∷ col 1 6 ∷ col 1
 
 abbrev pub node_names : List (List ℕ)
 node_names =
-    codes "id" ∷ codes "parent" ∷ codes "modified" ∷ codes "state" ∷ codes "size" ∷ codes "piece_size" ∷ codes "method" ∷ codes "mismatch" ∷ codes "name" ∷ codes "path" ∷ codes "formats" ∷ codes "md5" ∷ []
+    codes "id" ∷ codes "parent" ∷ codes "modified" ∷ codes "state" ∷ codes "size" ∷ codes "piece_size" ∷ codes "method" ∷ codes "mismatch" ∷ codes "name" ∷ codes "path" ∷ codes "formats" ∷ codes "hash" ∷ []
 
 abbrev pub find_node_query : Query
 find_node_query = select 1 by_number node_columns []
@@ -212,7 +212,7 @@ pub replies_whole : IsWhole MAKE_REPLIES.now 0 (understood second_schema MAKE_RE
 unfolding understood everything
 replies_whole = (refl, refl)
 
-pub add_profile_whole : IsWhole ADD_PROFILE.now 3 (understood store_schema ADD_PROFILE.now)
+pub add_profile_whole : IsWhole ADD_PROFILE.now 4 (understood store_schema ADD_PROFILE.now)
 unfolding understood everything
 add_profile_whole = (refl, refl)
 

@@ -1,5 +1,5 @@
 -- What the statements on nodes make of the typed rows.
-use Rattle.std.proofs.Common.{◌≡◌, ℕ, ℤ, zero, suc, ◌+◌, ◌<◌, ◌≤◌, ◌==◌, ◌&&◌, pos, List, [], ◌∷◌, ◌++◌, length, map, filter, replicate, Bool, true, false, inl, inr, Ok, refl, ap, ◌∙◌, arith}
+use Rattle.std.proofs.Common.{◌≡◌, ℕ, ℤ, zero, suc, ◌+◌, ◌<◌, ◌≤◌, ◌==◌, ◌&&◌, pos, List, [], ◌∷◌, ◌++◌, length, map, filter, Bool, true, false, inl, inr, Ok, refl, ap, ◌∙◌, arith}
 use Rattle.std.proofs.lemmas.Bool.{cases_Bool, eqb-true}
 use Rattle.std.proofs.lemmas.Bool.Decides.{nat_tests}
 use Rattle.std.specs.List.{AllByRecursion}
@@ -15,6 +15,7 @@ use Rattle.droid_store_sql.proofs.RowOrder.{below_next}
 use Rattle.droid_store_sql.proofs.Rising.{rising_last, rising_numbered}
 use Rattle.droid_store_sql.proofs.Selects.{selects}
 use Rattle.droid_store_sql.proofs.Values.{cast_null, cast_int}
+use Rattle.droid_frame.specs.Hashes.{hash_kind_number}
 use Rattle.droid_store.specs.declared.rows.NodeState.{NodeState}
 use Rattle.droid_store.specs.declared.rows.ProfileRow.{ProfileRow}
 use Rattle.droid_store.specs.declared.statements.TheConstants.{ADD_NODE, COUNT_NODES}
@@ -74,7 +75,7 @@ node_tail n =
     ∷ Text n.1.name
     ∷ Text n.1.path
     ∷ Text (joined n.1.puids)
-    ∷ Blob n.1.md5
+    ∷ Blob n.1.hash
     ∷ []
 
 pub adds_node : (old new : State) (profile id parent : ℕ) (modified : ℤ) (state : NodeState) (size piece_size : ℕ) (name path : List ℕ) (rows : Rows) (count : ℕ) → Holds rows old.now
@@ -87,7 +88,7 @@ adds_node old new profile id parent modified state size piece_size name path row
     let n = new_node profile id parent modified state size piece_size name path in
     let x : ℕ × Node = (next_key (λ n. n.0) has.nodes, n) in
     let values =
-    Null ∷ number profile ∷ number id ∷ number parent ∷ Int modified ∷ number (state_number state) ∷ number size ∷ number piece_size ∷ number 0 ∷ number 0 ∷ Text name ∷ Text path ∷ Text [] ∷ Blob (replicate 16 0) ∷ [] in
+    Null ∷ number profile ∷ number id ∷ number parent ∷ Int modified ∷ number (state_number state) ∷ number size ∷ number piece_size ∷ number 0 ∷ number 0 ∷ Text name ∷ Text path ∷ Text [] ∷ Blob [] ∷ [] in
     let added = added_next (λ n. n.0) node_tail old.now.trees table has.nodes has.node_rows params node_terms 14 values x refl
     (rw (cast_null, cast_int (pos profile), cast_int (pos id), cast_int (pos parent), cast_int modified, cast_int (pos (state_number state)), cast_int (pos size), cast_int (pos piece_size), cast_int (pos 0)) refl) has.rising refl in
     record {
@@ -139,7 +140,7 @@ counts_nodes old new profile count rows done has h =
     let found = selects profile_row (has_number profile) (λ p. number p.0 ∷ profile_row (counting count p)) 0 by_id count_columns [] params (λ p. rw (equal_numbers p.0 profile) (and-true _)) (λ p. refl)
     old.now.trees xs it.rows has.profiles few it.found.answer in
     let wrote = written (λ p. p.0) profile_tail old.now.trees profiles xs has.profiles (has_number profile) (rising_numbered 1 rows.profiles) few (counting count) (λ p. refl)
-    (λ p. rw (cast_int (pos p.0), cast_null, cast_int (pos p.1.scan_limit), cast_int _, cast_int (pos p.1.nodes)) refl) it.rows found in
+    (λ p. rw (cast_int (pos p.0), cast_null, cast_int (pos p.1.scan_limit), cast_int _, cast_int (pos p.1.nodes), cast_int (pos (hash_kind_number p.1.hash))) refl) it.rows found in
     record {
       schema = it.schema_is;
       profiles = it.applies.rows ∙ wrote ∙ ap (map profile_row) (numbered_counted 0 profile count profile rows.profiles (omega arith));

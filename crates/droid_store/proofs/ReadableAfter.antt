@@ -1,13 +1,17 @@
 -- Rows can be read back, also after each change; and what is found of them can.
-use Rattle.std.proofs.Common.{◌≡◌, ◌<◌, ◌≤◌, ◌^◌, ◌==◌, inl, inr, ℕ, zero, suc, List, [], ◌∷◌, length, map, find, filter, slice_get, Bool, true, false, not, Some, None, if◌then◌else◌, IsUtf8, refl, subst, arith}
+use Rattle.std.proofs.Common.{◌≡◌, ◌<◌, ◌≤◌, ◌^◌, ◌==◌, inl, inr, ℕ, zero, suc, List, [], ◌∷◌, length, map, find, filter, slice_get, Bool, true, false, not, Some, None, if◌then◌else◌, IsTrue, IsUtf8, refl, subst, arith}
 use Rattle.std.proofs.lemmas.Bool.{cases_Bool, and_parts, eqb-true}
 use Rattle.std.specs.List.{AllByRecursion}
+use Rattle.droid_frame.specs.Hashes.{hash_bytes, IsHashValue}
+use Rattle.droid_frame.specs.types.hash_kind.HashKind.{HashKind}
+use Rattle.droid_frame.specs.types.hash_value.HashValue.{HashValue}
+use Rattle.droid_frame.specs.types.hash_value.HashValue.TheVariants as hashes
 use Rattle.droid_frame.specs.types.method.Method.{Method}
 use Rattle.droid_store.specs.declared.rows.Entry.{Entry}
 use Rattle.droid_store.specs.declared.rows.ProfileRow.{ProfileRow}
 use Rattle.droid_store.specs.Changes.{with_reply, with_profile, with_node, counted, finished, with_finished, without_node}
 use Rattle.droid_store.specs.Encoded.{joined}
-use Rattle.droid_store.specs.Ranges.{ProfileFits, NodeFits, EntryFits, AreReadable}
+use Rattle.droid_store.specs.Ranges.{is_hash_length, ProfileFits, NodeFits, EntryFits, AreReadable}
 use Rattle.droid_store.specs.Rows.{Node, Rows, no_rows, is_node, is_child, is_for, profile_at, node_at, child_at, reply_for}
 use Rattle.droid_store.proofs.NodeEffects.{all_last}
 
@@ -17,9 +21,9 @@ nothing_read = record { profiles = tt; nodes = tt; replies = tt }
 pub readable_with_reply : (e : Entry) (rows : Rows) → EntryFits e → AreReadable rows → AreReadable (with_reply e rows)
 readable_with_reply e rows fits all = record { profiles = all.profiles; nodes = all.nodes; replies = all_last EntryFits rows.replies e all.replies fits }
 
-pub readable_with_profile : (scan_limit : ℕ) (match_all : Bool) (rows : Rows) → scan_limit < 2 ^ 32 → AreReadable rows → AreReadable (with_profile scan_limit match_all rows)
-readable_with_profile scan_limit match_all rows low all = record {
-  profiles = all_last ProfileFits rows.profiles (record { scan_limit = scan_limit; match_all = match_all; nodes = 0 }) all.profiles (record { scan_limit = low; nodes = omega arith });
+pub readable_with_profile : (scan_limit : ℕ) (match_all : Bool) (hash : HashKind) (rows : Rows) → scan_limit < 2 ^ 32 → AreReadable rows → AreReadable (with_profile scan_limit match_all hash rows)
+readable_with_profile scan_limit match_all hash rows low all = record {
+  profiles = all_last ProfileFits rows.profiles (record { scan_limit = scan_limit; match_all = match_all; nodes = 0; hash = hash }) all.profiles (record { scan_limit = low; nodes = omega arith });
   nodes = all.nodes;
   replies = all.replies;
 }
@@ -33,16 +37,21 @@ counted_fits (suc (suc profile)) count (p ∷ ps) low all = (all.0, counted_fits
 pub readable_with_node : (n : Node) (rows : Rows) → NodeFits n → AreReadable rows → AreReadable (with_node n rows)
 readable_with_node n rows fits all = record { profiles = counted_fits n.profile n.id rows.profiles fits.id all.profiles; nodes = all_last NodeFits rows.nodes n all.nodes fits; replies = all.replies }
 
-module _ (profile file : ℕ) (method : Method) (mismatch : Bool) (md5 : List ℕ) (puids : List (List ℕ)) (digest : length md5 ≡ 16) (text : IsUtf8 (joined puids)) where
-  finished_fits : (ns : List Node) → AllByRecursion NodeFits ns → AllByRecursion NodeFits (map (λ n. if is_node profile file n then finished method mismatch md5 puids n else n) ns)
+pub is_length : (hash : HashValue) → IsHashValue hash → IsTrue (is_hash_length (length (hash_bytes hash)))
+is_length hashes.Nothing is = refl
+is_length (hashes.Md5 digest) is = rw is.0 refl
+is_length (hashes.Sha256 digest) is = rw is.0 refl
+
+module _ (profile file : ℕ) (method : Method) (mismatch : Bool) (hash : HashValue) (puids : List (List ℕ)) (of_length : IsTrue (is_hash_length (length (hash_bytes hash)))) (text : IsUtf8 (joined puids)) where
+  finished_fits : (ns : List Node) → AllByRecursion NodeFits ns → AllByRecursion NodeFits (map (λ n. if is_node profile file n then finished method mismatch hash puids n else n) ns)
   finished_fits [] all = tt
   finished_fits (n ∷ ns) all = (one (is_node profile file n), finished_fits ns all.1)
     where
-      one : (b : Bool) → NodeFits (if b then finished method mismatch md5 puids n else n)
-      one true = let fits = all.0 in record { id = fits.id; parent = fits.parent; piece_size = fits.piece_size; name = fits.name; path = fits.path; formats = text; md5 = digest }
+      one : (b : Bool) → NodeFits (if b then finished method mismatch hash puids n else n)
+      one true = let fits = all.0 in record { id = fits.id; parent = fits.parent; piece_size = fits.piece_size; name = fits.name; path = fits.path; formats = text; hash = of_length }
       one false = all.0
 
-  pub readable_with_finished : (rows : Rows) → AreReadable rows → AreReadable (with_finished profile file method mismatch md5 puids rows)
+  pub readable_with_finished : (rows : Rows) → AreReadable rows → AreReadable (with_finished profile file method mismatch hash puids rows)
   readable_with_finished rows all = record { profiles = all.profiles; nodes = finished_fits rows.nodes all.nodes; replies = all.replies }
 
 left_fits : (p : Node → Bool) (ns : List Node) → AllByRecursion NodeFits ns → AllByRecursion NodeFits (filter p ns)

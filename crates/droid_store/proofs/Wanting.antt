@@ -1,5 +1,5 @@
 -- Each statement of a transaction that fails does so for want alone.
-use Rattle.std.proofs.Common.{◌≡◌, ◌+◌, ℕ, ℤ, pos, List, [], ◌∷◌, ◌++◌, length, map, replicate, Bool, true, false, inl, inr, None, Ok, Err, Result, IsTrue, refl, sym, ap, subst, ◌∙◌, arith}
+use Rattle.std.proofs.Common.{◌≡◌, ◌+◌, ℕ, ℤ, pos, List, [], ◌∷◌, ◌++◌, length, map, Bool, true, false, inl, inr, None, Ok, Err, Result, IsTrue, refl, sym, ap, subst, ◌∙◌, arith}
 use Rattle.sqlite_schema.specs.declared.schema.Index.{Index}
 use Rattle.sqlite_schema.specs.declared.schema.Keys.TheVariants.{Enforced}
 use Rattle.sqlite_schema.specs.Rules.{table_reals, index_reals}
@@ -28,6 +28,8 @@ use Rattle.droid_store_sql.proofs.RowOrder.{below_next}
 use Rattle.droid_store_sql.proofs.SureEdits.{edit_sure, insert_sure}
 use Rattle.droid_store_sql.proofs.Values.{cast_null, cast_int}
 use Rattle.droid_store_sql.proofs.Wants.{inside_wants, insert_is_edit}
+use Rattle.droid_frame.specs.Hashes.{hash_kind_number}
+use Rattle.droid_frame.specs.types.hash_kind.HashKind.{HashKind}
 use Rattle.droid_store.specs.declared.rows.Entry.{Entry}
 use Rattle.droid_store.specs.declared.rows.NodeState.{NodeState}
 use Rattle.droid_store.specs.declared.rows.ProfileRow.{ProfileRow}
@@ -91,12 +93,12 @@ reply_wants old new e rows err mem has keys small h =
 
 -- ---- a profile
 
-abbrev pub profile_params : ℕ → ℕ → Bool → Row
-profile_params profile limit all = number profile ∷ number limit ∷ flag all ∷ []
+abbrev pub profile_params : ℕ → ℕ → Bool → HashKind → Row
+profile_params profile limit all hash = number profile ∷ number limit ∷ flag all ∷ number (hash_kind_number hash) ∷ []
 
-profile_typed : (profile limit : ℕ) (all : Bool) (d : Database) (err : Error) → ¬ RefusesSource None d (stamped profiles (profile_params profile limit all)) (Values profile_terms 5) err
-profile_typed profile limit all d err (inl h) = let bad : true ≡ false = h.1 in cc
-profile_typed profile limit all d err (inr h) = let bad : false ≡ true = h.1 in cc
+profile_typed : (profile limit : ℕ) (all : Bool) (hash : HashKind) (d : Database) (err : Error) → ¬ RefusesSource None d (stamped profiles (profile_params profile limit all hash)) (Values profile_terms 6) err
+profile_typed profile limit all hash d err (inl h) = let bad : true ≡ false = h.1 in cc
+profile_typed profile limit all hash d err (inr h) = let bad : false ≡ true = h.1 in cc
 
 pub profile_fits : (x : ℕ × ProfileRow) → ¬ IsOversized store_schema profiles (profile_row x)
 profile_fits x (inl big) = big (storable (profile_row x) (omega arith) (omega arith) refl (omega arith), omega arith)
@@ -105,27 +107,27 @@ profile_fits x (inr (i, inr (inl is), at, big)) = absurd (let other : i.table �
 profile_fits x (inr (i, inr (inr (inl is)), at, big)) = absurd (let other : i.table ≡ 4 = ap (λ (j : Index). j.table) is in omega (arith, at, other))
 profile_fits x (inr (i, inr (inr (inr no_other)), at, big)) = no_other
 
-profile_edits : (profile limit : ℕ) (all : Bool) (rows : Rows) (db : Database) → profile ≡ length rows.profiles + 1 → Holds rows db → HasKeys rows
-    → IsSure (Edited store_schema Enforced db.trees (insert_edit db.trees profiles (stamped profiles (profile_params profile limit all)) profile_terms 5))
-profile_edits profile limit all rows db next has keys =
-    let params = stamped profiles (profile_params profile limit all) in
+profile_edits : (profile limit : ℕ) (all : Bool) (hash : HashKind) (rows : Rows) (db : Database) → profile ≡ length rows.profiles + 1 → Holds rows db → HasKeys rows
+    → IsSure (Edited store_schema Enforced db.trees (insert_edit db.trees profiles (stamped profiles (profile_params profile limit all hash)) profile_terms 6))
+profile_edits profile limit all hash rows db next has keys =
+    let params = stamped profiles (profile_params profile limit all hash) in
     let xs = numbered_from 1 rows.profiles in
-    let row : ProfileRow = record { scan_limit = limit; match_all = all; nodes = 0 } in
+    let row : ProfileRow = record { scan_limit = limit; match_all = all; nodes = 0; hash = hash } in
     let x : ℕ × ProfileRow = (profile, row) in
-    let values = number profile ∷ Null ∷ number limit ∷ flag all ∷ number 0 ∷ [] in
-    let stored : cast_row profiles values ≡ profile_row x = rw (cast_null, cast_int (pos profile), cast_int (pos limit), cast_int _, cast_int (pos 0)) refl in
-    let edit = insert_edit db.trees profiles params profile_terms 5 in
-    let news = brings (λ p. p.0) profile_tail db.trees profiles xs params profile_terms 5 values x refl stored in
+    let values = number profile ∷ Null ∷ number limit ∷ flag all ∷ number 0 ∷ number (hash_kind_number hash) ∷ [] in
+    let stored : cast_row profiles values ≡ profile_row x = rw (cast_null, cast_int (pos profile), cast_int (pos limit), cast_int _, cast_int (pos 0), cast_int (pos (hash_kind_number hash))) refl in
+    let edit = insert_edit db.trees profiles params profile_terms 6 in
+    let news = brings (λ p. p.0) profile_tail db.trees profiles xs params profile_terms 6 values x refl stored in
     let unique = keeps_unique rows has.nodes (with_tree db.trees 0 (edited db.trees edit)) has.nodes_are keys has.node_rows has.replies in
     let fresh = fresh_last (λ p. p.0) profile_tail db.trees profiles xs has.profiles x (numbered_below 1 profile rows.profiles (omega arith)) in
     edit_sure store_schema db.trees edit refl (free_by store_schema db.trees edit (profile_row x ∷ []) news refl refl refl fresh refl refl unique) (small_one store_schema edit (profile_row x) news (profile_fits x))
 
-pub profile_wants : (old new : State) (profile limit : ℕ) (all : Bool) (rows : Rows) (err : Error) → InMemory old new → profile ≡ length rows.profiles + 1 → Holds rows old.now → HasKeys rows
-    → ExecutesInside 0 ADD_PROFILE.now (profile_params profile limit all) old new (Err err) → IsWant err
-profile_wants old new profile limit all rows err mem next has keys h =
-    let params = profile_params profile limit all in
-    inside_wants ADD_PROFILE.now params old new store_schema mem has.schema add_profile_plain add_profile_whole (Insert 0 (Values profile_terms 5)) add_profile_is (insert_is_edit 0 (Values profile_terms 5))
-    (insert_sure store_schema 0 store_refers params old.now.trees (statement_of ADD_PROFILE.now (understood store_schema ADD_PROFILE.now)) profiles refl profile_terms 5 (profile_typed profile limit all (record { schema = store_schema; trees = old.now.trees })) (profile_edits profile limit all rows old.now next has keys)) err h
+pub profile_wants : (old new : State) (profile limit : ℕ) (all : Bool) (hash : HashKind) (rows : Rows) (err : Error) → InMemory old new → profile ≡ length rows.profiles + 1 → Holds rows old.now → HasKeys rows
+    → ExecutesInside 0 ADD_PROFILE.now (profile_params profile limit all hash) old new (Err err) → IsWant err
+profile_wants old new profile limit all hash rows err mem next has keys h =
+    let params = profile_params profile limit all hash in
+    inside_wants ADD_PROFILE.now params old new store_schema mem has.schema add_profile_plain add_profile_whole (Insert 0 (Values profile_terms 6)) add_profile_is (insert_is_edit 0 (Values profile_terms 6))
+    (insert_sure store_schema 0 store_refers params old.now.trees (statement_of ADD_PROFILE.now (understood store_schema ADD_PROFILE.now)) profiles refl profile_terms 6 (profile_typed profile limit all hash (record { schema = store_schema; trees = old.now.trees })) (profile_edits profile limit all hash rows old.now next has keys)) err h
 
 -- ---- a node
 
@@ -158,7 +160,7 @@ module _ (profile id parent : ℕ) (modified : ℤ) (state : NodeState) (size pi
       let params = stamped node_table node_params in
       let x : ℕ × Node = (next_key (λ n. n.0) has.nodes, made) in
       let values =
-      Null ∷ number profile ∷ number id ∷ number parent ∷ Int modified ∷ number (state_number state) ∷ number size ∷ number piece_size ∷ number 0 ∷ number 0 ∷ Text name ∷ Text path ∷ Text [] ∷ Blob (replicate 16 0) ∷ [] in
+      Null ∷ number profile ∷ number id ∷ number parent ∷ Int modified ∷ number (state_number state) ∷ number size ∷ number piece_size ∷ number 0 ∷ number 0 ∷ Text name ∷ Text path ∷ Text [] ∷ Blob [] ∷ [] in
       let stored : cast_row node_table values ≡ Null ∷ node_tail x =
       rw (cast_null, cast_int (pos profile), cast_int (pos id), cast_int (pos parent), cast_int modified, cast_int (pos (state_number state)), cast_int (pos size), cast_int (pos piece_size), cast_int (pos 0)) refl in
       let edit = insert_edit db.trees node_table params node_terms 14 in

@@ -18,6 +18,8 @@ use Rattle.sqlite.specs.State.{State, ExecutesInside}
 use Rattle.sqlite.specs.Term.{col}
 use Rattle.sqlite.specs.Tree.{Trees, with_tree}
 use Rattle.sqlite.proofs.Callers.{statement_of}
+use Rattle.droid_frame.specs.Hashes.{hash_bytes, hash_kind_number}
+use Rattle.droid_frame.specs.types.hash_value.HashValue.{HashValue}
 use Rattle.droid_frame.specs.types.method.Method.{Method}
 use Rattle.droid_store_sql.specs.KeyedRows.{numbered_from, changed_where}
 use Rattle.droid_store_sql.specs.Wants.{IsWant, InMemory, IsSure}
@@ -70,7 +72,7 @@ count_typed profile count db err (inr (inl h)) = never_overflows db 0 by_id coun
 count_typed profile count db err (inr (inr h)) = let bad : false ≡ true = h.1 in cc
 
 stored_profile : (p : ℕ × ProfileRow) → cast_row profiles (profile_row p) ≡ profile_row p
-stored_profile p = rw (cast_int (pos p.0), cast_null, cast_int (pos p.1.scan_limit), cast_int _, cast_int (pos p.1.nodes)) refl
+stored_profile p = rw (cast_int (pos p.0), cast_null, cast_int (pos p.1.scan_limit), cast_int _, cast_int (pos p.1.nodes), cast_int (pos (hash_kind_number p.1.hash))) refl
 
 count_edits : (profile count : ℕ) (rows : Rows) (db : Database) → Holds rows db → HasKeys rows → (found : List Row) → Answers (record { schema = store_schema; trees = db.trees }) (record { lets = []; body = count_query }) (count_params profile count) found
     → IsSure (Edited store_schema Enforced db.trees (edit_of db.trees profiles (ids_of found) Given 1 found))
@@ -102,34 +104,34 @@ found_node profile file ns rows x are few found =
     only (find (is_node profile file) rows.nodes) x.1
     (sym (filter_few (is_node profile file) rows.nodes few) ∙ ap (filter (is_node profile file)) (sym are) ∙ filter_seen (λ (n : ℕ × Node). n.1) (is_node profile file) ns ∙ ap (map (λ (n : ℕ × Node). n.1)) found)
 
-module _ (profile file : ℕ) (method : Method) (mismatch : Bool) (md5 : List ℕ) (puids : List (List ℕ)) where
+module _ (profile file : ℕ) (method : Method) (mismatch : Bool) (hash : HashValue) (puids : List (List ℕ)) where
   abbrev pub finish_params : Row
-  finish_params = number profile ∷ number file ∷ number (method_number method) ∷ flag mismatch ∷ Text (joined puids) ∷ Blob md5 ∷ []
+  finish_params = number profile ∷ number file ∷ number (method_number method) ∷ flag mismatch ∷ Text (joined puids) ∷ Blob (hash_bytes hash) ∷ []
 
   finish_typed : (db : Trees) (err : Error) → ¬ RefusesQuery None (record { schema = store_schema; trees = db }) (record { lets = []; body = finish_query }) finish_params err
   finish_typed db err (inl h) = let bad : true ≡ false = h.1 in cc
   finish_typed db err (inr (inl h)) = never_overflows db 1 by_number finished_columns [] finish_params h.1
   finish_typed db err (inr (inr h)) = let bad : false ≡ true = h.1 in cc
 
-  finish_edits : (rows : Rows) (db : Database) → Holds rows db → HasKeys rows → HasKeys (with_finished profile file method mismatch md5 puids rows)
-      → ((n : Node) → node_at profile file rows ≡ Some n → FitsARow (node_size (finished method mismatch md5 puids n)))
+  finish_edits : (rows : Rows) (db : Database) → Holds rows db → HasKeys rows → HasKeys (with_finished profile file method mismatch hash puids rows)
+      → ((n : Node) → node_at profile file rows ≡ Some n → FitsARow (node_size (finished method mismatch hash puids n)))
       → (found : List Row) → Answers (record { schema = store_schema; trees = db.trees }) (record { lets = []; body = finish_query }) finish_params found
       → IsSure (Edited store_schema Enforced db.trees (edit_of db.trees node_table (ids_of found) Given 1 found))
   finish_edits rows db has keys later small found answers =
-      let more = number (method_number method) ∷ flag mismatch ∷ Text (joined puids) ∷ Blob md5 ∷ [] in
-      let change = with_puids method mismatch md5 puids in
+      let more = number (method_number method) ∷ flag mismatch ∷ Text (joined puids) ∷ Blob (hash_bytes hash) ∷ [] in
+      let change = with_puids method mismatch hash puids in
       let test : ℕ × Node → Bool = λ x. is_node profile file x.1 in
       let lone = few_numbered profile file rows.nodes keys.numbers in
       let few = few_seen (is_node profile file) has.nodes rows.nodes has.nodes_are lone in
       let are = selects node_row test (λ x. number x.0 ∷ node_row (change x)) 1 by_number finished_columns [] finish_params (passes profile file more) (λ x. refl) db.trees has.nodes found has.node_rows few answers.answer in
       let wrote = written (λ x. x.0) node_tail db.trees node_table has.nodes has.node_rows test has.rising few change (λ x. refl) stored found are in
-      let seen = changed_seen (λ (x : ℕ × Node). x.1) (is_node profile file) change (finished method mismatch md5 puids) (λ x. refl) has.nodes ∙ ap (map (changed_where (is_node profile file) (finished method mismatch md5 puids))) has.nodes_are in
-      let unique = keeps_unique (with_finished profile file method mismatch md5 puids rows) (map (changed_where test change) has.nodes) (with_tree db.trees 1 (edited db.trees (edit_of db.trees node_table (ids_of found) Given 1 found))) seen later wrote has.replies in
+      let seen = changed_seen (λ (x : ℕ × Node). x.1) (is_node profile file) change (finished method mismatch hash puids) (λ x. refl) has.nodes ∙ ap (map (changed_where (is_node profile file) (finished method mismatch hash puids))) has.nodes_are in
+      let unique = keeps_unique (with_finished profile file method mismatch hash puids rows) (map (changed_where test change) has.nodes) (with_tree db.trees 1 (edited db.trees (edit_of db.trees node_table (ids_of found) Given 1 found))) seen later wrote has.replies in
       rewrite_sure store_schema db.trees node_table (λ trees edit. refl) nodes_refer (λ x. x.0) node_tail has.nodes test few change (λ x. refl) stored (λ x. refl) (λ x. refl) (λ x. refl)
       (λ x one. node_fits (change x) (small x.1 (found_node profile file has.nodes rows x has.nodes_are lone one))) found are unique
 
-  pub finish_wants : (old new : State) (rows : Rows) (err : Error) → InMemory old new → Holds rows old.now → HasKeys rows → HasKeys (with_finished profile file method mismatch md5 puids rows)
-      → ((n : Node) → node_at profile file rows ≡ Some n → FitsARow (node_size (finished method mismatch md5 puids n))) → ExecutesInside 0 FINISH_NODE.now finish_params old new (Err err) → IsWant err
+  pub finish_wants : (old new : State) (rows : Rows) (err : Error) → InMemory old new → Holds rows old.now → HasKeys rows → HasKeys (with_finished profile file method mismatch hash puids rows)
+      → ((n : Node) → node_at profile file rows ≡ Some n → FitsARow (node_size (finished method mismatch hash puids n))) → ExecutesInside 0 FINISH_NODE.now finish_params old new (Err err) → IsWant err
   finish_wants old new rows err mem has keys later small h =
       inside_wants FINISH_NODE.now finish_params old new store_schema mem has.schema finish_plain finish_whole (Update 1 (record { lets = []; body = finish_query })) finish_is (update_is_edit 1 (record { lets = []; body = finish_query }))
       (update_sure store_schema 1 store_refers finish_params old.now.trees (statement_of FINISH_NODE.now (understood store_schema FINISH_NODE.now)) node_table refl (record { lets = []; body = finish_query })

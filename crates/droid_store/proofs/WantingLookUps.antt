@@ -41,7 +41,7 @@ profile_typed profile db err (inr (inr h)) = let bad : false ≡ true = h.1 in c
 
 pub profile_wants : (old new : State) (profile : ℕ) (rows : Rows) (e : Error) → InMemory old new → Holds rows old.now → e ≢ QueryReturnedNoRows → QueriesRow FIND_PROFILE.now (number profile ∷ []) old new (Err e) → IsWant e
 profile_wants old new profile rows e mem has other h =
-    row_wants FIND_PROFILE.now (number profile ∷ []) old new store_schema mem has.schema find_profile_plain find_profile_whole (record { lets = []; body = find_profile_query }) (codes "scan_limit" ∷ codes "match_all" ∷ codes "nodes" ∷ []) find_profile_is.0 find_profile_is.1 (profile_typed profile old.now.trees) e other h
+    row_wants FIND_PROFILE.now (number profile ∷ []) old new store_schema mem has.schema find_profile_plain find_profile_whole (record { lets = []; body = find_profile_query }) (codes "scan_limit" ∷ codes "match_all" ∷ codes "nodes" ∷ codes "hash" ∷ []) find_profile_is.0 find_profile_is.1 (profile_typed profile old.now.trees) e other h
 
 node_typed : (profile id : ℕ) (db : Trees) (err : Error) → ¬ RefusesQuery None (record { schema = store_schema; trees = db }) (record { lets = []; body = find_node_query }) (number profile ∷ number id ∷ []) err
 node_typed profile id db err (inl h) = let bad : true ≡ false = h.1 in cc

@@ -1,5 +1,8 @@
 -- What each command makes of the rows (this project's own).
-use Rattle.std.specs.Prelude.{◌≡◌, ◌≢◌, ℕ, zero, suc, ℤ, ◌+◌, Bool, false, not, if◌then◌else◌, List, [], ◌∷◌, ◌++◌, map, filter, replicate, All, Some, option_map}
+use Rattle.std.specs.Prelude.{◌≡◌, ◌≢◌, ℕ, zero, suc, ℤ, ◌+◌, Bool, false, not, if◌then◌else◌, List, [], ◌∷◌, ◌++◌, map, filter, All, Some, option_map}
+use Rattle.droid_frame.specs.Hashes.{hash_bytes, hash_value_kind}
+use Rattle.droid_frame.specs.types.hash_kind.HashKind.{HashKind}
+use Rattle.droid_frame.specs.types.hash_value.HashValue.{HashValue}
 use Rattle.droid_frame.specs.types.method.Method.{Method}
 use Rattle.droid_frame.specs.types.method.Method.TheVariants.{Unidentified}
 use Rattle.droid_store.specs.declared.rows.Entry.{Entry}
@@ -12,9 +15,9 @@ use Rattle.droid_store.specs.Rows.{Node, Rows, is_node, profile_at, node_at}
 abbrev pub with_reply : Entry → Rows → Rows
 with_reply e rows = record rows { replies = rows.replies ++ e ∷ [] }
 
-abbrev pub with_profile : ℕ → Bool → Rows → Rows
-with_profile scan_limit match_all rows =
-    record rows { profiles = rows.profiles ++ record { scan_limit = scan_limit; match_all = match_all; nodes = 0 } ∷ [] }
+abbrev pub with_profile : ℕ → Bool → HashKind → Rows → Rows
+with_profile scan_limit match_all hash rows =
+    record rows { profiles = rows.profiles ++ record { scan_limit = scan_limit; match_all = match_all; nodes = 0; hash = hash } ∷ [] }
 
 -- the profile with this number counts so many nodes
 abbrev pub counted : ℕ → ℕ → List ProfileRow → List ProfileRow
@@ -42,7 +45,7 @@ new_node profile id parent modified state size piece_size name path = record {
   name = name;
   path = path;
   puids = [];
-  md5 = replicate 16 0;
+  hash = [];
 }
 
 abbrev pub new_folder : ℕ → ℕ → ℕ → ℤ → List ℕ → List ℕ → Node
@@ -51,13 +54,13 @@ new_folder profile id parent modified name path = new_node profile id parent mod
 abbrev pub new_file : ℕ → ℕ → ℕ → ℤ → ℕ → ℕ → List ℕ → List ℕ → Node
 new_file profile id parent modified size piece_size name path = new_node profile id parent modified Unfinished size piece_size name path
 
-abbrev pub finished : Method → Bool → List ℕ → List (List ℕ) → Node → Node
-finished method mismatch md5 puids n = record n { state = Finished; method = method; mismatch = mismatch; md5 = md5; puids = puids }
+abbrev pub finished : Method → Bool → HashValue → List (List ℕ) → Node → Node
+finished method mismatch hash puids n = record n { state = Finished; method = method; mismatch = mismatch; hash = hash_bytes hash; puids = puids }
 
 -- this node is finished, and no other is changed
-abbrev pub with_finished : ℕ → ℕ → Method → Bool → List ℕ → List (List ℕ) → Rows → Rows
-with_finished profile file method mismatch md5 puids rows =
-    record rows { nodes = map (λ n. if is_node profile file n then finished method mismatch md5 puids n else n) rows.nodes }
+abbrev pub with_finished : ℕ → ℕ → Method → Bool → HashValue → List (List ℕ) → Rows → Rows
+with_finished profile file method mismatch hash puids rows =
+    record rows { nodes = map (λ n. if is_node profile file n then finished method mismatch hash puids n else n) rows.nodes }
 
 -- this node's row is no more; its profile still counts it
 abbrev pub without_node : ℕ → ℕ → Rows → Rows
@@ -72,6 +75,10 @@ IsNext profile id rows = option_map (λ p. p.nodes + 1) (profile_at profile rows
 -- the node is a file whose pieces still come
 abbrev pub IsOpen : ℕ → ℕ → Rows → Type 0
 IsOpen profile file rows = option_map (λ n. n.state) (node_at profile file rows) ≡ Some Unfinished
+
+-- the hash is of the kind that the profile's files get
+abbrev pub IsOfKind : ℕ → HashValue → Rows → Type 0
+IsOfKind profile hash rows = option_map (λ p. p.hash) (profile_at profile rows) ≡ Some (hash_value_kind hash)
 
 -- some bytes, none of which is a space
 pub record IsWord (text : List ℕ) : Type 0 where

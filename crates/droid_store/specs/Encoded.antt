@@ -5,6 +5,9 @@ use Rattle.sqlite.specs.declared.types.Value.{Value}
 use Rattle.sqlite.specs.declared.types.Value.TheVariants.{Null, Int, Text, Blob}
 use Rattle.sqlite.specs.Order.{Row, column}
 use Rattle.sqlite.specs.Effect.{Database}
+use Rattle.droid_frame.specs.Hashes.{hash_kind_number}
+use Rattle.droid_frame.specs.types.hash_kind.HashKind.{HashKind}
+use Rattle.droid_frame.specs.types.hash_kind.HashKind.TheVariants as kinds
 use Rattle.droid_frame.specs.types.method.Method.{Method}
 use Rattle.droid_frame.specs.types.method.Method.TheVariants.{Unidentified, Signature, Extension}
 use Rattle.droid_store.specs.declared.rows.Entry.{Entry}
@@ -52,6 +55,9 @@ state_in v = if number_in v == 0 then Folder else if number_in v == 1 then Unfin
 abbrev pub method_in : Value → Method
 method_in v = if number_in v == 0 then Unidentified else if number_in v == 1 then Signature else Extension
 
+abbrev pub hash_kind_in : Value → HashKind
+hash_kind_in v = if number_in v == 0 then kinds.Nothing else if number_in v == 1 then kinds.Md5 else kinds.Sha256
+
 abbrev pub text_in : Value → List ℕ
 text_in (Text t) = t
 text_in _ = []
@@ -67,7 +73,7 @@ words_of (byte ∷ bytes) = slice_split (λ b. b == 32) (byte ∷ bytes)
 -- ---- rows, each after its own number
 
 abbrev pub profile_row : ℕ × ProfileRow → Row
-profile_row p = number p.0 ∷ Null ∷ number p.1.scan_limit ∷ flag p.1.match_all ∷ number p.1.nodes ∷ []
+profile_row p = number p.0 ∷ Null ∷ number p.1.scan_limit ∷ flag p.1.match_all ∷ number p.1.nodes ∷ number (hash_kind_number p.1.hash) ∷ []
 
 abbrev pub node_row : ℕ × Node → Row
 node_row n =
@@ -84,7 +90,7 @@ node_row n =
     ∷ Text n.1.name
     ∷ Text n.1.path
     ∷ Text (joined n.1.puids)
-    ∷ Blob n.1.md5
+    ∷ Blob n.1.hash
     ∷ []
 
 abbrev pub reply_row : ℕ × Entry → Row
@@ -94,7 +100,7 @@ reply_row e =
 -- ---- and back
 
 abbrev pub profile_in : Row → ProfileRow
-profile_in r = record { scan_limit = number_in (column r 2); match_all = flag_in (column r 3); nodes = number_in (column r 4) }
+profile_in r = record { scan_limit = number_in (column r 2); match_all = flag_in (column r 3); nodes = number_in (column r 4); hash = hash_kind_in (column r 5) }
 
 abbrev pub node_in : Row → Node
 node_in r = record {
@@ -110,7 +116,7 @@ node_in r = record {
   name = text_in (column r 10);
   path = text_in (column r 11);
   puids = words_of (text_in (column r 12));
-  md5 = bytes_in (column r 13);
+  hash = bytes_in (column r 13);
 }
 
 abbrev pub entry_in : Row → Entry

@@ -1,10 +1,14 @@
--- Rows that can be read back: numbers in the range of their types, and a request's below 2^63, texts that are UTF-8, digests of 16 bytes.
-use Rattle.std.specs.Prelude.{◌≡◌, ◌<◌, ◌^◌, length, IsUtf8}
+-- Rows that can be read back: numbers in the range of their types, and a request's below 2^63, texts that are UTF-8, marks of 16 bytes, hashes of their lengths.
+use Rattle.std.specs.Prelude.{◌≡◌, ◌==◌, ◌||◌, ◌<◌, ◌^◌, ℕ, Bool, IsTrue, length, IsUtf8}
 use Rattle.std.specs.List.{AllByRecursion}
 use Rattle.droid_store.specs.declared.rows.Entry.{Entry}
 use Rattle.droid_store.specs.declared.rows.ProfileRow.{ProfileRow}
 use Rattle.droid_store.specs.Encoded.{joined}
 use Rattle.droid_store.specs.Rows.{Node, Rows}
+
+-- no byte, the 16 of an MD5, or the 32 of a SHA-256
+abbrev pub is_hash_length : ℕ → Bool
+is_hash_length n = (n == 0) || ((n == 16) || (n == 32))
 
 pub record ProfileFits (p : ProfileRow) : Type 0 where
   pub scan_limit : p.scan_limit < 2 ^ 32
@@ -17,7 +21,7 @@ pub record NodeFits (n : Node) : Type 0 where
   pub name : IsUtf8 n.name
   pub path : IsUtf8 n.path
   pub formats : IsUtf8 (joined n.puids)
-  pub md5 : length n.md5 ≡ 16
+  pub hash : IsTrue (is_hash_length (length n.hash))
 
 pub record EntryFits (e : Entry) : Type 0 where
   pub number : e.number < 2 ^ 63

@@ -1,7 +1,9 @@
 -- What a store holds: typed rows in order (this project's own).
-use Rattle.std.specs.Prelude.{ℕ, zero, suc, ℤ, ◌==◌, ◌&&◌, Bool, true, false, not, List, [], map, filter, find, length, Option, None}
+use Rattle.std.specs.Prelude.{ℕ, zero, suc, ℤ, ◌==◌, ◌&&◌, Bool, true, false, not, List, [], map, filter, find, length, if◌then◌else◌, Option, None}
 use Rattle.std.specs.List.{slice_get, count_by}
 use Rattle.std.specs.Str.{bytes_eq}
+use Rattle.droid_frame.specs.types.hash_value.HashValue.{HashValue}
+use Rattle.droid_frame.specs.types.hash_value.HashValue.TheVariants as hashes
 use Rattle.droid_frame.specs.types.method.Method.{Method}
 use Rattle.droid_frame.specs.types.node_kind.NodeKind.{NodeKind}
 use Rattle.droid_frame.specs.types.node_kind.NodeKind.TheVariants as kind
@@ -27,7 +29,8 @@ pub record Node : Type 0 where
   pub name : List ℕ
   pub path : List ℕ
   pub puids : List (List ℕ)
-  pub md5 : List ℕ
+  -- the bytes of its hash, of which a node that isn't a finished file has none
+  pub hash : List ℕ
 
 -- profiles by number, the first is 1; nodes of all profiles in order of acceptance; the newest reply last
 pub record Rows : Type 0 where
@@ -73,6 +76,10 @@ kind_of Folder = kind.Folder
 kind_of Unfinished = kind.File
 kind_of Finished = kind.File
 
+-- the hash of these bytes: none, the 16 of an MD5, or the 32 of a SHA-256
+abbrev pub hash_of : List ℕ → HashValue
+hash_of bytes = if length bytes == 0 then hashes.Nothing else if length bytes == 16 then hashes.Md5 bytes else hashes.Sha256 bytes
+
 abbrev pub record_of : Node → Record
 record_of n = record {
   id = n.id;
@@ -84,7 +91,7 @@ record_of n = record {
   modified = n.modified;
   method = n.method;
   mismatch = n.mismatch;
-  md5 = n.md5;
+  hash = hash_of n.hash;
   puids = n.puids;
 }
 

@@ -2,13 +2,14 @@
 use Rattle.std.specs.Prelude.{[], ◌∷◌}
 use Rattle.sqlite.specs.declared.types.Value.TheVariants.{Int, Text, Blob}
 use Rattle.sqlite.specs.Order.{Row}
+use Rattle.droid_frame.specs.Hashes.{hash_kind_number}
 use Rattle.droid_store.specs.declared.rows.Entry.{Entry}
 use Rattle.droid_store.specs.declared.rows.ProfileRow.{ProfileRow}
 use Rattle.droid_store.specs.Encoded.{number, flag, state_number, method_number, joined}
 use Rattle.droid_store.specs.Rows.{Node}
 
 abbrev pub shown_profile : ProfileRow → Row
-shown_profile p = number p.scan_limit ∷ flag p.match_all ∷ number p.nodes ∷ []
+shown_profile p = number p.scan_limit ∷ flag p.match_all ∷ number p.nodes ∷ number (hash_kind_number p.hash) ∷ []
 
 abbrev pub shown_node : Node → Row
 shown_node n =
@@ -23,7 +24,7 @@ shown_node n =
     ∷ Text n.name
     ∷ Text n.path
     ∷ Text (joined n.puids)
-    ∷ Blob n.md5
+    ∷ Blob n.hash
     ∷ []
 
 abbrev pub shown_id : Node → Row

@@ -8,7 +8,7 @@ abbrev pub entry_size : Entry → ℕ
 entry_size e = 18 * 7 + length e.mark + length e.body
 
 abbrev pub node_size : Node → ℕ
-node_size n = 18 * 14 + length n.name + length n.path + length (joined n.puids) + length n.md5
+node_size n = 18 * 14 + length n.name + length n.path + length (joined n.puids) + length n.hash
 
 -- a row of so many bytes can be kept
 abbrev pub FitsARow : ℕ → Type 0

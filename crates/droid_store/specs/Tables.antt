@@ -26,6 +26,7 @@ profiles = record {
       ∷ column_named (codes "scan_limit") Integer
       ∷ column_named (codes "match_all") Integer
       ∷ column_named (codes "nodes") Integer
+      ∷ column_named (codes "hash") Integer
       ∷ [];
   key = Some 0;
   primary = 0 ∷ [];
@@ -55,7 +56,7 @@ nodes = record {
       ∷ column_named (codes "name") Text
       ∷ column_named (codes "path") Text
       ∷ column_named (codes "formats") Text
-      ∷ column_named (codes "md5") Blob
+      ∷ column_named (codes "hash") Blob
       ∷ [];
   key = None;
   primary = 1 ∷ 2 ∷ [];

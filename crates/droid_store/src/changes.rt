@@ -12,9 +12,10 @@ ghost use Rattle.droid_store.specs.Rows.{Rows, Node, node_at};
 ghost use Rattle.droid_store.specs.Sizes.{entry_size, node_size, FitsARow};
 ghost use Rattle.droid_store.specs.Nodes.{node_of};
 
+use crate::hashes::kind_number;
 use crate::rows::{Entry, NodeState};
 use crate::statements::{ADD_NODE, ADD_PROFILE, ADD_REPLY, COUNT_NODES, FINISH_NODE, REMOVE_NODE};
-use droid_frame::Method;
+use droid_frame::{HashKind, HashValue, Method};
 use droid_store_trees::TreeStore;
 use sqlite::{Error, Transaction, params};
 
@@ -44,14 +45,18 @@ pub(crate) fn insert_profile(
     profile: u32,
     scan_limit: u32,
     match_all: bool,
+    hash: HashKind,
 ) -> Result<usize, Error>
     ensures same_reference { tx.new.conn.ghost_name ≡ tx.old.conn.ghost_name }
-    ensures ok { (rows : Rows) → profile ≡ length rows.profiles + 1 → Steps (state over_trees tx.old.conn.now) (state over_trees tx.new.conn.now) result rows (with_profile scan_limit match_all rows) }
+    ensures ok { (rows : Rows) → profile ≡ length rows.profiles + 1 → Steps (state over_trees tx.old.conn.now) (state over_trees tx.new.conn.now) result rows (with_profile scan_limit match_all hash rows) }
     ensures err { (rows : Rows) → Saves (state over_trees tx.old.conn.now) (state over_trees tx.new.conn.now) result rows }
     ensures limit { tx.new.conn.now.step_limit ≡ tx.old.conn.now.step_limit }
     ensures want { (rows : Rows) → profile ≡ length rows.profiles + 1 → HasKeys rows → Wants (state over_trees tx.old.conn.now) (state over_trees tx.new.conn.now) result rows }
 {
-    tx.execute(ADD_PROFILE, params![profile, scan_limit, match_all])
+    tx.execute(
+        ADD_PROFILE,
+        params![profile, scan_limit, match_all, kind_number(hash)],
+    )
 }
 
 pub(crate) fn insert_reply(
@@ -144,7 +149,7 @@ pub(crate) fn add_node(
 pub(crate) struct Findings<'a> {
     pub method: Method,
     pub mismatch: bool,
-    pub md5: &'a [u8],
+    pub hash: HashValue,
     /// The formats' identifiers joined by a space.
     pub formats: &'a str,
 }
@@ -157,10 +162,10 @@ pub(crate) fn finish_node(
 ) -> Result<usize, Error>
     ensures same_reference { tx.new.conn.ghost_name ≡ tx.old.conn.ghost_name }
     ensures ok { (rows : Rows) → AreApart rows → (puids : List (List ℕ)) → AllByRecursion IsWord puids → findings.now.formats.now ≡ joined puids
-        → Steps (state over_trees tx.old.conn.now) (state over_trees tx.new.conn.now) result rows (with_finished profile file findings.now.method findings.now.mismatch findings.now.md5.now puids rows) }
+        → Steps (state over_trees tx.old.conn.now) (state over_trees tx.new.conn.now) result rows (with_finished profile file findings.now.method findings.now.mismatch findings.now.hash puids rows) }
     ensures err { (rows : Rows) → Saves (state over_trees tx.old.conn.now) (state over_trees tx.new.conn.now) result rows }
     ensures limit { tx.new.conn.now.step_limit ≡ tx.old.conn.now.step_limit }
-    ensures want { (rows : Rows) → HasKeys rows → (puids : List (List ℕ)) → findings.now.formats.now ≡ joined puids → HasKeys (with_finished profile file findings.now.method findings.now.mismatch findings.now.md5.now puids rows) → ((n : Node) → node_at profile file rows ≡ Some n → FitsARow (node_size (finished findings.now.method findings.now.mismatch findings.now.md5.now puids n))) → Wants (state over_trees tx.old.conn.now) (state over_trees tx.new.conn.now) result rows }
+    ensures want { (rows : Rows) → HasKeys rows → (puids : List (List ℕ)) → findings.now.formats.now ≡ joined puids → HasKeys (with_finished profile file findings.now.method findings.now.mismatch findings.now.hash puids rows) → ((n : Node) → node_at profile file rows ≡ Some n → FitsARow (node_size (finished findings.now.method findings.now.mismatch findings.now.hash puids n))) → Wants (state over_trees tx.old.conn.now) (state over_trees tx.new.conn.now) result rows }
 {
     tx.execute(
         FINISH_NODE,
@@ -170,7 +175,7 @@ pub(crate) fn finish_node(
             number_of(findings.method),
             findings.mismatch,
             findings.formats,
-            findings.md5
+            findings.hash.as_slice()
         ],
     )
 }

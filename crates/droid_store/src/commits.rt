@@ -18,6 +18,7 @@ use crate::changes::{
     Findings, NewNode, add_node, delete_node, finish_node, insert_profile, insert_reply,
 };
 use crate::rows::Entry;
+use droid_frame::HashKind;
 use droid_store_trees::TreeStore;
 use sqlite::{Connection, Error};
 
@@ -42,18 +43,19 @@ pub(crate) fn write_profile(
     profile: u32,
     scan_limit: u32,
     match_all: bool,
+    hash: HashKind,
 ) -> Result<(), Error>
     requires holds { Settled (state over_trees conn.old) (Holds (kept conn.old)) }
     requires next { profile ≡ length (kept conn.old).profiles + 1 }
     requires small { entry.now.number < 2 ^ 63 }
-    ensures ok { OnOk result (Settled (state over_trees conn.new) (Holds (with_reply entry.now (with_profile scan_limit match_all (kept conn.old))))) }
+    ensures ok { OnOk result (Settled (state over_trees conn.new) (Holds (with_reply entry.now (with_profile scan_limit match_all hash (kept conn.old))))) }
     ensures err { OnErr result (Settled (state over_trees conn.new) (Holds (kept conn.old))) }
     ensures limit { conn.new.step_limit ≡ conn.old.step_limit }
     ensures fits { OnOk result (EntryFits entry.now) }
-    ensures want { HasKeys (kept conn.old) → HasKeys (with_reply entry.now (with_profile scan_limit match_all (kept conn.old))) → FitsARow (entry_size entry.now) → conn.old.step_limit ≡ None → IfErr result IsWant }
+    ensures want { HasKeys (kept conn.old) → HasKeys (with_reply entry.now (with_profile scan_limit match_all hash (kept conn.old))) → FitsARow (entry_size entry.now) → conn.old.step_limit ≡ None → IfErr result IsWant }
 {
     let mut tx = conn.transaction();
-    insert_profile(&mut tx, profile, scan_limit, match_all)?;
+    insert_profile(&mut tx, profile, scan_limit, match_all, hash)?;
     insert_reply(&mut tx, entry)?;
     tx.commit()
 }
@@ -90,11 +92,11 @@ pub(crate) fn write_finish(
     requires apart { AreApart (kept conn.old) }
     requires small { entry.now.number < 2 ^ 63 }
     ensures ok { (puids : List (List ℕ)) → AllByRecursion IsWord puids → findings.now.formats.now ≡ joined puids
-        → OnOk result (Settled (state over_trees conn.new) (Holds (with_reply entry.now (with_finished profile file findings.now.method findings.now.mismatch findings.now.md5.now puids (kept conn.old))))) }
+        → OnOk result (Settled (state over_trees conn.new) (Holds (with_reply entry.now (with_finished profile file findings.now.method findings.now.mismatch findings.now.hash puids (kept conn.old))))) }
     ensures err { (puids : List (List ℕ)) → AllByRecursion IsWord puids → findings.now.formats.now ≡ joined puids → OnErr result (Settled (state over_trees conn.new) (Holds (kept conn.old))) }
     ensures limit { conn.new.step_limit ≡ conn.old.step_limit }
     ensures fits { OnOk result (EntryFits entry.now) }
-    ensures want { (puids : List (List ℕ)) → AllByRecursion IsWord puids → findings.now.formats.now ≡ joined puids → HasKeys (kept conn.old) → HasKeys (with_reply entry.now (with_finished profile file findings.now.method findings.now.mismatch findings.now.md5.now puids (kept conn.old))) → FitsARow (entry_size entry.now) → ((n : Node) → node_at profile file (kept conn.old) ≡ Some n → FitsARow (node_size (finished findings.now.method findings.now.mismatch findings.now.md5.now puids n))) → conn.old.step_limit ≡ None → IfErr result IsWant }
+    ensures want { (puids : List (List ℕ)) → AllByRecursion IsWord puids → findings.now.formats.now ≡ joined puids → HasKeys (kept conn.old) → HasKeys (with_reply entry.now (with_finished profile file findings.now.method findings.now.mismatch findings.now.hash puids (kept conn.old))) → FitsARow (entry_size entry.now) → ((n : Node) → node_at profile file (kept conn.old) ≡ Some n → FitsARow (node_size (finished findings.now.method findings.now.mismatch findings.now.hash puids n))) → conn.old.step_limit ≡ None → IfErr result IsWant }
 {
     let mut tx = conn.transaction();
     finish_node(&mut tx, profile, file, findings)?;

@@ -8,6 +8,7 @@ mod changes;
 mod commits;
 mod counting;
 mod fault;
+mod hashes;
 mod look_ups;
 mod making;
 mod read_rows;

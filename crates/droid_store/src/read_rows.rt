@@ -1,6 +1,6 @@
 //! Rows that a look-up shows, read as what they stand for.
 
-ghost use Rattle.std.specs.Prelude.{◌≡◌, ◌<◌, List, ℕ, IfOk, IfErr, Some, length, map};
+ghost use Rattle.std.specs.Prelude.{◌≡◌, ◌<◌, List, ℕ, IfOk, IfErr, IsTrue, Some, length, map};
 ghost use Rattle.std.specs.List.{AllByRecursion};
 ghost use Rattle.sqlite.specs.Order.{column};
 ghost use Rattle.sqlite.specs.declared.types.Value.TheVariants.{Blob as BlobValue};
@@ -10,15 +10,16 @@ ghost use Rattle.droid_store.specs.declared.rows.NodeState.{NodeState as NodeSta
 ghost use Rattle.droid_store.specs.declared.rows.ProfileRow.{ProfileRow as ProfileRowValue};
 ghost use Rattle.droid_store.specs.Changes.{IsWord};
 ghost use Rattle.droid_store.specs.Encoded.{state_number, method_number};
-ghost use Rattle.droid_store.specs.Rows.{Node, row_of, record_of, kind_of};
-ghost use Rattle.droid_store.specs.Ranges.{ProfileFits, NodeFits, EntryFits};
+ghost use Rattle.droid_store.specs.Rows.{Node, hash_of, row_of, record_of, kind_of};
+ghost use Rattle.droid_store.specs.Ranges.{is_hash_length, ProfileFits, NodeFits, EntryFits};
 ghost use Rattle.droid_store.specs.declared.fault.StoreFault.TheVariants.{Memory};
 ghost use Rattle.droid_store.specs.Shown.{shown_profile, shown_node, shown_reply};
 
 use crate::fault::StoreFault;
+use crate::hashes::{hash_of, kind_of as hash_kind_of};
 use crate::rows::{Entry, NodeRow, NodeState, ProfileRow};
 use crate::words::words;
-use droid_frame::{Blob, Method, NodeKind, Record, Text, Texts};
+use droid_frame::{Blob, HashKind, HashValue, Method, NodeKind, Record, Text, Texts};
 use sqlite::Row;
 use std::alloc::Global;
 
@@ -29,11 +30,24 @@ pub(crate) fn profile_of(row: &Row) -> Result<ProfileRow, StoreFault>
     let scan_limit = row.get(0)?;
     let match_all = row.get(1)?;
     let nodes = row.get(2)?;
+    let hash = hash_kind_in(row)?;
     Ok(ProfileRow {
         scan_limit,
         match_all,
         nodes,
+        hash,
     })
+}
+
+fn hash_kind_in(row: &Row) -> Result<HashKind, StoreFault>
+    ensures read { IfOk result (λ read. (p : ProfileRowValue) → row.now ≡ shown_profile p → read ≡ p.hash) }
+    ensures memory { (p : ProfileRowValue) → row.now ≡ shown_profile p → IfErr result (λ fault. fault ≡ Memory) }
+{
+    let number: u32 = row.get(3)?;
+    match hash_kind_of(number) {
+        Some(kind) => Ok(kind),
+        None => Err(StoreFault::Refused),
+    }
 }
 
 /// The 16 bytes in this column.
@@ -45,6 +59,18 @@ fn digest_in(row: &Row, at: usize) -> Result<[u8; 16], StoreFault>
     match <[u8; 16]>::try_from(bytes.as_slice()) {
         Ok(digest) => Ok(digest),
         Err(_) => Err(StoreFault::Refused),
+    }
+}
+
+/// The hash of the bytes in this column.
+fn hash_in(row: &Row, at: usize) -> Result<HashValue, StoreFault>
+    ensures read { IfOk result (λ read. (bytes : List ℕ) → column row.now at ≡ BlobValue bytes → read ≡ hash_of bytes) }
+    ensures memory { (bytes : List ℕ) → at < length row.now → column row.now at ≡ BlobValue bytes → IsTrue (is_hash_length (length bytes)) → IfErr result (λ fault. fault ≡ Memory) }
+{
+    let bytes: Vec<u8> = row.get(at)?;
+    match hash_of(bytes.as_slice()) {
+        Some(hash) => Ok(hash),
+        None => Err(StoreFault::Refused),
     }
 }
 
@@ -113,23 +139,23 @@ fn head_of(row: &Row) -> Result<Head, StoreFault>
 struct Findings {
     method: Method,
     mismatch: bool,
-    md5: [u8; 16],
+    hash: HashValue,
     puids: Texts,
 }
 
 fn findings_of(alloc: Global, row: &Row) -> Result<Findings, StoreFault>
-    ensures read { IfOk result (λ read. (n : Node) → AllByRecursion IsWord n.puids → row.now ≡ shown_node n → read ≡ record { method = n.method; mismatch = n.mismatch; md5 = n.md5; puids = n.puids }) }
+    ensures read { IfOk result (λ read. (n : Node) → AllByRecursion IsWord n.puids → row.now ≡ shown_node n → read ≡ record { method = n.method; mismatch = n.mismatch; hash = hash_of n.hash; puids = n.puids }) }
     ensures memory { (n : Node) → row.now ≡ shown_node n → NodeFits n → IfErr result (λ fault. fault ≡ Memory) }
 {
     let method = method_in(row)?;
     let mismatch = row.get(7)?;
     let formats: String = row.get(10)?;
-    let md5 = digest_in(row, 11)?;
+    let hash = hash_in(row, 11)?;
     let puids = words(alloc, formats.as_str())?;
     Ok(Findings {
         method,
         mismatch,
-        md5,
+        hash,
         puids,
     })
 }
@@ -152,7 +178,7 @@ pub(crate) fn node_of(alloc: Global, row: &Row) -> Result<NodeRow, StoreFault>
     let name: String = row.get(8)?;
     let path: String = row.get(9)?;
     let findings = findings_of(alloc, row)?;
-    let md5 = findings.md5;
+    let hash = findings.hash;
     let item = Record {
         id: head.id,
         parent: head.parent,
@@ -163,7 +189,7 @@ pub(crate) fn node_of(alloc: Global, row: &Row) -> Result<NodeRow, StoreFault>
         modified: head.modified,
         method: findings.method,
         mismatch: findings.mismatch,
-        md5,
+        hash,
         puids: findings.puids,
     };
     Ok(NodeRow {

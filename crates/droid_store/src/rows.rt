@@ -3,7 +3,7 @@
 ghost use Rattle.std.specs.Prelude.{◌≡◌};
 ghost use Rattle.droid_store.specs.Encoded.{state_number};
 
-use droid_frame::{Blob, Record};
+use droid_frame::{Blob, HashKind, Record};
 
 /// An accepted command's reply, kept for good under its client and number.
 #[derive(Debug, Drop)]
@@ -29,6 +29,8 @@ pub struct ProfileRow {
     pub match_all: bool,
     /// How many nodes were ever accepted in it. An abandoned one still counts.
     pub nodes: u32,
+    /// Which hash its files get.
+    pub hash: HashKind,
 }
 
 /// What has become of a node.
@@ -63,7 +65,7 @@ pub struct NodeRow {
     /// How long a file's pieces are but for the last, in bytes. A folder has 0.
     pub piece_size: u32,
     /// All that the export shows of it. An unfinished file has no method and no formats yet, no
-    /// mismatch, and 16 zero bytes for its MD5.
+    /// mismatch, and no hash.
     pub item: Record,
 }
 

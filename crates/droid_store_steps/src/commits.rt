@@ -2,13 +2,13 @@
 
 ghost use Rattle.std.specs.Prelude.{◌≡◌, ◌+◌, ◌<◌, ◌^◌, None, length, OnOk};
 ghost use Rattle.std.specs.List.{AllByRecursion};
-ghost use Rattle.droid_store.specs.Changes.{IsNext, IsOpen, IsWord};
+ghost use Rattle.droid_store.specs.Changes.{IsNext, IsOfKind, IsOpen, IsWord};
 ghost use Rattle.droid_store.specs.Rows.{child_at, reply_for};
 
 use crate::fault::{StepFault, expect};
 use crate::steps::{Change, Found, MADE, Place, Step, entry_of};
 use crate::words::words;
-use droid_frame::Texts;
+use droid_frame::{HashKind, HashValue, Texts};
 use droid_store::{Entry, NodeState, Store};
 use std::alloc::Global;
 
@@ -22,7 +22,8 @@ pub fn commit(alloc: Global, store: &mut Store, step: &Step<'_>) -> Result<(), S
             profile,
             scan_limit,
             match_all,
-        } => commit_profile(store, &entry, profile, scan_limit, match_all),
+            hash,
+        } => commit_profile(store, &entry, profile, scan_limit, match_all, hash),
         Change::Folder(place) => commit_folder(store, &entry, &place),
         Change::File {
             place,
@@ -50,11 +51,13 @@ pub fn make_profile(
     profile: u32,
     scan_limit: u32,
     match_all: bool,
+    hash: HashKind,
 ) -> Result<(), StepFault> {
     let change = Change::Profile {
         profile,
         scan_limit,
         match_all,
+        hash,
     };
     commit(alloc, store, &((1, number, 0, MADE, b""), change))
 }
@@ -65,10 +68,11 @@ fn commit_profile(
     profile: u32,
     scan_limit: u32,
     match_all: bool,
+    hash: HashKind,
 ) -> Result<(), StepFault> {
     expect_new(store, entry)?;
     expect_next_profile(store, profile)?;
-    Ok(store.commit_profile(entry, profile, scan_limit, match_all)?)
+    Ok(store.commit_profile(entry, profile, scan_limit, match_all, hash)?)
 }
 
 fn commit_folder(store: &mut Store, entry: &Entry, place: &Place<'_>) -> Result<(), StepFault> {
@@ -128,13 +132,14 @@ pub fn commit_finish(
 {
     expect_new(store, entry)?;
     expect_open(store, profile, file)?;
+    expect_kind(store, profile, found.hash)?;
     Ok(store.commit_finish(
         entry,
         profile,
         file,
         found.method,
         found.mismatch,
-        found.md5,
+        found.hash,
         puids,
     )?)
 }
@@ -205,5 +210,19 @@ fn expect_open(store: &mut Store, profile: u32, file: u32) -> Result<(), StepFau
     expect(
         row.state == NodeState::Unfinished,
         "the file's pieces still come",
+    )
+}
+
+// The hash is of the kind that the profile's files get.
+fn expect_kind(store: &mut Store, profile: u32, hash: HashValue) -> Result<(), StepFault>
+    ensures same { store.new ≡ store.old }
+    ensures kind { OnOk result (IsOfKind profile hash store.old) }
+{
+    let Some(row) = store.profile(profile)? else {
+        return Err(StepFault::Unmet("the profile is there"));
+    };
+    expect(
+        row.hash == hash.kind(),
+        "the hash is of the kind of its profile",
     )
 }

@@ -1,6 +1,6 @@
 //! Commands as the store is told of them, written out so that tests can be tables.
 
-use droid_frame::{Blob, Method};
+use droid_frame::{Blob, HashKind, HashValue, Method};
 use droid_store::Entry;
 use std::alloc::{AllocError, Global};
 
@@ -61,7 +61,7 @@ pub struct Place<'a> {
 pub struct Found<'a> {
     pub method: Method,
     pub mismatch: bool,
-    pub md5: [u8; 16],
+    pub hash: HashValue,
     pub puids: &'a [&'a str],
 }
 
@@ -69,7 +69,7 @@ pub struct Found<'a> {
 pub const NOTHING: Found<'static> = Found {
     method: Method::Unidentified,
     mismatch: false,
-    md5: [0; 16],
+    hash: HashValue::Nothing,
     puids: &[],
 };
 
@@ -80,6 +80,7 @@ pub enum Change<'a> {
         profile: u32,
         scan_limit: u32,
         match_all: bool,
+        hash: HashKind,
     },
     Folder(Place<'a>),
     File {

@@ -62,10 +62,10 @@ impl<'a> Shown<'a> {
     // Whether the record shows this node, field by field.
     fn is_record(&self, record: &Record) -> bool {
         let place = (record.id, record.parent, record.modified);
-        let bytes = (record.size, record.md5);
+        let bytes = (record.size, record.hash);
         let findings = (record.kind, record.method, record.mismatch);
         place == (self.place.id, self.place.parent, self.place.modified)
-            && bytes == (self.size, self.found.md5)
+            && bytes == (self.size, self.found.hash)
             && findings == (self.kind(), self.found.method, self.found.mismatch)
             && record.name.as_str() == self.place.name
             && record.path.as_str() == self.place.path

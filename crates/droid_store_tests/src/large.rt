@@ -1,6 +1,6 @@
 //! As much as a node and a reply may hold, and as many profiles as a service may have.
 
-use droid_frame::Texts;
+use droid_frame::{HashKind, Texts};
 use droid_store::{NodeState, ProfileRow, Store};
 use droid_store_steps::{
     Change, FINISHED, MADE, NODE, NOTHING, Place, Step, StepFault, TAKEN, commit, commit_finish,
@@ -13,7 +13,7 @@ use std::test::Fail;
 // A store with the profile 1.
 fn with_profile(alloc: Global) -> Result<Store, StepFault> {
     let mut store = Store::in_memory(alloc)?;
-    make_profile(alloc, &mut store, 0, 1, 65_536, false)?;
+    make_profile(alloc, &mut store, 0, 1, 65_536, false, HashKind::Nothing)?;
     Ok(store)
 }
 
@@ -131,8 +131,13 @@ fn long_body(rt: HostRuntime) -> Result<(), Fail> {
 }
 
 // The options of the profile with this number.
-fn options(profile: u32) -> (u32, bool) {
-    (profile.wrapping_mul(1_024), profile % 2 == 1)
+fn options(profile: u32) -> (u32, bool, HashKind) {
+    let hash = match profile % 3 {
+        0 => HashKind::Nothing,
+        1 => HashKind::Md5,
+        _ => HashKind::Sha256,
+    };
+    (profile.wrapping_mul(1_024), profile % 2 == 1, hash)
 }
 
 #[test]
@@ -140,21 +145,23 @@ fn many_profiles(rt: HostRuntime) -> Result<(), Fail> {
     let alloc = rt.alloc();
     let mut store = Store::in_memory(alloc)?;
     for profile in 1..65 {
-        let (scan_limit, match_all) = options(profile);
+        let (scan_limit, match_all, hash) = options(profile);
         let change = Change::Profile {
             profile,
             scan_limit,
             match_all,
+            hash,
         };
         let step: Step<'_> = ((profile, 1, 0, MADE, b""), change);
         commit(alloc, &mut store, &step)?;
     }
     for profile in 1..65 {
-        let (scan_limit, match_all) = options(profile);
+        let (scan_limit, match_all, hash) = options(profile);
         let row = ProfileRow {
             scan_limit,
             match_all,
             nodes: 0,
+            hash,
         };
         assert_eq!(rt; store.profile(profile)?, Some(row), "profile {profile}");
     }

@@ -1,6 +1,6 @@
 //! First and last values of each field come back as they were sent.
 
-use droid_frame::Method;
+use droid_frame::{HashKind, HashValue, Method};
 use droid_store::{NodeState, ProfileRow, Store};
 use droid_store_steps::{
     Change, Found, Kept, NODE, NOTHING, Place, Shown, Step, StepFault, commit, expect, is_kept,
@@ -91,13 +91,21 @@ type Numbers = (u32, i64, u64, u32);
 
 /// What is found of each, in the order of the table.
 const FILES: [(Numbers, Found<'static>); 7] = [
-    ((0, -62_135_596_800, 0, 1), NOTHING),
+    (
+        (0, -62_135_596_800, 0, 1),
+        Found {
+            method: Method::Unidentified,
+            mismatch: false,
+            hash: HashValue::Sha256([0; 32]),
+            puids: &[],
+        },
+    ),
     (
         (1, 253_402_300_799, 1_099_511_627_776, 1_048_576),
         Found {
             method: Method::Signature,
             mismatch: true,
-            md5: [255; 16],
+            hash: HashValue::Sha256([255; 32]),
             puids: &["fmt/1"],
         },
     ),
@@ -106,7 +114,10 @@ const FILES: [(Numbers, Found<'static>); 7] = [
         Found {
             method: Method::Extension,
             mismatch: false,
-            md5: [0, 1, 2, 3, 4, 5, 6, 7, 8, 9, 10, 11, 12, 13, 14, 15],
+            hash: HashValue::Sha256([
+                0, 1, 2, 3, 4, 5, 6, 7, 8, 9, 10, 11, 12, 13, 14, 15, 16, 17, 18, 19, 20, 21, 22,
+                23, 24, 25, 26, 27, 28, 29, 30, 31,
+            ]),
             puids: &["fmt/2", "fmt/1"],
         },
     ),
@@ -115,7 +126,7 @@ const FILES: [(Numbers, Found<'static>); 7] = [
         Found {
             method: Method::Signature,
             mismatch: false,
-            md5: [0x20; 16],
+            hash: HashValue::Sha256([0x20; 32]),
             puids: &["a", "a", "b", "a"],
         },
     ),
@@ -129,7 +140,7 @@ const FILES: [(Numbers, Found<'static>); 7] = [
         Found {
             method: Method::Extension,
             mismatch: true,
-            md5: [0x27; 16],
+            hash: HashValue::Sha256([0x27; 32]),
             puids: &[
                 "abcdefghijklmnopqrstuvwxyz/12345",
                 "'",
@@ -145,7 +156,7 @@ const FILES: [(Numbers, Found<'static>); 7] = [
         Found {
             method: Method::Unidentified,
             mismatch: true,
-            md5: [1; 16],
+            hash: HashValue::Sha256([1; 32]),
             puids: &["\u{e9}", "\u{10ffff}", "\t", "\u{1}", "\u{a0}"],
         },
     ),
@@ -154,7 +165,7 @@ const FILES: [(Numbers, Found<'static>); 7] = [
         Found {
             method: Method::Signature,
             mismatch: true,
-            md5: [0x7f; 16],
+            hash: HashValue::Sha256([0x7f; 32]),
             puids: &[],
         },
     ),
@@ -189,11 +200,12 @@ fn files(rt: HostRuntime) -> Result<(), Fail> {
 }
 
 fn profile_of_last_values(alloc: Global, store: &mut Store) -> Result<(), StepFault> {
-    make_profile(alloc, store, 0, 1, 4_294_967_295, true)?;
+    make_profile(alloc, store, 0, 1, 4_294_967_295, true, HashKind::Sha256)?;
     let row = ProfileRow {
         scan_limit: 4_294_967_295,
         match_all: true,
         nodes: 0,
+        hash: HashKind::Sha256,
     };
     expect(store.profile(1)? == Some(row), "the profile is shown")
 }

@@ -1,5 +1,6 @@
 //! Numbers about 100,000, which is as many nodes as a profile of a service may have.
 
+use droid_frame::HashKind;
 use droid_store::{Counts, ProfileRow, Store, StoreFault};
 use droid_store_steps::{
     ABANDONED, Change, Kept, NODE, Place, Shown, commit, is_kept, look_at_node, make_profile,
@@ -100,7 +101,7 @@ fn many_nodes(rt: HostRuntime) -> Result<(), Fail> {
 }
 
 fn make_nodes(rt: &impl Abort, alloc: Global, store: &mut Store) -> Result<(), Fail> {
-    make_profile(alloc, store, 0, 1, 1, false)?;
+    make_profile(alloc, store, 0, 1, 1, false, HashKind::Md5)?;
     for id in 1..ABANDONED_FILE {
         add_folder(alloc, store, id)?;
     }
@@ -119,6 +120,7 @@ fn look_at_totals(rt: &impl Abort, store: &mut Store) -> Result<(), StoreFault> 
         scan_limit: 1,
         match_all: false,
         nodes: LAST,
+        hash: HashKind::Md5,
     };
     assert_eq!(rt; store.profile(1)?, Some(row));
     for id in [0, ABANDONED_FILE, 100_002] {

@@ -1,5 +1,6 @@
 //! Names are told apart byte for byte, in each folder of each profile.
 
+use droid_frame::HashKind;
 use droid_store::Store;
 use droid_store_steps::{
     Change, NODE, Place, Shown, Step, StepFault, commit, look_at_node, make_profile,
@@ -103,7 +104,7 @@ fn make_folder(
 #[test]
 fn byte_for_byte(rt: HostRuntime) -> Result<(), Fail> {
     let mut store = Store::in_memory(rt.alloc())?;
-    make_profile(rt.alloc(), &mut store, 0, 1, 1, true)?;
+    make_profile(rt.alloc(), &mut store, 0, 1, 1, true, HashKind::Md5)?;
     make_each(&rt, rt.alloc(), &mut store, &NAMES)?;
     each_is_found(&rt, rt.alloc(), &mut store, &NAMES)?;
     none_is_found(&rt, rt.alloc(), &mut store, &ABSENT)
@@ -208,7 +209,15 @@ const EMPTY_FOLDERS: [(u32, u32); 7] = [
 fn one_name_in_many_folders(rt: HostRuntime) -> Result<(), Fail> {
     let mut store = Store::in_memory(rt.alloc())?;
     for profile in 1..4 {
-        make_profile(rt.alloc(), &mut store, u64::from(profile), profile, 1, true)?;
+        make_profile(
+            rt.alloc(),
+            &mut store,
+            u64::from(profile),
+            profile,
+            1,
+            true,
+            HashKind::Md5,
+        )?;
     }
     make_same_name(rt.alloc(), &mut store, &SAME_NAME)?;
     same_name_is_found(&rt, &mut store, &SAME_NAME, &EMPTY_FOLDERS)?;

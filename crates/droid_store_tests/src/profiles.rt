@@ -1,6 +1,6 @@
 //! Several profiles side by side: each has its own nodes, numbers and options.
 
-use droid_frame::Method;
+use droid_frame::{HashKind, HashValue, Method};
 use droid_store::{Counts, NodeState, ProfileRow, Store};
 use droid_store_steps::{
     ABANDONED, Change, FINISHED, Found, MADE, NODE, NOTHING, Place, Shown, Step, StepFault, TAKEN,
@@ -76,14 +76,14 @@ const B_OF_2: Place<'static> = Place {
 const FIRST: Found<'static> = Found {
     method: Method::Extension,
     mismatch: false,
-    md5: [1; 16],
+    hash: HashValue::Md5([1; 16]),
     puids: &["fmt/1"],
 };
 
 const SECOND: Found<'static> = Found {
     method: Method::Signature,
     mismatch: true,
-    md5: [2; 16],
+    hash: HashValue::Sha256([2; 32]),
     puids: &["fmt/2", "fmt/3"],
 };
 
@@ -95,6 +95,7 @@ const STEPS: [Step<'static>; 15] = [
             profile: 1,
             scan_limit: 1,
             match_all: false,
+            hash: HashKind::Sha256,
         },
     ),
     (
@@ -103,6 +104,7 @@ const STEPS: [Step<'static>; 15] = [
             profile: 2,
             scan_limit: 65_536,
             match_all: true,
+            hash: HashKind::Md5,
         },
     ),
     (
@@ -168,6 +170,7 @@ const STEPS: [Step<'static>; 15] = [
             profile: 3,
             scan_limit: 512,
             match_all: true,
+            hash: HashKind::Nothing,
         },
     ),
     (
@@ -200,16 +203,19 @@ const LAST_VIEW: View<'static> = View {
             scan_limit: 1,
             match_all: false,
             nodes: 5,
+            hash: HashKind::Sha256,
         },
         ProfileRow {
             scan_limit: 65_536,
             match_all: true,
             nodes: 2,
+            hash: HashKind::Md5,
         },
         ProfileRow {
             scan_limit: 512,
             match_all: true,
             nodes: 0,
+            hash: HashKind::Nothing,
         },
     ],
     nodes: &[

@@ -1,7 +1,7 @@
 //! One profile with a folder, a file that is finished and one that is abandoned: after each command, what
 //! every reading call answers.
 
-use droid_frame::Method;
+use droid_frame::{HashKind, HashValue, Method};
 use droid_store::{Counts, NodeState, ProfileRow, Store};
 use droid_store_steps::{
     ABANDONED, Change, EMPTY, FINISHED, Found, MADE, NODE, NOTHING, Place, Shown, Step, StepFault,
@@ -41,10 +41,10 @@ const OTHER: Place<'static> = Place {
 const FOUND: Found<'static> = Found {
     method: Method::Signature,
     mismatch: true,
-    md5: [
+    hash: HashValue::Md5([
         0xf9, 0x6b, 0x69, 0x7d, 0x7c, 0xb7, 0x93, 0x8d, 0x52, 0x5a, 0x2f, 0x31, 0xaa, 0xf1, 0x61,
         0xd0,
-    ],
+    ]),
     puids: &["dev/1", "dev/3"],
 };
 
@@ -56,6 +56,7 @@ pub const STEPS: [Step<'static>; 7] = [
             profile: 1,
             scan_limit: 65_536,
             match_all: false,
+            hash: HashKind::Md5,
         },
     ),
     ((1, 2, 0x22, NODE, &[0, 0, 0, 1]), Change::Folder(FOLDER)),
@@ -137,6 +138,7 @@ pub const VIEWS: [View<'static>; 7] = [
             scan_limit: 65_536,
             match_all: false,
             nodes: 0,
+            hash: HashKind::Md5,
         }],
         nodes: &[],
     },
@@ -150,6 +152,7 @@ pub const VIEWS: [View<'static>; 7] = [
             scan_limit: 65_536,
             match_all: false,
             nodes: 1,
+            hash: HashKind::Md5,
         }],
         nodes: &[FOLDER_SHOWN],
     },
@@ -163,6 +166,7 @@ pub const VIEWS: [View<'static>; 7] = [
             scan_limit: 65_536,
             match_all: false,
             nodes: 2,
+            hash: HashKind::Md5,
         }],
         nodes: &[FOLDER_SHOWN, MESSAGE_OPEN],
     },
@@ -176,6 +180,7 @@ pub const VIEWS: [View<'static>; 7] = [
             scan_limit: 65_536,
             match_all: false,
             nodes: 2,
+            hash: HashKind::Md5,
         }],
         nodes: &[FOLDER_SHOWN, MESSAGE_OPEN],
     },
@@ -189,6 +194,7 @@ pub const VIEWS: [View<'static>; 7] = [
             scan_limit: 65_536,
             match_all: false,
             nodes: 2,
+            hash: HashKind::Md5,
         }],
         nodes: &[FOLDER_SHOWN, MESSAGE_FINISHED],
     },
@@ -202,6 +208,7 @@ pub const VIEWS: [View<'static>; 7] = [
             scan_limit: 65_536,
             match_all: false,
             nodes: 3,
+            hash: HashKind::Md5,
         }],
         nodes: &[FOLDER_SHOWN, MESSAGE_FINISHED, OTHER_OPEN],
     },
@@ -215,6 +222,7 @@ pub const VIEWS: [View<'static>; 7] = [
             scan_limit: 65_536,
             match_all: false,
             nodes: 3,
+            hash: HashKind::Md5,
         }],
         nodes: &[FOLDER_SHOWN, MESSAGE_FINISHED],
     },

@@ -49,7 +49,7 @@ abbrev pub belongs : ℕ → Reply → Bool
 belongs kind (Made profile) = kind == 1
 belongs kind (Node id) = (kind == 2) || (kind == 3)
 belongs kind (Taken held) = kind == 4
-belongs kind (Finished method mismatch md5 puids) = kind == 5
+belongs kind (Finished method mismatch hash puids) = kind == 5
 belongs kind Abandoned = kind == 6
 belongs kind (Progress held missing) = kind == 7
 belongs kind (Part as_of total bytes) = kind == 8

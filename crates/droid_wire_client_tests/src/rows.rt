@@ -1,6 +1,6 @@
 //! One request and the replies that arrive for it, step by step. The bodies are those of the format.
 
-use droid_frame::{Blob, Frame, Refusal, Reply, Request};
+use droid_frame::{Blob, Frame, HashKind, Refusal, Reply, Request};
 use droid_wire_client::{Client, HearFault, Heard, SubmitFault};
 use std::alloc::{AllocError, Global};
 use std::test::Fail;
@@ -29,6 +29,7 @@ fn create() -> Request {
     Request::CreateProfile {
         scan_limit: 65_536,
         match_all: false,
+        hash: HashKind::Md5,
     }
 }
 

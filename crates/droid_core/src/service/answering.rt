@@ -184,7 +184,8 @@ fn apply(
         Request::CreateProfile {
             scan_limit,
             match_all,
-        } => create_profile(parts, stamp, scan_limit, match_all),
+            hash,
+        } => create_profile(parts, stamp, scan_limit, match_all, hash),
         Request::AddFolder {
             profile,
             parent,

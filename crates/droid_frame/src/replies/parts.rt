@@ -21,12 +21,12 @@ pub(crate) fn front_of(reply: &Reply) -> SmallBytes
         Reply::Finished {
             method,
             mismatch,
-            md5,
+            hash,
             puids,
         } => {
             front.add(&[method.number()]);
             front.add(&[u8::from(*mismatch)]);
-            front.add(md5);
+            front.add(hash.as_slice());
             front.add(&(puids.len() as u16).to_be_bytes());
         }
         Reply::Abandoned => {}

@@ -4,7 +4,7 @@ mod filters;
 
 ghost use Rattle.std.specs.Prelude.{◌≡◌, ◌++◌, IfOk, OnOk};
 ghost use Rattle.std.specs.Str.{IsUtf8};
-ghost use Rattle.droid_frame_values.specs.Bodies.{Fits, HasSpelling, ListsFit, SpellsRequest, request_kind, request_body};
+ghost use Rattle.droid_frame_values.specs.Bodies.{Fits, HasSpelling, HashFits, ListsFit, SpellsRequest, request_kind, request_body};
 ghost use Rattle.droid_frame_values.specs.Fields.{IsBytes, u32_bytes, u64_bytes, i64_bytes, truth_bytes, IsU32, IsU64, IsI64};
 ghost use Rattle.droid_frame_values.specs.Filters.{FilterFits, IsFilter, filter_bytes};
 ghost use Rattle.droid_frame_values.specs.Frames.{frame_bytes, spelling};
@@ -48,7 +48,8 @@ fn body_of(alloc: Global, request: &Request) -> Result<Blob, AllocError>
 
 /// Adds the request's fields at the end, one after the other.
 fn append_body(out: &mut Vec<u8>, request: &Request) -> Result<(), AllocError>
-    requires { ListsFit request.now }
+    requires lists { ListsFit request.now }
+    requires hash { HashFits request.now }
     ensures added { OnOk result (out.new.items ≡ out.old.items ++ request_body request.now) }
     ensures spelled { OnOk result (HasSpelling request.now) }
 {
@@ -56,6 +57,7 @@ fn append_body(out: &mut Vec<u8>, request: &Request) -> Result<(), AllocError>
         Request::CreateProfile {
             scan_limit,
             match_all,
+            ..
         } => append_options(out, *scan_limit, *match_all),
         Request::AddFolder {
             profile,

@@ -1,6 +1,7 @@
 -- For proofs, and for the clause `exact` of `reply_of`: the reply of a body, read from its front by a function.
 use Rattle.std.specs.Prelude.{ℕ, ◌==◌, nat_lt, if◌then◌else◌, List, length, take, drop, Option, Some, None}
 use Rattle.std.specs.Int.{w16, w32, w64}
+use Rattle.droid_frame_values.specs.declared.hash_value.HashValue.TheVariants as values
 use Rattle.droid_frame_values.specs.declared.reply.Reply.{Reply}
 use Rattle.droid_frame_values.specs.declared.reply.Reply.TheVariants.{Made, Node, Taken, Finished, Abandoned, Progress, Part, Refused}
 use Rattle.droid_frame_values.specs.Limits.{puids_limit, puid_limit, part_limit}
@@ -67,7 +68,7 @@ unfoldable pub finished_value : List ℕ → Option Reply
 finished_value body = do
   head ← finished_head_at body
   puids ← texts_at head.0.count 1 puid_limit head.1
-  whole puids.1 (Finished head.0.method head.0.mismatch head.0.md5 puids.0)
+  whole puids.1 (Finished head.0.method head.0.mismatch (values.Md5 head.0.md5) puids.0)
 
 -- the reply that the kind and the body spell, where they spell one that has no list
 unfoldable pub plain_value : ℕ → List ℕ → Option Reply

@@ -2,6 +2,7 @@
 use Rattle.std.specs.Prelude.{ℕ, ◌^◌, nat_lt, ◌==◌, if◌then◌else◌, List, Option, Some, None}
 use Rattle.std.specs.Int.{w32, w64}
 use Rattle.droid_frame_values.specs.declared.frame.Frame.{Frame}
+use Rattle.droid_frame_values.specs.declared.hash_kind.HashKind.TheVariants as kinds
 use Rattle.droid_frame_values.specs.declared.request.Request.{Request}
 use Rattle.droid_frame_values.specs.declared.request.Request.TheVariants.{CreateProfile, AddFolder, AddFile, Piece, Finish, Abandon, Status, Export}
 use Rattle.droid_frame_bodies.specs.filters.Values.{filter_value}
@@ -12,7 +13,7 @@ unfoldable pub create_profile_value : List ℕ → Option Request
 create_profile_value body = do
   scan_limit ← number_at w32 body
   match_all ← truth_at scan_limit.1
-  whole match_all.1 (CreateProfile scan_limit.0 match_all.0)
+  whole match_all.1 (CreateProfile scan_limit.0 match_all.0 kinds.Md5)
 
 unfoldable pub add_folder_value : List ℕ → Option Request
 add_folder_value body = do

@@ -8,7 +8,7 @@ ghost use Rattle.droid_frame_bodies.specs.replies.Values.{count_at, finished_hea
 use crate::body_fault::BodyFault;
 use crate::fields::text_lists::{after_texts, texts_at};
 use crate::fields::{bool_at, method_at, u16_at};
-use droid_frame_values::{Method, PUID_LIMIT, PUIDS_LIMIT, Reply};
+use droid_frame_values::{HashValue, Method, PUID_LIMIT, PUIDS_LIMIT, Reply};
 use std::alloc::Global;
 
 /// What stands before the identifiers of the formats.
@@ -30,12 +30,12 @@ pub(crate) fn finished(alloc: Global, body: &[u8]) -> Result<Reply, BodyFault>
     if !are_puids(head.count, rest) {
         return Err(BodyFault::Malformed);
     }
-    let md5 = head.md5;
+    let hash = HashValue::Md5(head.md5);
     match texts_at(alloc, usize::from(head.count), 1, PUID_LIMIT as u8, rest) {
         Ok((puids, _)) => Ok(Reply::Finished {
             method: head.method,
             mismatch: head.mismatch,
-            md5,
+            hash,
             puids,
         }),
         Err(fault) => Err(fault),

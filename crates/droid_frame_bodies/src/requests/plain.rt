@@ -6,7 +6,7 @@ ghost use Rattle.droid_frame_bodies.specs.requests.Values.{create_profile_value,
 
 use super::node_head::node_head_at;
 use crate::fields::{bool_at, bytes_after, text_of, u32_at, u64_at};
-use droid_frame_values::{Blob, Request, Text};
+use droid_frame_values::{Blob, HashKind, Request, Text};
 
 /// The request of a kind whose bodies hold no list: a name and a piece's bytes are the body's own
 /// buffer. It takes no memory.
@@ -48,6 +48,7 @@ fn create_profile(body: &[u8]) -> Option<Request>
     Some(Request::CreateProfile {
         scan_limit,
         match_all,
+        hash: HashKind::Md5,
     })
 }
 

@@ -2,7 +2,7 @@
 
 ghost use Rattle.std.specs.Prelude.{◌≡◌, ◌+◌, ◌<◌, ◌^◌, None, Some, length, OnOk, OnErr, IfErr};
 ghost use Rattle.std.specs.List.{AllByRecursion};
-ghost use Rattle.droid_store.specs.Changes.{IsNext, IsOpen, IsWord, new_folder, new_file, finished, with_finished, with_node, with_profile, with_reply, without_node};
+ghost use Rattle.droid_store.specs.Changes.{IsNext, IsOfKind, IsOpen, IsWord, new_folder, new_file, finished, with_finished, with_node, with_profile, with_reply, without_node};
 ghost use Rattle.droid_store.specs.Rows.{Node, child_at, node_at, reply_for};
 ghost use Rattle.droid_store.specs.Sizes.{entry_size, node_size, FitsARow};
 ghost use Rattle.droid_store.specs.declared.fault.StoreFault.TheVariants.{Memory};
@@ -11,10 +11,11 @@ use crate::changes::{Findings, NewNode};
 use crate::commits::{write_abandon, write_finish, write_node, write_profile, write_reply};
 use crate::counting::{one_less_unfinished, one_more_profile, one_more_reply, one_more_unfinished};
 use crate::fault::StoreFault;
+use crate::hashes::has_its_length;
 use crate::rows::{Entry, NodeState};
 use crate::store::Store;
 use crate::words::join;
-use droid_frame::{Method, Texts};
+use droid_frame::{HashKind, HashValue, Method, Texts};
 
 impl Store {
     /// Makes the profile with the next number.
@@ -24,17 +25,18 @@ impl Store {
         profile: u32,
         scan_limit: u32,
         match_all: bool,
+        hash: HashKind,
     ) -> Result<(), StoreFault>
         requires new { reply_for entry.now.client entry.now.number self.old ≡ None }
         requires small { entry.now.number < 2 ^ 63 }
         requires next { profile ≡ length self.old.profiles + 1 }
-        ensures ok { OnOk result (self.new ≡ with_reply entry.now (with_profile scan_limit match_all self.old)) }
+        ensures ok { OnOk result (self.new ≡ with_reply entry.now (with_profile scan_limit match_all hash self.old)) }
         ensures err { OnErr result (self.new ≡ self.old) }
         ensures memory { FitsARow (entry_size entry.now) → IfErr result (λ fault. fault ≡ Memory) }
     {
         let changed = one_more_profile(self.counts)?;
         let counts = one_more_reply(changed)?;
-        write_profile(&mut self.conn, entry, profile, scan_limit, match_all)?;
+        write_profile(&mut self.conn, entry, profile, scan_limit, match_all, hash)?;
         self.counts = counts;
         Ok(())
     }
@@ -128,8 +130,8 @@ impl Store {
         Ok(())
     }
 
-    /// Finishes an unfinished file with what was found of its bytes. Each identifier has a byte, and
-    /// none of its bytes is a space.
+    /// Finishes an unfinished file with what was found of its bytes, and with the hash that its profile's
+    /// files get. Each identifier has a byte, and none of its bytes is a space.
     pub fn commit_finish(
         &mut self,
         entry: &Entry,
@@ -137,24 +139,26 @@ impl Store {
         file: u32,
         method: Method,
         mismatch: bool,
-        md5: [u8; 16],
+        hash: HashValue,
         puids: &Texts,
     ) -> Result<(), StoreFault>
         requires new { reply_for entry.now.client entry.now.number self.old ≡ None }
         requires small { entry.now.number < 2 ^ 63 }
         requires file { IsOpen profile file self.old }
+        requires kind { IsOfKind profile hash self.old }
         requires puids { AllByRecursion IsWord puids.now }
-        ensures ok { OnOk result (self.new ≡ with_reply entry.now (with_finished profile file method mismatch md5 puids.now self.old)) }
+        ensures ok { OnOk result (self.new ≡ with_reply entry.now (with_finished profile file method mismatch hash puids.now self.old)) }
         ensures err { OnErr result (self.new ≡ self.old) }
-        ensures memory { FitsARow (entry_size entry.now) → ((n : Node) → node_at profile file self.old ≡ Some n → FitsARow (node_size (finished method mismatch md5 puids.now n))) → IfErr result (λ fault. fault ≡ Memory) }
+        ensures memory { FitsARow (entry_size entry.now) → ((n : Node) → node_at profile file self.old ≡ Some n → FitsARow (node_size (finished method mismatch hash puids.now n))) → IfErr result (λ fault. fault ≡ Memory) }
     {
         let changed = one_less_unfinished(self.counts);
         let counts = one_more_reply(changed)?;
         let formats = join(self.alloc, puids)?;
+        has_its_length(hash);
         let findings = Findings {
             method,
             mismatch,
-            md5: md5.as_slice(),
+            hash,
             formats: formats.as_str(),
         };
         write_finish(&mut self.conn, entry, profile, file, &findings)?;

@@ -1,6 +1,6 @@
 //! Requests and the replies that are due, written out so that tests can be tables.
 
-use droid_frame::{Blob, Criteria, Filter, Frame, Request, Text, VERSION, request_frame};
+use droid_frame::{Blob, Criteria, Filter, Frame, HashKind, Request, Text, VERSION, request_frame};
 use std::alloc::{AllocError, Global};
 
 /// The kinds of replies that a table names.
@@ -85,6 +85,7 @@ fn request_of(alloc: Global, ask: Ask<'_>) -> Option<Request> {
         Ask::Create(scan_limit, match_all) => Request::CreateProfile {
             scan_limit,
             match_all,
+            hash: HashKind::Md5,
         },
         Ask::Folder(profile, parent, modified, name) => Request::AddFolder {
             profile,

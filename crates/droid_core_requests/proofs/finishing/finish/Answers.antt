@@ -1,8 +1,10 @@
-use Rattle.std.proofs.Common.{refl, sym, ◌∙◌}
+use Rattle.std.proofs.Common.{Some, refl, sym, ap, ◌∙◌}
 use Rattle.std.proofs.lemmas.Result.{err_from_is_err_and}
+use Rattle.droid_core_spec.specs.Conditions.{is_told}
 use Rattle.droid_core_spec.specs.Judging.{judge_finish}
 use Rattle.droid_core_requests.specs.Findings.{finding_in}
-use Rattle.droid_core_requests.proofs.FileFinished.{finish_there, finish_for_file, only_looked, refused_finished, comes_unfinished, finds, digest_is, seen_is, allowed_there, finished}
+use Rattle.droid_core_requests.proofs.FileFinished.{finish_there, finish_for_file, only_looked, refused_finished, refused_untold, told_there, kind_is, comes_unfinished, finds, digest_is, seen_is, allowed_there, finished}
+use Rattle.droid_core_requests.proofs.Hashes.{spelled_hash}
 use Rattle.droid_core_requests.proofs.FileVerdicts.{comes_nowhere}
 use Rattle.droid_core_requests.proofs.PieceTaken.{comes_wanting}
 use Rattle.droid_core_state.proofs.Staying.{read_only}
@@ -25,8 +27,9 @@ pub returns-in_err-finding-clause-comes : goal.returns-in_err-finding-clause-com
 returns-in_err-finding-clause-comes c = λ setting world is_in.
     let fault = err_from_is_err_and c.from_residual-in_err-finding.result c.from_residual-in_err-finding.ensures.1 in
     let has = c.in_ok-row.ensures.found setting world is_in.rows in
+    let there = told_there setting world c.args.number c.args.file c.in_ok-row.row has (sym c.if-not-is_told.ensures) in
     rw (fault.1, fault.2)
-    (comes_unfinished setting world c.args.number c.args.file c.in_ok-row.row has c.args.parts.now c.in_ok-place.place is_in (sym c.if-not-is_unfinished.ensures) c.in_ok-place.ensures.place c.args.stamp _ _
+    (comes_unfinished setting world c.args.number c.args.file c.in_ok-row.row has c.args.parts.now c.in_ok-place.place is_in (sym c.if-not-is_unfinished.ensures) c.in_ok-place.ensures.place there c.args.stamp _ _
     (only_looked setting world c.args.parts.now c.in_ok-place.place c.file_of.new.store c.identify_file.new.files c.file_of.ensures.same c.identify_file.ensures.others c.identify_file.ensures.unchanged is_in)
     c.in_err-finding.ensures.refused)
 
@@ -43,12 +46,13 @@ returns-clause-comes c = λ setting world is_in.
     let has = c.in_ok-row.ensures.found setting world is_in.rows in
     let is = sym c.if-not-is_unfinished.ensures in
     let at_place = c.in_ok-place.ensures.place in
-    let found = finds setting world c.args.number c.args.file c.in_ok-row.row has c.args.parts.now c.in_ok-place.place is_in is at_place _ c.in_ok-finding.ensures.found in
-    let digest = digest_is setting world c.args.number c.args.file c.in_ok-row.row has c.args.parts.now c.in_ok-place.place is_in is at_place _ c.in_ok-finding.ensures.digest in
-    let allowed = allowed_there setting world c.args.number c.args.file c.in_ok-row.row has c.args.parts.now c.in_ok-place.place is_in is at_place c.in_ok-finding.ensures.allowed in
-    let seen = seen_is setting world c.args.number c.args.file c.in_ok-row.row has c.args.parts.now c.in_ok-place.place is_in is at_place _ _ found digest in
+    let there = told_there setting world c.args.number c.args.file c.in_ok-row.row has (sym c.if-not-is_told.ensures) in
+    let found = finds setting world c.args.number c.args.file c.in_ok-row.row has c.args.parts.now c.in_ok-place.place is_in is at_place there _ c.in_ok-finding.ensures.found in
+    let digest = digest_is setting world c.args.number c.args.file c.in_ok-row.row has c.args.parts.now c.in_ok-place.place is_in is at_place there _ c.in_ok-finding.ensures.digest in
+    let allowed = allowed_there setting world c.args.number c.args.file c.in_ok-row.row has c.args.parts.now c.in_ok-place.place is_in is at_place there c.in_ok-finding.ensures.allowed in
+    let seen = seen_is setting world c.args.number c.args.file c.in_ok-row.row has c.args.parts.now c.in_ok-place.place is_in is at_place there _ _ found digest in
     let stored = c.in_ok-reply.ensures.kept ∙ (rw c.file_of.ensures.same refl) in
-    finished setting world c.args.number c.args.file c.in_ok-row.row has c.args.parts.now c.in_ok-place.place is_in is at_place
+    finished setting world c.args.number c.args.file c.in_ok-row.row has c.args.parts.now c.in_ok-place.place is_in is at_place there
     c.args.stamp c.in_ok-reply.reply c.keep_finding.new.store c.identify_file.new.files c.keep_finding.new.files (finding_in c.in_ok-finding.finding)
     allowed seen c.in_ok-reply.ensures.reply stored c.identify_file.ensures.others c.identify_file.ensures.unchanged
     c.in_ok-reply.ensures.gone c.in_ok-reply.ensures.others c.in_ok-reply.ensures.count c.keep_finding.ensures.limit
@@ -62,3 +66,22 @@ pub returns-in_err-none_is_pending-clause-comes : goal.returns-in_err-none_is_pe
 returns-in_err-none_is_pending-clause-comes c = λ setting world is_in.
     let has = c.in_ok-row.ensures.found setting world is_in.rows in
     absurd (one_pending setting world c.args.number c.args.file c.in_ok-row.row has c.args.parts.now is_in (sym c.if-not-is_unfinished.ensures) c.in_ok-place.place c.in_ok-place.ensures.place c.in_err-none_is_pending.ensures.pending)
+
+pub returns-then-not-is_told-clause-comes : goal.returns-then-not-is_told-clause-comes
+returns-then-not-is_told-clause-comes c = λ setting world is_in.
+    let has = c.in_ok-row.ensures.found setting world is_in.rows in
+    let refused = refused_untold setting world c.args.number c.args.file c.in_ok-row.row has (sym c.if-not-is_unfinished.ensures) (sym c.if-not-is_told.ensures) in
+    rw refused (refl, read_only setting world c.args.parts.now c.file_of.new.store c.file_of.ensures.same is_in)
+
+pub returns-in_err-is_of_kind-clause-comes : goal.returns-in_err-is_of_kind-clause-comes
+returns-in_err-is_of_kind-clause-comes c = λ setting world is_in.
+    let has = c.in_ok-row.ensures.found setting world is_in.rows in
+    let there = told_there setting world c.args.number c.args.file c.in_ok-row.row has (sym c.if-not-is_told.ensures) in
+    let kind = kind_is setting world c.args.number c.args.file c.in_ok-row.row has c.args.parts.now c.in_ok-place.place is_in (sym c.if-not-is_unfinished.ensures) c.in_ok-place.ensures.place there _ c.in_ok-finding.ensures.digest in
+    absurd (let told = c.in_err-is_of_kind.ensures.its kind in cc)
+
+pub keep_finding-requires-clause-kind : goal.keep_finding-requires-clause-kind
+keep_finding-requires-clause-kind c = rw c.file_of.ensures.same (c.in_ok-row.ensures.hash ∙ ap Some (sym c.in_ok-is_of_kind.ensures.kind))
+
+pub keep_finding-requires-clause-hash : goal.keep_finding-requires-clause-hash
+keep_finding-requires-clause-hash c = spelled_hash _ c.in_ok-finding.ensures.sized (ap is_told c.in_ok-is_of_kind.ensures.kind ∙ sym c.if-not-is_told.ensures)

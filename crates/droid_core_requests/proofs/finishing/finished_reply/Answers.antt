@@ -6,7 +6,7 @@ use Rattle.droid_core_requests.proofs.finishing.finished_reply.Goals as goal
 
 pub returns-clause-spelled : goal.returns-clause-spelled
 returns-clause-spelled c = (
-  rw c.md5_of.ensures c.requires.digest,
+  c.requires.hash,
   subst (λ (all : List (List ℕ)). length all ≤ 4096) (sym c.in_ok-puids.ensures) c.requires.few,
   subst (λ (all : List (List ℕ)). AllByRecursion IsPuidText all) (sym c.in_ok-puids.ensures) (are_texts c.args.finding.now.found.puids c.requires.puids),
 )

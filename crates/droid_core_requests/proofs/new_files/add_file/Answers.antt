@@ -52,7 +52,7 @@ returns-clause-comes c = λ setting world is.
     let short = rw c.as_str.ensures.value at c.in_ok-path.ensures.short in
     let allowed = sym (c.in_default.ensures.first setting.limits world has.profile.nodes c.args.parent c.args.name limit (c.node_room-nodes.ensures.count ∙ counted) most (c.unfinished_room-unfinished.ensures.count ∙ is.files.count) place) in
     let made = rw (c.in_ok-entry.ensures.row, c.as_str-2.ensures.value, c.as_str-3.ensures.value, to_z-of_z w64 c.args.modified c.ranges.modified, store) at c.in_ok-commit_file.ensures.ok in
-    let fresh = rw (ap (λ (row : ProfileRow). row.scan_limit) has.row_is) at c.in_ok-assembly.ensures.new in
+    let fresh = rw (ap (λ (row : ProfileRow). row.scan_limit) has.row_is, ap (λ (row : ProfileRow). row.hash) has.row_is) at c.in_ok-assembly.ensures.new in
     comes_file setting world c.args.number c.args.parent c.args.modified c.args.size c.args.piece_size c.args.name has.profile has.there _ _ c.args.stamp (c.in_ok-row.row.nodes + 1) c.in_ok-path.path _ is
     (rw (to_z-of_z w64 c.args.modified c.ranges.modified) at allowed) (ap (λ n. n + 1) counted) way short fresh refl refl made c.add.ensures.files c.add.ensures.limit
 

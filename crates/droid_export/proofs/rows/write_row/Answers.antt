@@ -42,7 +42,7 @@ returns c =
       c.as_bytes-11.ensures.value,
       c.mismatch_text.ensures,
       c.as_bytes-12.ensures.value,
-      c.requires.md5_hash,
+      c.requires.hash,
       c.as_bytes-13.ensures.value,
       c.requires.format_count,
       c.as_bytes-14.ensures.value,

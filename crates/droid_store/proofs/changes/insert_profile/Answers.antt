@@ -14,8 +14,8 @@ pub returns-clause-ok : goal.returns-clause-ok
 returns-clause-ok c rows next =
     let old = state over_trees c.args.tx.now.conn.now in
     let new = state over_trees c.execute.new.self.conn.now in
-    stepped ADD_PROFILE.now _ old new c.execute.result rows (with_profile c.args.scan_limit c.args.match_all rows) (rw (c.params-to_sql.ensures, c.params-to_sql-2.ensures, c.params-to_sql-3.ensures) at (c.execute.ensures.runs (trees_are_clean c.execute.new.self.conn.now)))
-    (adds_profile old new c.args.profile c.args.scan_limit c.args.match_all rows next)
+    stepped ADD_PROFILE.now _ old new c.execute.result rows (with_profile c.args.scan_limit c.args.match_all c.args.hash rows) (rw (c.params-to_sql.ensures, c.params-to_sql-2.ensures, c.params-to_sql-3.ensures, c.params-to_sql-4.ensures, c.kind_number.ensures) at (c.execute.ensures.runs (trees_are_clean c.execute.new.self.conn.now)))
+    (adds_profile old new c.args.profile c.args.scan_limit c.args.match_all c.args.hash rows next)
 
 pub returns-clause-err : goal.returns-clause-err
 returns-clause-err c rows =
@@ -30,6 +30,6 @@ pub returns-clause-want : goal.returns-clause-want
 returns-clause-want c rows next keys =
     let old = state over_trees c.args.tx.now.conn.now in
     let new = state over_trees c.execute.new.self.conn.now in
-    wants_by ADD_PROFILE.now (profile_params c.args.profile c.args.scan_limit c.args.match_all) old new c.execute.result rows
-    (rw (c.params-to_sql.ensures, c.params-to_sql-2.ensures, c.params-to_sql-3.ensures) at (c.execute.ensures.runs (trees_are_clean c.execute.new.self.conn.now)))
-    (λ err none has h. profile_wants old new c.args.profile c.args.scan_limit c.args.match_all rows err (in_memory c.args.tx.now.conn.now c.execute.new.self.conn.now none) next has keys h)
+    wants_by ADD_PROFILE.now (profile_params c.args.profile c.args.scan_limit c.args.match_all c.args.hash) old new c.execute.result rows
+    (rw (c.params-to_sql.ensures, c.params-to_sql-2.ensures, c.params-to_sql-3.ensures, c.params-to_sql-4.ensures, c.kind_number.ensures) at (c.execute.ensures.runs (trees_are_clean c.execute.new.self.conn.now)))
+    (λ err none has h. profile_wants old new c.args.profile c.args.scan_limit c.args.match_all c.args.hash rows err (in_memory c.args.tx.now.conn.now c.execute.new.self.conn.now none) next has keys h)

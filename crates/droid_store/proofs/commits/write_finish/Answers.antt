@@ -27,7 +27,7 @@ returns-in_err-insert_reply-clause-err c puids words is =
     let rows = kept c.args.conn.now in
     let begun = started c.args.conn.now c.transaction-tx.result.conn.now rows c.transaction-tx.ensures.begun c.requires.holds in
     let first = c.in_ok-finish_node.ensures.ok rows c.requires.apart puids words is rows begun in
-    let changed = with_finished c.args.profile c.args.file c.args.findings.now.method c.args.findings.now.mismatch c.args.findings.now.md5.now puids rows in
+    let changed = with_finished c.args.profile c.args.file c.args.findings.now.method c.args.findings.now.mismatch c.args.findings.now.hash puids rows in
     let mid = state over_trees c.insert_reply.new.tx.conn.now in
     let end = c.drop-tx-in_err-insert_reply.new.self.0 in
     let same : end ≡ c.conn-in_err-insert_reply-1.given.0 = search rules in
@@ -39,7 +39,7 @@ returns-clause-ok c puids words is =
     let rows = kept c.args.conn.now in
     let begun = started c.args.conn.now c.transaction-tx.result.conn.now rows c.transaction-tx.ensures.begun c.requires.holds in
     let first = c.in_ok-finish_node.ensures.ok rows c.requires.apart puids words is rows begun in
-    let changed = with_finished c.args.profile c.args.file c.args.findings.now.method c.args.findings.now.mismatch c.args.findings.now.md5.now puids rows in
+    let changed = with_finished c.args.profile c.args.file c.args.findings.now.method c.args.findings.now.mismatch c.args.findings.now.hash puids rows in
     let last = state over_trees c.insert_reply.new.tx.conn.now in
     let after = with_reply c.args.entry.now changed in
     let end = c.commit.new.self.0 in
@@ -52,7 +52,7 @@ returns-clause-err c puids words is =
     let rows = kept c.args.conn.now in
     let begun = started c.args.conn.now c.transaction-tx.result.conn.now rows c.transaction-tx.ensures.begun c.requires.holds in
     let first = c.in_ok-finish_node.ensures.ok rows c.requires.apart puids words is rows begun in
-    let changed = with_finished c.args.profile c.args.file c.args.findings.now.method c.args.findings.now.mismatch c.args.findings.now.md5.now puids rows in
+    let changed = with_finished c.args.profile c.args.file c.args.findings.now.method c.args.findings.now.mismatch c.args.findings.now.hash puids rows in
     let last = state over_trees c.insert_reply.new.tx.conn.now in
     let after = with_reply c.args.entry.now changed in
     let end = c.commit.new.self.0 in
@@ -85,7 +85,7 @@ returns-in_err-insert_reply-clause-want c puids words is keys later small size n
     let begun = started c.args.conn.now c.transaction-tx.result.conn.now rows c.transaction-tx.ensures.begun c.requires.holds in
     let limit = ap (λ (h : Held TreeStore). h.step_limit) c.transaction-tx.ensures.begun ∙ none in
     let first = c.in_ok-finish_node.ensures.ok rows c.requires.apart puids words is rows begun in
-    let changed = with_finished c.args.profile c.args.file c.args.findings.now.method c.args.findings.now.mismatch c.args.findings.now.md5.now puids rows in
+    let changed = with_finished c.args.profile c.args.file c.args.findings.now.method c.args.findings.now.mismatch c.args.findings.now.hash puids rows in
     handed_on c.from_residual-in_err-insert_reply.result _ c.from_residual-in_err-insert_reply.ensures.1 (c.in_err-insert_reply.ensures.want changed later small rows first (c.in_ok-finish_node.ensures.limit ∙ limit))
 
 pub returns-clause-limit : goal.returns-clause-limit
@@ -100,7 +100,7 @@ returns-clause-want c puids words is keys later small size none =
     let begun = started c.args.conn.now c.transaction-tx.result.conn.now rows c.transaction-tx.ensures.begun c.requires.holds in
     let limit = ap (λ (h : Held TreeStore). h.step_limit) c.transaction-tx.ensures.begun ∙ none in
     let first = c.in_ok-finish_node.ensures.ok rows c.requires.apart puids words is rows begun in
-    let changed = with_finished c.args.profile c.args.file c.args.findings.now.method c.args.findings.now.mismatch c.args.findings.now.md5.now puids rows in
+    let changed = with_finished c.args.profile c.args.file c.args.findings.now.method c.args.findings.now.mismatch c.args.findings.now.hash puids rows in
     let last = state over_trees c.insert_reply.new.tx.conn.now in
     let end = c.commit.new.self.0 in
     let stays = c.in_ok-insert_reply.ensures.ok changed rows first in

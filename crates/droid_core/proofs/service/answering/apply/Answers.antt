@@ -6,7 +6,7 @@ use Rattle.droid_core.proofs.service.answering.apply.Goals as goal
 
 pub returns-in-CreateProfile-clause-comes : goal.returns-in-CreateProfile-clause-comes
 returns-in-CreateProfile-clause-comes c = λ setting world is_in last.
-    rw (c.in-CreateProfile.is, is_create setting world c.in-CreateProfile.scan_limit c.in-CreateProfile.match_all) (c.create_profile.ensures.comes setting world is_in)
+    rw (c.in-CreateProfile.is, is_create setting world c.in-CreateProfile.scan_limit c.in-CreateProfile.match_all c.in-CreateProfile.hash) (c.create_profile.ensures.comes setting world is_in)
 
 pub returns-in-AddFolder-clause-comes : goal.returns-in-AddFolder-clause-comes
 returns-in-AddFolder-clause-comes c = λ setting world is_in last.

@@ -9,7 +9,7 @@ use Rattle.droid_store.proofs.Closed.{kept_is, closed}
 use Rattle.droid_store.proofs.CountsAfter.{counts_with_reply, counts_with_finished, open_is_counted}
 use Rattle.std.proofs.Common.{◌-◌}
 use Rattle.std.proofs.lemmas.Str.{IsUtf8-string_bytes}
-use Rattle.droid_store.proofs.ReadableAfter.{readable_with_reply, readable_with_finished}
+use Rattle.droid_store.proofs.ReadableAfter.{is_length, readable_with_reply, readable_with_finished}
 use Rattle.droid_store.proofs.ToldFaults.{told_memory}
 use Rattle.droid_store.proofs.Unique.{keys_of}
 use Rattle.droid_store.proofs.store.Store.commit_finish.Goals as goal
@@ -29,21 +29,21 @@ returns-in_err-write_finish-clause-err c = on_err c.from_residual-in_err-write_f
 pub invariant_of-self-2 : goal.invariant_of-self-2
 invariant_of-self-2 c =
     let rows = kept c.self.inside.conn in
-    let changed = with_finished c.args.profile c.args.file c.args.method c.args.mismatch c.args.md5 c.args.puids.now rows in
+    let changed = with_finished c.args.profile c.args.file c.args.method c.args.mismatch c.args.hash c.args.puids.now rows in
     let after = with_reply c.args.entry.now changed in
-    closed c.write_finish.new.conn after _ (rw c.as_slice.ensures at (c.in_ok-write_finish.ensures.ok c.args.puids.now c.requires.puids (search rules))) (apart_with_reply c.args.entry.now changed (rw (sym c.self.view_is) at c.requires.new) (apart_with_finished c.args.profile c.args.file c.args.method c.args.mismatch c.args.md5 c.args.puids.now rows c.self.invariant.1))
-    (c.in_ok-counts.ensures.more ∙ ap (λ (k : Counts). record k { accepted = k.accepted + 1 }) (c.one_less_unfinished-changed.ensures ∙ ap (λ (k : Counts). record k { unfinished = k.unfinished - 1 }) c.self.invariant.2 ∙ sym (counts_with_finished c.args.profile c.args.file rows c.self.invariant.1 (rw (sym c.self.view_is) at c.requires.file) c.args.method c.args.mismatch c.args.md5 c.args.puids.now)) ∙ sym (counts_with_reply c.args.entry.now changed)) (c.write_finish.ensures.limit ∙ c.self.invariant.3) (readable_with_reply c.args.entry.now changed c.in_ok-write_finish.ensures.fits (readable_with_finished c.args.profile c.args.file c.args.method c.args.mismatch c.args.md5 c.args.puids.now (search rules) (subst IsUtf8 c.in_ok-formats.ensures (IsUtf8-string_bytes c.in_ok-formats.formats)) rows c.self.invariant.4))
+    closed c.write_finish.new.conn after _ (c.in_ok-write_finish.ensures.ok c.args.puids.now c.requires.puids (search rules)) (apart_with_reply c.args.entry.now changed (rw (sym c.self.view_is) at c.requires.new) (apart_with_finished c.args.profile c.args.file c.args.method c.args.mismatch c.args.hash c.args.puids.now rows c.self.invariant.1))
+    (c.in_ok-counts.ensures.more ∙ ap (λ (k : Counts). record k { accepted = k.accepted + 1 }) (c.one_less_unfinished-changed.ensures ∙ ap (λ (k : Counts). record k { unfinished = k.unfinished - 1 }) c.self.invariant.2 ∙ sym (counts_with_finished c.args.profile c.args.file rows c.self.invariant.1 (rw (sym c.self.view_is) at c.requires.file) c.args.method c.args.mismatch c.args.hash c.args.puids.now)) ∙ sym (counts_with_reply c.args.entry.now changed)) (c.write_finish.ensures.limit ∙ c.self.invariant.3) (readable_with_reply c.args.entry.now changed c.in_ok-write_finish.ensures.fits (readable_with_finished c.args.profile c.args.file c.args.method c.args.mismatch c.args.hash c.args.puids.now (is_length c.args.hash c.has_its_length.ensures) (subst IsUtf8 c.in_ok-formats.ensures (IsUtf8-string_bytes c.in_ok-formats.formats)) rows c.self.invariant.4))
 
 pub returns-clause-ok : goal.returns-clause-ok
 returns-clause-ok c =
     let rows = kept c.self.inside.conn in
-    let changed = with_finished c.args.profile c.args.file c.args.method c.args.mismatch c.args.md5 c.args.puids.now rows in
+    let changed = with_finished c.args.profile c.args.file c.args.method c.args.mismatch c.args.hash c.args.puids.now rows in
     let after = with_reply c.args.entry.now changed in
-    let is = kept_is c.write_finish.new.conn after (rw c.as_slice.ensures at (c.in_ok-write_finish.ensures.ok c.args.puids.now c.requires.puids (search rules))) in
+    let is = kept_is c.write_finish.new.conn after (c.in_ok-write_finish.ensures.ok c.args.puids.now c.requires.puids (search rules)) in
     rw⁻¹ c.self.view_is is
 
 pub returns-in_err-write_finish-clause-memory : goal.returns-in_err-write_finish-clause-memory
 returns-in_err-write_finish-clause-memory c small size =
     let rows = kept c.self.inside.conn in
-    let changed = with_finished c.args.profile c.args.file c.args.method c.args.mismatch c.args.md5 c.args.puids.now rows in
-    told_memory c.from_residual-in_err-write_finish.result _ c.from_residual-in_err-write_finish.ensures.1 ((rw c.as_slice.ensures at (c.in_err-write_finish.ensures.want c.args.puids.now c.requires.puids (search rules))) (keys_of rows c.self.invariant.1) (keys_of (with_reply c.args.entry.now changed) (apart_with_reply c.args.entry.now changed (rw (sym c.self.view_is) at c.requires.new) (apart_with_finished c.args.profile c.args.file c.args.method c.args.mismatch c.args.md5 c.args.puids.now rows c.self.invariant.1))) small (λ n there. size n (subst (λ r. node_at c.args.profile c.args.file r ≡ Some n) c.self.view_is there)) c.self.invariant.3)
+    let changed = with_finished c.args.profile c.args.file c.args.method c.args.mismatch c.args.hash c.args.puids.now rows in
+    told_memory c.from_residual-in_err-write_finish.result _ c.from_residual-in_err-write_finish.ensures.1 (c.in_err-write_finish.ensures.want c.args.puids.now c.requires.puids (search rules) (keys_of rows c.self.invariant.1) (keys_of (with_reply c.args.entry.now changed) (apart_with_reply c.args.entry.now changed (rw (sym c.self.view_is) at c.requires.new) (apart_with_finished c.args.profile c.args.file c.args.method c.args.mismatch c.args.hash c.args.puids.now rows c.self.invariant.1))) small (λ n there. size n (subst (λ r. node_at c.args.profile c.args.file r ≡ Some n) c.self.view_is there)) c.self.invariant.3)

@@ -25,7 +25,7 @@ invariant_of-self-2 c =
     let rows = kept c.self.inside.conn in
     let changed = with_node (new_folder c.args.profile c.args.id c.args.parent c.args.modified c.args.name.now c.args.path.now) rows in
     let after = with_reply c.args.entry.now changed in
-    let node_fits : NodeFits (new_folder c.args.profile c.args.id c.args.parent c.args.modified c.args.name.now c.args.path.now) = record { id = c.ranges.id.fits; parent = c.ranges.parent.fits; piece_size = omega arith; name = c.utf8.name; path = c.utf8.path; formats = ([], (refl, refl)); md5 = refl } in
+    let node_fits : NodeFits (new_folder c.args.profile c.args.id c.args.parent c.args.modified c.args.name.now c.args.path.now) = record { id = c.ranges.id.fits; parent = c.ranges.parent.fits; piece_size = omega arith; name = c.utf8.name; path = c.utf8.path; formats = ([], (refl, refl)); hash = refl } in
     closed c.write_node.new.conn after _ (rw (to_z-of_z w64 c.args.modified c.ranges.modified) at (c.in_ok-write_node.ensures.ok)) (apart_with_reply c.args.entry.now changed (rw (sym c.self.view_is) at c.requires.new) (apart_with_node (new_folder c.args.profile c.args.id c.args.parent c.args.modified c.args.name.now c.args.path.now) rows (rw (sym c.self.view_is) at c.requires.next) (rw (sym c.self.view_is) at c.requires.free) c.self.invariant.1))
     (c.in_ok-counts.ensures.more ∙ ap (λ (k : Counts). record k { accepted = k.accepted + 1 }) (c.self.invariant.2 ∙ sym (counts_with_folder (new_folder c.args.profile c.args.id c.args.parent c.args.modified c.args.name.now c.args.path.now) rows refl)) ∙ sym (counts_with_reply c.args.entry.now changed)) (c.write_node.ensures.limit ∙ c.self.invariant.3) (readable_with_reply c.args.entry.now changed c.in_ok-write_node.ensures.fits (readable_with_node (new_folder c.args.profile c.args.id c.args.parent c.args.modified c.args.name.now c.args.path.now) rows node_fits c.self.invariant.4))
 

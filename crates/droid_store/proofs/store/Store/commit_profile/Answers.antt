@@ -20,15 +20,15 @@ returns-in_err-write_profile-clause-err c = on_err c.from_residual-in_err-write_
 pub invariant_of-self-2 : goal.invariant_of-self-2
 invariant_of-self-2 c =
     let rows = kept c.self.inside.conn in
-    let changed = with_profile c.args.scan_limit c.args.match_all rows in
+    let changed = with_profile c.args.scan_limit c.args.match_all c.args.hash rows in
     let after = with_reply c.args.entry.now changed in
-    closed c.write_profile.new.conn after _ (c.in_ok-write_profile.ensures.ok) (apart_with_reply c.args.entry.now changed (rw (sym c.self.view_is) at c.requires.new) (apart_with_profile c.args.scan_limit c.args.match_all rows c.self.invariant.1))
-    (c.in_ok-counts.ensures.more ∙ ap (λ (k : Counts). record k { accepted = k.accepted + 1 }) (c.in_ok-changed.ensures.more ∙ ap (λ (k : Counts). record k { profiles = k.profiles + 1 }) c.self.invariant.2 ∙ sym (counts_with_profile c.args.scan_limit c.args.match_all rows)) ∙ sym (counts_with_reply c.args.entry.now changed)) (c.write_profile.ensures.limit ∙ c.self.invariant.3) (readable_with_reply c.args.entry.now changed c.in_ok-write_profile.ensures.fits (readable_with_profile c.args.scan_limit c.args.match_all rows c.ranges.scan_limit.fits c.self.invariant.4))
+    closed c.write_profile.new.conn after _ (c.in_ok-write_profile.ensures.ok) (apart_with_reply c.args.entry.now changed (rw (sym c.self.view_is) at c.requires.new) (apart_with_profile c.args.scan_limit c.args.match_all c.args.hash rows c.self.invariant.1))
+    (c.in_ok-counts.ensures.more ∙ ap (λ (k : Counts). record k { accepted = k.accepted + 1 }) (c.in_ok-changed.ensures.more ∙ ap (λ (k : Counts). record k { profiles = k.profiles + 1 }) c.self.invariant.2 ∙ sym (counts_with_profile c.args.scan_limit c.args.match_all c.args.hash rows)) ∙ sym (counts_with_reply c.args.entry.now changed)) (c.write_profile.ensures.limit ∙ c.self.invariant.3) (readable_with_reply c.args.entry.now changed c.in_ok-write_profile.ensures.fits (readable_with_profile c.args.scan_limit c.args.match_all c.args.hash rows c.ranges.scan_limit.fits c.self.invariant.4))
 
 pub returns-clause-ok : goal.returns-clause-ok
 returns-clause-ok c =
     let rows = kept c.self.inside.conn in
-    let changed = with_profile c.args.scan_limit c.args.match_all rows in
+    let changed = with_profile c.args.scan_limit c.args.match_all c.args.hash rows in
     let after = with_reply c.args.entry.now changed in
     let is = kept_is c.write_profile.new.conn after (c.in_ok-write_profile.ensures.ok) in
     rw⁻¹ c.self.view_is is
@@ -36,5 +36,5 @@ returns-clause-ok c =
 pub returns-in_err-write_profile-clause-memory : goal.returns-in_err-write_profile-clause-memory
 returns-in_err-write_profile-clause-memory c small =
     let rows = kept c.self.inside.conn in
-    let changed = with_profile c.args.scan_limit c.args.match_all rows in
-    told_memory c.from_residual-in_err-write_profile.result _ c.from_residual-in_err-write_profile.ensures.1 (c.in_err-write_profile.ensures.want (keys_of rows c.self.invariant.1) (keys_of (with_reply c.args.entry.now changed) (apart_with_reply c.args.entry.now changed (rw (sym c.self.view_is) at c.requires.new) (apart_with_profile c.args.scan_limit c.args.match_all rows c.self.invariant.1))) small c.self.invariant.3)
+    let changed = with_profile c.args.scan_limit c.args.match_all c.args.hash rows in
+    told_memory c.from_residual-in_err-write_profile.result _ c.from_residual-in_err-write_profile.ensures.1 (c.in_err-write_profile.ensures.want (keys_of rows c.self.invariant.1) (keys_of (with_reply c.args.entry.now changed) (apart_with_reply c.args.entry.now changed (rw (sym c.self.view_is) at c.requires.new) (apart_with_profile c.args.scan_limit c.args.match_all c.args.hash rows c.self.invariant.1))) small c.self.invariant.3)

@@ -1,0 +1,72 @@
+//! Hashes as the tables keep them: kinds as numbers, values as the bytes of a digest.
+
+ghost use Rattle.std.specs.Prelude.{◌≡◌, IfSome, IsSome, IsTrue, Some, length};
+ghost use Rattle.droid_frame.specs.Hashes.{IsHashValue, hash_kind_number};
+ghost use Rattle.droid_frame.specs.types.hash_kind.HashKind.{HashKind as HashKindValue};
+ghost use Rattle.droid_frame.specs.types.hash_value.HashValue.TheVariants as hashes;
+ghost use Rattle.droid_store.specs.Ranges.{is_hash_length};
+ghost use Rattle.droid_store.specs.Rows.{hash_of};
+
+use droid_frame::{HashKind, HashValue};
+
+/// The number that the database keeps for it.
+pub(crate) fn kind_number(hash: HashKind) -> u32
+    ensures { result ≡ hash_kind_number hash }
+{
+    u32::from(hash.number())
+}
+
+/// The kind of this number, if there is one.
+pub(crate) fn kind_of(number: u32) -> Option<HashKind>
+    ensures { (kind : HashKindValue) → number ≡ hash_kind_number kind → result ≡ Some kind }
+{
+    match number {
+        0 => Some(HashKind::Nothing),
+        1 => Some(HashKind::Md5),
+        2 => Some(HashKind::Sha256),
+        _ => None,
+    }
+}
+
+/// The hash of so many bytes, if there is one.
+pub(crate) fn hash_of(bytes: &[u8]) -> Option<HashValue>
+    ensures value { IfSome result (λ hash. hash ≡ hash_of bytes.now) }
+    ensures some { IsTrue (is_hash_length (length bytes.now)) → IsSome result }
+{
+    if bytes.is_empty() {
+        return Some(HashValue::Nothing);
+    }
+    match <[u8; 16]>::try_from(bytes) {
+        Ok(digest) => Some(HashValue::Md5(digest)),
+        Err(_) => long_hash_of(bytes),
+    }
+}
+
+fn long_hash_of(bytes: &[u8]) -> Option<HashValue>
+    ensures value { IfSome result (λ hash. (length bytes.now ≡ 32) × (hash ≡ hashes.Sha256 bytes.now)) }
+    ensures some { length bytes.now ≡ 32 → IsSome result }
+{
+    match <[u8; 32]>::try_from(bytes) {
+        Ok(digest) => Some(HashValue::Sha256(digest)),
+        Err(_) => None,
+    }
+}
+
+/// Each digest has the length of its kind. The function does nothing, and is proved with what it says.
+pub(crate) fn has_its_length(hash: HashValue)
+    ensures { IsHashValue hash }
+{
+    match hash {
+        HashValue::Nothing => {}
+        HashValue::Md5(digest) => is_md5(digest),
+        HashValue::Sha256(digest) => is_sha256(digest),
+    }
+}
+
+fn is_md5(digest: [u8; 16])
+    ensures { IsHashValue (hashes.Md5 digest) }
+{}
+
+fn is_sha256(digest: [u8; 32])
+    ensures { IsHashValue (hashes.Sha256 digest) }
+{}
