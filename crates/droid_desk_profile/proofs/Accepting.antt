@@ -5,6 +5,8 @@ use Rattle.std.specs.List.{slice_get}
 use Rattle.std.proofs.Math.Seq.{set-append_seam}
 use Rattle.std.proofs.lemmas.Bool.{ltb-true}
 use Rattle.droid_frame.specs.types.filter.Filter.{Filter}
+use Rattle.droid_frame.specs.types.hash_kind.HashKind.{HashKind}
+use Rattle.droid_frame.specs.types.hash_kind.HashKind.TheVariants as hash_kinds
 use Rattle.droid_frame.specs.types.refusal.Refusal.{Refusal}
 use Rattle.droid_frame.specs.types.refusal.Refusal.TheVariants.{AlreadyFinished, BadPiece}
 use Rattle.droid_assembly.specs.Pieces.{due_length}
@@ -48,7 +50,7 @@ module _ (setting : Setting) (world : World) (profile : Profile) (found : number
     unfolding judge judge_piece
     judged_piece index bytes = rw (found, there) refl
 
-    judged_finish : judge setting world (Finish 1 file) ≡ unless_refused (refusal_of (finish_checks content))
+    judged_finish : judge setting world (Finish 1 file) ≡ unless_refused (refusal_of (finish_checks profile.hash content))
         (Accepted (finished_reply (finding_of setting profile name content)) (world_set world 1 (node_set profile file (File parent modified name (as_finished content)))))
     unfolding judge judge_finish
     judged_finish = rw (found, there) refl
@@ -57,10 +59,10 @@ module _ (setting : Setting) (world : World) (profile : Profile) (found : number
   unfolding judge judge_export
   judged_export from max filter = rw found refl
 
-judged_create : (setting : Setting) (world : World) (scan_limit : ℕ) (match_all : Bool) → judge setting world (CreateProfile scan_limit match_all) ≡ unless_refused (refusal_of (create_checks setting.limits world scan_limit))
-    (Accepted (replies.Made (length world.profiles + 1)) (world_with world (world.profiles ++ record { scan_limit = scan_limit; match_all = match_all; nodes = [] } ∷ [])))
+judged_create : (setting : Setting) (world : World) (scan_limit : ℕ) (match_all : Bool) (hash : HashKind) → judge setting world (CreateProfile scan_limit match_all hash) ≡ unless_refused (refusal_of (create_checks setting.limits world scan_limit))
+    (Accepted (replies.Made (length world.profiles + 1)) (world_with world (world.profiles ++ record { scan_limit = scan_limit; match_all = match_all; hash = hash; nodes = [] } ∷ [])))
 unfolding judge judge_create
-judged_create setting world scan_limit match_all = refl
+judged_create setting world scan_limit match_all hash = refl
 
 -- ---- what was no refusal was accepted
 
@@ -181,11 +183,11 @@ module _ (setting : Setting) (options : Options) where
       let split = told (refusal_of (export_checks max)) (replies.Part as_of total bytes) (part_of setting holds.world.accepted (profile_with options nodes) from max everything) holds.world refl (came.0 ∙ ap verdict_reply judged) in
       (cc split.0, cc split.0, record { world = holds.world; place = subst (λ (w : World). At setting w own_after) (ap (world_after holds.world) judged ∙ split.1) came.1; profiles = holds.profiles })
 
-  pub made : (own own_after : Own) (profile : ℕ) → At setting empty_world own → Answers own (CreateProfile options.scan_limit options.match_all, replies.Made profile) own_after
+  pub made : (own own_after : Own) (profile : ℕ) → At setting empty_world own → Answers own (CreateProfile options.scan_limit options.match_all hash_kinds.Md5, replies.Made profile) own_after
       → (profile ≡ 1) × Holds setting options [] own_after
   made own own_after profile here answers =
       let came = answers setting empty_world here in
-      let judged = judged_create setting empty_world options.scan_limit options.match_all in
+      let judged = judged_create setting empty_world options.scan_limit options.match_all hash_kinds.Md5 in
       let after = world_with empty_world (profile_with options [] ∷ []) in
       let split = accepted (refusal_of (create_checks setting.limits empty_world options.scan_limit)) (replies.Made profile) (replies.Made 1) empty_world after refl (came.0 ∙ ap verdict_reply judged) in
       (cc split.1, record { world = after; place = subst (λ (w : World). At setting w own_after) (ap (world_after empty_world) judged ∙ split.2) came.1; profiles = refl })

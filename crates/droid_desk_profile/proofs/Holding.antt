@@ -26,7 +26,7 @@ over_split {S} {A} step first last [] ys p = (first, refl, p)
 over_split {S} {A} step first last (x ∷ xs) ys p = let rest = over_split step p.0 last xs ys p.2 in (rest.0, (p.0, p.1, rest.1), rest.2)
 
 no_refusal : (found : Reply) → IsFinished found → (is_want found ≡ false) × (is_refused found ≡ false)
-no_refusal (replies.Finished method mismatch md5 puids) is = (refl, refl)
+no_refusal (replies.Finished method mismatch hash puids) is = (refl, refl)
 no_refusal _ is = absurd is
 
 -- nodes behind nodes

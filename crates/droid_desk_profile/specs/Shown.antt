@@ -1,6 +1,6 @@
 -- How a file of a tree is shown in an export (this project's own).
 use Rattle.std.specs.Prelude.{ℕ, List}
-use Rattle.md5.specs.Md5.{md5}
+use Rattle.droid_frame.specs.Hashes.{hash}
 use Rattle.droid_frame.specs.types.node_kind.NodeKind.TheVariants as kinds
 use Rattle.droid_frame.specs.types.record.Record.{Record}
 use Rattle.droid_core.specs.Setting.{Setting}
@@ -19,6 +19,6 @@ shown_file setting profile id folder entry bytes = record {
   modified = entry.modified;
   method = (setting.identify entry.name bytes profile.scan_limit profile.match_all).method;
   mismatch = (setting.identify entry.name bytes profile.scan_limit profile.match_all).mismatch;
-  md5 = md5 bytes;
+  hash = hash profile.hash bytes;
   puids = (setting.identify entry.name bytes profile.scan_limit profile.match_all).puids;
 }

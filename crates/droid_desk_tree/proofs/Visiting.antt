@@ -3,6 +3,7 @@ use Rattle.std.proofs.Common.{◌≡◌, ℕ, List, [], ◌∷◌, ◌++◌, len
 use Rattle.std.specs.Prelude.{IsPermutation}
 use Rattle.std.specs.List.{flat_map, AllByRecursion}
 use Rattle.std.proofs.lemmas.List.{map-append}
+use Rattle.droid_frame.specs.types.hash_kind.HashKind.TheVariants as hash_kinds
 use Rattle.droid_frame.specs.types.reply.Reply.TheVariants as replies
 use Rattle.droid_frame.specs.types.request.Request.TheVariants.{CreateProfile}
 use Rattle.droid_desk_tree.specs.Asked.{Asked}
@@ -50,7 +51,7 @@ module _ {T X : Type 0} (tells : T → Told → T → Type 0) (asks : X → Aske
       }
 
   module _ (options : Options) (profile : ℕ) where
-    pub begun : (waiting : List Place) (tree : T) (exchange exchange_now : X) → waiting ≡ top ∷ [] → asks exchange (CreateProfile options.scan_limit options.match_all, replies.Made profile) exchange_now
+    pub begun : (waiting : List Place) (tree : T) (exchange exchange_now : X) → waiting ≡ top ∷ [] → asks exchange (CreateProfile options.scan_limit options.match_all hash_kinds.Md5, replies.Made profile) exchange_now
         → Walking tells asks options profile waiting tree tree exchange exchange_now
     begun waiting tree exchange exchange_now only made = record { visits = []; places = only; visited = tt; told = refl; asked = over_one asks exchange exchange_now _ made }
 
@@ -76,7 +77,7 @@ module _ {T X : Type 0} (tells : T → Told → T → Type 0) (asks : X → Aske
           visited = all_more (IsVisited options.piece_size) front.visits next.visit front.visited next.is_visited;
           told = subst (λ (l : List Told). GoesOver tells tree l tree_after) (sym (given_more told_of_visit front.visits next.visit))
               (over_more tells tree tree_now tree_after (flat_map told_of_visit front.visits) (told_of_visit next.visit) front.told next.told);
-          asked = subst (λ (l : List Asked). GoesOver asks exchange ((CreateProfile options.scan_limit options.match_all, replies.Made profile) ∷ l) exchange_after)
+          asked = subst (λ (l : List Asked). GoesOver asks exchange ((CreateProfile options.scan_limit options.match_all hash_kinds.Md5, replies.Made profile) ∷ l) exchange_after)
               (sym (given_more (asked_of_visit profile options.piece_size) front.visits next.visit))
               (over_more asks exchange exchange_now exchange_after (asked_of_tree options profile front.visits) (asked_of_visit profile options.piece_size next.visit) front.asked next.asked);
         }

@@ -54,7 +54,7 @@ AreCut piece_size size from [] = Unit {0}
 AreCut piece_size size from (piece ∷ pieces) = (from < size) × (length piece.0 ≡ min piece_size (size - from)) × AreCut piece_size size (from + length piece.0) pieces
 
 abbrev pub IsFinished : Reply → Type 0
-IsFinished (replies.Finished method mismatch md5 puids) = Unit {0}
+IsFinished (replies.Finished method mismatch hash puids) = Unit {0}
 IsFinished _ = ⊥
 
 -- the pieces are those of the whole file, as long as it was said to be

@@ -1,6 +1,7 @@
 -- The requests of a tree (this project's own).
 use Rattle.std.specs.Prelude.{◌≡◌, ℕ, List, [], ◌∷◌, ◌++◌, map}
 use Rattle.std.specs.List.{flat_map, AllByRecursion}
+use Rattle.droid_frame.specs.types.hash_kind.HashKind.TheVariants as hash_kinds
 use Rattle.droid_frame.specs.types.reply.Reply.TheVariants as replies
 use Rattle.droid_frame.specs.types.request.Request.TheVariants.{CreateProfile}
 use Rattle.droid_desk_tree.specs.Asked.{Asked}
@@ -13,10 +14,10 @@ use Rattle.droid_desk_tree.specs.declared.walking.Options.{Options}
 abbrev pub top : Place
 top = record { path = []; number = 0 }
 
--- the requests of a tree, with their replies: CreateProfile, and then folder by folder what is in it
+-- the requests of a tree, with their replies: a new profile, whose files get MD5s, and then folder by folder what is in it
 abbrev pub asked_of_tree : Options → ℕ → List Visit → List Asked
 asked_of_tree options profile visits =
-    (CreateProfile options.scan_limit options.match_all, replies.Made profile) ∷ flat_map (asked_of_visit profile options.piece_size) visits
+    (CreateProfile options.scan_limit options.match_all hash_kinds.Md5, replies.Made profile) ∷ flat_map (asked_of_visit profile options.piece_size) visits
 
 -- the top was visited, and then each folder that was found, once, in the order in which they were found
 abbrev pub EachFolderOnce : List Visit → Type 0

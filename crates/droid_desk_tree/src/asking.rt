@@ -1,6 +1,7 @@
 //! Asking a request, and what a reply to a new node says.
 
 ghost use Rattle.std.specs.Prelude.{IfOk, IfSome};
+ghost use Rattle.droid_frame.specs.types.hash_kind.HashKind.TheVariants as hash_kinds;
 ghost use Rattle.droid_frame.specs.types.reply.Reply.TheVariants as replies;
 ghost use Rattle.droid_frame.specs.types.request.Request.TheVariants as requests;
 ghost use Rattle.droid_desk_tree.specs.Steps.{Finishes};
@@ -8,7 +9,7 @@ ghost use Rattle.droid_desk_tree.specs.Steps.{Finishes};
 use crate::exchange::Exchange;
 use crate::fault::WalkFault;
 use crate::watcher::{LeftOut, Watcher};
-use droid_frame::{Frame, Refusal, Reply, Request, request_frame};
+use droid_frame::{Frame, HashKind, Refusal, Reply, Request, request_frame};
 use std::alloc::Global;
 
 /// Asks a request.
@@ -61,18 +62,19 @@ fn tell_refused<W: Watcher>(
     Ok(())
 }
 
-/// Makes a profile, and gives its number.
+/// Makes a profile whose files get MD5s, which is the one hash that a frame can ask for, and gives its number.
 pub(crate) fn make_profile<X: Exchange>(
     alloc: Global,
     exchange: &mut X,
     scan_limit: u32,
     match_all: bool,
 ) -> Result<u32, WalkFault>
-    ensures { IfOk result (λ profile. X.asks exchange.old (requests.CreateProfile scan_limit match_all, replies.Made profile) exchange.new) }
+    ensures { IfOk result (λ profile. X.asks exchange.old (requests.CreateProfile scan_limit match_all hash_kinds.Md5, replies.Made profile) exchange.new) }
 {
     let request = Request::CreateProfile {
         scan_limit,
         match_all,
+        hash: HashKind::Md5,
     };
     match ask(alloc, exchange, &request)? {
         Reply::Made { profile } => Ok(profile),

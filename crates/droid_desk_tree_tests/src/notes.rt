@@ -1,7 +1,7 @@
 //! A service that notes what it is asked, and a watcher that notes what it is told.
 
 use droid_desk_tree::{Exchange, ExchangeFault, LeftOut, Watcher};
-use droid_frame::{Blob, Limit, Method, Refusal, Reply, Texts};
+use droid_frame::{Blob, HashValue, Limit, Method, Refusal, Reply, Texts};
 use std::alloc::{AllocError, Global};
 
 /// It answers every request as a service without a name does, and refuses nodes past its limit.
@@ -48,7 +48,7 @@ impl Exchange for Noting {
             5 => Reply::Finished {
                 method: Method::Unidentified,
                 mismatch: false,
-                md5: [0; 16],
+                hash: HashValue::Md5([0; 16]),
                 puids: Texts::new(self.alloc),
             },
             _ => Reply::Abandoned,
