@@ -9,6 +9,7 @@ use Rattle.droid_frame.specs.Headers.{header_bytes}
 use Rattle.droid_frame.specs.Streams.{IsFrame}
 use Rattle.droid_frame.specs.StreamReads.{IsHeader}
 use Rattle.droid_frame_bodies.proofs.FieldLaws.{IsField, u32_field, u64_field}
+use Rattle.droid_frame.proofs.BodyLimits.{limit_at_most}
 
 some_is : {A : Type 0} (x y : A) → Some x ≡ Some y → x ≡ y
 some_is x y e = cc
@@ -48,7 +49,7 @@ header_of-is frame is = record {
   kind_fits = is.kind_fits;
   client_fits = is.client_fits;
   number_fits = is.number_fits;
-  length_fits = omega (arith, is.body_fits);
+  length_fits = omega (arith, is.body_fits, limit_at_most frame.version);
 }
 
 same_length : (a b r s : List ℕ) → length a ≡ length b → a ++ r ≡ b ++ s → (a ≡ b) × (r ≡ s)

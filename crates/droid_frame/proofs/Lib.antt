@@ -3,6 +3,7 @@ pub use Rattle.droid_frame_stream.proofs.Scopes
 pub use Rattle.droid_frame_stream.proofs.Stopping
 pub use Rattle.droid_frame_bodies.proofs.RequestLaws
 pub mod Appending
+pub mod BodyLimits
 pub mod ByteLists
 pub mod FrameLaws
 pub mod ReplyFrames

@@ -7,19 +7,30 @@ use Rattle.droid_frame_values.specs.Limits.{puids_limit}
 use Rattle.droid_frame_values.specs.declared.reply.Reply.{Reply}
 use Rattle.droid_frame_values.specs.declared.reply.Reply.TheVariants.{Made, Node, Taken, Finished, Abandoned, Progress, Part, Refused}
 use Rattle.droid_frame_values.specs.Fields.{u64_bytes}
-use Rattle.droid_frame_values.specs.Replies.{IsPuidText, reply_bytes}
-use Rattle.droid_frame.specs.ReplyParts.{reply_front, reply_rest}
+use Rattle.droid_frame_values.specs.Replies.{HasReplySpelling, IsPuidText, reply_bytes}
+use Rattle.droid_frame.specs.ReplyParts.{HasRestSpelling, reply_front, reply_rest}
 use Rattle.droid_frame_values.specs.TextLists.{sized_bytes, texts_bytes}
 
-pub front_and_rest : (reply : Reply) → reply_front reply ++ reply_rest reply ≡ reply_bytes reply
-front_and_rest (Made profile) = append-nil _
-front_and_rest (Node id) = append-nil _
-front_and_rest (Taken held) = append-nil _
-front_and_rest (Finished method mismatch hash puids) = simp append_assoc
-front_and_rest Abandoned = refl
-front_and_rest (Progress held missing) = append-nil _
-front_and_rest (Part as_of total bytes) = append_assoc (u64_bytes as_of) (u64_bytes total) bytes
-front_and_rest (Refused refusal) = append-nil _
+pub front_and_rest : (version : ℕ) (reply : Reply) → reply_front version reply ++ reply_rest reply ≡ reply_bytes version reply
+front_and_rest version (Made profile) = append-nil _
+front_and_rest version (Node id) = append-nil _
+front_and_rest version (Taken held) = append-nil _
+front_and_rest version (Finished method mismatch hash puids) = simp append_assoc
+front_and_rest version Abandoned = refl
+front_and_rest version (Progress held missing) = append-nil _
+front_and_rest version (Part as_of total bytes) = append_assoc (u64_bytes as_of) (u64_bytes total) bytes
+front_and_rest version (Refused refusal) = append-nil _
+
+-- what has a spelling in a version has a rest that has one
+pub rest_spelled : (version : ℕ) (reply : Reply) → HasReplySpelling version reply → HasRestSpelling reply
+rest_spelled version (Made profile) fits = tt
+rest_spelled version (Node id) fits = tt
+rest_spelled version (Taken held) fits = tt
+rest_spelled version (Finished method mismatch hash puids) fits = fits.2
+rest_spelled version Abandoned fits = tt
+rest_spelled version (Progress held missing) fits = tt
+rest_spelled version (Part as_of total bytes) fits = tt
+rest_spelled version (Refused refusal) fits = tt
 
 -- each identifier takes at most 33 bytes
 pub puids_are_short : (puids : List (List ℕ)) → AllByRecursion IsPuidText puids → length (texts_bytes puids) ≤ 33 * length puids

@@ -5,7 +5,6 @@ use Rattle.std.proofs.KnownBytes.{Appends-trans}
 use Rattle.std.proofs.Math.Seq.{drop-cons}
 use Rattle.std.proofs.lemmas.Grind.{flat_map-append}
 use Rattle.std.proofs.lemmas.List.{append-nil, length-append, take-append-drop}
-use Rattle.droid_frame_values.specs.Limits.{body_limit}
 use Rattle.droid_frame_values.specs.declared.reply.Reply.{Reply}
 use Rattle.droid_frame.specs.Headers.{header_bytes}
 use Rattle.droid_frame_values.specs.Replies.{reply_bytes, reply_kind}
@@ -57,10 +56,10 @@ pub record IsFrameOf (frame header front rest : List ℕ) : Type 0 where
   pub parts : frame ≡ header ++ (front ++ rest)
   pub header_size : length header ≡ 18
 
-pub frame_is : (client number kind size : ℕ) (reply : Reply) (header front : List ℕ) → kind ≡ reply_kind reply → size ≡ length (reply_bytes reply) → header ≡ header_bytes (record { version = 1; kind = kind; client = client; number = number; length = size }) → front ≡ reply_front reply → IsFrameOf (reply_frame client number reply) header front (reply_rest reply)
-frame_is client number kind size reply header front kind_is size_is header_is front_is = record {
+pub frame_is : (version client number kind size : ℕ) (reply : Reply) (header front : List ℕ) → kind ≡ reply_kind reply → size ≡ length (reply_bytes version reply) → header ≡ header_bytes (record { version = version; kind = kind; client = client; number = number; length = size }) → front ≡ reply_front version reply → IsFrameOf (reply_frame version client number reply) header front (reply_rest reply)
+frame_is version client number kind size reply header front kind_is size_is header_is front_is = record {
   parts =
-      ap (λ (body : List ℕ). header_bytes (record { version = 1; kind = reply_kind reply; client = client; number = number; length = length (reply_bytes reply) }) ++ body) (sym (front_and_rest reply))
+      ap (λ (body : List ℕ). header_bytes (record { version = version; kind = reply_kind reply; client = client; number = number; length = length (reply_bytes version reply) }) ++ body) (sym (front_and_rest version reply))
       ∙ sym (rw (header_is, kind_is, size_is, front_is) refl);
   header_size = rw header_is refl;
 }
@@ -69,11 +68,11 @@ pub frame_size : (frame header front rest : List ℕ) (before after : ℕ) → I
 frame_size frame header front rest before after is sent both =
     omega (arith, ap (λ (bytes : List ℕ). length bytes) is.parts, sent, both, length-append header (front ++ rest), length-append front rest)
 
-pub rest_room : (client number : ℕ) (reply : Reply) (header front : List ℕ) (written : ℕ) → IsFrameOf (reply_frame client number reply) header front (reply_rest reply) → length (reply_bytes reply) ≤ body_limit → front ≡ reply_front reply → written ≡ length (header ++ front) → written + length (reply_rest reply) < 2 ^ 64
-rest_room client number reply header front written frame short front_is counted =
-    let body : length (reply_front reply ++ reply_rest reply) ≡ length (reply_bytes reply) = ap (λ (bytes : List ℕ). length bytes) (front_and_rest reply) in
-    let size : length front ≡ length (reply_front reply) = ap (λ (bytes : List ℕ). length bytes) front_is in
-    omega (arith, frame.header_size, body, size, counted, short, length-append (reply_front reply) (reply_rest reply), length-append header front)
+pub rest_room : (version client number : ℕ) (reply : Reply) (header front : List ℕ) (written : ℕ) → IsFrameOf (reply_frame version client number reply) header front (reply_rest reply) → length (reply_bytes version reply) ≤ 1048640 → front ≡ reply_front version reply → written ≡ length (header ++ front) → written + length (reply_rest reply) < 2 ^ 64
+rest_room version client number reply header front written frame short front_is counted =
+    let body : length (reply_front version reply ++ reply_rest reply) ≡ length (reply_bytes version reply) = ap (λ (bytes : List ℕ). length bytes) (front_and_rest version reply) in
+    let size : length front ≡ length (reply_front version reply) = ap (λ (bytes : List ℕ). length bytes) front_is in
+    omega (arith, frame.header_size, body, size, counted, short, length-append (reply_front version reply) (reply_rest reply), length-append header front)
 
 pub stops_in_header : (old new : Option (List ℕ)) (frame header front rest : List ℕ) (before count : ℕ) → IsFrameOf frame header front rest → before ≡ 0 → StopsWithin old new header before count → Stops old new frame count
 stops_in_header old new frame header front rest before count is none stops =

@@ -1,9 +1,9 @@
 -- What one call leaves, by what its parts left; and what that says of the input.
-use Rattle.std.proofs.Common.{◌≡◌, ℕ, ◌<◌, ◌≤◌, true, false, ltb, eqb, List, [], ◌++◌, length, Option, Some, None, Result, Ok, Err, IfSome, refl, sym, ap, subst, ◌∙◌, arith, inl, inr}
+use Rattle.std.proofs.Common.{◌≡◌, ℕ, ◌<◌, ◌≤◌, true, false, ltb, List, [], ◌++◌, length, Option, Some, None, Result, Ok, Err, IfSome, refl, sym, ap, subst, ◌∙◌, arith, inl, inr}
 use Rattle.std.specs.Prelude.{IsErrAnd}
 use Rattle.std.specs.Io.KnownBytes.{Consumes, IsAtEnd}
 use Rattle.std.proofs.KnownBytes.{Consumes-trans}
-use Rattle.std.proofs.lemmas.Bool.{ltb-true, ltb-false, eqb-true, eqb-false}
+use Rattle.std.proofs.lemmas.Bool.{ltb-true, ltb-false}
 use Rattle.std.proofs.lemmas.List.{append-nil}
 use Rattle.droid_frame_values.specs.declared.frame.Frame.{Frame}
 use Rattle.droid_frame_values.specs.Limits.{body_limit}
@@ -13,6 +13,7 @@ use Rattle.droid_frame.specs.declared.stream.fault.FrameFault.{FrameFault}
 use Rattle.droid_frame.specs.declared.stream.fault.FrameFault.TheVariants.{Truncated, BadVersion, TooLong, Memory, Read}
 use Rattle.droid_frame.specs.declared.stream.header.Header.{Header}
 use Rattle.droid_frame_values.specs.Frames.{frame_bytes}
+use Rattle.droid_frame_values.specs.Versions.{is_version}
 use Rattle.droid_frame.specs.Headers.{header_bytes}
 use Rattle.droid_frame.specs.Streams.{IsReadable, BeginsNoFrame, header_size, why}
 use Rattle.droid_frame.specs.StreamReads.{IsGoodHeader, NamesSomeBody, ReadsNoFrame, Brings, EndsBy, Tells, UnlessRefused, IsHeader, HeaderCame, BodyCame, judged, Arrives}
@@ -59,11 +60,11 @@ header_fault old new Memory came = absurd came
 
 refused_told : (h : Header) (fault : FrameFault) (left : List ℕ) → IsHeader h → Judged h (Err fault) → Tells fault (header_bytes h ++ left)
 refused_told h BadVersion left is (other_version o) = record {
-  no_frame = no_frame_of_version h left is (eqb-false h.version 1 o);
-  reason = why_whole h left false (ltb body_limit h.length) is o refl;
+  no_frame = no_frame_of_version h left is o;
+  reason = why_whole h left false (ltb (body_limit h.version) h.length) is o refl;
 }
 refused_told h TooLong left is (too_long o l) = record {
-  no_frame = no_frame_too_long h left is (ltb-true body_limit h.length l);
+  no_frame = no_frame_too_long h left is (ltb-true (body_limit h.version) h.length l);
   reason = why_whole h left true true is o l;
 }
 refused_told h Truncated left is j = elim j [ ]
@@ -74,11 +75,11 @@ refused_told h Read left is j = elim j [ ]
 refused_by : (old new : Option (List ℕ)) (h : Header) (fault : FrameFault) → IsHeader h → Consumes old new (header_bytes h) → Judged h (Err fault) → Arrives old new (Err fault)
 refused_by old new h BadVersion is read (other_version o) = (
   begun_all old new (header_bytes h) (Tells BadVersion) read (λ left. refused_told h BadVersion left is (other_version o)),
-  record { bytes = header_bytes h; consumed = read; no_frame = no_frame_of_version h [] is (eqb-false h.version 1 o); within = inl (omega arith) },
+  record { bytes = header_bytes h; consumed = read; no_frame = no_frame_of_version h [] is o; within = inl (omega arith) },
 )
 refused_by old new h TooLong is read (too_long o l) = (
   begun_all old new (header_bytes h) (Tells TooLong) read (λ left. refused_told h TooLong left is (too_long o l)),
-  record { bytes = header_bytes h; consumed = read; no_frame = no_frame_too_long h [] is (ltb-true body_limit h.length l); within = inl (omega arith) },
+  record { bytes = header_bytes h; consumed = read; no_frame = no_frame_too_long h [] is (ltb-true (body_limit h.version) h.length l); within = inl (omega arith) },
 )
 refused_by old new h Truncated is read j = elim j [ ]
 refused_by old new h Memory is read j = elim j [ ]
@@ -91,8 +92,8 @@ length_fault old new h fault is read e = refused_by old new h fault is read (jud
 
 pub record IsGood (h : Header) (n : ℕ) : Type 0 where
   pub is_header : IsHeader h
-  pub one : eqb h.version 1 ≡ true
-  pub fits : ltb body_limit h.length ≡ false
+  pub one : is_version h.version ≡ true
+  pub fits : ltb (body_limit h.version) h.length ≡ false
   pub length_is : n ≡ h.length
 
 good_by : (h : Header) (n : ℕ) → IsHeader h → Judged h (Ok n) → IsGood h n
@@ -104,8 +105,8 @@ good_is h n is e = good_by h n is (judged_is h (Ok n) e)
 good_header : (h : Header) (n : ℕ) (part : List ℕ) → IsGood h n → IsGoodHeader (header_bytes h ++ part)
 good_header h n part is = record {
   whole = omega arith;
-  version_is = eqb-true h.version 1 is.one;
-  length_fits = rw (length_in-header h part is.is_header) (ltb-false body_limit h.length is.fits);
+  version_is = is.one;
+  length_fits = rw (length_in-header h part is.is_header) (ltb-false (body_limit h.version) h.length is.fits);
 }
 
 names_some : (h : Header) (n : ℕ) (part : List ℕ) → IsGood h n → 0 < n → NamesSomeBody (header_bytes h ++ part)
@@ -150,7 +151,7 @@ pub frame_came : (old mid new : Option (List ℕ)) (h : Header) (n : ℕ) (body 
 frame_came old mid new h n body is read came =
     let size : length body ≡ h.length = came.1 ∙ is.length_is in
     let same : header_bytes h ++ body ≡ frame_bytes (made h body) = rw size refl in
-    let fits : h.length ≤ body_limit = ltb-false body_limit h.length is.fits in
+    let fits : h.length ≤ body_limit h.version = ltb-false (body_limit h.version) h.length is.fits in
     let header = is.is_header in (
       record {
         is_frame = record {
@@ -158,10 +159,10 @@ frame_came old mid new h n body is read came =
           kind_fits = header.kind_fits;
           client_fits = header.client_fits;
           number_fits = header.number_fits;
-          body_fits = omega arith;
+          body_fits = rw size fits;
           body_is_bytes = came.0;
         };
-        version_is = eqb-true h.version 1 is.one;
+        version_is = is.one;
       },
       subst (Consumes old new) same (Consumes-trans old mid new (header_bytes h) body read came.2),
     )

@@ -1,8 +1,8 @@
 -- Each stream is the spellings of frames and a rest that begins with none, in one way.
-use Rattle.std.proofs.Common.{◌≡◌, ℕ, zero, suc, ◌+◌, ◌<◌, ◌≤◌, ◌^◌, true, false, ltb, eqb, List, [], ◌∷◌, ◌++◌, length, take, drop, Result, refl, sym, ap, subst, ◌∙◌, arith, append_assoc, inl, inr, ◌⊎◌}
+use Rattle.std.proofs.Common.{◌≡◌, ℕ, zero, suc, ◌+◌, ◌<◌, ◌≤◌, ◌^◌, true, false, ltb, List, [], ◌∷◌, ◌++◌, length, take, drop, Result, refl, sym, ap, subst, ◌∙◌, arith, append_assoc, inl, inr, ◌⊎◌}
 use Rattle.std.specs.Int.{w32, w64, from_be_bytes}
 use Rattle.std.specs.List.{flat_map}
-use Rattle.std.proofs.lemmas.Bool.{le-ltb, ltb-true, ltb-false, eqb-true, eqb-false, cases_lt}
+use Rattle.std.proofs.lemmas.Bool.{le-ltb, ltb-true, ltb-false, cases_lt}
 use Rattle.std.proofs.lemmas.List.{length-append, length-take, take-append-drop}
 use Rattle.droid_frame_values.specs.declared.frame.Frame.{Frame}
 use Rattle.droid_frame_values.specs.Limits.{body_limit}
@@ -10,6 +10,7 @@ use Rattle.droid_frame.specs.declared.stream.fault.FrameFault.{FrameFault}
 use Rattle.droid_frame.specs.declared.stream.header.Header.{Header}
 use Rattle.droid_frame_values.specs.Fields.{IsBytes, u32_bytes, u64_bytes}
 use Rattle.droid_frame_values.specs.Frames.{frame_bytes}
+use Rattle.droid_frame_values.specs.Versions.{is_version}
 use Rattle.droid_frame.specs.Headers.{header_bytes}
 use Rattle.droid_frame.specs.Streams.{IsReadable, BeginsNoFrame, Frames, header_size}
 use Rattle.droid_frame.specs.StreamReads.{IsHeader, judged}
@@ -93,11 +94,11 @@ record Next (bytes : List ℕ) : Type 0 where
   pub parts : bytes ≡ frame_bytes frame ++ rest
   pub bytes_follow : IsBytes rest
 
-next_of : (h : Header) (rest : List ℕ) → IsHeader h → IsBytes rest → eqb h.version 1 ≡ true → ltb body_limit h.length ≡ false → h.length ≤ length rest → Next (header_bytes h ++ rest)
+next_of : (h : Header) (rest : List ℕ) → IsHeader h → IsBytes rest → is_version h.version ≡ true → ltb (body_limit h.version) h.length ≡ false → h.length ≤ length rest → Next (header_bytes h ++ rest)
 next_of h rest is are one fits long =
     let body = take h.length rest in
     let size : length body ≡ h.length = omega (arith, length-take h.length rest) in
-    let within : h.length ≤ body_limit = ltb-false body_limit h.length fits in
+    let within : h.length ≤ body_limit h.version = ltb-false (body_limit h.version) h.length fits in
     let same : header_bytes h ++ rest ≡ frame_bytes (made h body) ++ drop h.length rest =
     rw size (ap (λ (l : List ℕ). header_bytes h ++ l) (sym (take-append-drop h.length rest))) in
     record {
@@ -109,18 +110,18 @@ next_of h rest is are one fits long =
           kind_fits = is.kind_fits;
           client_fits = is.client_fits;
           number_fits = is.number_fits;
-          body_fits = omega arith;
+          body_fits = rw size within;
           body_is_bytes = IsBytes-take h.length rest are;
         };
-        version_is = eqb-true h.version 1 one;
+        version_is = one;
       };
       parts = same;
       bytes_follow = IsBytes-drop h.length rest are;
     }
 
 behind_header : (h : Header) (rest : List ℕ) (r : Result ℕ FrameFault) → IsHeader h → IsBytes rest → Judged h r → Next (header_bytes h ++ rest) ⊎ BeginsNoFrame (header_bytes h ++ rest)
-behind_header h rest r is are (other_version o) = inr (no_frame_of_version h rest is (eqb-false h.version 1 o))
-behind_header h rest r is are (too_long o l) = inr (no_frame_too_long h rest is (ltb-true body_limit h.length l))
+behind_header h rest r is are (other_version o) = inr (no_frame_of_version h rest is o)
+behind_header h rest r is are (too_long o l) = inr (no_frame_too_long h rest is (ltb-true (body_limit h.version) h.length l))
 behind_header h rest r is are (good o l) =
     elim (cases_lt (length rest) h.length) [
       | inl short ↦ inr (no_frame_cut h rest is short)

@@ -9,8 +9,10 @@ pub use Rattle.droid_frame_values.specs.Refusals
 pub use Rattle.droid_frame_values.specs.Replies
 pub use Rattle.droid_frame_values.specs.Sequences
 pub use Rattle.droid_frame_values.specs.TextLists
+pub use Rattle.droid_frame_values.specs.Versions
 pub use Rattle.droid_frame_values.specs.declared as types
 pub use Rattle.droid_frame_bodies.specs.Outcomes
+pub use Rattle.droid_frame_bodies.specs.fields.Hashes as HashFields
 pub use Rattle.droid_frame_bodies.specs.fields.Reading
 pub use Rattle.droid_frame_bodies.specs.filters.Values as FilterValues
 pub use Rattle.droid_frame_bodies.specs.replies.Values as ReplyValues

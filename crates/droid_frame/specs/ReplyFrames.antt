@@ -5,17 +5,19 @@ use Rattle.droid_frame_values.specs.declared.reply.Reply.{Reply}
 use Rattle.droid_frame_values.specs.Fields.{IsU32, IsU64}
 use Rattle.droid_frame_values.specs.Frames.{frame_bytes}
 use Rattle.droid_frame_values.specs.Replies.{HasReplySpelling, reply_bytes, reply_kind}
+use Rattle.droid_frame_values.specs.Versions.{IsVersion}
 use Rattle.droid_frame.specs.Streams.{IsReadable}
 
--- the frame of a reply: version 1, the reply's kind, the client and the number of the request
-abbrev pub frame_of_reply : ℕ → ℕ → Reply → Frame
-frame_of_reply client number reply =
-    record { version = 1; kind = reply_kind reply; client = client; number = number; body = reply_bytes reply }
+-- the frame of a reply: the version, the client and the number of the request, and the reply's kind
+abbrev pub frame_of_reply : ℕ → ℕ → ℕ → Reply → Frame
+frame_of_reply version client number reply =
+    record { version = version; kind = reply_kind reply; client = client; number = number; body = reply_bytes version reply }
 
-abbrev pub reply_frame : ℕ → ℕ → Reply → List ℕ
-reply_frame client number reply = frame_bytes (frame_of_reply client number reply)
+abbrev pub reply_frame : ℕ → ℕ → ℕ → Reply → List ℕ
+reply_frame version client number reply = frame_bytes (frame_of_reply version client number reply)
 
 -- it is a frame that a stream may hold, so what was written is read again
 abbrev pub ReplyFramesAreReadable : Type 0
 ReplyFramesAreReadable =
-    (client number : ℕ) (reply : Reply) → IsU32 client → IsU64 number → HasReplySpelling reply → IsReadable (frame_of_reply client number reply)
+    (version client number : ℕ) (reply : Reply) → IsVersion version → IsU32 client → IsU64 number → HasReplySpelling version reply
+    → IsReadable (frame_of_reply version client number reply)

@@ -1,22 +1,22 @@
 -- For proofs alone: a reply's body in two parts, fields of a few bytes and then a list or bytes of any length.
 use Rattle.std.specs.Prelude.{ℕ, List, [], ◌++◌, length}
+use Rattle.std.specs.List.{AllByRecursion}
 use Rattle.droid_frame_values.specs.declared.reply.Reply.{Reply}
 use Rattle.droid_frame_values.specs.declared.reply.Reply.TheVariants.{Made, Node, Taken, Finished, Abandoned, Progress, Part, Refused}
 use Rattle.droid_frame_values.specs.Fields.{u16_bytes, u32_bytes, u64_bytes, truth_bytes, method_bytes}
-use Rattle.droid_frame_values.specs.Hashes.{hash_bytes}
-use Rattle.droid_frame_values.specs.Replies.{refusal_bytes}
+use Rattle.droid_frame_values.specs.Replies.{IsPuidText, digest_bytes, refusal_bytes}
 use Rattle.droid_frame_values.specs.TextLists.{texts_bytes}
 
 -- the fields before the list or the bytes
-abbrev pub reply_front : Reply → List ℕ
-reply_front (Made profile) = u32_bytes profile
-reply_front (Node id) = u32_bytes id
-reply_front (Taken held) = u32_bytes held
-reply_front (Finished method mismatch hash puids) = method_bytes method ++ (truth_bytes mismatch ++ (hash_bytes hash ++ u16_bytes (length puids)))
-reply_front Abandoned = []
-reply_front (Progress held missing) = u32_bytes held ++ u32_bytes missing
-reply_front (Part as_of total bytes) = u64_bytes as_of ++ u64_bytes total
-reply_front (Refused refusal) = refusal_bytes refusal
+abbrev pub reply_front : ℕ → Reply → List ℕ
+reply_front version (Made profile) = u32_bytes profile
+reply_front version (Node id) = u32_bytes id
+reply_front version (Taken held) = u32_bytes held
+reply_front version (Finished method mismatch hash puids) = method_bytes method ++ (truth_bytes mismatch ++ (digest_bytes version hash ++ u16_bytes (length puids)))
+reply_front version Abandoned = []
+reply_front version (Progress held missing) = u32_bytes held ++ u32_bytes missing
+reply_front version (Part as_of total bytes) = u64_bytes as_of ++ u64_bytes total
+reply_front version (Refused refusal) = refusal_bytes refusal
 
 -- the list or the bytes
 abbrev pub reply_rest : Reply → List ℕ
@@ -28,3 +28,8 @@ reply_rest Abandoned = []
 reply_rest (Progress held missing) = []
 reply_rest (Part as_of total bytes) = bytes
 reply_rest (Refused refusal) = []
+
+-- each identifier of a Finished has a spelling
+abbrev pub HasRestSpelling : Reply → Type 0
+HasRestSpelling (Finished method mismatch hash puids) = AllByRecursion IsPuidText puids
+HasRestSpelling _ = Unit {0}

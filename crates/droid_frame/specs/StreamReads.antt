@@ -1,5 +1,5 @@
 -- What a reader has left after the reads of one frame, and what then is known of its bytes.
-use Rattle.std.specs.Prelude.{◌≡◌, ℕ, ◌+◌, ◌<◌, ◌≤◌, ◌^◌, ◌==◌, nat_lt, if◌then◌else◌, ◌⊎◌, List, [], Option, Some, None, IfSome, Result, Ok, Err, length}
+use Rattle.std.specs.Prelude.{◌≡◌, ℕ, ◌+◌, ◌<◌, ◌≤◌, ◌^◌, nat_lt, if◌then◌else◌, ◌⊎◌, List, [], Option, Some, None, IfSome, Result, Ok, Err, length}
 use Rattle.std.specs.Io.KnownBytes.{Consumes, IsAtEnd}
 use Rattle.droid_frame_values.specs.Limits.{body_limit}
 use Rattle.droid_frame.specs.declared.stream.arrival.Arrival.{Arrival}
@@ -9,6 +9,7 @@ use Rattle.droid_frame.specs.declared.stream.fault.FrameFault.TheVariants.{Trunc
 use Rattle.droid_frame.specs.declared.stream.header.Header.{Header}
 use Rattle.droid_frame_values.specs.Fields.{IsBytes, IsU32}
 use Rattle.droid_frame_values.specs.Frames.{frame_bytes}
+use Rattle.droid_frame_values.specs.Versions.{IsVersion, is_version}
 use Rattle.droid_frame.specs.Headers.{header_bytes}
 use Rattle.droid_frame_stream.specs.declared.seen.Seen.{Seen}
 use Rattle.droid_frame_stream.specs.Reads.{ConsumesFewer}
@@ -23,11 +24,11 @@ pub record ConsumesShort (old new : Option (List ℕ)) (least wanted : ℕ) : Ty
   pub some : least ≤ length bytes
   pub short : length bytes < wanted
 
--- bytes begin with a header of version 1 that names a body within the limit
+-- bytes begin with a header of a version that frames have, and it names a body within the limit of that
 pub record IsGoodHeader (bytes : List ℕ) : Type 0 where
   pub whole : header_size ≤ length bytes
-  pub version_is : version_in bytes ≡ 1
-  pub length_fits : length_in bytes ≤ body_limit
+  pub version_is : IsVersion (version_in bytes)
+  pub length_fits : length_in bytes ≤ body_limit (version_in bytes)
 
 -- and the body that it names isn't empty
 pub record NamesSomeBody (bytes : List ℕ) : Type 0 where
@@ -123,7 +124,7 @@ ReadsOn start seen count (Err fault) = FaultCounts start seen count fault
 -- what a header is refused for: its version first, then its length
 unfoldable pub judged : Header → Result ℕ FrameFault
 judged header =
-    if header.version == 1 then (if nat_lt body_limit header.length then Err TooLong else Ok header.length)
+    if is_version header.version then (if nat_lt (body_limit header.version) header.length then Err TooLong else Ok header.length)
     else Err BadVersion
 
 -- all that one call leaves

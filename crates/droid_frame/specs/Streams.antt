@@ -10,20 +10,21 @@ use Rattle.droid_frame.specs.declared.stream.fault.FrameFault.{FrameFault}
 use Rattle.droid_frame.specs.declared.stream.fault.FrameFault.TheVariants.{Truncated, BadVersion, TooLong}
 use Rattle.droid_frame_values.specs.Fields.{IsBytes, IsU32}
 use Rattle.droid_frame_values.specs.Frames.{frame_bytes}
+use Rattle.droid_frame_values.specs.Versions.{IsVersion, is_version}
 
--- each field is in its range, and the body is no longer than a frame's may be
+-- each field is in its range, and the body is no longer than that of a frame of its version may be
 pub record IsFrame (frame : Frame) : Type 0 where
   pub version_fits : frame.version < 2 ^ 8
   pub kind_fits : frame.kind < 2 ^ 8
   pub client_fits : IsU32 frame.client
   pub number_fits : frame.number < 2 ^ 64
-  pub body_fits : length frame.body ≤ body_limit
+  pub body_fits : length frame.body ≤ body_limit frame.version
   pub body_is_bytes : IsBytes frame.body
 
--- a frame that a stream may hold
+-- a frame that a stream may hold: its version is 1 or 2
 pub record IsReadable (frame : Frame) : Type 0 where
   pub is_frame : IsFrame frame
-  pub version_is : frame.version ≡ 1
+  pub version_is : IsVersion frame.version
 
 -- no frame's spelling is at the front
 abbrev pub BeginsNoFrame : List ℕ → Type 0
@@ -51,5 +52,5 @@ unfoldable pub why : List ℕ → Result Arrival FrameFault
 why rest =
     if length rest == 0 then Ok End
     else if nat_lt (length rest) header_size then Err Truncated
-    else if version_in rest == 1 then (if nat_lt body_limit (length_in rest) then Err TooLong else Err Truncated)
+    else if is_version (version_in rest) then (if nat_lt (body_limit (version_in rest)) (length_in rest) then Err TooLong else Err Truncated)
     else Err BadVersion

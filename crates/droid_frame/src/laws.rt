@@ -7,8 +7,8 @@ pub use droid_frame_bodies::laws::{spells_one_reply, spells_one_request};
 pub use droid_frame_values::laws::constants_are_the_limits;
 
 /// No spelling of a frame is a prefix of another frame's: where the spellings of two frames begin one
-/// input, the frames are equal, and so is what follows them. Nothing is said of a body of more than
-/// [`BODY_LIMIT`](crate::BODY_LIMIT) bytes.
+/// input, the frames are equal, and so is what follows them. Nothing is said of a body of more bytes than the
+/// [`body_limit`](crate::body_limit) of its version.
 pub fn one_frame_at_the_front()
     ensures { OneFrameAtTheFront }
 {}

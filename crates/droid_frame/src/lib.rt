@@ -17,9 +17,9 @@ pub use droid_frame_stream::{
     WriteFault, read_some, read_to_end, write_all,
 };
 pub use droid_frame_values::{
-    BODY_LIMIT, Blob, Criteria, Criterion, Filter, Frame, HashKind, HashValue, Limit, Method,
-    NUMBER_LIMIT, NodeKind, PART_LIMIT, PUID_LIMIT, PUIDS_LIMIT, Record, Refusal, Reply, Request,
-    Text, Texts, VERSION, mark,
+    Blob, Criteria, Criterion, Filter, Frame, HashKind, HashValue, Limit, Method, NUMBER_LIMIT,
+    NodeKind, PART_LIMIT, Record, Refusal, Reply, Request, Text, Texts, body_limit, is_version,
+    mark,
 };
 pub use replies::{reply_body, reply_body_len};
 pub use requests::request_frame;

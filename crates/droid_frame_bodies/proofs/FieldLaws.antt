@@ -45,6 +45,11 @@ pub if_some : {A : Type 0} (b : Bool) (x y : A) → cond b (Some x) None ≡ Som
 if_some true x y e = (refl, cc)
 if_some false x y e = absurd cc
 
+-- what is there only where a test holds
+pub where_true : {A : Type 0} (b : Bool) (o : Option A) (x : A) → cond b o None ≡ Some x → (b ≡ true) × (o ≡ Some x)
+where_true true o x e = (refl, e)
+where_true false o x e = absurd cc
+
 by_test : {A : Type 0} {number n : ℕ} (b : Bool) → (b ≡ true → number ≡ n) → (P : ℕ → Type 0) (this others : Option A) (x : A) → (this ≡ Some x → P n) → (others ≡ Some x → P number) → cond b this others ≡ Some x → P number
 by_test true same P this others x one other e = subst P (sym (same refl)) (one e)
 by_test false same P this others x one other e = other e

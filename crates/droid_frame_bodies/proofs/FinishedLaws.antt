@@ -1,39 +1,17 @@
 -- What stands before the identifiers of a Finished: what is read is what is spelled, and what is
 -- spelled is read again.
-use Rattle.std.proofs.Common.{◌≡◌, ℕ, ◌^◌, ◌<◌, ◌≤◌, false, cond, ltb, List, ◌++◌, length, take, drop, Some, None, refl, sym, ap, subst, ◌∙◌, append_assoc, arith}
+use Rattle.std.proofs.Common.{◌≡◌, ℕ, ◌^◌, ◌<◌, ◌≤◌, false, cond, ltb, List, ◌++◌, Some, None, refl, sym, ap, subst, ◌∙◌, append_assoc, arith}
 use Rattle.std.specs.Int.{w16}
 use Rattle.std.proofs.lemmas.Bool.{ltb-false, le-ltb}
-use Rattle.std.proofs.lemmas.List.{take_at, drop_at, take-append-drop, length-append, length-take}
 use Rattle.droid_frame_bodies.specs.declared.replies.finished.FinishedHead.{FinishedHead}
 use Rattle.droid_frame_values.specs.Limits.{puids_limit}
 use Rattle.droid_frame_values.specs.Fields.{IsBytes, method_bytes, u16_bytes, truth_bytes}
 use Rattle.droid_frame_bodies.specs.fields.Reading.{◌>>=◌, number_at, truth_at, method_at}
-use Rattle.droid_frame_values.specs.Replies.{IsDigest}
-use Rattle.droid_frame_bodies.specs.replies.Values.{count_at, finished_head_at, md5_at}
-use Rattle.droid_frame_bodies.proofs.FieldLaws.{IsBytes-drop, IsBytes-take, IsField, IsFront, bind_some, method_field, some_is, truth_field, u16_field, unless_some}
-
--- ---- the digest
-
-abbrev itself : List ℕ → List ℕ
-itself md5 = md5
-
-md5_reads : (bytes : List ℕ) (x : List ℕ × List ℕ) → IsBytes bytes → md5_at bytes ≡ Some x → IsFront bytes (itself x.0) x.1 × IsDigest x.0
-unfolding md5_at
-md5_reads bytes x are e =
-    let long = unless_some (ltb (length bytes) 16) (take 16 bytes, drop 16 bytes) x e in
-    let enough : 16 ≤ length bytes = ltb-false _ _ long.0 in
-    let digest : IsDigest (take 16 bytes) = (omega (arith, length-take 16 bytes), IsBytes-take 16 bytes are) in
-    let front : IsFront bytes (take 16 bytes) (drop 16 bytes) = record { parts = sym (take-append-drop 16 bytes); bytes_follow = IsBytes-drop 16 bytes are } in
-    subst (λ (y : List ℕ × List ℕ). IsFront bytes (itself y.0) y.1 × IsDigest y.0) long.1 (front, digest)
-
-md5_again : (md5 rest : List ℕ) → IsDigest md5 → md5_at (itself md5 ++ rest) ≡ Some (md5, rest)
-unfolding md5_at
-md5_again md5 rest digest =
-    let long : ltb (length (md5 ++ rest)) 16 ≡ false = le-ltb _ _ (omega (arith, digest.0, length-append md5 rest)) in
-    rw (long, take_at md5 rest 16 digest.0, drop_at md5 rest 16 digest.0) refl
-
-pub md5_field : IsField md5_at itself IsDigest
-md5_field = record { reads = md5_reads; again = md5_again }
+use Rattle.droid_frame_values.specs.Replies.{IsSpelledHash, digest_bytes}
+use Rattle.droid_frame_bodies.specs.fields.Hashes.{digest_at}
+use Rattle.droid_frame_bodies.specs.replies.Values.{count_at, finished_head_at}
+use Rattle.droid_frame_bodies.proofs.FieldLaws.{IsField, IsFront, bind_some, method_field, some_is, truth_field, u16_field, unless_some}
+use Rattle.droid_frame_bodies.proofs.HashLaws.{digest_field}
 
 -- ---- how many identifiers follow
 
@@ -60,43 +38,43 @@ count_field = record { reads = count_reads; again = count_again }
 
 -- ---- all that stands before the identifiers
 
-abbrev pub head_bytes : FinishedHead → List ℕ
-head_bytes head = method_bytes head.method ++ (truth_bytes head.mismatch ++ (head.md5 ++ u16_bytes head.count))
+abbrev pub head_bytes : ℕ → FinishedHead → List ℕ
+head_bytes version head = method_bytes head.method ++ (truth_bytes head.mismatch ++ (digest_bytes version head.hash ++ u16_bytes head.count))
 
-abbrev pub HasHeadSpelling : FinishedHead → Type 0
-HasHeadSpelling head = IsDigest head.md5 × IsCount head.count
+abbrev pub HasHeadSpelling : ℕ → FinishedHead → Type 0
+HasHeadSpelling version head = IsSpelledHash version head.hash × IsCount head.count
 
-pub head_regroups : (head : FinishedHead) (rest : List ℕ) → head_bytes head ++ rest ≡ method_bytes head.method ++ (truth_bytes head.mismatch ++ (head.md5 ++ (u16_bytes head.count ++ rest)))
-head_regroups head rest = simp append_assoc
+pub head_regroups : (version : ℕ) (head : FinishedHead) (rest : List ℕ) → head_bytes version head ++ rest ≡ method_bytes head.method ++ (truth_bytes head.mismatch ++ (digest_bytes version head.hash ++ (u16_bytes head.count ++ rest)))
+head_regroups version head rest = simp append_assoc
 
-head_parts : (head : FinishedHead) (bytes a b c rest : List ℕ) → bytes ≡ method_bytes head.method ++ a → a ≡ truth_bytes head.mismatch ++ b → b ≡ head.md5 ++ c → c ≡ u16_bytes head.count ++ rest → bytes ≡ head_bytes head ++ rest
-head_parts head bytes a b c rest e f g h = rw (e, f, g, h) (sym (head_regroups head rest))
+head_parts : (version : ℕ) (head : FinishedHead) (bytes a b c rest : List ℕ) → bytes ≡ method_bytes head.method ++ a → a ≡ truth_bytes head.mismatch ++ b → b ≡ digest_bytes version head.hash ++ c → c ≡ u16_bytes head.count ++ rest → bytes ≡ head_bytes version head ++ rest
+head_parts version head bytes a b c rest e f g h = rw (e, f, g, h) (sym (head_regroups version head rest))
 
-head_reads : (bytes : List ℕ) (x : FinishedHead × List ℕ) → IsBytes bytes → finished_head_at bytes ≡ Some x → IsFront bytes (head_bytes x.0) x.1 × HasHeadSpelling x.0
+head_reads : (version : ℕ) (bytes : List ℕ) (x : FinishedHead × List ℕ) → IsBytes bytes → finished_head_at version bytes ≡ Some x → IsFront bytes (head_bytes version x.0) x.1 × HasHeadSpelling version x.0
 unfolding finished_head_at
-head_reads bytes x are e =
-    let method = bind_some (method_at bytes) (λ m. truth_at m.1 >>= λ t. md5_at t.1 >>= λ d. count_at d.1 >>= λ c. Some (record { method = m.0; mismatch = t.0; md5 = d.0; count = c.0 }, c.1)) x e in
+head_reads version bytes x are e =
+    let method = bind_some (method_at bytes) (λ m. truth_at m.1 >>= λ t. digest_at version t.1 >>= λ d. count_at d.1 >>= λ c. Some (record { method = m.0; mismatch = t.0; hash = d.0; count = c.0 }, c.1)) x e in
     let m = method.0 in
-    let mismatch = bind_some (truth_at m.1) (λ t. md5_at t.1 >>= λ d. count_at d.1 >>= λ c. Some (record { method = m.0; mismatch = t.0; md5 = d.0; count = c.0 }, c.1)) x method.2 in
+    let mismatch = bind_some (truth_at m.1) (λ t. digest_at version t.1 >>= λ d. count_at d.1 >>= λ c. Some (record { method = m.0; mismatch = t.0; hash = d.0; count = c.0 }, c.1)) x method.2 in
     let t = mismatch.0 in
-    let md5 = bind_some (md5_at t.1) (λ d. count_at d.1 >>= λ c. Some (record { method = m.0; mismatch = t.0; md5 = d.0; count = c.0 }, c.1)) x mismatch.2 in
-    let d = md5.0 in
-    let count = bind_some (count_at d.1) (λ c. Some (record { method = m.0; mismatch = t.0; md5 = d.0; count = c.0 }, c.1)) x md5.2 in
+    let hash = bind_some (digest_at version t.1) (λ d. count_at d.1 >>= λ c. Some (record { method = m.0; mismatch = t.0; hash = d.0; count = c.0 }, c.1)) x mismatch.2 in
+    let d = hash.0 in
+    let count = bind_some (count_at d.1) (λ c. Some (record { method = m.0; mismatch = t.0; hash = d.0; count = c.0 }, c.1)) x hash.2 in
     let c = count.0 in
     let m_front = method_field.reads bytes m are method.1 in
     let t_front = truth_field.reads m.1 t m_front.0.bytes_follow mismatch.1 in
-    let d_front = md5_field.reads t.1 d t_front.0.bytes_follow md5.1 in
+    let d_front = (digest_field version).reads t.1 d t_front.0.bytes_follow hash.1 in
     let c_front = count_field.reads d.1 c d_front.0.bytes_follow count.1 in
-    let head : FinishedHead = record { method = m.0; mismatch = t.0; md5 = d.0; count = c.0 } in
-    let joined : bytes ≡ head_bytes head ++ c.1 = head_parts head bytes m.1 t.1 d.1 c.1 m_front.0.parts t_front.0.parts d_front.0.parts c_front.0.parts in
-    let front : IsFront bytes (head_bytes head) c.1 = record { parts = joined; bytes_follow = c_front.0.bytes_follow } in
-    subst (λ (y : FinishedHead × List ℕ). IsFront bytes (head_bytes y.0) y.1 × HasHeadSpelling y.0) (some_is (head, c.1) x count.2) (front, (d_front.1, c_front.1))
+    let head : FinishedHead = record { method = m.0; mismatch = t.0; hash = d.0; count = c.0 } in
+    let joined : bytes ≡ head_bytes version head ++ c.1 = head_parts version head bytes m.1 t.1 d.1 c.1 m_front.0.parts t_front.0.parts d_front.0.parts c_front.0.parts in
+    let front : IsFront bytes (head_bytes version head) c.1 = record { parts = joined; bytes_follow = c_front.0.bytes_follow } in
+    subst (λ (y : FinishedHead × List ℕ). IsFront bytes (head_bytes version y.0) y.1 × HasHeadSpelling version y.0) (some_is (head, c.1) x count.2) (front, (d_front.1, c_front.1))
 
-head_again : (head : FinishedHead) (rest : List ℕ) → HasHeadSpelling head → finished_head_at (head_bytes head ++ rest) ≡ Some (head, rest)
+head_again : (version : ℕ) (head : FinishedHead) (rest : List ℕ) → HasHeadSpelling version head → finished_head_at version (head_bytes version head ++ rest) ≡ Some (head, rest)
 unfolding finished_head_at
-head_again head rest fits =
-    ap finished_head_at (head_regroups head rest)
-    ∙ rw (method_field.again head.method (truth_bytes head.mismatch ++ (head.md5 ++ (u16_bytes head.count ++ rest))) tt, truth_field.again head.mismatch (head.md5 ++ (u16_bytes head.count ++ rest)) tt, md5_field.again head.md5 (u16_bytes head.count ++ rest) fits.0, count_field.again head.count rest fits.1) refl
+head_again version head rest fits =
+    ap (finished_head_at version) (head_regroups version head rest)
+    ∙ rw (method_field.again head.method (truth_bytes head.mismatch ++ (digest_bytes version head.hash ++ (u16_bytes head.count ++ rest))) tt, truth_field.again head.mismatch (digest_bytes version head.hash ++ (u16_bytes head.count ++ rest)) tt, (digest_field version).again head.hash (u16_bytes head.count ++ rest) fits.0, count_field.again head.count rest fits.1) refl
 
-pub head_field : IsField finished_head_at head_bytes HasHeadSpelling
-head_field = record { reads = head_reads; again = head_again }
+pub head_field : (version : ℕ) → IsField (finished_head_at version) (head_bytes version) (HasHeadSpelling version)
+head_field version = record { reads = head_reads version; again = head_again version }

@@ -2,10 +2,11 @@ pub mod Answering
 pub mod FieldLaws
 pub mod FilterLaws
 pub mod FilterSteps
-pub mod FinishedComes
+pub mod FinishedAnswers
 pub mod FinishedLaws
+pub mod HashLaws
 pub mod NodeHeadLaws
-pub mod ReplyComes
+pub mod ReplyAnswers
 pub mod ReplyFieldLaws
 pub mod ReplyLaws
 pub mod RequestLaws

@@ -1,3 +1,4 @@
+pub mod Hashes
 pub mod Reading
 pub mod Sequences
 pub mod TextLists

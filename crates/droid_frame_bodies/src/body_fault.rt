@@ -7,7 +7,8 @@ use std::alloc::AllocError;
 /// Why a frame holds no request or no reply.
 #[derive(Clone, Copy, Debug, PartialEq, Eq)]
 pub enum BodyFault {
-    /// The kind is unknown, the body is outside the kind's grammar, or the number is too large.
+    /// The version or the kind is unknown, the body is outside the kind's grammar in that version, or the number is
+    /// too large.
     Malformed,
     /// Memory was refused.
     Memory,

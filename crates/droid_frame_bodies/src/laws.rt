@@ -5,12 +5,13 @@ ghost use Rattle.droid_frame_values.specs.Bodies.{SpellsRequest};
 ghost use Rattle.droid_frame_values.specs.declared.request.Request.{Request};
 ghost use Rattle.droid_frame_bodies.specs.replies.Results.{SpellsOneReply};
 
-/// A kind and a body spell at most one request.
+/// A version, a kind and a body spell at most one request.
 pub fn spells_one_request()
-    ensures { (kind : ℕ) (body : List ℕ) (one other : Request) → SpellsRequest kind body one → SpellsRequest kind body other → one ≡ other }
+    ensures { (version kind : ℕ) (body : List ℕ) (one other : Request)
+        → SpellsRequest version kind body one → SpellsRequest version kind body other → one ≡ other }
 {}
 
-/// A kind and a body spell at most one reply.
+/// A version, a kind and a body spell at most one reply.
 pub fn spells_one_reply()
     ensures { SpellsOneReply }
 {}

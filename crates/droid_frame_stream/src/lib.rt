@@ -16,7 +16,7 @@ mod writing;
 pub use fault::{InputFault, ReadFault, WriteFault};
 pub use input::read_to_end;
 pub use reading::{fill, read_some};
-pub use retries::{RETRY_LIMIT, Retries};
+pub use retries::Retries;
 pub use seen::{Condition, Seen};
 pub use steady::{SteadyRead, SteadyWrite};
 pub use unsteady::Unsteady;

@@ -4,7 +4,7 @@ use crate::interruptions::{Row, once_more};
 use crate::writers::{ended, interrupted, took};
 use droid_frame::{Arrival, Condition, Unsteady, WriteFault, read_frame, reply_of, write_reply};
 use droid_frame_shaky::{BYTE_BY_BYTE, Manner, NOWHERE, Place, STEADY, ShakyWriter, Stop};
-use droid_frame_vectors::{FINISHED, MADE, NODES_REACHED};
+use droid_frame_vectors::{FINISHED, FINISHED_WITH_SHA256, MADE, NODES_REACHED};
 use std::alloc::Global;
 use std::process::Abort;
 
@@ -17,9 +17,9 @@ fn written(
     let mut input = bytes;
     match read_frame(alloc, &mut input) {
         Ok(Arrival::Frame(frame)) => {
-            let (client, number) = (frame.client, frame.number);
+            let (version, client, number) = (frame.version, frame.client, frame.number);
             match reply_of(alloc, frame) {
-                Ok(reply) => Some(write_reply(client, number, &reply, writer)),
+                Ok(reply) => Some(write_reply(version, client, number, &reply, writer)),
                 Err(_) => None,
             }
         }
@@ -47,7 +47,7 @@ fn ends(
 // A writer that fails after so many bytes took exactly these, in the header, the fields and the list.
 #[test]
 fn writes_cut_short(rt: HostRuntime) {
-    for bytes in [MADE, FINISHED, NODES_REACHED] {
+    for bytes in [MADE, FINISHED, NODES_REACHED, FINISHED_WITH_SHA256] {
         for manner in [STEADY, BYTE_BY_BYTE] {
             assert_eq!(rt; wrong_room(rt.alloc(), bytes, manner), None, "{bytes:?}");
         }
@@ -74,11 +74,12 @@ const PART: &[u8] = &[
 
 /// A Finished and a Part with a list or bytes of their own, interrupted before the frame, behind the header, behind the
 /// first fields and in all of these.
-const REPLIES: [(&[u8], Row); 8] = [
+const REPLIES: [(&[u8], Row); 9] = [
     (FINISHED, ([(0, 64), NOWHERE, NOWHERE], 0)),
     (FINISHED, ([(18, 64), NOWHERE, NOWHERE], 18)),
     (FINISHED, ([(38, 64), NOWHERE, NOWHERE], 38)),
     (FINISHED, ([(0, 20), (18, 20), (38, 24)], 38)),
+    (FINISHED_WITH_SHA256, ([(0, 20), (18, 20), (55, 24)], 55)),
     (PART, ([(0, 64), NOWHERE, NOWHERE], 0)),
     (PART, ([(18, 64), NOWHERE, NOWHERE], 18)),
     (PART, ([(34, 64), NOWHERE, NOWHERE], 34)),

@@ -2,11 +2,9 @@
 
 use crate::interruptions::{Row, is_seen, once_more, with_places};
 use crate::writers::{ended, interrupted, took};
-use droid_frame::{BODY_LIMIT, Condition, FrameFault, Unsteady, WriteFault, write_frame};
+use droid_frame::{Condition, FrameFault, Unsteady, WriteFault, body_limit, write_frame};
 use droid_frame_shaky::{BYTE_BY_BYTE, Manner, NOWHERE, STEADY, ShakyReader, ShakyWriter, Stop};
-use droid_frame_vectors::{
-    FOLDER, VECTORS, Vector, body_of, comes, fault_of, frame, is_end, reader_of,
-};
+use droid_frame_vectors::{FOLDER, VECTORS, Vector, comes, fault_of, frame_of, is_end, reader_of};
 use std::alloc::Global;
 use std::process::Abort;
 use std::test::Fail;
@@ -122,8 +120,8 @@ fn ends(
     writer: ShakyWriter,
     wanted: Result<(), WriteFault>,
 ) -> Result<bool, Fail> {
-    let frame = frame(alloc, vector.kind, vector.number, body_of(vector.bytes))?;
-    if frame.body.len() > BODY_LIMIT {
+    let frame = frame_of(alloc, vector)?;
+    if frame.body.len() > body_limit(vector.version) {
         return Ok(false);
     }
     let mut writer = Unsteady::new(writer);

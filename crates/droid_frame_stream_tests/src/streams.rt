@@ -1,8 +1,8 @@
 //! Frames on streams: whole, in pieces, cut short, and with headers that are refused.
 
-use droid_frame::{Arrival, BODY_LIMIT, FrameFault, WriteFault, read_frame, write_frame};
+use droid_frame::{Arrival, FrameFault, WriteFault, body_limit, read_frame, write_frame};
 use droid_frame_shaky::{BYTE_BY_BYTE, Manner, STEADY};
-use droid_frame_vectors::{VECTORS, Vector, body_of, comes, fault_of, frame, is_end, reader_of};
+use droid_frame_vectors::{VECTORS, Vector, body_of, comes, fault_of, frame_of, is_end, reader_of};
 use std::alloc::Global;
 use std::process::Abort;
 use std::test::Fail;
@@ -66,14 +66,19 @@ fn each_in_turn(alloc: Global, stream: &[u8], vectors: &[Vector], manner: Manner
 
 /// Versions and lengths of bodies in headers, and what is wrong. The version comes before the length, and the end of
 /// the bytes before both.
-const REFUSED: [(u8, u32, FrameFault); 8] = [
+const REFUSED: [(u8, u32, FrameFault); 13] = [
     (1, 1_048_641, FrameFault::TooLong),
+    (1, 4_194_368, FrameFault::TooLong),
     (1, 0xffff_ffff, FrameFault::TooLong),
     (1, 1_048_640, FrameFault::Truncated),
+    (2, 1_048_641, FrameFault::Truncated),
+    (2, 4_194_368, FrameFault::Truncated),
+    (2, 4_194_369, FrameFault::TooLong),
+    (2, 0xffff_ffff, FrameFault::TooLong),
     (0, 1, FrameFault::BadVersion),
-    (2, 1, FrameFault::BadVersion),
+    (3, 1, FrameFault::BadVersion),
     (9, 0, FrameFault::BadVersion),
-    (2, 1_048_641, FrameFault::BadVersion),
+    (3, 4_194_369, FrameFault::BadVersion),
     (0, 0xffff_ffff, FrameFault::BadVersion),
 ];
 
@@ -101,7 +106,7 @@ fn each_refused(rt: &impl Abort, alloc: Global, refused: &[(u8, u32, FrameFault)
 // Only the header is read of a frame whose header is refused.
 #[test]
 fn read_no_further(rt: HostRuntime) -> Result<(), Fail> {
-    for (version, length) in [(2, 4), (1, 1_048_641)] {
+    for (version, length) in [(3, 4), (1, 1_048_641), (2, 4_194_369)] {
         let mut bytes = Vec::from_slice(rt.alloc(), &header(version, length))?;
         bytes.extend_from_slice(&[7; 40])?;
         let mut reader = reader_of(bytes.as_slice(), STEADY);
@@ -109,6 +114,33 @@ fn read_no_further(rt: HostRuntime) -> Result<(), Fail> {
         assert!(rt; reader.stream.left() == 40);
     }
     Ok(())
+}
+
+/// Versions, and as many bytes as a body of each may have.
+const LONGEST: [(u8, usize); 2] = [(1, 1_048_640), (2, 4_194_368)];
+
+// The longest body of each version comes whole, and one growth is all that it takes: where memory is refused, nothing
+// of the body was read.
+#[test]
+fn longest_bodies(rt: HostRuntime) -> Result<(), Fail> {
+    for (version, length) in LONGEST {
+        let mut bytes = Vec::from_slice(rt.alloc(), &header(version, length as u32))?;
+        bytes.resize(18 + length, 7)?;
+        assert!(rt;
+            longest_comes(rt.alloc(), bytes.as_slice(), length),
+            "{version}"
+        );
+    }
+    Ok(())
+}
+
+fn longest_comes(alloc: Global, bytes: &[u8], length: usize) -> bool {
+    let mut reader = reader_of(bytes, STEADY);
+    match read_frame(alloc, &mut reader) {
+        Ok(Arrival::Frame(frame)) => Some(frame.body.as_slice()) == bytes.get(18..),
+        Err(FrameFault::Memory) => reader.stream.left() == length,
+        _ => false,
+    }
 }
 
 // Asks again where memory was refused, so it passes whichever growth is refused. The header alone was read
@@ -143,9 +175,9 @@ fn written(
     vector: &Vector,
     room: usize,
 ) -> Result<(Result<(), WriteFault>, bool), Fail> {
-    let frame = frame(alloc, vector.kind, vector.number, body_of(vector.bytes))?;
+    let frame = frame_of(alloc, vector)?;
     let mut taken = vec![in alloc; 0u8; room]?;
-    if frame.body.len() > BODY_LIMIT {
+    if frame.body.len() > body_limit(vector.version) {
         return Err(Fail::from("the body is too long"));
     }
     let answer = write_frame(&frame, &mut taken.as_mut_slice());

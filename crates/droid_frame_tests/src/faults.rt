@@ -18,10 +18,13 @@ pub fn is_shown<T: Debug>(alloc: Global, value: &T, text: &str) -> Result<bool, 
 
 const FRAME_FAULTS: [(FrameFault, &str); 5] = [
     (FrameFault::Truncated, "the stream ends within a frame"),
-    (FrameFault::BadVersion, "the version of a frame isn't 1"),
+    (
+        FrameFault::BadVersion,
+        "the version of a frame is neither 1 nor 2",
+    ),
     (
         FrameFault::TooLong,
-        "the body of a frame is longer than 1,048,640 bytes",
+        "the body of a frame is longer than its version allows",
     ),
     (FrameFault::Memory, "memory was refused"),
     (FrameFault::Read, "the stream could not be read"),

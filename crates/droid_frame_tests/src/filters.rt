@@ -112,7 +112,7 @@ fn each_limit(
 ) -> Result<(), Fail> {
     for (count, texts, len, length) in rows {
         let request = export(alloc, *count, *texts, *len)?;
-        assert!(rt; request.body_len() == *length, "{count} {texts} {len}");
+        assert!(rt; request.body_len(1) == *length, "{count} {texts} {len}");
         assert!(rt;
             written(alloc, &request)? == *length,
             "{count} {texts} {len}"
@@ -123,10 +123,10 @@ fn each_limit(
 
 /// How long the body of the request's frame is, where the request fits and the frame is a request again.
 fn written(alloc: Global, request: &Request) -> Result<Option<usize>, AllocError> {
-    if !request.fits() {
+    if !request.fits(1) {
         return Ok(None);
     }
-    let frame = request_frame(alloc, 1, 9, request)?;
+    let frame = request_frame(alloc, 1, 1, 9, request)?;
     let length = frame.body.len();
     match request_of(alloc, frame) {
         Ok(_) => Ok(Some(length)),

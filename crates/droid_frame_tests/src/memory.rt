@@ -11,16 +11,18 @@ const EXPORT: [u8; 25] = [
     0, 0, 0, 1, 0, 0, 0, 0, 0, 0, 0, 9, 0, 0, 0, 1, 0, 1, 3, 2, 3, 0x6d, 0x73, 0x67, 0,
 ];
 
+const VERSION: u8 = 2;
+
 // By its extension, no mismatch, the MD5 of nothing, the formats `dev/4` and `a`; written out by hand.
-const FINISHED: [u8; 28] = [
-    2, 0, 0xd4, 0x1d, 0x8c, 0xd9, 0x8f, 0x00, 0xb2, 0x04, 0xe9, 0x80, 0x09, 0x98, 0xec, 0xf8, 0x42,
-    0x7e, 0, 2, 5, 0x64, 0x65, 0x76, 0x2f, 0x34, 1, 0x61,
+const FINISHED: [u8; 29] = [
+    2, 0, 1, 0xd4, 0x1d, 0x8c, 0xd9, 0x8f, 0x00, 0xb2, 0x04, 0xe9, 0x80, 0x09, 0x98, 0xec, 0xf8,
+    0x42, 0x7e, 0, 2, 5, 0x64, 0x65, 0x76, 0x2f, 0x34, 1, 0x61,
 ];
 
 fn frame_of(alloc: Global, kind: u8, body: &[u8]) -> Result<Frame, AllocError> {
-    match frame(alloc, kind, 9, body) {
+    match frame(alloc, VERSION, kind, 9, body) {
         Ok(made) => Ok(made),
-        Err(_) => frame(alloc, kind, 9, body),
+        Err(_) => frame(alloc, VERSION, kind, 9, body),
     }
 }
 
@@ -34,12 +36,12 @@ fn request(alloc: Global) -> Result<Request, Fail> {
 
 // Whether the request is written as these bytes.
 fn is_written(alloc: Global, request: &Request, body: &[u8]) -> Result<bool, AllocError> {
-    if !request.fits() {
+    if !request.fits(VERSION) {
         return Ok(false);
     }
-    let frame = match request_frame(alloc, 1, 9, request) {
+    let frame = match request_frame(alloc, VERSION, 1, 9, request) {
         Ok(frame) => frame,
-        Err(_) => request_frame(alloc, 1, 9, request)?,
+        Err(_) => request_frame(alloc, VERSION, 1, 9, request)?,
     };
     Ok(frame.body.as_slice() == body)
 }

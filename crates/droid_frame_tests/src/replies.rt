@@ -1,6 +1,7 @@
 //! Replies: bytes to values and values to bytes.
 
 ghost use Rattle.droid_frame.specs.Replies.{HasReplySpelling};
+ghost use Rattle.droid_frame.specs.Versions.{IsVersion};
 
 use crate::faults::is_shown;
 use droid_frame::{
@@ -8,7 +9,8 @@ use droid_frame::{
     reply_body, reply_of, write_reply,
 };
 use droid_frame_vectors::{
-    FINISHED, INCOMPLETE, MADE, MALFORMED, NODE, NODES_REACHED, NUMBER_REUSED, body_of,
+    BAD_OPTION_IN_TWO, FINISHED, FINISHED_WITH_MD5, FINISHED_WITH_NOTHING, FINISHED_WITH_SHA256,
+    INCOMPLETE, MADE, MADE_IN_TWO, MALFORMED, NODE, NODES_REACHED, NUMBER_REUSED, body_of,
 };
 use std::alloc::{AllocError, Global};
 use std::process::Abort;
@@ -29,45 +31,54 @@ fn read_and_written(alloc: Global, bytes: &[u8]) -> Result<Option<Reply>, Fail> 
 }
 
 fn written_again(alloc: Global, frame: Frame, bytes: &[u8]) -> Result<Option<Reply>, Fail> {
-    let (kind, client, number) = (frame.kind, frame.client, frame.number);
+    let (version, kind, client, number) = (frame.version, frame.kind, frame.client, frame.number);
     let Ok(reply) = reply_of(alloc, frame) else {
         return Ok(None);
     };
-    if reply.kind() != kind || !has_frame(alloc, client, number, &reply, bytes)? {
+    if reply.kind() != kind || !has_frame(alloc, version, client, number, &reply, bytes)? {
         return Ok(None);
     }
     let copy = reply.try_clone(alloc)?;
-    if !has_body(alloc, &copy, body_of(bytes))? {
+    if !has_body(alloc, version, &copy, body_of(bytes))? {
         return Ok(None);
     }
     Ok(Some(copy))
 }
 
-/// Whether these bytes are the frame of this client and number.
+/// Whether these bytes are the frame of this version, client and number.
 fn has_frame(
     alloc: Global,
+    version: u8,
     client: u32,
     number: u64,
     reply: &Reply,
     bytes: &[u8],
 ) -> Result<bool, AllocError>
-    requires { HasReplySpelling reply.now }
+    requires version { IsVersion version }
+    requires spelling { HasReplySpelling version reply.now }
 {
     let mut written = vec![in alloc; 0u8; bytes.len()]?;
     let mut room = written.as_mut_slice();
-    let is_written = write_reply(client, number, reply, &mut room).is_ok() && room.is_empty();
+    let is_written = write_reply(version, client, number, reply, &mut room).is_ok()
+        && room.is_empty();
     Ok(is_written && written.as_slice() == bytes)
 }
 
-fn has_body(alloc: Global, reply: &Reply, body: &[u8]) -> Result<bool, AllocError>
-    requires { HasReplySpelling reply.now }
+fn has_body(alloc: Global, version: u8, reply: &Reply, body: &[u8]) -> Result<bool, AllocError>
+    requires version { IsVersion version }
+    requires spelling { HasReplySpelling version reply.now }
 {
-    Ok(reply_body(alloc, reply)?.as_slice() == body)
+    Ok(reply_body(alloc, version, reply)?.as_slice() == body)
 }
 
-/// The reply of a body of this kind, which is written again.
-pub fn reply_with(alloc: Global, kind: u8, body: &[u8]) -> Result<Option<Reply>, Fail> {
-    let mut bytes = Vec::from_slice(alloc, &[1, kind, 0, 0, 0, 1, 0, 0, 0, 0, 0, 0, 0, 1])?;
+/// The reply of a body of this version and kind, which is written again.
+pub fn reply_with(
+    alloc: Global,
+    version: u8,
+    kind: u8,
+    body: &[u8],
+) -> Result<Option<Reply>, Fail> {
+    let mut bytes = Vec::from_slice(alloc, &[version, kind, 0, 0, 0, 1, 0, 0, 0, 0, 0, 0, 0, 1])?;
     let length = u32::try_from(body.len()).unwrap_or(0);
     bytes.extend_from_slice(&length.to_be_bytes())?;
     bytes.extend_from_slice(body)?;
@@ -82,7 +93,7 @@ fn shows(alloc: Global, reply: Option<Reply>, shown: &str) -> Result<bool, Fail>
 }
 
 /// Whole frames, and what they are read as.
-const FRAMES: [(&[u8], &str); 7] = [
+const FRAMES: [(&[u8], &str); 12] = [
     (MADE, "Made { profile: 1 }"),
     (NODE, "Node { id: 1 }"),
     (NUMBER_REUSED, "Refused(NumberReused)"),
@@ -92,6 +103,20 @@ const FRAMES: [(&[u8], &str); 7] = [
     (
         FINISHED,
         "Finished { method: Extension, mismatch: false, hash: Md5([212, 29, 140, 217, 143, 0, 178, 4, 233, 128, 9, 152, 236, 248, 66, 126]), puids: Texts { items: [Text { text: \"dev/4\" }] } }",
+    ),
+    (MADE_IN_TWO, "Made { profile: 1 }"),
+    (BAD_OPTION_IN_TWO, "Refused(BadOption)"),
+    (
+        FINISHED_WITH_SHA256,
+        "Finished { method: Extension, mismatch: false, hash: Sha256([227, 176, 196, 66, 152, 252, 28, 20, 154, 251, 244, 200, 153, 111, 185, 36, 39, 174, 65, 228, 100, 155, 147, 76, 164, 149, 153, 27, 120, 82, 184, 85]), puids: Texts { items: [Text { text: \"dev/4\" }] } }",
+    ),
+    (
+        FINISHED_WITH_MD5,
+        "Finished { method: Extension, mismatch: false, hash: Md5([212, 29, 140, 217, 143, 0, 178, 4, 233, 128, 9, 152, 236, 248, 66, 126]), puids: Texts { items: [Text { text: \"dev/4\" }] } }",
+    ),
+    (
+        FINISHED_WITH_NOTHING,
+        "Finished { method: Extension, mismatch: false, hash: Nothing, puids: Texts { items: [Text { text: \"dev/4\" }] } }",
     ),
 ];
 
@@ -167,8 +192,10 @@ fn bodies(rt: HostRuntime) -> Result<(), Fail> {
 
 fn each_body(rt: &impl Abort, alloc: Global, rows: &[(u8, &[u8], &str)]) -> Result<(), Fail> {
     for (kind, body, shown) in rows {
-        let reply = reply_with(alloc, *kind, body)?;
-        assert!(rt; shows(alloc, reply, shown)?, "{shown}");
+        for version in [1, 2] {
+            let reply = reply_with(alloc, version, *kind, body)?;
+            assert!(rt; shows(alloc, reply, shown)?, "{version} {shown}");
+        }
     }
     Ok(())
 }

@@ -7,16 +7,16 @@ use std::alloc::Global;
 use std::process::Abort;
 use std::test::Fail;
 
-/// Whether the body is no reply of this kind.
-fn is_malformed(alloc: Global, kind: u8, body: &[u8]) -> Result<bool, Fail> {
-    let fault = reply_of(alloc, frame(alloc, kind, 1, body)?).err();
+/// Whether the body is no reply of this version and kind.
+fn is_malformed(alloc: Global, version: u8, kind: u8, body: &[u8]) -> Result<bool, Fail> {
+    let fault = reply_of(alloc, frame(alloc, version, kind, 1, body)?).err();
     Ok(fault == Some(BodyFault::Malformed))
 }
 
 /// How long a front of the body is that is a reply but isn't the whole body, where one is.
-fn shorter_reply(alloc: Global, kind: u8, body: &[u8]) -> Result<Option<usize>, Fail> {
+fn shorter_reply(alloc: Global, version: u8, kind: u8, body: &[u8]) -> Result<Option<usize>, Fail> {
     for less in 0..body.len() {
-        if !is_malformed(alloc, kind, &body[..less])? {
+        if !is_malformed(alloc, version, kind, &body[..less])? {
             return Ok(Some(less));
         }
     }
@@ -24,10 +24,10 @@ fn shorter_reply(alloc: Global, kind: u8, body: &[u8]) -> Result<Option<usize>, 
 }
 
 /// Whether the body with a byte more is no reply.
-fn longer_is_malformed(alloc: Global, kind: u8, body: &[u8]) -> Result<bool, Fail> {
+fn longer_is_malformed(alloc: Global, version: u8, kind: u8, body: &[u8]) -> Result<bool, Fail> {
     let mut more = Vec::from_slice(alloc, body)?;
     more.push(0)?;
-    is_malformed(alloc, kind, more.as_slice())
+    is_malformed(alloc, version, kind, more.as_slice())
 }
 
 /// Bodies of the kinds and numbers that no frame of `VECTORS` has.
@@ -42,30 +42,56 @@ const OTHERS: [(u8, &[u8]); 4] = [
 #[test]
 fn another_length(rt: HostRuntime) -> Result<(), Fail> {
     each_vector(&rt, rt.alloc(), &VECTORS)?;
-    each_other(&rt, rt.alloc(), &OTHERS)?;
-    assert_eq!(rt; shorter_reply(rt.alloc(), 135, &[0; 16])?, None);
+    for version in [1, 2] {
+        each_other(&rt, rt.alloc(), version, &OTHERS)?;
+        assert_eq!(rt; shorter_reply(rt.alloc(), version, 135, &[0; 16])?, None);
+    }
     Ok(())
 }
 
 fn each_vector(rt: &impl Abort, alloc: Global, vectors: &[Vector]) -> Result<(), Fail> {
     for vector in vectors {
         if vector.kind > 128 {
-            one_length(rt, alloc, vector.kind, body_of(vector.bytes))?;
+            one_length(
+                rt,
+                alloc,
+                vector.version,
+                vector.kind,
+                body_of(vector.bytes),
+            )?;
         }
     }
     Ok(())
 }
 
-fn each_other(rt: &impl Abort, alloc: Global, rows: &[(u8, &[u8])]) -> Result<(), Fail> {
+fn each_other(
+    rt: &impl Abort,
+    alloc: Global,
+    version: u8,
+    rows: &[(u8, &[u8])],
+) -> Result<(), Fail> {
     for (kind, body) in rows {
-        one_length(rt, alloc, *kind, body)?;
+        one_length(rt, alloc, version, *kind, body)?;
     }
     Ok(())
 }
 
-fn one_length(rt: &impl Abort, alloc: Global, kind: u8, body: &[u8]) -> Result<(), Fail> {
-    assert_eq!(rt; shorter_reply(alloc, kind, body)?, None, "{kind}");
-    assert!(rt; longer_is_malformed(alloc, kind, body)?, "{kind} and more");
+fn one_length(
+    rt: &impl Abort,
+    alloc: Global,
+    version: u8,
+    kind: u8,
+    body: &[u8],
+) -> Result<(), Fail> {
+    assert_eq!(rt;
+        shorter_reply(alloc, version, kind, body)?,
+        None,
+        "{version} {kind}"
+    );
+    assert!(rt;
+        longer_is_malformed(alloc, version, kind, body)?,
+        "{version} {kind} and more"
+    );
     Ok(())
 }
 
@@ -87,10 +113,66 @@ fn no_reply(rt: HostRuntime) -> Result<(), Fail> {
 
 fn each_malformed(rt: &impl Abort, alloc: Global, kind: u8, bodies: &[&[u8]]) -> Result<(), Fail> {
     for body in bodies {
-        assert!(rt; is_malformed(alloc, kind, body)?, "{kind} {body:?}");
+        for version in [1, 2] {
+            assert!(rt;
+                is_malformed(alloc, version, kind, body)?,
+                "{version} {kind} {body:?}"
+            );
+        }
     }
     Ok(())
 }
+
+// The replies of one version with another kind's hash, of a version that no frame has, or with a digest of another
+// length than the hash's.
+#[test]
+fn no_reply_in_this_version(rt: HostRuntime) -> Result<(), Fail> {
+    for (version, body) in &NO_FINISHED {
+        assert!(rt;
+            is_malformed(rt.alloc(), *version, 132, body)?,
+            "{version} {body:?}"
+        );
+    }
+    for version in [0, 3, 255] {
+        assert!(rt;
+            is_malformed(rt.alloc(), version, 129, &[0, 0, 0, 1])?,
+            "{version}"
+        );
+    }
+    Ok(())
+}
+
+const NO_FINISHED: [(u8, &[u8]); 8] = [
+    // no hash in version 1, and one in version 2 with no kind before it
+    (1, &[2, 0, 0, 0, 0]),
+    (1, &[2, 0, 0, 0]),
+    (
+        2,
+        &[2, 0, 7, 7, 7, 7, 7, 7, 7, 7, 7, 7, 7, 7, 7, 7, 7, 7, 0, 0],
+    ),
+    // a SHA-256 in version 1, and one of 31 bytes
+    (
+        1,
+        &[
+            2, 0, 2, 7, 7, 7, 7, 7, 7, 7, 7, 7, 7, 7, 7, 7, 7, 7, 7, 7, 7, 7, 7, 7, 7, 7, 7, 7, 7,
+            7, 7, 7, 7, 7, 7, 0, 0,
+        ],
+    ),
+    (
+        2,
+        &[
+            2, 0, 2, 7, 7, 7, 7, 7, 7, 7, 7, 7, 7, 7, 7, 7, 7, 7, 7, 7, 7, 7, 7, 7, 7, 7, 7, 7, 7,
+            7, 7, 7, 7, 7, 0, 0,
+        ],
+    ),
+    // hashes of no kind, and an MD5 of 15 bytes
+    (2, &[2, 0, 3, 0, 0]),
+    (2, &[2, 0, 255, 0, 0]),
+    (
+        2,
+        &[2, 0, 1, 7, 7, 7, 7, 7, 7, 7, 7, 7, 7, 7, 7, 7, 7, 7, 0, 0],
+    ),
+];
 
 /// A Finished: its first two bytes, how many identifiers it says it has, and those that it has, each so often.
 type Finished<'a> = (u8, u8, u16, &'a [u8], u16);
@@ -117,9 +199,12 @@ const FINISHED: [(Finished<'static>, bool); 15] = [
     ((1, 0, 4_097, &[1, b'x'], 4_097), false),
 ];
 
-fn body_of_finished(alloc: Global, row: &Finished<'_>) -> Result<Vec<u8>, Fail> {
+fn body_of_finished(alloc: Global, version: u8, row: &Finished<'_>) -> Result<Vec<u8>, Fail> {
     let (method, mismatch, count, puids, times) = *row;
     let mut body = Vec::from_slice(alloc, &[method, mismatch])?;
+    if version == 2 {
+        body.push(1)?;
+    }
     body.extend_from_slice(&MD5_OF_NOTHING)?;
     body.extend_from_slice(&count.to_be_bytes())?;
     for _ in 0..times {
@@ -130,45 +215,49 @@ fn body_of_finished(alloc: Global, row: &Finished<'_>) -> Result<Vec<u8>, Fail> 
 
 #[test]
 fn finished_bodies(rt: HostRuntime) -> Result<(), Fail> {
-    each_finished(&rt, rt.alloc(), &FINISHED)
+    each_finished(&rt, rt.alloc(), 1, &FINISHED)?;
+    each_finished(&rt, rt.alloc(), 2, &FINISHED)
 }
 
 fn each_finished(
     rt: &impl Abort,
     alloc: Global,
+    version: u8,
     rows: &[(Finished<'_>, bool)],
 ) -> Result<(), Fail> {
     for (row, is_reply) in rows {
-        let body = body_of_finished(alloc, row)?;
+        let body = body_of_finished(alloc, version, row)?;
         let holds = if *is_reply {
-            has_puids(alloc, body.as_slice(), row.2)?
+            has_puids(alloc, version, body.as_slice(), row.2)?
         } else {
-            is_malformed(alloc, 132, body.as_slice())?
+            is_malformed(alloc, version, 132, body.as_slice())?
         };
-        assert!(rt; holds, "{row:?}");
+        assert!(rt; holds, "{version} {row:?}");
     }
     Ok(())
 }
 
-fn has_puids(alloc: Global, body: &[u8], count: u16) -> Result<bool, Fail> {
-    match reply_with(alloc, 132, body)? {
+fn has_puids(alloc: Global, version: u8, body: &[u8], count: u16) -> Result<bool, Fail> {
+    match reply_with(alloc, version, 132, body)? {
         Some(Reply::Finished { puids, .. }) => Ok(puids.len() == usize::from(count)),
         _ => Ok(false),
     }
 }
 
-// The longest part, and one byte more.
+// The longest part, which is as long in both versions, and one byte more.
 #[test]
 fn parts(rt: HostRuntime) -> Result<(), Fail> {
-    assert!(rt; longest_is_part(rt.alloc())?);
     let longer = vec![in rt.alloc(); 7u8; 17 + PART_LIMIT]?;
-    assert!(rt; is_malformed(rt.alloc(), 135, longer.as_slice())?);
+    for version in [1, 2] {
+        assert!(rt; longest_is_part(rt.alloc(), version)?);
+        assert!(rt; is_malformed(rt.alloc(), version, 135, longer.as_slice())?);
+    }
     Ok(())
 }
 
-fn longest_is_part(alloc: Global) -> Result<bool, Fail> {
+fn longest_is_part(alloc: Global, version: u8) -> Result<bool, Fail> {
     let body = vec![in alloc; 7u8; 16 + PART_LIMIT]?;
-    match reply_with(alloc, 135, body.as_slice())? {
+    match reply_with(alloc, version, 135, body.as_slice())? {
         Some(Reply::Part { bytes, .. }) => Ok(bytes.len() == 1_048_576),
         _ => Ok(false),
     }

@@ -2,7 +2,7 @@
 
 use crate::faults::is_shown;
 use droid_frame::{
-    BodyFault, Frame, HashKind, NUMBER_LIMIT, Request, mark, request_frame, request_of,
+    Blob, BodyFault, Frame, HashKind, NUMBER_LIMIT, Request, mark, request_frame, request_of,
 };
 use droid_frame_vectors::frame;
 use std::alloc::Global;
@@ -83,30 +83,65 @@ const KINDS: [(u8, &[u8], &str); 9] = [
 // The same bytes are written again.
 #[test]
 fn kinds(rt: HostRuntime) -> Result<(), Fail> {
-    each_kind(&rt, rt.alloc(), &KINDS)
+    each_kind(&rt, rt.alloc(), 1, &KINDS)?;
+    each_kind(&rt, rt.alloc(), 2, &KINDS[1..])?;
+    each_kind(&rt, rt.alloc(), 2, &PROFILES_IN_TWO)
 }
 
-fn each_kind(rt: &impl Abort, alloc: Global, rows: &[(u8, &[u8], &str)]) -> Result<(), Fail> {
+/// Profiles of version 2: its body has one byte more.
+const PROFILES_IN_TWO: [(u8, &[u8], &str); 3] = [
+    (
+        1,
+        &[0, 1, 0, 0, 0, 0],
+        "CreateProfile { scan_limit: 65536, match_all: false, hash: Nothing }",
+    ),
+    (
+        1,
+        &[0, 1, 0, 0, 0, 1],
+        "CreateProfile { scan_limit: 65536, match_all: false, hash: Md5 }",
+    ),
+    (
+        1,
+        &[0, 1, 0, 0, 0, 2],
+        "CreateProfile { scan_limit: 65536, match_all: false, hash: Sha256 }",
+    ),
+];
+
+fn each_kind(
+    rt: &impl Abort,
+    alloc: Global,
+    version: u8,
+    rows: &[(u8, &[u8], &str)],
+) -> Result<(), Fail> {
     for (kind, body, shown) in rows {
-        assert!(rt; is_read_and_written(alloc, *kind, body, shown)?, "{shown}");
+        assert!(rt;
+            is_read_and_written(alloc, version, *kind, body, shown)?,
+            "{version} {shown}"
+        );
     }
     Ok(())
 }
 
 /// Whether the body is read as a request that is shown so, and that is written as this body again.
-fn is_read_and_written(alloc: Global, kind: u8, body: &[u8], shown: &str) -> Result<bool, Fail> {
-    let Ok(request) = request_of(alloc, frame(alloc, kind, 9, body)?) else {
+fn is_read_and_written(
+    alloc: Global,
+    version: u8,
+    kind: u8,
+    body: &[u8],
+    shown: &str,
+) -> Result<bool, Fail> {
+    let Ok(request) = request_of(alloc, frame(alloc, version, kind, 9, body)?) else {
         return Ok(false);
     };
-    if !request.fits() {
+    if !request.fits(version) {
         return Ok(false);
     }
-    let written = request_frame(alloc, 7, 1, &request)?;
-    Ok(is_of_client_7(&written, kind, body) && is_shown(alloc, &request, shown)?)
+    let written = request_frame(alloc, version, 7, 1, &request)?;
+    Ok(is_of_client_7(&written, version, kind, body) && is_shown(alloc, &request, shown)?)
 }
 
-fn is_of_client_7(frame: &Frame, kind: u8, body: &[u8]) -> bool {
-    (frame.version, frame.kind, frame.client, frame.number) == (1, kind, 7, 1)
+fn is_of_client_7(frame: &Frame, version: u8, kind: u8, body: &[u8]) -> bool {
+    (frame.version, frame.kind, frame.client, frame.number) == (version, kind, 7, 1)
         && frame.body.as_slice() == body
 }
 
@@ -118,7 +153,17 @@ fn marks(rt: HostRuntime) {
 
 /// Whether the body of this kind is no request under this number.
 pub fn is_malformed(alloc: Global, kind: u8, number: u64, body: &[u8]) -> Result<bool, Fail> {
-    let read = request_of(alloc, frame(alloc, kind, number, body)?);
+    is_malformed_in(alloc, 1, kind, number, body)
+}
+
+fn is_malformed_in(
+    alloc: Global,
+    version: u8,
+    kind: u8,
+    number: u64,
+    body: &[u8],
+) -> Result<bool, Fail> {
+    let read = request_of(alloc, frame(alloc, version, kind, number, body)?);
     Ok(matches!(read, Err(BodyFault::Malformed)))
 }
 
@@ -159,7 +204,39 @@ const MALFORMED: [(u8, u64, &[u8]); 13] = [
 #[test]
 fn malformed(rt: HostRuntime) -> Result<(), Fail> {
     each_short(&rt, rt.alloc(), &SHORT)?;
-    each_malformed(&rt, rt.alloc(), &MALFORMED)
+    each_malformed(&rt, rt.alloc(), 1, &MALFORMED)?;
+    each_malformed(&rt, rt.alloc(), 2, &MALFORMED[1..])?;
+    each_malformed(&rt, rt.alloc(), 2, &MALFORMED_IN_TWO)
+}
+
+/// In version 2: no byte for the hash, a byte more than that, and hashes of no kind.
+const MALFORMED_IN_TWO: [(u8, u64, &[u8]); 4] = [
+    (1, 1, &CREATE),
+    (1, 1, &[0, 1, 0, 0, 0, 1, 0]),
+    (1, 1, &[0, 1, 0, 0, 0, 3]),
+    (1, 1, &[0, 1, 0, 0, 0, 255]),
+];
+
+// A body that is a request in versions 1 and 2 is none in any other.
+#[test]
+fn other_versions(rt: HostRuntime) -> Result<(), Fail> {
+    for version in [0, 3, 9, 255] {
+        assert!(rt;
+            is_malformed_in(rt.alloc(), version, 5, 9, &OF_FILE)?,
+            "{version}"
+        );
+        assert!(rt;
+            is_malformed_in(rt.alloc(), version, 1, 9, &CREATE)?,
+            "{version}"
+        );
+    }
+    for version in [1, 2] {
+        assert!(rt;
+            !is_malformed_in(rt.alloc(), version, 5, 9, &OF_FILE)?,
+            "{version}"
+        );
+    }
+    Ok(())
 }
 
 fn each_short(rt: &impl Abort, alloc: Global, rows: &[(u8, &[u8], usize)]) -> Result<(), Fail> {
@@ -170,11 +247,16 @@ fn each_short(rt: &impl Abort, alloc: Global, rows: &[(u8, &[u8], usize)]) -> Re
     Ok(())
 }
 
-fn each_malformed(rt: &impl Abort, alloc: Global, rows: &[(u8, u64, &[u8])]) -> Result<(), Fail> {
+fn each_malformed(
+    rt: &impl Abort,
+    alloc: Global,
+    version: u8,
+    rows: &[(u8, u64, &[u8])],
+) -> Result<(), Fail> {
     for (kind, number, body) in rows {
         assert!(rt;
-            is_malformed(alloc, *kind, *number, body)?,
-            "{kind} {body:?}"
+            is_malformed_in(alloc, version, *kind, *number, body)?,
+            "{version} {kind} {body:?}"
         );
     }
     Ok(())
@@ -197,25 +279,66 @@ fn well_formed_at_the_ends(rt: HostRuntime) -> Result<(), Fail> {
 fn each_shortest(rt: &impl Abort, alloc: Global, rows: &[(u8, &[u8], usize)]) -> Result<(), Fail> {
     for (kind, body, count) in rows {
         let front = &body[..body.len().min(*count)];
-        let frame = frame(alloc, *kind, NUMBER_LIMIT - 1, front)?;
+        let frame = frame(alloc, 1, *kind, NUMBER_LIMIT - 1, front)?;
         assert!(rt; request_of(alloc, frame).is_ok(), "{kind}");
     }
     Ok(())
 }
 
+/// The hashes, and in which of the versions 0 to 3 a profile with one can be asked for.
+const HASHES: [(HashKind, [bool; 4]); 3] = [
+    (HashKind::Nothing, [false, false, true, false]),
+    (HashKind::Md5, [false, true, true, false]),
+    (HashKind::Sha256, [false, false, true, false]),
+];
+
 #[test]
 fn hashes_that_fit(rt: HostRuntime) {
-    let rows = [
-        (HashKind::Nothing, false),
-        (HashKind::Md5, true),
-        (HashKind::Sha256, false),
-    ];
+    each_hash(&rt, &HASHES);
+}
+
+fn each_hash(rt: &impl Abort, rows: &[(HashKind, [bool; 4])]) {
     for (hash, wanted) in rows {
         let request = Request::CreateProfile {
             scan_limit: 65_536,
             match_all: false,
-            hash,
+            hash: *hash,
         };
-        assert!(rt; request.fits() == wanted);
+        let fits = [
+            request.fits(0),
+            request.fits(1),
+            request.fits(2),
+            request.fits(3),
+        ];
+        assert!(rt; fits == *wanted, "{hash:?}");
     }
+}
+
+/// How many bytes a piece has, and whether it can be sent in version 1 and in version 2: with the longest of each, a body
+/// has as many bytes as it may.
+const PIECES: [(usize, bool, bool); 5] = [
+    (1_048_576, true, true),
+    (1_048_628, true, true),
+    (1_048_629, false, true),
+    (4_194_356, false, true),
+    (4_194_357, false, false),
+];
+
+#[test]
+fn pieces_that_fit(rt: HostRuntime) -> Result<(), Fail> {
+    each_piece(&rt, rt.alloc(), &PIECES)
+}
+
+fn each_piece(rt: &impl Abort, alloc: Global, rows: &[(usize, bool, bool)]) -> Result<(), Fail> {
+    for (size, first, second) in rows {
+        let request = Request::Piece {
+            profile: 1,
+            file: 1,
+            index: 0,
+            bytes: Blob::from(vec![in alloc; 7u8; *size]?),
+        };
+        let fits = (request.fits(1), request.fits(2));
+        assert!(rt; fits == (*first, *second), "{size}");
+    }
+    Ok(())
 }

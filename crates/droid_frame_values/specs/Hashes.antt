@@ -1,5 +1,5 @@
 -- The hash that a profile's files get, by its kind: none, MD5 (RFC 1321) or SHA-256 (FIPS 180-4).
-use Rattle.std.specs.Prelude.{◌≡◌, ℕ, List, [], length}
+use Rattle.std.specs.Prelude.{◌≡◌, ℕ, ◌==◌, if◌then◌else◌, List, [], ◌∷◌, length, MatchBool}
 use Rattle.md5.specs.Md5.{md5}
 use Rattle.sha2.specs.Sha256.{sha256}
 use Rattle.droid_frame_values.specs.Fields.{IsBytes}
@@ -13,6 +13,18 @@ abbrev pub hash_kind_number : HashKind → ℕ
 hash_kind_number kinds.Nothing = 0
 hash_kind_number kinds.Md5 = 1
 hash_kind_number kinds.Sha256 = 2
+
+-- a kind is one byte, 0 to 2
+abbrev pub hash_kind_bytes : HashKind → List ℕ
+hash_kind_bytes kind = hash_kind_number kind ∷ []
+
+-- the kind of a hash in a body: version 1 has no field for it
+abbrev pub hash_field : ℕ → HashKind → List ℕ
+hash_field version kind = if version == 1 then [] else hash_kind_bytes kind
+
+-- version 1 tells of MD5 alone, and version 2 of each kind
+abbrev pub TellsHash : ℕ → HashKind → Type 0
+TellsHash version kind = MatchBool (version == 1) (kind ≡ kinds.Md5) (Unit {0})
 
 -- which hash a value is of
 abbrev pub hash_value_kind : HashValue → HashKind

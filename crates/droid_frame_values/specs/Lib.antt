@@ -9,3 +9,4 @@ pub mod Refusals
 pub mod Replies
 pub mod Sequences
 pub mod TextLists
+pub mod Versions

@@ -1,9 +1,9 @@
 -- The limits of frames, requests and replies (this project's own).
-use Rattle.std.specs.Prelude.{ℕ}
+use Rattle.std.specs.Prelude.{ℕ, ◌==◌, if◌then◌else◌}
 
--- how many bytes the body of a frame has at most
-abbrev pub body_limit : ℕ
-body_limit = 1048640
+-- how many bytes the body of a frame of this version has at most
+abbrev pub body_limit : ℕ → ℕ
+body_limit version = if version == 1 then 1048640 else 4194368
 
 -- how many criteria a filter has at most, how many texts a list, and how many bytes each of these
 abbrev pub count_limit : ℕ

@@ -1,17 +1,17 @@
--- The grammar of replies: which kind and bytes spell which reply (this project's own).
+-- The grammar of replies: which version, kind and bytes spell which reply (this project's own).
 use Rattle.std.specs.Prelude.{◌≡◌, ℕ, ◌≤◌, List, [], ◌∷◌, ◌++◌, length}
 use Rattle.std.specs.List.{AllByRecursion}
 use Rattle.droid_frame_values.specs.declared.hash_value.HashValue.{HashValue}
-use Rattle.droid_frame_values.specs.declared.hash_value.HashValue.TheVariants as values
 use Rattle.droid_frame_values.specs.declared.refusal.Refusal.{Refusal}
 use Rattle.droid_frame_values.specs.declared.refusal.Refusal.TheVariants as refusals
-use Rattle.droid_frame_values.specs.Hashes.{hash_bytes}
+use Rattle.droid_frame_values.specs.Hashes.{IsHashValue, TellsHash, hash_bytes, hash_field, hash_value_kind}
 use Rattle.droid_frame_values.specs.Limits.{puids_limit, puid_limit, part_limit}
 use Rattle.droid_frame_values.specs.declared.reply.Reply.{Reply}
 use Rattle.droid_frame_values.specs.declared.reply.Reply.TheVariants.{Made, Node, Taken, Finished, Abandoned, Progress, Part, Refused}
 use Rattle.droid_frame_values.specs.Fields.{IsBytes, u16_bytes, u32_bytes, u64_bytes, truth_bytes, method_bytes, IsU32, IsU64}
 use Rattle.droid_frame_values.specs.Refusals.{refusal_number, limit_number}
 use Rattle.droid_frame_values.specs.TextLists.{texts_bytes, IsSizedText}
+use Rattle.droid_frame_values.specs.Versions.{IsVersion}
 
 -- the kind of a reply
 abbrev pub reply_kind : Reply → ℕ
@@ -34,17 +34,21 @@ refusal_detail _ = []
 abbrev pub refusal_bytes : Refusal → List ℕ
 refusal_bytes refusal = refusal_number refusal ∷ refusal_detail refusal
 
+-- the kind of a hash, where the version has a field for it, and its digest
+abbrev pub digest_bytes : ℕ → HashValue → List ℕ
+digest_bytes version hash = hash_field version (hash_value_kind hash) ++ hash_bytes hash
+
 -- the fields of a reply, one after the other; the bytes of a part run to the end
-abbrev pub reply_bytes : Reply → List ℕ
-reply_bytes (Made profile) = u32_bytes profile
-reply_bytes (Node id) = u32_bytes id
-reply_bytes (Taken held) = u32_bytes held
-reply_bytes (Finished method mismatch hash puids) =
-    method_bytes method ++ (truth_bytes mismatch ++ (hash_bytes hash ++ (u16_bytes (length puids) ++ texts_bytes puids)))
-reply_bytes Abandoned = []
-reply_bytes (Progress held missing) = u32_bytes held ++ u32_bytes missing
-reply_bytes (Part as_of total bytes) = u64_bytes as_of ++ (u64_bytes total ++ bytes)
-reply_bytes (Refused refusal) = refusal_bytes refusal
+abbrev pub reply_bytes : ℕ → Reply → List ℕ
+reply_bytes version (Made profile) = u32_bytes profile
+reply_bytes version (Node id) = u32_bytes id
+reply_bytes version (Taken held) = u32_bytes held
+reply_bytes version (Finished method mismatch hash puids) =
+    method_bytes method ++ (truth_bytes mismatch ++ (digest_bytes version hash ++ (u16_bytes (length puids) ++ texts_bytes puids)))
+reply_bytes version Abandoned = []
+reply_bytes version (Progress held missing) = u32_bytes held ++ u32_bytes missing
+reply_bytes version (Part as_of total bytes) = u64_bytes as_of ++ (u64_bytes total ++ bytes)
+reply_bytes version (Refused refusal) = refusal_bytes refusal
 
 -- the missing index is in its field's range
 abbrev pub HasRefusalSpelling : Refusal → Type 0
@@ -52,33 +56,29 @@ HasRefusalSpelling (refusals.TooFarAhead missing) = IsU32 missing
 HasRefusalSpelling (refusals.Incomplete missing) = IsU32 missing
 HasRefusalSpelling _ = Unit {0}
 
--- a digest has 16 bytes
-abbrev pub IsDigest : List ℕ → Type 0
-IsDigest md5 = (length md5 ≡ 16) × IsBytes md5
-
--- a hash that a Finished can tell: an MD5
-abbrev pub IsSpelledHash : HashValue → Type 0
-IsSpelledHash (values.Md5 digest) = IsDigest digest
-IsSpelledHash _ = ⊥
+-- a hash that a Finished can tell: its version tells of the kind, and the digest is as long as one of it
+abbrev pub IsSpelledHash : ℕ → HashValue → Type 0
+IsSpelledHash version hash = TellsHash version (hash_value_kind hash) × IsHashValue hash
 
 -- the identifier of a format: UTF-8, of 1 to 32 bytes
 abbrev pub IsPuidText : List ℕ → Type 0
 IsPuidText puid = IsSizedText 1 puid_limit puid
 
 -- each number is in its field's range, and each list within its limit
-abbrev pub HasReplySpelling : Reply → Type 0
-HasReplySpelling (Made profile) = IsU32 profile
-HasReplySpelling (Node id) = IsU32 id
-HasReplySpelling (Taken held) = IsU32 held
-HasReplySpelling (Finished method mismatch hash puids) =
-    IsSpelledHash hash × (length puids ≤ puids_limit) × AllByRecursion IsPuidText puids
-HasReplySpelling Abandoned = Unit {0}
-HasReplySpelling (Progress held missing) = IsU32 held × IsU32 missing
-HasReplySpelling (Part as_of total bytes) = IsU64 as_of × IsU64 total × (length bytes ≤ part_limit) × IsBytes bytes
-HasReplySpelling (Refused refusal) = HasRefusalSpelling refusal
+abbrev pub HasReplySpelling : ℕ → Reply → Type 0
+HasReplySpelling version (Made profile) = IsU32 profile
+HasReplySpelling version (Node id) = IsU32 id
+HasReplySpelling version (Taken held) = IsU32 held
+HasReplySpelling version (Finished method mismatch hash puids) =
+    IsSpelledHash version hash × (length puids ≤ puids_limit) × AllByRecursion IsPuidText puids
+HasReplySpelling version Abandoned = Unit {0}
+HasReplySpelling version (Progress held missing) = IsU32 held × IsU32 missing
+HasReplySpelling version (Part as_of total bytes) = IsU64 as_of × IsU64 total × (length bytes ≤ part_limit) × IsBytes bytes
+HasReplySpelling version (Refused refusal) = HasRefusalSpelling refusal
 
--- the kind and the body spell the reply: every byte of the body is used
-pub record SpellsReply (kind : ℕ) (body : List ℕ) (reply : Reply) : Type 0 where
+-- in this version the kind and the body spell the reply: every byte of the body is used
+pub record SpellsReply (version kind : ℕ) (body : List ℕ) (reply : Reply) : Type 0 where
+  pub version_is : IsVersion version
   pub kind_is : kind ≡ reply_kind reply
-  pub body_is : body ≡ reply_bytes reply
-  pub has_spelling : HasReplySpelling reply
+  pub body_is : body ≡ reply_bytes version reply
+  pub has_spelling : HasReplySpelling version reply

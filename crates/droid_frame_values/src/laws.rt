@@ -1,16 +1,14 @@
 //! Laws of the values: each stands on a function that does nothing, and is proved with it.
 
 ghost use Rattle.std.specs.Prelude.{◌≡◌, ◌^◌};
-ghost use Rattle.droid_frame_values.specs.Limits.{body_limit, part_limit, puid_limit, puids_limit};
+ghost use Rattle.droid_frame_values.specs.Limits.{part_limit, puid_limit, puids_limit};
 
-use crate::frame::{BODY_LIMIT, NUMBER_LIMIT, VERSION};
+use crate::frame::NUMBER_LIMIT;
 use crate::reply::{PART_LIMIT, PUID_LIMIT, PUIDS_LIMIT};
 
 /// The constants are the numbers of the definitions.
 pub fn constants_are_the_limits()
-    ensures body { BODY_LIMIT ≡ body_limit }
     ensures number { NUMBER_LIMIT ≡ 2 ^ 63 }
-    ensures version { VERSION ≡ 1 }
     ensures puids { PUIDS_LIMIT ≡ puids_limit }
     ensures puid { PUID_LIMIT ≡ puid_limit }
     ensures part { PART_LIMIT ≡ part_limit }

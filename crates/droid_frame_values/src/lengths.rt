@@ -1,52 +1,62 @@
 //! How long bodies are.
 
-ghost use Rattle.std.specs.Prelude.{◌≡◌, ◌≢◌, ◌↔◌, ◌<◌, ◌≤◌, ◌+◌, IsTrue, MatchOption, length};
+ghost use Rattle.std.specs.Prelude.{◌≡◌, ◌↔◌, ◌<◌, ◌≤◌, ◌+◌, ◌++◌, Bool, IsTrue, MatchOption, length};
 ghost use Rattle.droid_frame_values.specs.Bodies.{Fits, request_body};
 ghost use Rattle.droid_frame_values.specs.Filters.{ListFits, CriterionFits, FilterFits, list_bytes, criterion_bytes, filter_bytes};
-ghost use Rattle.droid_frame_values.specs.Limits.{body_limit};
-ghost use Rattle.droid_frame_values.specs.declared.hash_kind.HashKind.TheVariants as kinds;
+ghost use Rattle.droid_frame_values.specs.Fields.{truth_bytes};
+ghost use Rattle.droid_frame_values.specs.Hashes.{TellsHash, hash_field};
 
 use crate::criterion::Criterion;
 use crate::filter::Filter;
-use crate::frame::BODY_LIMIT;
 use crate::hash_kind::HashKind;
 use crate::request::Request;
 use crate::texts::Texts;
+use crate::versions::{body_limit, is_version};
 
 /// How many criteria a filter has at most, how many texts a list, and how many bytes each of these.
 const COUNT_LIMIT: usize = 255;
 
 impl Request {
-    /// Whether the request is short enough to be sent: its body has at most [`BODY_LIMIT`] bytes, a
-    /// filter at most 255 criteria, each list of a criterion at most 255 texts, and each of these at
-    /// most 255 bytes; and whether a profile's hash is MD5. It takes no memory.
-    pub fn fits(&self) -> bool
-        ensures { IsTrue result ↔ Fits self.now }
+    /// Whether the request can be sent in a frame of this version: its body has at most [`body_limit`] bytes, a
+    /// filter at most 255 criteria, each list of a criterion at most 255 texts, and each of these at most 255
+    /// bytes; and in version 1 a profile's hash is MD5. In a version that no frame has, none can be sent. It takes
+    /// no memory.
+    pub fn fits(&self, version: u8) -> bool
+        ensures { IsTrue result ↔ Fits version self.now }
     {
-        self.body_len().is_some()
+        self.body_len(version).is_some()
     }
 
-    /// How many bytes the request's body has, or `None` where it doesn't fit.
-    pub fn body_len(&self) -> Option<usize>
-        ensures { MatchOption result (¬ Fits self.now) (λ len. Fits self.now × (len ≡ length (request_body self.now))) }
+    /// How many bytes the request's body has in this version, or `None` where it doesn't fit.
+    pub fn body_len(&self, version: u8) -> Option<usize>
+        ensures { MatchOption result (¬ Fits version self.now)
+            (λ len. Fits version self.now × (len ≡ length (request_body version self.now))) }
     {
+        if !is_version(version) {
+            return None;
+        }
+        let limit = body_limit(version);
         match self {
-            Request::CreateProfile { hash, .. } => options_len(*hash),
-            Request::AddFolder { name, .. } => len_with(16, name.len()),
-            Request::AddFile { name, .. } => len_with(28, name.len()),
-            Request::Piece { bytes, .. } => len_with(12, bytes.len()),
+            Request::CreateProfile { hash, .. } => options_len(version, *hash),
+            Request::AddFolder { name, .. } => len_with(limit, 16, name.len()),
+            Request::AddFile { name, .. } => len_with(limit, 28, name.len()),
+            Request::Piece { bytes, .. } => len_with(limit, 12, bytes.len()),
             Request::Finish { .. } => Some(8),
             Request::Abandon { .. } => Some(8),
             Request::Status { .. } => Some(8),
-            Request::Export { filter, .. } => len_with(16, filter_len(filter)?),
+            Request::Export { filter, .. } => len_with(limit, 16, filter_len(filter)?),
         }
     }
 }
 
-/// The length of the body of a profile's options, which names no hash.
-fn options_len(hash: HashKind) -> Option<usize>
-    ensures { MatchOption result (hash ≢ kinds.Md5) (λ len. (hash ≡ kinds.Md5) × (len ≡ 5)) }
+/// The length of the body of a profile's options, or `None` where the version doesn't tell of the hash.
+fn options_len(version: u8, hash: HashKind) -> Option<usize>
+    ensures { MatchOption result (¬ TellsHash version hash)
+        (λ len. TellsHash version hash × ((match_all : Bool) → len ≡ 4 + length (truth_bytes match_all ++ hash_field version hash))) }
 {
+    if version != 1 {
+        return Some(6);
+    }
     match hash {
         HashKind::Nothing => None,
         HashKind::Md5 => Some(5),
@@ -55,11 +65,11 @@ fn options_len(hash: HashKind) -> Option<usize>
 }
 
 /// The length of a body whose first fields have so many bytes, and the rest so many.
-fn len_with(fields: usize, rest: usize) -> Option<usize>
-    requires { fields ≤ body_limit }
-    ensures { MatchOption result (body_limit < fields + rest) (λ len. (len ≡ fields + rest) × (len ≤ body_limit)) }
+fn len_with(limit: usize, fields: usize, rest: usize) -> Option<usize>
+    requires { fields ≤ limit }
+    ensures { MatchOption result (limit < fields + rest) (λ len. (len ≡ fields + rest) × (len ≤ limit)) }
 {
-    if rest > BODY_LIMIT - fields {
+    if rest > limit - fields {
         return None;
     }
     Some(fields + rest)

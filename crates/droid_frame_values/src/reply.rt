@@ -43,7 +43,7 @@ pub enum Reply {
         method: Method,
         /// Whether the file's extension is none of its formats'.
         mismatch: bool,
-        /// The hash of the file's bytes. A frame can tell an MD5 alone.
+        /// The hash of the file's bytes. A frame of version 1 can tell an MD5 alone.
         hash: HashValue,
         /// The identifiers of the formats, in the registry's order: at most [`PUIDS_LIMIT`], each of 1
         /// to [`PUID_LIMIT`] bytes.

@@ -8,7 +8,7 @@ use crate::filter::Filter;
 use crate::hash_kind::HashKind;
 use crate::text::Text;
 
-/// One request, as a frame's kind and body spell it.
+/// One request, as a frame's version, kind and body spell it.
 #[derive(Debug, Drop)]
 pub enum Request {
     /// Make a profile.
@@ -17,7 +17,7 @@ pub enum Request {
         scan_limit: u32,
         /// Whether a format with signatures may be found by its extension too.
         match_all: bool,
-        /// Which hash its files get. A frame can ask for MD5 alone.
+        /// Which hash its files get. A frame of version 1 can ask for MD5 alone.
         hash: HashKind,
     },
     /// Add a folder to a profile.
@@ -41,7 +41,7 @@ pub enum Request {
         modified: i64,
         /// How many bytes the file has.
         size: u64,
-        /// How many bytes each piece but the last has: 1 to 1,048,576.
+        /// How many bytes each piece but the last has: 1 to 1,048,576, and in version 2 to 4,194,304.
         piece_size: u32,
         /// The file's own name, without its path.
         name: Text,

@@ -29,6 +29,7 @@ pub fn comes<R: SteadyRead>(alloc: Global, reader: &mut R, vector: &Vector) -> b
 }
 
 fn is_frame(frame: &Frame, vector: &Vector) -> bool {
-    (frame.version, frame.kind, frame.client, frame.number) == (1, vector.kind, 1, vector.number)
+    (frame.version, frame.kind, frame.client, frame.number)
+        == (vector.version, vector.kind, 1, vector.number)
         && frame.body.as_slice() == body_of(vector.bytes)
 }

@@ -1,6 +1,6 @@
 //! Frames whose bytes are written out.
 
-use droid_frame::{Blob, Frame, VERSION};
+use droid_frame::{Blob, Frame};
 use std::alloc::{AllocError, Global};
 
 /// How many bytes a header has.
@@ -41,6 +41,7 @@ pub const NODES_REACHED: &[u8] = &[
 
 /// The request for the folder `in`.
 pub const FOLDER: Vector = Vector {
+    version: 1,
     kind: 2,
     number: 2,
     bytes: &[
@@ -49,18 +50,50 @@ pub const FOLDER: Vector = Vector {
     ],
 };
 
-/// A frame as bytes, with its kind and number; its client is 1.
+/// The reply to the end of an empty file whose profile asks for SHA-256 (FIPS 180-4, of no bytes).
+pub const FINISHED_WITH_SHA256: &[u8] = &[
+    2, 0x84, 0, 0, 0, 1, 0, 0, 0, 0, 0, 0, 0, 3, 0, 0, 0, 0x2b, 2, 0, 2, 0xe3, 0xb0, 0xc4, 0x42,
+    0x98, 0xfc, 0x1c, 0x14, 0x9a, 0xfb, 0xf4, 0xc8, 0x99, 0x6f, 0xb9, 0x24, 0x27, 0xae, 0x41, 0xe4,
+    0x64, 0x9b, 0x93, 0x4c, 0xa4, 0x95, 0x99, 0x1b, 0x78, 0x52, 0xb8, 0x55, 0, 1, 5, 0x64, 0x65,
+    0x76, 0x2f, 0x34,
+];
+
+/// The same in version 2 where the profile asks for MD5.
+pub const FINISHED_WITH_MD5: &[u8] = &[
+    2, 0x84, 0, 0, 0, 1, 0, 0, 0, 0, 0, 0, 0, 3, 0, 0, 0, 0x1b, 2, 0, 1, 0xd4, 0x1d, 0x8c, 0xd9,
+    0x8f, 0, 0xb2, 0x04, 0xe9, 0x80, 0x09, 0x98, 0xec, 0xf8, 0x42, 0x7e, 0, 1, 5, 0x64, 0x65, 0x76,
+    0x2f, 0x34,
+];
+
+/// The same where it asks for no hash.
+pub const FINISHED_WITH_NOTHING: &[u8] = &[
+    2, 0x84, 0, 0, 0, 1, 0, 0, 0, 0, 0, 0, 0, 9, 0, 0, 0, 0x0b, 2, 0, 0, 0, 1, 5, 0x64, 0x65, 0x76,
+    0x2f, 0x34,
+];
+
+/// The reply of version 2 to the first request of a profile.
+pub const MADE_IN_TWO: &[u8] = &[
+    2, 0x81, 0, 0, 0, 1, 0, 0, 0, 0, 0, 0, 0, 1, 0, 0, 0, 4, 0, 0, 0, 1,
+];
+
+/// The refusal of version 2 of a piece's size.
+pub const BAD_OPTION_IN_TWO: &[u8] = &[2, 0x88, 0, 0, 0, 1, 0, 0, 0, 0, 0, 0, 0, 6, 0, 0, 0, 1, 10];
+
+/// A frame as bytes, with its version, kind and number; its client is 1.
 #[derive(Clone, Copy)]
 pub struct Vector {
+    pub version: u8,
     pub kind: u8,
     pub number: u64,
     pub bytes: &'static [u8],
 }
 
-/// The kinds and numbers are read off the bytes by hand: the second byte, and the eight from the seventh on.
-pub const VECTORS: [Vector; 11] = [
+/// The versions, kinds and numbers are read off the bytes by hand: the first byte, the second, and the eight from the
+/// seventh on.
+pub const VECTORS: [Vector; 18] = [
     // Make a profile.
     Vector {
+        version: 1,
         kind: 1,
         number: 1,
         bytes: &[
@@ -68,28 +101,33 @@ pub const VECTORS: [Vector; 11] = [
         ],
     },
     Vector {
+        version: 1,
         kind: 129,
         number: 1,
         bytes: MADE,
     },
     FOLDER,
     Vector {
+        version: 1,
         kind: 130,
         number: 2,
         bytes: NODE,
     },
     Vector {
+        version: 1,
         kind: 136,
         number: 2,
         bytes: NUMBER_REUSED,
     },
     Vector {
+        version: 1,
         kind: 132,
         number: 3,
         bytes: FINISHED,
     },
     // A frame whose body lacks a byte of its kind's, and its reply.
     Vector {
+        version: 1,
         kind: 5,
         number: 9,
         bytes: &[
@@ -97,22 +135,26 @@ pub const VECTORS: [Vector; 11] = [
         ],
     },
     Vector {
+        version: 1,
         kind: 136,
         number: 9,
         bytes: MALFORMED,
     },
     Vector {
+        version: 1,
         kind: 136,
         number: 9,
         bytes: INCOMPLETE,
     },
     Vector {
+        version: 1,
         kind: 136,
         number: 3,
         bytes: NODES_REACHED,
     },
     // Export the folders.
     Vector {
+        version: 1,
         kind: 8,
         number: 9,
         bytes: &[
@@ -120,12 +162,78 @@ pub const VECTORS: [Vector; 11] = [
             0, 0, 0, 0x10, 0, 0, 1, 1, 7, 1,
         ],
     },
+    // In version 2: make a profile with SHA-256, its reply, the ends of empty files, a refusal, and a file in pieces
+    // of 4,194,304 bytes.
+    Vector {
+        version: 2,
+        kind: 1,
+        number: 1,
+        bytes: &[
+            2, 1, 0, 0, 0, 1, 0, 0, 0, 0, 0, 0, 0, 1, 0, 0, 0, 6, 0, 1, 0, 0, 0, 2,
+        ],
+    },
+    Vector {
+        version: 2,
+        kind: 129,
+        number: 1,
+        bytes: MADE_IN_TWO,
+    },
+    Vector {
+        version: 2,
+        kind: 132,
+        number: 3,
+        bytes: FINISHED_WITH_SHA256,
+    },
+    Vector {
+        version: 2,
+        kind: 132,
+        number: 3,
+        bytes: FINISHED_WITH_MD5,
+    },
+    Vector {
+        version: 2,
+        kind: 132,
+        number: 9,
+        bytes: FINISHED_WITH_NOTHING,
+    },
+    Vector {
+        version: 2,
+        kind: 136,
+        number: 6,
+        bytes: BAD_OPTION_IN_TWO,
+    },
+    Vector {
+        version: 2,
+        kind: 3,
+        number: 5,
+        bytes: &[
+            2, 3, 0, 0, 0, 1, 0, 0, 0, 0, 0, 0, 0, 5, 0, 0, 0, 0x1d, 0, 0, 0, 1, 0, 0, 0, 0, 0, 0,
+            0, 0, 0, 0, 0, 0, 0, 0, 0, 0, 0, 0x40, 0, 0, 0, 0x40, 0, 0, 0x67,
+        ],
+    },
 ];
 
+/// The frame of a vector.
+pub fn frame_of(alloc: Global, vector: &Vector) -> Result<Frame, AllocError> {
+    frame(
+        alloc,
+        vector.version,
+        vector.kind,
+        vector.number,
+        body_of(vector.bytes),
+    )
+}
+
 /// A frame of client 1.
-pub fn frame(alloc: Global, kind: u8, number: u64, body: &[u8]) -> Result<Frame, AllocError> {
+pub fn frame(
+    alloc: Global,
+    version: u8,
+    kind: u8,
+    number: u64,
+    body: &[u8],
+) -> Result<Frame, AllocError> {
     Ok(Frame {
-        version: VERSION,
+        version,
         kind,
         client: 1,
         number,

@@ -5,26 +5,28 @@ mod small_bytes;
 
 ghost use Rattle.std.specs.Prelude.{◌≡◌, ◌≤◌, IfOk, length};
 ghost use Rattle.std.specs.List.{AllByRecursion};
-ghost use Rattle.droid_frame_values.specs.Limits.{body_limit, puids_limit};
+ghost use Rattle.droid_frame_values.specs.Limits.{puids_limit};
 ghost use Rattle.droid_frame_values.specs.Replies.{HasReplySpelling, IsPuidText, SpellsReply, reply_bytes, reply_kind};
 ghost use Rattle.droid_frame_values.specs.TextLists.{texts_bytes};
+ghost use Rattle.droid_frame_values.specs.Versions.{IsVersion};
 
 use crate::replies::parts::front_of;
 use crate::text_lists::append_texts;
 use droid_frame_values::{Blob, Reply, Texts};
 use std::alloc::{AllocError, Global};
 
-/// The body of a reply's frame: the one spelling that the reply has. Memory is taken once, for all of it,
-/// and only want of memory refuses it.
+/// The body of a reply's frame: the one spelling that the reply has in this version. Memory is taken once, for all
+/// of it, and only want of memory refuses it.
 ///
-/// A reply with more identifiers, a longer one or a longer part than a reply may have has no spelling, so
-/// the caller sees to that.
-pub fn reply_body(alloc: Global, reply: &Reply) -> Result<Blob, AllocError>
-    requires { HasReplySpelling reply.now }
-    ensures spells { IfOk result (λ body. SpellsReply (reply_kind reply.now) body reply.now) }
+/// A reply with more identifiers, a longer one or a longer part than a reply may have has no spelling, and in
+/// version 1 one with another hash than MD5 hasn't either, so the caller sees to that.
+pub fn reply_body(alloc: Global, version: u8, reply: &Reply) -> Result<Blob, AllocError>
+    requires version { IsVersion version }
+    requires spelling { HasReplySpelling version reply.now }
+    ensures spells { IfOk result (λ body. SpellsReply version (reply_kind reply.now) body reply.now) }
 {
-    let mut body = Vec::with_capacity(alloc, reply_body_len(reply))?;
-    body.extend_from_slice(front_of(reply).as_slice())?;
+    let mut body = Vec::with_capacity(alloc, reply_body_len(version, reply))?;
+    body.extend_from_slice(front_of(version, reply).as_slice())?;
     match reply {
         Reply::Finished { puids, .. } => append_texts(&mut body, puids)?,
         Reply::Part { bytes, .. } => body.extend_from_slice(bytes.as_slice())?,
@@ -33,19 +35,19 @@ pub fn reply_body(alloc: Global, reply: &Reply) -> Result<Blob, AllocError>
     Ok(Blob::from(body))
 }
 
-/// How many bytes the body of a reply's frame has. A reply that has no spelling has no such body, so the caller sees to
-/// that.
-pub fn reply_body_len(reply: &Reply) -> usize
-    requires { HasReplySpelling reply.now }
-    ensures length { result ≡ length (reply_bytes reply.now) }
-    ensures bound { result ≤ body_limit }
+/// How many bytes the body of a reply's frame has in this version. A reply that has no spelling has no such body, so
+/// the caller sees to that.
+pub fn reply_body_len(version: u8, reply: &Reply) -> usize
+    requires { HasReplySpelling version reply.now }
+    ensures length { result ≡ length (reply_bytes version reply.now) }
+    ensures bound { result ≤ 1048640 }
 {
     let rest = match reply {
         Reply::Finished { puids, .. } => puids_length(puids),
         Reply::Part { bytes, .. } => bytes.len(),
         _ => 0,
     };
-    front_of(reply).as_slice().len() + rest
+    front_of(version, reply).as_slice().len() + rest
 }
 
 /// How many bytes the identifiers take, each after its length.

@@ -1,17 +1,18 @@
 //! The parts of a reply's body that have a few bytes.
 
-ghost use Rattle.std.specs.Prelude.{◌≡◌, []};
-ghost use Rattle.droid_frame_values.specs.Replies.{HasReplySpelling, HasRefusalSpelling, IsPuidText, refusal_bytes};
+ghost use Rattle.std.specs.Prelude.{◌≡◌, ◌≤◌, ◌++◌, [], length};
+ghost use Rattle.droid_frame_values.specs.Hashes.{IsHashValue};
+ghost use Rattle.droid_frame_values.specs.Replies.{HasReplySpelling, HasRefusalSpelling, IsPuidText, digest_bytes, refusal_bytes};
 ghost use Rattle.droid_frame.specs.ReplyParts.{reply_front};
 ghost use Rattle.droid_frame_values.specs.TextLists.{sized_bytes};
 
 use super::small_bytes::SmallBytes;
-use droid_frame_values::{Refusal, Reply, Text};
+use droid_frame_values::{HashValue, Refusal, Reply, Text};
 
-/// The fields of the reply before its list or its bytes.
-pub(crate) fn front_of(reply: &Reply) -> SmallBytes
-    requires { HasReplySpelling reply.now }
-    ensures { result ≡ reply_front reply.now }
+/// The fields of the reply in this version before its list or its bytes.
+pub(crate) fn front_of(version: u8, reply: &Reply) -> SmallBytes
+    requires { HasReplySpelling version reply.now }
+    ensures { result ≡ reply_front version reply.now }
 {
     let mut front = SmallBytes::new();
     match reply {
@@ -26,7 +27,7 @@ pub(crate) fn front_of(reply: &Reply) -> SmallBytes
         } => {
             front.add(&[method.number()]);
             front.add(&[u8::from(*mismatch)]);
-            front.add(hash.as_slice());
+            add_hash(&mut front, version, hash);
             front.add(&(puids.len() as u16).to_be_bytes());
         }
         Reply::Abandoned => {}
@@ -41,6 +42,21 @@ pub(crate) fn front_of(reply: &Reply) -> SmallBytes
         Reply::Refused(refusal) => add_refusal(&mut front, *refusal),
     }
     front
+}
+
+/// Adds the digest, after its kind in a version that has a field for that.
+fn add_hash(front: &mut SmallBytes, version: u8, hash: &HashValue)
+    requires room { length front.old ≤ 2 }
+    requires value { IsHashValue hash.now }
+    ensures { front.new ≡ front.old ++ digest_bytes version hash.now }
+{
+    let digest = hash.as_slice();
+    if version == 1 {
+        front.add(digest);
+    } else {
+        front.add(&[hash.kind().number()]);
+        front.add(digest);
+    }
 }
 
 fn add_refusal(front: &mut SmallBytes, refusal: Refusal)

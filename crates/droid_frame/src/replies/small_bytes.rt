@@ -4,8 +4,8 @@ ghost use Rattle.std.specs.Prelude.{◌≡◌, ◌+◌, ◌≤◌, ◌++◌, [],
 
 use std::marker::Model;
 
-/// How many bytes there are at most: those of the longest identifier of a format after its length.
-pub(crate) const SMALL_LIMIT: usize = 33;
+/// How many bytes there are at most: those of a Finished with a SHA-256 before its identifiers.
+pub(crate) const SMALL_LIMIT: usize = 37;
 
 /// A few bytes in a buffer of their own. Contracts see the list of the bytes alone.
 #[derive(Drop)]
@@ -21,7 +21,7 @@ impl Model for SmallBytes {
 
     ghost view = { λ small. take small.len small.bytes };
 
-    ghost invariant = { λ small. small.len ≤ 33 };
+    ghost invariant = { λ small. small.len ≤ 37 };
 }
 
 impl SmallBytes {
@@ -37,7 +37,7 @@ impl SmallBytes {
 
     /// Adds bytes at the end.
     pub(crate) fn add(&mut self, bytes: &[u8])
-        requires { length self.old + length bytes.now ≤ 33 }
+        requires { length self.old + length bytes.now ≤ 37 }
         ensures { self.new ≡ self.old ++ bytes.now }
     {
         let end = self.len + bytes.len();

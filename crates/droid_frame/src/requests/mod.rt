@@ -4,61 +4,64 @@ mod filters;
 
 ghost use Rattle.std.specs.Prelude.{◌≡◌, ◌++◌, IfOk, OnOk};
 ghost use Rattle.std.specs.Str.{IsUtf8};
-ghost use Rattle.droid_frame_values.specs.Bodies.{Fits, HasSpelling, HashFits, ListsFit, SpellsRequest, request_kind, request_body};
+ghost use Rattle.droid_frame_values.specs.Bodies.{Fits, HasSpelling, ListsFit, HashFits, SpellsRequest, request_kind, request_body};
 ghost use Rattle.droid_frame_values.specs.Fields.{IsBytes, u32_bytes, u64_bytes, i64_bytes, truth_bytes, IsU32, IsU64, IsI64};
 ghost use Rattle.droid_frame_values.specs.Filters.{FilterFits, IsFilter, filter_bytes};
 ghost use Rattle.droid_frame_values.specs.Frames.{frame_bytes, spelling};
+ghost use Rattle.droid_frame_values.specs.Hashes.{TellsHash, hash_field};
 
 use self::filters::append_filter;
-use droid_frame_values::{Blob, Filter, Frame, Request, Text, VERSION};
+use droid_frame_values::{Blob, Filter, Frame, HashKind, Request, Text};
 use std::alloc::{AllocError, Global};
 
-/// The frame of a request: the one spelling that it has. Only want of memory refuses it.
+/// The frame of a request: the one spelling that it has in this version. Only want of memory refuses it.
 pub fn request_frame(
     alloc: Global,
+    version: u8,
     client: u32,
     number: u64,
     request: &Request,
 ) -> Result<Frame, AllocError>
-    requires { Fits request.now }
-    ensures spells { IfOk result (λ frame. SpellsRequest frame.kind frame.body request.now) }
+    requires { Fits version request.now }
+    ensures spells { IfOk result (λ frame. SpellsRequest version frame.kind frame.body request.now) }
+    ensures version { IfOk result (λ frame. frame.version ≡ version) }
     ensures sender { IfOk result (λ frame. (frame.client ≡ client) × (frame.number ≡ number)) }
     ensures bytes { IfOk result (λ frame.
-        frame_bytes frame ≡ spelling 1 (request_kind request.now) client number (request_body request.now)) }
+        frame_bytes frame ≡ spelling version (request_kind request.now) client number (request_body version request.now)) }
 {
     Ok(Frame {
-        version: VERSION,
+        version,
         kind: request.kind(),
         client,
         number,
-        body: body_of(alloc, request)?,
+        body: body_of(alloc, version, request)?,
     })
 }
 
 /// The body, in a buffer of exactly its length.
-fn body_of(alloc: Global, request: &Request) -> Result<Blob, AllocError>
-    requires { Fits request.now }
-    ensures { IfOk result (λ body. SpellsRequest (request_kind request.now) body request.now) }
+fn body_of(alloc: Global, version: u8, request: &Request) -> Result<Blob, AllocError>
+    requires { Fits version request.now }
+    ensures { IfOk result (λ body. SpellsRequest version (request_kind request.now) body request.now) }
 {
-    let len = request.body_len().unwrap();
+    let len = request.body_len(version).unwrap();
     let mut body = Vec::with_capacity(alloc, len)?;
-    append_body(&mut body, request)?;
+    append_body(&mut body, version, request)?;
     Ok(Blob::from(body))
 }
 
 /// Adds the request's fields at the end, one after the other.
-fn append_body(out: &mut Vec<u8>, request: &Request) -> Result<(), AllocError>
+fn append_body(out: &mut Vec<u8>, version: u8, request: &Request) -> Result<(), AllocError>
     requires lists { ListsFit request.now }
-    requires hash { HashFits request.now }
-    ensures added { OnOk result (out.new.items ≡ out.old.items ++ request_body request.now) }
-    ensures spelled { OnOk result (HasSpelling request.now) }
+    requires hash { HashFits version request.now }
+    ensures added { OnOk result (out.new.items ≡ out.old.items ++ request_body version request.now) }
+    ensures spelled { OnOk result (HasSpelling version request.now) }
 {
     match request {
         Request::CreateProfile {
             scan_limit,
             match_all,
-            ..
-        } => append_options(out, *scan_limit, *match_all),
+            hash,
+        } => append_options(out, version, *scan_limit, *match_all, *hash),
         Request::AddFolder {
             profile,
             parent,
@@ -91,12 +94,32 @@ fn append_body(out: &mut Vec<u8>, request: &Request) -> Result<(), AllocError>
     }
 }
 
-fn append_options(out: &mut Vec<u8>, scan_limit: u32, match_all: bool) -> Result<(), AllocError>
-    ensures added { OnOk result (out.new.items ≡ out.old.items ++ (u32_bytes scan_limit ++ truth_bytes match_all)) }
-    ensures spelled { IsU32 scan_limit }
+fn append_options(
+    out: &mut Vec<u8>,
+    version: u8,
+    scan_limit: u32,
+    match_all: bool,
+    hash: HashKind,
+) -> Result<(), AllocError>
+    requires { TellsHash version hash }
+    ensures added { OnOk result (out.new.items ≡ out.old.items
+        ++ (u32_bytes scan_limit ++ (truth_bytes match_all ++ hash_field version hash))) }
+    ensures spelled { OnOk result (IsU32 scan_limit × TellsHash version hash) }
 {
     append_u32(out, scan_limit)?;
     out.push(u8::from(match_all))?;
+    append_hash(out, version, hash)?;
+    Ok(())
+}
+
+/// Adds the kind of a hash in a version that has a field for it.
+fn append_hash(out: &mut Vec<u8>, version: u8, hash: HashKind) -> Result<(), AllocError>
+    ensures { OnOk result (out.new.items ≡ out.old.items ++ hash_field version hash) }
+{
+    if version == 1 {
+        return Ok(());
+    }
+    out.push(hash.number())?;
     Ok(())
 }
 

@@ -12,11 +12,11 @@ pub enum FrameFault {
     /// The input ends within the header, or within the body that the header names.
     #[error("the stream ends within a frame")]
     Truncated,
-    /// The header's version isn't 1.
-    #[error("the version of a frame isn't 1")]
+    /// The header's version is neither 1 nor 2.
+    #[error("the version of a frame is neither 1 nor 2")]
     BadVersion,
-    /// The header names a body of more than 1,048,640 bytes.
-    #[error("the body of a frame is longer than 1,048,640 bytes")]
+    /// The header names a body of more than 1,048,640 bytes in version 1, or 4,194,368 in version 2.
+    #[error("the body of a frame is longer than its version allows")]
     TooLong,
     /// Memory was refused for the body.
     #[error("memory was refused")]

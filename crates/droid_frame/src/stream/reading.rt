@@ -10,7 +10,7 @@ use super::arrival::Arrival;
 use super::fault::FrameFault;
 use super::header::{HEADER_LENGTH, Header};
 use droid_frame_stream::{Retries, SteadyRead, fill};
-use droid_frame_values::{BODY_LIMIT, Blob, Frame, VERSION};
+use droid_frame_values::{Blob, Frame, body_limit, is_version};
 use std::alloc::Global;
 
 /// Reads the next frame. The header is read whole before any of it is judged, and memory is taken once, for
@@ -81,11 +81,11 @@ fn body_length(header: Header) -> Result<usize, FrameFault>
     ensures judged { result ≡ judged header }
     ensures fault { IsErrOf result FrameFault.Read → ⊥ }
 {
-    if header.version != VERSION {
+    if !is_version(header.version) {
         return Err(FrameFault::BadVersion);
     }
     let length = header.length as usize;
-    if length > BODY_LIMIT {
+    if length > body_limit(header.version) {
         return Err(FrameFault::TooLong);
     }
     Ok(length)

@@ -5,51 +5,54 @@ ghost use Rattle.std.specs.Io.KnownBytes.{Appends};
 ghost use Rattle.std.specs.List.{AllByRecursion};
 ghost use Rattle.droid_frame_values.specs.Replies.{HasReplySpelling, IsPuidText};
 ghost use Rattle.droid_frame.specs.ReplyFrames.{reply_frame};
-ghost use Rattle.droid_frame.specs.ReplyParts.{reply_rest};
+ghost use Rattle.droid_frame.specs.ReplyParts.{HasRestSpelling, reply_rest};
 ghost use Rattle.droid_frame.specs.StreamWrites.{Stops};
 ghost use Rattle.droid_frame_stream.specs.Seen.{Counts, IsSound};
 ghost use Rattle.droid_frame_stream.specs.Writes.{StopsWithin, Takes, TellsWrite, WritesOn};
 ghost use Rattle.droid_frame_values.specs.TextLists.{texts_bytes};
+ghost use Rattle.droid_frame_values.specs.Versions.{IsVersion};
 
 use super::header::Header;
 use crate::replies::parts::{front_of, sized_puid};
 use crate::replies::reply_body_len;
 use droid_frame_stream::{Progress, SteadyWrite, WriteFault, write_all};
-use droid_frame_values::{Reply, Texts, VERSION};
+use droid_frame_values::{Reply, Texts};
 
-/// Writes a reply's frame, to the client and under the number of the request that it answers. It takes no
-/// memory. An interrupted write is tried again, 64 times over all of the frame.
+/// Writes a reply's frame, in the version, to the client and under the number of the request that it answers. It
+/// takes no memory. An interrupted write is tried again, 64 times over all of the frame.
 ///
-/// A reply with more identifiers, a longer one or a longer part than a reply may have has no spelling, so
-/// the caller sees to that.
+/// A reply with more identifiers, a longer one or a longer part than a reply may have has no spelling, and in
+/// version 1 one with another hash than MD5 hasn't either, so the caller sees to that.
 pub fn write_reply<W: SteadyWrite>(
+    version: u8,
     client: u32,
     number: u64,
     reply: &Reply,
     writer: &mut W,
 ) -> Result<(), WriteFault>
-    requires { HasReplySpelling reply.now }
+    requires version { IsVersion version }
+    requires spelling { HasReplySpelling version reply.now }
     // All of the frame's one spelling was written, and nothing else.
-    ensures ok { OnOk result (Appends (W.contents writer.old) (W.contents writer.new) (reply_frame client number reply.now)) }
+    ensures ok { OnOk result (Appends (W.contents writer.old) (W.contents writer.new) (reply_frame version client number reply.now)) }
     // Exactly the first `written` bytes of it were written, and that isn't all.
-    ensures err { IfErr result (λ fault. Stops (W.contents writer.old) (W.contents writer.new) (reply_frame client number reply.now) fault.written) }
+    ensures err { IfErr result (λ fault. Stops (W.contents writer.old) (W.contents writer.new) (reply_frame version client number reply.now) fault.written) }
     // A fault comes exactly where the writer failed or was interrupted for the 65th time in this call, or had no room.
     ensures failed { IsSound (W.seen writer.old) →
-        TellsWrite (W.seen writer.old).interruptions (W.seen writer.new) (W.room writer.old) (length (reply_frame client number reply.now)) (IsErr result) }
+        TellsWrite (W.seen writer.old).interruptions (W.seen writer.new) (W.room writer.old) (length (reply_frame version client number reply.now)) (IsErr result) }
     // What went out is taken from the room; where there is no end of it, it stays so.
-    ensures room_ok { OnOk result (Takes (W.room writer.old) (W.room writer.new) (length (reply_frame client number reply.now))) }
+    ensures room_ok { OnOk result (Takes (W.room writer.old) (W.room writer.new) (length (reply_frame version client number reply.now))) }
     ensures room_err { IfErr result (λ fault. Takes (W.room writer.old) (W.room writer.new) fault.written) }
 {
     let header = Header {
-        version: VERSION,
+        version,
         kind: reply.kind(),
         client,
         number,
-        length: reply_body_len(reply) as u32,
+        length: reply_body_len(version, reply) as u32,
     };
     let mut progress = Progress::new();
     write_all(writer, &header.to_bytes(), &mut progress)?;
-    write_all(writer, front_of(reply).as_slice(), &mut progress)?;
+    write_all(writer, front_of(version, reply).as_slice(), &mut progress)?;
     write_rest(writer, reply, &mut progress)
 }
 
@@ -59,7 +62,7 @@ fn write_rest<W: SteadyWrite>(
     reply: &Reply,
     progress: &mut Progress,
 ) -> Result<(), WriteFault>
-    requires spelling { HasReplySpelling reply.now }
+    requires spelling { HasRestSpelling reply.now }
     requires room { progress.old.written + length (reply_rest reply.now) < 2 ^ 64 }
     ensures ok { OnOk result (Appends (W.contents writer.old) (W.contents writer.new) (reply_rest reply.now)) }
     ensures err { IfErr result (λ fault. StopsWithin (W.contents writer.old) (W.contents writer.new) (reply_rest reply.now) progress.old.written fault.written) }

@@ -14,9 +14,9 @@ use droid_frame_values::Frame;
 
 /// Writes a frame. It takes no memory. An interrupted write is tried again, 64 times over all of the frame.
 ///
-/// A frame whose body is longer than a frame's may be has no spelling, so the caller sees to that.
+/// A body that is longer than that of any frame may be has no spelling, so the caller sees to that.
 pub fn write_frame<W: SteadyWrite>(frame: &Frame, writer: &mut W) -> Result<(), WriteFault>
-    requires { length frame.now.body ≤ body_limit }
+    requires { length frame.now.body ≤ body_limit 2 }
     // All of the frame's one spelling was written, and nothing else.
     ensures ok { OnOk result (Appends (W.contents writer.old) (W.contents writer.new) (frame_bytes frame.now)) }
     // Exactly the first `written` bytes of it were written, and that isn't all.

@@ -1,4 +1,4 @@
--- What `reply_of` answers of a reply that is spelled, and that a kind and a body spell at most one reply.
+-- What `reply_of` answers of a reply that is spelled, and that a version, a kind and a body spell at most one reply.
 use Rattle.std.specs.Prelude.{◌≡◌, ℕ, List, Result, Ok, Err}
 use Rattle.droid_frame_values.specs.declared.reply.Reply.{Reply}
 use Rattle.droid_frame_values.specs.Replies.{SpellsReply}
@@ -10,6 +10,7 @@ abbrev pub IsReadAs : ℕ → Reply → Result Reply BodyFault → Type 0
 IsReadAs kind reply (Ok it) = it ≡ reply
 IsReadAs kind reply (Err fault) = (kind ≡ 132) × (fault ≡ Memory)
 
--- a kind and a body spell at most one reply
+-- a version, a kind and a body spell at most one reply
 abbrev pub SpellsOneReply : Type 0
-SpellsOneReply = (kind : ℕ) (body : List ℕ) (one other : Reply) → SpellsReply kind body one → SpellsReply kind body other → one ≡ other
+SpellsOneReply =
+    (version kind : ℕ) (body : List ℕ) (one other : Reply) → SpellsReply version kind body one → SpellsReply version kind body other → one ≡ other

@@ -17,6 +17,6 @@ IsFaultOf kind value Malformed = value ≡ None
 IsFaultOf kind value Memory = (kind ≡ 132) × IsSome value
 
 -- what a body of this kind and this value is answered
-abbrev pub Comes : ℕ → Option Reply → Result Reply BodyFault → Type 0
-Comes kind value (Ok reply) = value ≡ Some reply
-Comes kind value (Err fault) = IsFaultOf kind value fault
+abbrev pub IsReplyAnswer : ℕ → Option Reply → Result Reply BodyFault → Type 0
+IsReplyAnswer kind value (Ok reply) = value ≡ Some reply
+IsReplyAnswer kind value (Err fault) = IsFaultOf kind value fault

@@ -1,11 +1,12 @@
 -- For proofs, and for the clause `exact` of `reply_of`: the reply of a body, read from its front by a function.
-use Rattle.std.specs.Prelude.{ℕ, ◌==◌, nat_lt, if◌then◌else◌, List, length, take, drop, Option, Some, None}
+use Rattle.std.specs.Prelude.{ℕ, ◌==◌, nat_lt, if◌then◌else◌, List, length, Option, Some, None}
 use Rattle.std.specs.Int.{w16, w32, w64}
-use Rattle.droid_frame_values.specs.declared.hash_value.HashValue.TheVariants as values
 use Rattle.droid_frame_values.specs.declared.reply.Reply.{Reply}
 use Rattle.droid_frame_values.specs.declared.reply.Reply.TheVariants.{Made, Node, Taken, Finished, Abandoned, Progress, Part, Refused}
 use Rattle.droid_frame_values.specs.Limits.{puids_limit, puid_limit, part_limit}
+use Rattle.droid_frame_values.specs.Versions.{is_version}
 use Rattle.droid_frame_bodies.specs.declared.replies.finished.FinishedHead.{FinishedHead}
+use Rattle.droid_frame_bodies.specs.fields.Hashes.{digest_at}
 use Rattle.droid_frame_bodies.specs.fields.Reading.{◌>>=◌, number_at, truth_at, method_at, whole}
 use Rattle.droid_frame_bodies.specs.fields.TextLists.{texts_at}
 use Rattle.droid_frame_bodies.specs.replies.Refusals.{refusal_at}
@@ -45,10 +46,6 @@ refused_value body = do
   refusal ← refusal_at body
   whole refusal.1 (Refused refusal.0)
 
--- 16 bytes, and the bytes after them
-unfoldable pub md5_at : List ℕ → Option (List ℕ × List ℕ)
-md5_at bytes = if nat_lt (length bytes) 16 then None else Some (take 16 bytes, drop 16 bytes)
-
 -- how many identifiers of formats follow
 unfoldable pub count_at : List ℕ → Option (ℕ × List ℕ)
 count_at bytes = do
@@ -56,19 +53,19 @@ count_at bytes = do
   if nat_lt puids_limit count.0 then None else Some count
 
 -- what stands before the identifiers of a Finished
-unfoldable pub finished_head_at : List ℕ → Option (FinishedHead × List ℕ)
-finished_head_at bytes = do
+unfoldable pub finished_head_at : ℕ → List ℕ → Option (FinishedHead × List ℕ)
+finished_head_at version bytes = do
   method ← method_at bytes
   mismatch ← truth_at method.1
-  md5 ← md5_at mismatch.1
-  count ← count_at md5.1
-  Some (record { method = method.0; mismatch = mismatch.0; md5 = md5.0; count = count.0 }, count.1)
+  hash ← digest_at version mismatch.1
+  count ← count_at hash.1
+  Some (record { method = method.0; mismatch = mismatch.0; hash = hash.0; count = count.0 }, count.1)
 
-unfoldable pub finished_value : List ℕ → Option Reply
-finished_value body = do
-  head ← finished_head_at body
+unfoldable pub finished_value : ℕ → List ℕ → Option Reply
+finished_value version body = do
+  head ← finished_head_at version body
   puids ← texts_at head.0.count 1 puid_limit head.1
-  whole puids.1 (Finished head.0.method head.0.mismatch (values.Md5 head.0.md5) puids.0)
+  whole puids.1 (Finished head.0.method head.0.mismatch head.0.hash puids.0)
 
 -- the reply that the kind and the body spell, where they spell one that has no list
 unfoldable pub plain_value : ℕ → List ℕ → Option Reply
@@ -82,6 +79,10 @@ plain_value kind body =
     else if kind == 136 then refused_value body
     else None
 
--- the reply that the kind and the body spell, where they spell one
-unfoldable pub reply_value : ℕ → List ℕ → Option Reply
-reply_value kind body = if kind == 132 then finished_value body else plain_value kind body
+-- the reply that the kind and the body spell in a version that frames have, where they spell one
+unfoldable pub any_value : ℕ → ℕ → List ℕ → Option Reply
+any_value version kind body = if kind == 132 then finished_value version body else plain_value kind body
+
+-- the reply that the version, the kind and the body spell, where they spell one
+unfoldable pub reply_value : ℕ → ℕ → List ℕ → Option Reply
+reply_value version kind body = if is_version version then any_value version kind body else None

@@ -2,18 +2,20 @@
 use Rattle.std.specs.Prelude.{ℕ, ◌^◌, nat_lt, ◌==◌, if◌then◌else◌, List, Option, Some, None}
 use Rattle.std.specs.Int.{w32, w64}
 use Rattle.droid_frame_values.specs.declared.frame.Frame.{Frame}
-use Rattle.droid_frame_values.specs.declared.hash_kind.HashKind.TheVariants as kinds
 use Rattle.droid_frame_values.specs.declared.request.Request.{Request}
 use Rattle.droid_frame_values.specs.declared.request.Request.TheVariants.{CreateProfile, AddFolder, AddFile, Piece, Finish, Abandon, Status, Export}
+use Rattle.droid_frame_values.specs.Versions.{is_version}
+use Rattle.droid_frame_bodies.specs.fields.Hashes.{told_kind_at}
 use Rattle.droid_frame_bodies.specs.filters.Values.{filter_value}
 use Rattle.droid_frame_bodies.specs.requests.NodeHeads.{node_head_at}
 use Rattle.droid_frame_bodies.specs.fields.Reading.{◌>>=◌, number_at, truth_at, text_at, whole}
 
-unfoldable pub create_profile_value : List ℕ → Option Request
-create_profile_value body = do
+unfoldable pub create_profile_value : ℕ → List ℕ → Option Request
+create_profile_value version body = do
   scan_limit ← number_at w32 body
   match_all ← truth_at scan_limit.1
-  whole match_all.1 (CreateProfile scan_limit.0 match_all.0 kinds.Md5)
+  hash ← told_kind_at version match_all.1
+  whole hash.1 (CreateProfile scan_limit.0 match_all.0 hash.0)
 
 unfoldable pub add_folder_value : List ℕ → Option Request
 add_folder_value body = do
@@ -67,9 +69,9 @@ export_value body = do
   Some (Export profile.0 from.0 max.0 filter)
 
 -- the request of the kinds whose bodies hold no list
-unfoldable pub plain_value : ℕ → List ℕ → Option Request
-plain_value kind body =
-    if kind == 1 then create_profile_value body
+unfoldable pub plain_value : ℕ → ℕ → List ℕ → Option Request
+plain_value version kind body =
+    if kind == 1 then create_profile_value version body
     else if kind == 2 then add_folder_value body
     else if kind == 3 then add_file_value body
     else if kind == 4 then piece_value body
@@ -78,10 +80,14 @@ plain_value kind body =
     else if kind == 7 then status_value body
     else None
 
--- the request that the kind and the body spell, where they spell one
-unfoldable pub request_value : ℕ → List ℕ → Option Request
-request_value kind body = if kind == 8 then export_value body else plain_value kind body
+-- the request that the kind and the body spell in a version that frames have, where they spell one
+unfoldable pub any_value : ℕ → ℕ → List ℕ → Option Request
+any_value version kind body = if kind == 8 then export_value body else plain_value version kind body
+
+-- the request that the version, the kind and the body spell, where they spell one
+unfoldable pub request_value : ℕ → ℕ → List ℕ → Option Request
+request_value version kind body = if is_version version then any_value version kind body else None
 
 -- the request of a frame: its number has to be below 2^63
 unfoldable pub request_in : Frame → Option Request
-request_in frame = if nat_lt frame.number (2 ^ 63) then request_value frame.kind frame.body else None
+request_in frame = if nat_lt frame.number (2 ^ 63) then request_value frame.version frame.kind frame.body else None

@@ -1,5 +1,6 @@
 //! The fields of a body, each read from the front of bytes.
 
+pub(crate) mod hashes;
 pub(crate) mod text_lists;
 
 ghost use Rattle.std.specs.Prelude.{◌≡◌, ◌≤◌, drop, length, vec_len, IfSome};

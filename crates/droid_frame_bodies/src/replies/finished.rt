@@ -2,10 +2,11 @@
 
 ghost use Rattle.std.specs.Prelude.{◌≡◌, ◌↔◌, IsTrue};
 ghost use Rattle.std.specs.Option.{option_map};
-ghost use Rattle.droid_frame_bodies.specs.replies.Steps.{ArePuids, Comes};
-ghost use Rattle.droid_frame_bodies.specs.replies.Values.{count_at, finished_head_at, finished_value, md5_at};
+ghost use Rattle.droid_frame_bodies.specs.replies.Steps.{ArePuids, IsReplyAnswer};
+ghost use Rattle.droid_frame_bodies.specs.replies.Values.{count_at, finished_head_at, finished_value};
 
 use crate::body_fault::BodyFault;
+use crate::fields::hashes::digest_at;
 use crate::fields::text_lists::{after_texts, texts_at};
 use crate::fields::{bool_at, method_at, u16_at};
 use droid_frame_values::{HashValue, Method, PUID_LIMIT, PUIDS_LIMIT, Reply};
@@ -16,26 +17,25 @@ use std::alloc::Global;
 pub(crate) struct FinishedHead {
     pub(crate) method: Method,
     pub(crate) mismatch: bool,
-    pub(crate) md5: [u8; 16],
+    pub(crate) hash: HashValue,
     pub(crate) count: u16,
 }
 
-/// The reply of a Finished's body. The whole body is checked before anything grows.
-pub(crate) fn finished(alloc: Global, body: &[u8]) -> Result<Reply, BodyFault>
-    ensures { Comes 132 (finished_value body.now) result }
+/// The reply of a Finished's body in this version. The whole body is checked before anything grows.
+pub(crate) fn finished(alloc: Global, version: u8, body: &[u8]) -> Result<Reply, BodyFault>
+    ensures { IsReplyAnswer 132 (finished_value version body.now) result }
 {
-    let Some((head, rest)) = finished_head_at(body) else {
+    let Some((head, rest)) = finished_head_at(version, body) else {
         return Err(BodyFault::Malformed);
     };
     if !are_puids(head.count, rest) {
         return Err(BodyFault::Malformed);
     }
-    let hash = HashValue::Md5(head.md5);
     match texts_at(alloc, usize::from(head.count), 1, PUID_LIMIT as u8, rest) {
         Ok((puids, _)) => Ok(Reply::Finished {
             method: head.method,
             mismatch: head.mismatch,
-            hash,
+            hash: head.hash,
             puids,
         }),
         Err(fault) => Err(fault),
@@ -53,28 +53,20 @@ fn are_puids(count: u16, bytes: &[u8]) -> bool
 }
 
 #[tactic(auto, unfolding(crate::specs::replies::Values::finished_head_at))]
-fn finished_head_at(bytes: &[u8]) -> Option<(FinishedHead, &[u8])>
-    ensures { option_map (λ x. (x.0, x.1.now)) result ≡ finished_head_at bytes.now }
+fn finished_head_at(version: u8, bytes: &[u8]) -> Option<(FinishedHead, &[u8])>
+    ensures { option_map (λ x. (x.0, x.1.now)) result ≡ finished_head_at version bytes.now }
 {
     let (method, rest) = method_at(bytes)?;
     let (mismatch, rest) = bool_at(rest)?;
-    let (md5, rest) = md5_at(rest)?;
+    let (hash, rest) = digest_at(version, rest)?;
     let (count, rest) = count_at(rest)?;
     let head = FinishedHead {
         method,
         mismatch,
-        md5,
+        hash,
         count,
     };
     Some((head, rest))
-}
-
-#[tactic(auto, unfolding(crate::specs::replies::Values::md5_at))]
-fn md5_at(bytes: &[u8]) -> Option<([u8; 16], &[u8])>
-    ensures { option_map (λ x. (x.0, x.1.now)) result ≡ md5_at bytes.now }
-{
-    let (md5, rest) = bytes.split_first_chunk::<16>()?;
-    Some((*md5, rest))
 }
 
 /// How many identifiers follow.

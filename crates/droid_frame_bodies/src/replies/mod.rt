@@ -8,41 +8,53 @@ ghost use Rattle.droid_frame_values.specs.Fields.{IsBytes};
 ghost use Rattle.droid_frame_bodies.specs.fields.Reading.{whole};
 ghost use Rattle.droid_frame_values.specs.Replies.{SpellsReply};
 ghost use Rattle.droid_frame_bodies.specs.replies.Results.{IsReadAs};
-ghost use Rattle.droid_frame_bodies.specs.replies.Steps.{Comes};
-ghost use Rattle.droid_frame_bodies.specs.replies.Values.{reply_value, made_value, node_value, taken_value, abandoned_value, progress_value, part_value, refused_value, plain_value};
+ghost use Rattle.droid_frame_bodies.specs.replies.Steps.{IsReplyAnswer};
+ghost use Rattle.droid_frame_bodies.specs.replies.Values.{any_value, reply_value, made_value, node_value, taken_value, abandoned_value, progress_value, part_value, refused_value, plain_value};
 
 use self::finished::finished;
 use self::refusals::refusal_at;
 use crate::body_fault::BodyFault;
 use crate::fields::{bytes_after, u32_at, u64_at};
-use droid_frame_values::{Blob, Frame, PART_LIMIT, Reply};
+use droid_frame_values::{Blob, Frame, PART_LIMIT, Reply, is_version};
 use std::alloc::Global;
 
 /// The reply of a frame, whose body it uses up: the bytes of a Part are the body's own buffer. Only a
 /// Finished takes memory, for its list of identifiers, once the whole body is known to spell one.
 pub fn reply_of(alloc: Global, frame: Frame) -> Result<Reply, BodyFault>
     // What is read is spelled so, all of the body.
-    ensures found { IfOk result (SpellsReply frame.kind frame.body) }
+    ensures found { IfOk result (SpellsReply frame.version frame.kind frame.body) }
     // What is spelled so is read, unless it is a Finished and memory is refused.
-    ensures accepted { (reply : Reply) → SpellsReply frame.kind frame.body reply → IsReadAs frame.kind reply result }
-    // This comes exactly where no reply is spelled.
-    ensures malformed { IsErrOf result BodyFault.Malformed ↔ ((reply : Reply) → ¬ SpellsReply frame.kind frame.body reply) }
+    ensures accepted { (reply : Reply) → SpellsReply frame.version frame.kind frame.body reply → IsReadAs frame.kind reply result }
+    // This comes exactly where no reply is spelled, as in a version other than 1 and 2.
+    ensures malformed { IsErrOf result BodyFault.Malformed ↔ ((reply : Reply) → ¬ SpellsReply frame.version frame.kind frame.body reply) }
     // This comes only where a Finished is spelled.
-    ensures memory { IsErrOf result BodyFault.Memory → (frame.kind ≡ 132) × (reply : Reply) × SpellsReply frame.kind frame.body reply }
+    ensures memory { IsErrOf result BodyFault.Memory → (frame.kind ≡ 132) × (reply : Reply) × SpellsReply frame.version frame.kind frame.body reply }
     // The same in one equation, but for a Finished.
-    ensures exact { frame.kind ≢ 132 → result ≡ ok_or (reply_value frame.kind frame.body) BodyFault.Malformed }
+    ensures exact { frame.kind ≢ 132 → result ≡ ok_or (reply_value frame.version frame.kind frame.body) BodyFault.Malformed }
 {
-    value_of(alloc, frame.kind, frame.body)
+    value_of(alloc, frame.version, frame.kind, frame.body)
 }
 
 #[tactic(auto, unfolding(crate::specs::replies::Values::reply_value))]
-fn value_of(alloc: Global, kind: u8, body: Blob) -> Result<Reply, BodyFault>
-    ensures comes { Comes kind (reply_value kind body) result }
+fn value_of(alloc: Global, version: u8, kind: u8, body: Blob) -> Result<Reply, BodyFault>
+    ensures answer { IsReplyAnswer kind (reply_value version kind body) result }
+    ensures bytes { IsBytes body }
+{
+    if !is_version(version) {
+        return Err(BodyFault::Malformed);
+    }
+    any_value(alloc, version, kind, body)
+}
+
+/// The reply in a version that frames have.
+#[tactic(auto, unfolding(crate::specs::replies::Values::any_value))]
+fn any_value(alloc: Global, version: u8, kind: u8, body: Blob) -> Result<Reply, BodyFault>
+    ensures answer { IsReplyAnswer kind (any_value version kind body) result }
     ensures bytes { IsBytes body }
 {
     let bytes = body.as_slice();
     match kind {
-        132 => finished(alloc, bytes),
+        132 => finished(alloc, version, bytes),
         _ => plain(kind, body).ok_or(BodyFault::Malformed),
     }
 }

@@ -7,53 +7,67 @@ ghost use Rattle.std.specs.Prelude.{◌≡◌, ◌↔◌, ◌<◌, ◌^◌, IfOk
 ghost use Rattle.droid_frame_values.specs.Bodies.{SpellsRequest};
 ghost use Rattle.droid_frame_values.specs.Fields.{IsBytes};
 ghost use Rattle.droid_frame_bodies.specs.Outcomes.{IsAnswer};
-ghost use Rattle.droid_frame_bodies.specs.requests.Values.{export_value, request_value, request_in};
+ghost use Rattle.droid_frame_bodies.specs.requests.Values.{any_value, export_value, request_value, request_in};
 
 use self::plain::plain_value;
 use crate::body_fault::BodyFault;
 use crate::fields::{u32_at, u64_at};
 use crate::filters::filter_of;
-use droid_frame_values::{Blob, Frame, NUMBER_LIMIT, Request};
+use droid_frame_values::{Blob, Frame, NUMBER_LIMIT, Request, is_version};
 use std::alloc::Global;
 
 /// The request of a frame, whose body it uses up: a name and a piece's bytes are the body's own buffer.
 /// Only a filter takes memory, and none is taken before the whole body is found to be in the grammar.
 ///
-/// `Malformed`: the kind is unknown, the body is outside the kind's grammar, or the number is
-/// [`NUMBER_LIMIT`] or more. `Memory`: the memory of a filter was refused.
+/// `Malformed`: the version is neither 1 nor 2, the kind is unknown, the body is outside the kind's grammar in that
+/// version, or the number is [`NUMBER_LIMIT`] or more. `Memory`: the memory of a filter was refused.
 #[tactic(auto, unfolding(crate::specs::requests::Values::request_in))]
 pub fn request_of(alloc: Global, frame: Frame) -> Result<Request, BodyFault>
     // What is read is spelled so, all of the body.
-    ensures found { IfOk result (λ request. (frame.number < 2 ^ 63) × SpellsRequest frame.kind frame.body request) }
+    ensures found { IfOk result (λ request. (frame.number < 2 ^ 63) × SpellsRequest frame.version frame.kind frame.body request) }
     // What is spelled so, under a number below the limit, is read, unless memory is refused.
-    ensures accepted { (request : Request) → frame.number < 2 ^ 63 → SpellsRequest frame.kind frame.body request →
+    ensures accepted { (request : Request) → frame.number < 2 ^ 63 → SpellsRequest frame.version frame.kind frame.body request →
         ¬ (result ≡ Err BodyFault.Memory) → result ≡ Ok request }
-    // This comes exactly where the number is too large or no request is spelled.
+    // This comes exactly where the number is too large or no request is spelled, as in another version.
     ensures malformed { IsErrOf result BodyFault.Malformed ↔
-        (frame.number < 2 ^ 63 → (request : Request) → ¬ SpellsRequest frame.kind frame.body request) }
+        (frame.number < 2 ^ 63 → (request : Request) → ¬ SpellsRequest frame.version frame.kind frame.body request) }
     // This comes only where a request for a part of the export is spelled, under a number below the limit.
     ensures memory { IsErrOf result BodyFault.Memory →
-        (frame.kind ≡ 8) × (frame.number < 2 ^ 63) × (request : Request) × SpellsRequest frame.kind frame.body request }
+        (frame.kind ≡ 8) × (frame.number < 2 ^ 63) × (request : Request) × SpellsRequest frame.version frame.kind frame.body request }
     // The same in one equation, but for an export.
     ensures exact { ¬ (frame.kind ≡ 8) → result ≡ ok_or (request_in frame) BodyFault.Malformed }
 {
     if frame.number >= NUMBER_LIMIT {
         return Err(BodyFault::Malformed);
     }
-    value_of(alloc, frame.kind, frame.body)
+    value_of(alloc, frame.version, frame.kind, frame.body)
 }
 
 #[tactic(auto, unfolding(crate::specs::requests::Values::request_value))]
-fn value_of(alloc: Global, kind: u8, body: Blob) -> Result<Request, BodyFault>
-    ensures answer { IsAnswer result (request_value kind body) }
-    ensures exact { ¬ (kind ≡ 8) → result ≡ ok_or (request_value kind body) BodyFault.Malformed }
+fn value_of(alloc: Global, version: u8, kind: u8, body: Blob) -> Result<Request, BodyFault>
+    ensures answer { IsAnswer result (request_value version kind body) }
+    ensures exact { ¬ (kind ≡ 8) → result ≡ ok_or (request_value version kind body) BodyFault.Malformed }
+    ensures wanting { IsErrOf result BodyFault.Memory → kind ≡ 8 }
+    ensures bytes { IsBytes body }
+{
+    if !is_version(version) {
+        return Err(BodyFault::Malformed);
+    }
+    any_value(alloc, version, kind, body)
+}
+
+/// The request in a version that frames have.
+#[tactic(auto, unfolding(crate::specs::requests::Values::any_value))]
+fn any_value(alloc: Global, version: u8, kind: u8, body: Blob) -> Result<Request, BodyFault>
+    ensures answer { IsAnswer result (any_value version kind body) }
+    ensures exact { ¬ (kind ≡ 8) → result ≡ ok_or (any_value version kind body) BodyFault.Malformed }
     ensures wanting { IsErrOf result BodyFault.Memory → kind ≡ 8 }
     ensures bytes { IsBytes body }
 {
     let bytes = body.as_slice();
     match kind {
         8 => export(alloc, bytes),
-        _ => plain_value(kind, body).ok_or(BodyFault::Malformed),
+        _ => plain_value(version, kind, body).ok_or(BodyFault::Malformed),
     }
 }
 

@@ -5,18 +5,19 @@ ghost use Rattle.droid_frame_bodies.specs.fields.Reading.{text_at};
 ghost use Rattle.droid_frame_bodies.specs.requests.Values.{create_profile_value, add_folder_value, add_file_value, piece_value, file_value, plain_value};
 
 use super::node_head::node_head_at;
+use crate::fields::hashes::told_kind_at;
 use crate::fields::{bool_at, bytes_after, text_of, u32_at, u64_at};
-use droid_frame_values::{Blob, HashKind, Request, Text};
+use droid_frame_values::{Blob, Request, Text};
 
-/// The request of a kind whose bodies hold no list: a name and a piece's bytes are the body's own
+/// The request of a kind whose bodies hold no list, in this version: a name and a piece's bytes are the body's own
 /// buffer. It takes no memory.
 #[tactic(auto, unfolding(crate::specs::requests::Values::plain_value, crate::specs::requests::Values::finish_value, crate::specs::requests::Values::abandon_value, crate::specs::requests::Values::status_value))]
-pub(crate) fn plain_value(kind: u8, body: Blob) -> Option<Request>
-    ensures { result ≡ plain_value kind body }
+pub(crate) fn plain_value(version: u8, kind: u8, body: Blob) -> Option<Request>
+    ensures { result ≡ plain_value version kind body }
 {
     let bytes = body.as_slice();
     match kind {
-        1 => create_profile(bytes),
+        1 => create_profile(version, bytes),
         2 => add_folder(body),
         3 => add_file(body),
         4 => piece(body),
@@ -37,18 +38,19 @@ pub(crate) fn plain_value(kind: u8, body: Blob) -> Option<Request>
 }
 
 #[tactic(auto, unfolding(crate::specs::requests::Values::create_profile_value, crate::specs::fields::Reading::whole))]
-fn create_profile(body: &[u8]) -> Option<Request>
-    ensures { result ≡ create_profile_value body.now }
+fn create_profile(version: u8, body: &[u8]) -> Option<Request>
+    ensures { result ≡ create_profile_value version body.now }
 {
     let (scan_limit, rest) = u32_at(body)?;
     let (match_all, rest) = bool_at(rest)?;
+    let (hash, rest) = told_kind_at(version, rest)?;
     if !rest.is_empty() {
         return None;
     }
     Some(Request::CreateProfile {
         scan_limit,
         match_all,
-        hash: HashKind::Md5,
+        hash,
     })
 }
 

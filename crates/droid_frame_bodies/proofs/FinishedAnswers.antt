@@ -6,7 +6,6 @@ use Rattle.droid_frame_bodies.specs.declared.replies.finished.FinishedHead.{Fini
 use Rattle.droid_frame_bodies.specs.declared.body_fault.BodyFault.{BodyFault}
 use Rattle.droid_frame_bodies.specs.declared.body_fault.BodyFault.TheVariants.{Malformed, Memory}
 use Rattle.droid_frame_values.specs.Limits.{puid_limit}
-use Rattle.droid_frame_values.specs.declared.hash_value.HashValue.TheVariants as values
 use Rattle.droid_frame_values.specs.declared.reply.Reply.{Reply}
 use Rattle.droid_frame_values.specs.declared.reply.Reply.TheVariants.{Finished}
 use Rattle.droid_frame_bodies.specs.Outcomes.{Fails}
@@ -29,41 +28,41 @@ whole_none None make not_all = refl
 whole_none (Some (value, [])) make not_all = absurd (not_all refl)
 whole_none (Some (value, b ∷ rest)) make not_all = refl
 
-pub no_head : (body : List ℕ) → finished_head_at body ≡ None → finished_value body ≡ None
+pub no_head : (version : ℕ) (body : List ℕ) → finished_head_at version body ≡ None → finished_value version body ≡ None
 unfolding finished_value
-no_head body none = rw none refl
+no_head version body none = rw none refl
 
 -- the head was read, and these bytes follow it
-pub record HasHead (body : List ℕ) (head : FinishedHead) (rest : List ℕ) : Type 0 where
-  pub head_is : finished_head_at body ≡ Some (head, rest)
+pub record HasHead (version : ℕ) (body : List ℕ) (head : FinishedHead) (rest : List ℕ) : Type 0 where
+  pub head_is : finished_head_at version body ≡ Some (head, rest)
 
 abbrev made_of : FinishedHead → List (List ℕ) → Reply
-made_of head puids = Finished head.method head.mismatch (values.Md5 head.md5) puids
+made_of head puids = Finished head.method head.mismatch head.hash puids
 
-pub no_puids : (body : List ℕ) (head : FinishedHead) (rest : List ℕ) → HasHead body head rest → (ArePuids head.count rest → ⊥) → finished_value body ≡ None
+pub no_puids : (version : ℕ) (body : List ℕ) (head : FinishedHead) (rest : List ℕ) → HasHead version body head rest → (ArePuids head.count rest → ⊥) → finished_value version body ≡ None
 unfolding finished_value
-no_puids body head rest has not_all =
+no_puids version body head rest has not_all =
     rw has.head_is (whole_none (texts_at head.count 1 puid_limit rest) (made_of head) not_all)
 
-puids_are : (body : List ℕ) (head : FinishedHead) (rest : List ℕ) → HasHead body head rest → ArePuids head.count rest → (puids : List (List ℕ)) × (texts_at head.count 1 puid_limit rest ≡ Some (puids, [])) × (finished_value body ≡ Some (made_of head puids))
+puids_are : (version : ℕ) (body : List ℕ) (head : FinishedHead) (rest : List ℕ) → HasHead version body head rest → ArePuids head.count rest → (puids : List (List ℕ)) × (texts_at head.count 1 puid_limit rest ≡ Some (puids, [])) × (finished_value version body ≡ Some (made_of head puids))
 unfolding finished_value
-puids_are body head rest has all =
+puids_are version body head rest has all =
     let some = whole_some (texts_at head.count 1 puid_limit rest) (made_of head) all in
     (some.0, some.1, rw has.head_is some.2)
 
-pub is_finished : (body : List ℕ) (head : FinishedHead) (rest : List ℕ) (puids : List (List ℕ)) (after : List ℕ) → HasHead body head rest → ArePuids head.count rest → texts_at head.count 1 puid_limit rest ≡ Some (puids, after) → finished_value body ≡ Some (made_of head puids)
-is_finished body head rest puids after has all read =
-    let some = puids_are body head rest has all in
+pub is_finished : (version : ℕ) (body : List ℕ) (head : FinishedHead) (rest : List ℕ) (puids : List (List ℕ)) (after : List ℕ) → HasHead version body head rest → ArePuids head.count rest → texts_at head.count 1 puid_limit rest ≡ Some (puids, after) → finished_value version body ≡ Some (made_of head puids)
+is_finished version body head rest puids after has all read =
+    let some = puids_are version body head rest has all in
     let same : some.0 ≡ puids = ap (λ (x : List (List ℕ) × List ℕ). x.0) (some_is (some.0, []) (puids, after) (sym some.1 ∙ read)) in
     some.2 ∙ ap (λ (p : List (List ℕ)). Some (made_of head p)) same
 
 is_some_at : (value : Option Reply) (reply : Reply) → value ≡ Some reply → IsSome value
 is_some_at value reply e = rw e refl
 
-pub fault_is : (body : List ℕ) (head : FinishedHead) (rest : List ℕ) (fault : BodyFault) → HasHead body head rest → ArePuids head.count rest → Fails fault (texts_at head.count 1 puid_limit rest) → IsFaultOf 132 (finished_value body) fault
-fault_is body head rest Malformed has all read =
-    let some = puids_are body head rest has all in
+pub fault_is : (version : ℕ) (body : List ℕ) (head : FinishedHead) (rest : List ℕ) (fault : BodyFault) → HasHead version body head rest → ArePuids head.count rest → Fails fault (texts_at head.count 1 puid_limit rest) → IsFaultOf 132 (finished_value version body) fault
+fault_is version body head rest Malformed has all read =
+    let some = puids_are version body head rest has all in
     absurd (let both = sym some.1 ∙ read in cc)
-fault_is body head rest Memory has all read =
-    let some = puids_are body head rest has all in
-    (refl, is_some_at (finished_value body) (made_of head some.0) some.2)
+fault_is version body head rest Memory has all read =
+    let some = puids_are version body head rest has all in
+    (refl, is_some_at (finished_value version body) (made_of head some.0) some.2)

@@ -1,0 +1,39 @@
+-- For proofs, and for the clauses `exact`: the kind of a hash and a digest, each read from the front of bytes by a function.
+use Rattle.std.specs.Prelude.{ℕ, zero, suc, nat_lt, ◌==◌, if◌then◌else◌, List, [], ◌∷◌, length, take, drop, Option, Some, None}
+use Rattle.droid_frame_values.specs.declared.hash_kind.HashKind.{HashKind}
+use Rattle.droid_frame_values.specs.declared.hash_kind.HashKind.TheVariants as kinds
+use Rattle.droid_frame_values.specs.declared.hash_value.HashValue.{HashValue}
+use Rattle.droid_frame_values.specs.declared.hash_value.HashValue.TheVariants as values
+use Rattle.droid_frame_bodies.specs.fields.Reading.{◌>>=◌}
+
+-- the kind of a hash at the front
+unfoldable pub hash_kind_at : List ℕ → Option (HashKind × List ℕ)
+hash_kind_at [] = None
+hash_kind_at (zero ∷ rest) = Some (kinds.Nothing, rest)
+hash_kind_at (suc zero ∷ rest) = Some (kinds.Md5, rest)
+hash_kind_at (suc (suc zero) ∷ rest) = Some (kinds.Sha256, rest)
+hash_kind_at (suc (suc (suc b)) ∷ rest) = None
+
+-- the same where the version has a field for it: version 1 has none, and means MD5
+unfoldable pub told_kind_at : ℕ → List ℕ → Option (HashKind × List ℕ)
+told_kind_at version bytes = if version == 1 then Some (kinds.Md5, bytes) else hash_kind_at bytes
+
+-- so many bytes, and the bytes after them
+unfoldable pub run_at : ℕ → List ℕ → Option (List ℕ × List ℕ)
+run_at count bytes = if nat_lt (length bytes) count then None else Some (take count bytes, drop count bytes)
+
+-- the digest of a hash of this kind
+unfoldable pub hash_value_at : HashKind → List ℕ → Option (HashValue × List ℕ)
+hash_value_at kinds.Nothing bytes = Some (values.Nothing, bytes)
+hash_value_at kinds.Md5 bytes = do
+  digest ← run_at 16 bytes
+  Some (values.Md5 digest.0, digest.1)
+hash_value_at kinds.Sha256 bytes = do
+  digest ← run_at 32 bytes
+  Some (values.Sha256 digest.0, digest.1)
+
+-- a kind that the version tells, and the digest of a hash of that kind
+unfoldable pub digest_at : ℕ → List ℕ → Option (HashValue × List ℕ)
+digest_at version bytes = do
+  kind ← told_kind_at version bytes
+  hash_value_at kind.0 kind.1
