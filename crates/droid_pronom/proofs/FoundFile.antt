@@ -87,18 +87,18 @@ part_of_last file w o k inside fits =
     let e : (length file - w) + (w - (o + k)) ≡ length file - (o + k) = omega arith in
     ap (λ (xs : List ℕ). take k xs) (drop-drop (w - (o + k)) (length file - w) file ∙ ap (λ (n : ℕ). drop n file) e)
 
--- a file that begins and ends with these bytes, which are as many as the limit leaves of it
-pub record Ends (file first last : List ℕ) (limit : ℕ) : Type 0 where
+-- a file that begins and ends with these bytes, which are as many as the scan limit leaves of it
+pub record Ends (file first last : List ℕ) (scan_limit : ℕ) : Type 0 where
   pub same : length first ≡ length last
-  pub reached : min limit (length file) ≡ length first
+  pub reached : min scan_limit (length file) ≡ length first
   pub begins : take (length first) file ≡ first
   pub ends : drop (length file - length first) file ≡ last
 
-module _ (file first last : List ℕ) (limit : ℕ) (fits : Ends file first last limit) where
+module _ (file first last : List ℕ) (scan_limit : ℕ) (fits : Ends file first last scan_limit) where
   inside_file : length first ≤ length file
   inside_file = omega (arith, fits.reached)
 
-  hits_from : (anchor : Anchor) (q : ByteSequence) → HitsWindowsFrom anchor first last q ↔ HitsFrom anchor q file limit
+  hits_from : (anchor : Anchor) (q : ByteSequence) → HitsWindowsFrom anchor first last q ↔ HitsFrom anchor q file scan_limit
   hits_from Bof q = (
     λ h.
         let e : take h.count (drop h.offset first) ≡ take h.count (drop h.offset file) = ap (λ (xs : List ℕ). take h.count (drop h.offset xs)) (sym fits.begins) ∙ part_of_first file (length first) h.offset h.count h.inside in
@@ -123,5 +123,5 @@ module _ (file first last : List ℕ) (limit : ℕ) (fits : Ends file first last
         record { offset = h.offset; count = h.count; from_low = h.from_min; to_high = h.to_max; inside = omega (arith, inside, fits.same); matched = rw (sym e) at h.matched },
   )
 
-  pub found_in_file : (registry : Contents) (name : List ℕ) (match_all : Bool) (found : Found) → IsFoundBy (HitsWindows first last) registry name match_all found → IsFound registry name file limit match_all found
-  found_in_file registry name match_all found is = found_same (HitsWindows first last) (Hits file limit) (λ q. hits_from q.offsets.anchor q) registry name match_all found is
+  pub found_in_file : (registry : Contents) (name : List ℕ) (match_all : Bool) (found : Found) → IsFoundBy (HitsWindows first last) registry name match_all found → IsFound registry name file scan_limit match_all found
+  found_in_file registry name match_all found is = found_same (HitsWindows first last) (Hits file scan_limit) (λ q. hits_from q.offsets.anchor q) registry name match_all found is

@@ -42,14 +42,14 @@ at_the_first_offset = refl
 at_the_last_offset : found_in registry (codes "x") (codes "aab") 3 false ≡ signature false (codes "t/1" ∷ [])
 at_the_last_offset = refl
 
--- one byte further, and past the limit
+-- one byte further, and past the scan limit
 past_the_last_offset : found_in registry (codes "x") (codes "aaab") 4 false ≡ nothing
 past_the_last_offset = refl
 
 past_the_limit : found_in registry (codes "x") (codes "aab") 2 false ≡ nothing
 past_the_limit = refl
 
--- a limit above the size of the file
+-- a scan limit above the size of the file
 above_the_size : found_in registry (codes "x") (codes "aab") 9 false ≡ signature false (codes "t/1" ∷ [])
 above_the_size = refl
 

@@ -36,36 +36,36 @@ decides_filled bytes = Decides-not (bytes_eq bytes []) (bytes_eq-Decides bytes [
 
 -- a byte sequence hits at an offset from this anchor with so many bytes
 abbrev HitsAt : Anchor → List ℕ → ℕ → ByteSequence → (offset count : ℕ) → Type 0
-HitsAt anchor file limit sequence offset count = ((sequence.offsets.min ≤ offset) × (offset + count ≤ min limit (length file))) × Lang sequence.pattern (part anchor file offset count)
+HitsAt anchor file scan_limit sequence offset count = ((sequence.offsets.min ≤ offset) × (offset + count ≤ min scan_limit (length file))) × Lang sequence.pattern (part anchor file offset count)
 
 -- it hits at one up to `max`
 abbrev HitsSomewhere : Anchor → List ℕ → ℕ → ByteSequence → Type 0
-HitsSomewhere anchor file limit sequence = (offset : ℕ) × (offset < suc sequence.offsets.max) × ((count : ℕ) × (count < suc (length file)) × HitsAt anchor file limit sequence offset count)
+HitsSomewhere anchor file scan_limit sequence = (offset : ℕ) × (offset < suc sequence.offsets.max) × ((count : ℕ) × (count < suc (length file)) × HitsAt anchor file scan_limit sequence offset count)
 
-decides_hits_at : (file : List ℕ) (limit : ℕ) (sequence : ByteSequence) (offset count : ℕ) → Decides (hits_at file limit sequence offset count) (HitsAt sequence.offsets.anchor file limit sequence offset count)
-decides_hits_at file limit sequence offset count =
+decides_hits_at : (file : List ℕ) (scan_limit : ℕ) (sequence : ByteSequence) (offset count : ℕ) → Decides (hits_at file scan_limit sequence offset count) (HitsAt sequence.offsets.anchor file scan_limit sequence offset count)
+decides_hits_at file scan_limit sequence offset count =
     let from_min : Bool = nat_le sequence.offsets.min offset in
-    let inside : Bool = nat_le (offset + count) (min limit (length file)) in
+    let inside : Bool = nat_le (offset + count) (min scan_limit (length file)) in
     Decides-and (from_min && inside) (in_lang sequence.pattern (part sequence.offsets.anchor file offset count))
-    (Decides-and from_min inside (decides_le sequence.offsets.min offset) (decides_le (offset + count) (min limit (length file))))
+    (Decides-and from_min inside (decides_le sequence.offsets.min offset) (decides_le (offset + count) (min scan_limit (length file))))
     (decides_lang sequence.pattern (part sequence.offsets.anchor file offset count))
 
-decides_somewhere : (file : List ℕ) (limit : ℕ) (sequence : ByteSequence) → Decides (hits file limit sequence) (HitsSomewhere sequence.offsets.anchor file limit sequence)
-decides_somewhere file limit sequence =
-    decides_some (λ offset. some_below (hits_at file limit sequence offset) (suc (length file))) (λ offset. (count : ℕ) × (count < suc (length file)) × HitsAt sequence.offsets.anchor file limit sequence offset count)
-    (λ offset. decides_some (hits_at file limit sequence offset) (HitsAt sequence.offsets.anchor file limit sequence offset) (decides_hits_at file limit sequence offset) (suc (length file))) (suc sequence.offsets.max)
+decides_somewhere : (file : List ℕ) (scan_limit : ℕ) (sequence : ByteSequence) → Decides (hits file scan_limit sequence) (HitsSomewhere sequence.offsets.anchor file scan_limit sequence)
+decides_somewhere file scan_limit sequence =
+    decides_some (λ offset. some_below (hits_at file scan_limit sequence offset) (suc (length file))) (λ offset. (count : ℕ) × (count < suc (length file)) × HitsAt sequence.offsets.anchor file scan_limit sequence offset count)
+    (λ offset. decides_some (hits_at file scan_limit sequence offset) (HitsAt sequence.offsets.anchor file scan_limit sequence offset) (decides_hits_at file scan_limit sequence offset) (suc (length file))) (suc sequence.offsets.max)
 
-hits_from_place : (anchor : Anchor) (file : List ℕ) (limit : ℕ) (sequence : ByteSequence) → HitsSomewhere anchor file limit sequence → HitsFrom anchor sequence file limit
-hits_from_place Bof file limit sequence p = record { offset = p.0; count = p.2.0; from_min = p.2.2.0.0; to_max = omega (arith, p.1); inside = p.2.2.0.1; matched = p.2.2.1 }
-hits_from_place Eof file limit sequence p = record { offset = p.0; count = p.2.0; from_min = p.2.2.0.0; to_max = omega (arith, p.1); inside = p.2.2.0.1; matched = p.2.2.1 }
+hits_from_place : (anchor : Anchor) (file : List ℕ) (scan_limit : ℕ) (sequence : ByteSequence) → HitsSomewhere anchor file scan_limit sequence → HitsFrom anchor sequence file scan_limit
+hits_from_place Bof file scan_limit sequence p = record { offset = p.0; count = p.2.0; from_min = p.2.2.0.0; to_max = omega (arith, p.1); inside = p.2.2.0.1; matched = p.2.2.1 }
+hits_from_place Eof file scan_limit sequence p = record { offset = p.0; count = p.2.0; from_min = p.2.2.0.0; to_max = omega (arith, p.1); inside = p.2.2.0.1; matched = p.2.2.1 }
 
-place_from_hits : (anchor : Anchor) (file : List ℕ) (limit : ℕ) (sequence : ByteSequence) → HitsFrom anchor sequence file limit → HitsSomewhere anchor file limit sequence
-place_from_hits Bof file limit sequence h = (h.offset, omega (arith, h.to_max), (h.count, omega (arith, h.inside), ((h.from_min, h.inside), h.matched)))
-place_from_hits Eof file limit sequence h = (h.offset, omega (arith, h.to_max), (h.count, omega (arith, h.inside), ((h.from_min, h.inside), h.matched)))
+place_from_hits : (anchor : Anchor) (file : List ℕ) (scan_limit : ℕ) (sequence : ByteSequence) → HitsFrom anchor sequence file scan_limit → HitsSomewhere anchor file scan_limit sequence
+place_from_hits Bof file scan_limit sequence h = (h.offset, omega (arith, h.to_max), (h.count, omega (arith, h.inside), ((h.from_min, h.inside), h.matched)))
+place_from_hits Eof file scan_limit sequence h = (h.offset, omega (arith, h.to_max), (h.count, omega (arith, h.inside), ((h.from_min, h.inside), h.matched)))
 
-decides_hits : (file : List ℕ) (limit : ℕ) (sequence : ByteSequence) → Decides (hits file limit sequence) (Hits file limit sequence)
-decides_hits file limit sequence =
-    Decides-like (hits file limit sequence) (hits_from_place sequence.offsets.anchor file limit sequence) (place_from_hits sequence.offsets.anchor file limit sequence) (decides_somewhere file limit sequence)
+decides_hits : (file : List ℕ) (scan_limit : ℕ) (sequence : ByteSequence) → Decides (hits file scan_limit sequence) (Hits file scan_limit sequence)
+decides_hits file scan_limit sequence =
+    Decides-like (hits file scan_limit sequence) (hits_from_place sequence.offsets.anchor file scan_limit sequence) (place_from_hits sequence.offsets.anchor file scan_limit sequence) (decides_somewhere file scan_limit sequence)
 
 -- ---- formats
 
@@ -137,11 +137,11 @@ answer_is H registry name match_all mismatch (puid ∷ more) named m l n = inl (
 answer_is H registry name match_all mismatch [] (puid ∷ more) m l n = inr (inl (record { left = l; named = n; some = filled puid more; method = refl; mismatch = refl }))
 answer_is H registry name match_all mismatch [] [] m l n = inr (inr (record { left = l; named = n; none = refl; method = refl; mismatch = refl }))
 
-pub found_is : (registry : Contents) (name file : List ℕ) (limit : ℕ) (match_all : Bool) → IsFound registry name file limit match_all (found_in registry name file limit match_all)
-found_is registry name file limit match_all =
-    let hit : ByteSequence → Bool = hits file limit in
-    let H : ByteSequence → Type 0 = Hits file limit in
+pub found_is : (registry : Contents) (name file : List ℕ) (scan_limit : ℕ) (match_all : Bool) → IsFound registry name file scan_limit match_all (found_in registry name file scan_limit match_all)
+found_is registry name file scan_limit match_all =
+    let hit : ByteSequence → Bool = hits file scan_limit in
+    let H : ByteSequence → Type 0 = Hits file scan_limit in
     answer_is H registry name match_all (is_mismatch hit registry (extension_of name)) (chosen_from (is_left hit registry) 0 registry.formats) (chosen_from (is_named registry (extension_of name) match_all) 0 registry.formats)
-    (decides_mismatch hit H (decides_hits file limit) registry (extension_of name))
-    (chosen_is (is_left hit registry) (IsLeft H registry) (decides_left hit H (decides_hits file limit) registry) 0 registry.formats)
+    (decides_mismatch hit H (decides_hits file scan_limit) registry (extension_of name))
+    (chosen_is (is_left hit registry) (IsLeft H registry) (decides_left hit H (decides_hits file scan_limit) registry) 0 registry.formats)
     (chosen_is (is_named registry (extension_of name) match_all) (IsNamed registry (extension_of name) match_all) (decides_named registry (extension_of name) match_all) 0 registry.formats)

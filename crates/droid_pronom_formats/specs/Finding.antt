@@ -19,12 +19,12 @@ part Eof file offset count = take count (drop (length file - (offset + count)) f
 
 -- whether a byte sequence hits at an offset with so many bytes
 abbrev pub hits_at : List ℕ → ℕ → ByteSequence → (offset count : ℕ) → Bool
-hits_at file limit sequence offset count =
-    nat_le sequence.offsets.min offset && nat_le (offset + count) (min limit (length file)) && in_lang sequence.pattern (part sequence.offsets.anchor file offset count)
+hits_at file scan_limit sequence offset count =
+    nat_le sequence.offsets.min offset && nat_le (offset + count) (min scan_limit (length file)) && in_lang sequence.pattern (part sequence.offsets.anchor file offset count)
 
 -- whether it hits
 abbrev pub hits : List ℕ → ℕ → ByteSequence → Bool
-hits file limit sequence = some_below (λ offset. some_below (hits_at file limit sequence offset) (suc (length file))) (suc sequence.offsets.max)
+hits file scan_limit sequence = some_below (λ offset. some_below (hits_at file scan_limit sequence offset) (suc (length file))) (suc sequence.offsets.max)
 
 -- What follows is said of a test that tells which byte sequences hit.
 
@@ -74,6 +74,6 @@ abbrev pub found_by : (ByteSequence → Bool) → Contents → List ℕ → Bool
 found_by hit registry name match_all =
     answer (is_mismatch hit registry (extension_of name)) (chosen_from (is_left hit registry) 0 registry.formats) (chosen_from (is_named registry (extension_of name) match_all) 0 registry.formats)
 
--- what is found in a file of this name with these bytes, under this limit
-abbrev pub found_in : Contents → (name file : List ℕ) → (limit : ℕ) → (match_all : Bool) → Found
-found_in registry name file limit match_all = found_by (hits file limit) registry name match_all
+-- what is found in a file of this name with these bytes, under this scan limit
+abbrev pub found_in : Contents → (name file : List ℕ) → (scan_limit : ℕ) → (match_all : Bool) → Found
+found_in registry name file scan_limit match_all = found_by (hits file scan_limit) registry name match_all

@@ -25,31 +25,31 @@ abbrev pub extension_of : List ℕ → List ℕ
 extension_of [] = []
 extension_of (first ∷ rest) = after_last_dot rest
 
--- A byte sequence matches at one of its offsets from the beginning of the file, wholly inside the first `limit` bytes.
-pub record HitsFromStart (sequence : ByteSequence) (file : List ℕ) (limit : ℕ) : Type 0 where
+-- A byte sequence matches at one of its offsets from the beginning of the file, wholly inside the first `scan_limit` bytes.
+pub record HitsFromStart (sequence : ByteSequence) (file : List ℕ) (scan_limit : ℕ) : Type 0 where
   pub offset : ℕ
   pub count : ℕ
   pub from_min : sequence.offsets.min ≤ offset
   pub to_max : offset ≤ sequence.offsets.max
-  pub inside : offset + count ≤ min limit (length file)
+  pub inside : offset + count ≤ min scan_limit (length file)
   pub matched : Lang sequence.pattern (take count (drop offset file))
 
 -- The same from the end: the offset is from the last byte of the match to the end of the file.
-pub record HitsFromEnd (sequence : ByteSequence) (file : List ℕ) (limit : ℕ) : Type 0 where
+pub record HitsFromEnd (sequence : ByteSequence) (file : List ℕ) (scan_limit : ℕ) : Type 0 where
   pub offset : ℕ
   pub count : ℕ
   pub from_min : sequence.offsets.min ≤ offset
   pub to_max : offset ≤ sequence.offsets.max
-  pub inside : offset + count ≤ min limit (length file)
+  pub inside : offset + count ≤ min scan_limit (length file)
   pub matched : Lang sequence.pattern (take count (drop (length file - (offset + count)) file))
 
--- a byte sequence hits in a file under a limit
+-- a byte sequence hits in a file under a scan limit
 abbrev pub HitsFrom : Anchor → ByteSequence → List ℕ → ℕ → Type 0
 HitsFrom Bof = HitsFromStart
 HitsFrom Eof = HitsFromEnd
 
 abbrev pub Hits : List ℕ → ℕ → ByteSequence → Type 0
-Hits file limit sequence = HitsFrom sequence.offsets.anchor sequence file limit
+Hits file scan_limit sequence = HitsFrom sequence.offsets.anchor sequence file scan_limit
 
 -- What follows is said of the byte sequences that hit, whichever they are.
 
@@ -118,6 +118,6 @@ IsFoundBy H registry name match_all found =
     ⊎ ByExtension H registry (extension_of name) match_all found
     ⊎ NoFormat H registry (extension_of name) match_all found
 
--- what is found in a file of this name with these bytes, under this limit
+-- what is found in a file of this name with these bytes, under this scan limit
 abbrev pub IsFound : Contents → List ℕ → List ℕ → ℕ → Bool → Found → Type 0
-IsFound registry name file limit match_all found = IsFoundBy (Hits file limit) registry name match_all found
+IsFound registry name file scan_limit match_all found = IsFoundBy (Hits file scan_limit) registry name match_all found

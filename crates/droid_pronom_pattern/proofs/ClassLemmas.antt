@@ -10,7 +10,7 @@ use Rattle.droid_pronom_bits.proofs.BitLemmas.{place_same, place_bit}
 use Rattle.droid_pronom_pattern.specs.declared.toward.Toward.{Toward}
 use Rattle.droid_pronom_pattern.specs.declared.class.Class.{Class}
 use Rattle.droid_pronom_pattern.specs.declared.class.Class.TheVariants as classes
-use Rattle.droid_pronom_pattern.specs.Parts.{accepts}
+use Rattle.droid_pronom_pattern.specs.Tokens.{accepts}
 use Rattle.droid_pronom_pattern.specs.Positions.{IsRowOf, byte_behind}
 
 -- a bit is set

@@ -356,12 +356,12 @@ some_text e front spelled = go (shape_of e front spelled)
     go (parentheses body is lacks inside) = omega (arith, ap length is)
 
 -- What the rest spells completes what the text spells.
-pub record PartsLeft (text : List ℕ) (done : List Element) (rest : List ℕ) : Type 0 where
+pub record TokensLeft (text : List ℕ) (done : List Element) (rest : List ℕ) : Type 0 where
   pub taken : (more : List Element) → SpellsAll rest more → SpellsAll text (done ++ more)
   pub only : (all : List Element) → SpellsAll text all → (more : List Element) × SpellsAll rest more × (all ≡ done ++ more)
 
-pub parts_start : (text : List ℕ) → PartsLeft text [] text
-parts_start text = record { taken = λ more h. h; only = λ all h. (all, h, refl) }
+pub tokens_start : (text : List ℕ) → TokensLeft text [] text
+tokens_start text = record { taken = λ more h. h; only = λ all h. (all, h, refl) }
 
 -- what a text with one element at its front spells
 first_element : (rest after : List ℕ) (e : Element) → (rest ≡ [] → ⊥) → IsOnlyFront rest e after → (found : List Element) → SpellsAll rest found
@@ -371,9 +371,9 @@ first_element rest after e some front (e' ∷ more) (start, back, is, spelled, o
     let same = front.only e' start back is spelled in
     (more, ap (λ x. x ∷ more) same.0, rw same.1 at others)
 
-pub parts_next : (text : List ℕ) (done new : List Element) (rest after : List ℕ) (e : Element) → (rest ≡ [] → ⊥) → IsOnlyFront rest e after → new ≡ done ++ e ∷ []
-    → PartsLeft text done rest → PartsLeft text new after
-parts_next text done new rest after e some front grown left = record {
+pub tokens_next : (text : List ℕ) (done new : List Element) (rest after : List ℕ) (e : Element) → (rest ≡ [] → ⊥) → IsOnlyFront rest e after → new ≡ done ++ e ∷ []
+    → TokensLeft text done rest → TokensLeft text new after
+tokens_next text done new rest after e some front grown left = record {
   taken = λ more spelled.
       let joined : new ++ more ≡ done ++ (e ∷ more) = ap (λ x. x ++ more) grown ∙ append_assoc done (e ∷ []) more in
       rw joined (left.taken (e ∷ more) (front.front, after, front.whole, front.spelled, spelled));
@@ -383,21 +383,21 @@ parts_next text done new rest after e some front grown left = record {
       (more, others, is ∙ ap (λ x. done ++ x) cons ∙ sym (append_assoc done (e ∷ []) more) ∙ ap (λ x. x ++ more) (sym grown));
 }
 
-pub parts_bad : (text : List ℕ) (done : List Element) (rest : List ℕ) → (rest ≡ [] → ⊥) → HasNoFront rest → PartsLeft text done rest → (es : List Element) → SpellsAll text es → ⊥
-parts_bad text done rest some none left all spelled = let (found, there, is) = left.only all spelled in go found there
+pub tokens_bad : (text : List ℕ) (done : List Element) (rest : List ℕ) → (rest ≡ [] → ⊥) → HasNoFront rest → TokensLeft text done rest → (es : List Element) → SpellsAll text es → ⊥
+tokens_bad text done rest some none left all spelled = let (found, there, is) = left.only all spelled in go found there
   where
     go : (found : List Element) → SpellsAll rest found → ⊥
     go [] e = some e
     go (e ∷ more) (front, back, is, spelled', others) = none e front back is spelled'
 
-pub parts_shrink : (rest after : List ℕ) (e : Element) → IsOnlyFront rest e after → length after < length rest
-parts_shrink rest after e front = omega (arith, some_text e front.front front.spelled, ap length front.whole, length-append front.front after)
+pub tokens_shrink : (rest after : List ℕ) (e : Element) → IsOnlyFront rest e after → length after < length rest
+tokens_shrink rest after e front = omega (arith, some_text e front.front front.spelled, ap length front.whole, length-append front.front after)
 
-pub parts_end : (text : List ℕ) (done : List Element) (rest : List ℕ) → rest ≡ [] → PartsLeft text done rest → SpellsAll text done
-parts_end text done rest none left = rw (append-nil done) at (left.taken [] none)
+pub tokens_end : (text : List ℕ) (done : List Element) (rest : List ℕ) → rest ≡ [] → TokensLeft text done rest → SpellsAll text done
+tokens_end text done rest none left = rw (append-nil done) at (left.taken [] none)
 
-pub parts_only : (text : List ℕ) (done : List Element) (rest : List ℕ) → rest ≡ [] → PartsLeft text done rest → (es : List Element) → SpellsAll text es → done ≡ es
-parts_only text done rest none left es spelled =
+pub tokens_only : (text : List ℕ) (done : List Element) (rest : List ℕ) → rest ≡ [] → TokensLeft text done rest → (es : List Element) → SpellsAll text es → done ≡ es
+tokens_only text done rest none left es spelled =
     let (found, there, is) = left.only es spelled in sym (is ∙ ap (λ x. done ++ x) (go found there) ∙ append-nil done)
   where
     go : (found : List Element) → SpellsAll rest found → found ≡ []

@@ -7,7 +7,7 @@ use Rattle.memchr.specs.Find.{IsFirstByte}
 use Rattle.droid_pronom_pattern.specs.declared.toward.Toward.TheVariants as toward
 use Rattle.droid_pronom_pattern.specs.declared.class.Class.{Class}
 use Rattle.droid_pronom_pattern.specs.Patterns.{Element, BeginsWithin}
-use Rattle.droid_pronom_pattern.specs.Parts.{accepts, element_of_class}
+use Rattle.droid_pronom_pattern.specs.Tokens.{accepts, element_of_class}
 use Rattle.droid_pronom_pattern.specs.Positions.{Leads, Path}
 use Rattle.droid_pronom_pattern.proofs.StepLemmas.{class_steps}
 use Rattle.droid_pronom_pattern.proofs.PathLemmas.{begins_first}

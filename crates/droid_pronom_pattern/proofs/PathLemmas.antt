@@ -161,7 +161,7 @@ pub no_items : {X : Type 0} (xs : List X) → length xs < 1 → xs ≡ []
 no_items [] h = refl
 no_items (x ∷ xs) h = absurd (omega arith)
 
--- the same of the parts that stand for the elements
+-- the same of the elements that cells stand for
 pub begins_first : (es fs : List Element) (bytes : List ℕ) (low high : ℕ) (starts : ℕ → Type 0) → es ≡ fs
     → ((p : ℕ) → starts p ↔ ((low ≤ p) × (p ≤ min high (length bytes))))
     → BeginsWithin es bytes low high ↔ ((p : ℕ) × starts p × ((q : ℕ) × Path fs bytes p q))

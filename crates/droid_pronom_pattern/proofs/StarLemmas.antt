@@ -6,9 +6,9 @@ use Rattle.std.proofs.lemmas.Grind.{flat_map-append}
 use Rattle.std.specs.List.{flat_map}
 use Rattle.droid_pronom_pattern.specs.declared.cell.Cell.{Cell}
 use Rattle.droid_pronom_pattern.specs.declared.cell.Cell.TheVariants as cells
-use Rattle.droid_pronom_pattern.specs.declared.part.Part.{Part}
+use Rattle.droid_pronom_pattern.specs.declared.token.Token.{Token}
 use Rattle.droid_pronom_pattern.specs.declared.toward.Toward.TheVariants as toward
-use Rattle.droid_pronom_pattern.specs.Parts.{element_of}
+use Rattle.droid_pronom_pattern.specs.Tokens.{element_of}
 use Rattle.droid_pronom_pattern.specs.Patterns.{Element, OpenGap}
 use Rattle.droid_pronom_pattern.specs.Positions.{Leads, Path, Reaches}
 use Rattle.droid_pronom_pattern.specs.Cells.{element_at, elements_at, more_of, number_of}
@@ -32,17 +32,17 @@ last_joined f old place last cell joined end read both =
     let other : flat_map f old ≡ flat_map f before ++ f last = ap (flat_map f) whole ∙ sym (flat_map_more f [] before last) in
     one ∙ ap (λ xs. flat_map f before ++ xs) both ∙ sym (append_assoc (flat_map f before) (f last) (f cell)) ∙ ap (λ xs. xs ++ f cell) (sym other)
 
--- one more part, in a cell of its own or joined with the last one
-pub part_more : (old new : List ℕ) (cells after : List Cell) (parts : List Part) (cell : Cell) (part : Part)
-    → ((added : List ℕ) × (new ≡ old ++ added)) → more_of cell ≡ 0 → ((more : List ℕ) → element_at (new ++ more) cell ≡ element_of part)
+-- one more token, in a cell of its own or joined with the last one
+pub token_more : (old new : List ℕ) (cells after : List Cell) (tokens : List Token) (cell : Cell) (token : Token)
+    → ((added : List ℕ) × (new ≡ old ++ added)) → more_of cell ≡ 0 → ((more : List ℕ) → element_at (new ++ more) cell ≡ element_of token)
     → ((pool : List ℕ) → flat_map (elements_at pool) after ≡ flat_map (elements_at pool) cells ++ elements_at pool cell)
-    → ((more : List ℕ) → flat_map (elements_at (old ++ more)) cells ≡ map element_of parts)
-    → (more : List ℕ) → flat_map (elements_at (new ++ more)) after ≡ map element_of (parts ++ part ∷ [])
-part_more old new cells after parts cell part (added, grown) one stays put so_far more =
+    → ((more : List ℕ) → flat_map (elements_at (old ++ more)) cells ≡ map element_of tokens)
+    → (more : List ℕ) → flat_map (elements_at (new ++ more)) after ≡ map element_of (tokens ++ token ∷ [])
+token_more old new cells after tokens cell token (added, grown) one stays put so_far more =
     let group : new ++ more ≡ old ++ (added ++ more) = ap (λ xs. xs ++ more) grown ∙ append_assoc old added more in
-    let before : flat_map (elements_at (new ++ more)) cells ≡ map element_of parts = ap (λ pool. flat_map (elements_at pool) cells) group ∙ so_far (added ++ more) in
-    let here : elements_at (new ++ more) cell ≡ element_of part ∷ [] = ap (λ n. element_at (new ++ more) cell ∷ replicate n (element_at (new ++ more) cell)) one ∙ ap (λ e. e ∷ []) (stays more) in
-    put (new ++ more) ∙ ap (λ xs. xs ++ elements_at (new ++ more) cell) before ∙ ap (λ xs. map element_of parts ++ xs) here ∙ sym (map-append element_of parts (part ∷ []))
+    let before : flat_map (elements_at (new ++ more)) cells ≡ map element_of tokens = ap (λ pool. flat_map (elements_at pool) cells) group ∙ so_far (added ++ more) in
+    let here : elements_at (new ++ more) cell ≡ element_of token ∷ [] = ap (λ n. element_at (new ++ more) cell ∷ replicate n (element_at (new ++ more) cell)) one ∙ ap (λ e. e ∷ []) (stays more) in
+    put (new ++ more) ∙ ap (λ xs. xs ++ elements_at (new ++ more) cell) before ∙ ap (λ xs. map element_of tokens ++ xs) here ∙ sym (map-append element_of tokens (token ∷ []))
 
 -- a star leads to any position that isn't before
 star_leads : (bytes : List ℕ) (p q : ℕ) → p ≤ q → q ≤ length bytes → Leads (OpenGap 0) bytes p q

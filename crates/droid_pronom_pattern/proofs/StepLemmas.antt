@@ -12,7 +12,7 @@ use Rattle.droid_pronom_pattern.specs.declared.class.Class.{Class}
 use Rattle.droid_pronom_pattern.specs.declared.class.Class.TheVariants as classes
 use Rattle.droid_pronom_pattern.specs.Patterns.{Element, Choice, Gap, OpenGap, AnyByte}
 use Rattle.droid_pronom_bits.specs.Places.{IsPlace}
-use Rattle.droid_pronom_pattern.specs.Parts.{accepts, element_of_class}
+use Rattle.droid_pronom_pattern.specs.Tokens.{accepts, element_of_class}
 use Rattle.droid_pronom_pattern.specs.Positions.{Leads, Steps, Reaches, IsAt, IsInside, IsChain, place_of, byte_behind}
 use Rattle.droid_pronom_pattern.proofs.RunLemmas.{length_part}
 

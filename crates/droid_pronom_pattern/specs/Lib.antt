@@ -4,7 +4,7 @@ pub mod Patterns
 pub mod LangTest
 -- What the steps of reading and matching promise each other.
 pub mod Fronts
-pub mod Parts
+pub mod Tokens
 pub mod Cells
 pub mod Positions
 pub mod Classes

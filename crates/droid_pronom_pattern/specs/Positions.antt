@@ -6,7 +6,7 @@ use Rattle.droid_pronom_pattern.specs.declared.toward.Toward.TheVariants as towa
 use Rattle.droid_pronom_pattern.specs.declared.class.Class.{Class}
 use Rattle.droid_pronom_pattern.specs.declared.classes.ClassRow.{ClassRow}
 use Rattle.droid_pronom_pattern.specs.Patterns.{Element, Matches}
-use Rattle.droid_pronom_pattern.specs.Parts.{accepts}
+use Rattle.droid_pronom_pattern.specs.Tokens.{accepts}
 
 -- the element matches the bytes from one position up to another
 pub record Leads (e : Element) (bytes : List ℕ) (from to : ℕ) : Type 0 where

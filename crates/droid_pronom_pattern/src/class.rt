@@ -1,7 +1,7 @@
 //! Tests of one byte.
 
 ghost use Rattle.std.specs.Prelude.{◌≡◌, ◌↔◌, ◌<◌, IsTrue, true, length, slice_index};
-ghost use Rattle.droid_pronom_pattern.specs.Parts.{accepts};
+ghost use Rattle.droid_pronom_pattern.specs.Tokens.{accepts};
 
 /// What one byte of a match has to be.
 #[derive(Clone, Copy, PartialEq, Eq)]

@@ -3,7 +3,7 @@
 ghost use Rattle.std.specs.Prelude.{◌≡◌, ◌↔◌, ◌+◌, ◌*◌, ◌<◌, ◌≤◌, ℕ, true, [], OnOk, length};
 ghost use Rattle.std.specs.Int.{bit_at};
 ghost use Rattle.droid_pronom_bits.specs.Places.{IsPlace};
-ghost use Rattle.droid_pronom_pattern.specs.Parts.{accepts};
+ghost use Rattle.droid_pronom_pattern.specs.Tokens.{accepts};
 ghost use Rattle.droid_pronom_pattern.specs.Positions.{byte_behind, IsRowOf, AreRowsOf};
 
 use crate::class::Class;

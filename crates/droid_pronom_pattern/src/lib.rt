@@ -7,12 +7,12 @@ mod classes;
 mod fault;
 mod head;
 mod packed;
-mod part;
 mod pattern;
 mod pool;
 mod reading;
 mod short;
 mod step;
+mod token;
 mod toward;
 mod window;
 

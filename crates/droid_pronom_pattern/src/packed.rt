@@ -2,14 +2,14 @@
 
 ghost use Rattle.std.specs.Prelude.{◌≡◌, ◌++◌, ℕ, List, map, IfOk, OnOk};
 ghost use Rattle.std.specs.List.{flat_map};
-ghost use Rattle.droid_pronom_pattern.specs.Parts.{element_of, element_of_class};
+ghost use Rattle.droid_pronom_pattern.specs.Tokens.{element_of, element_of_class};
 ghost use Rattle.droid_pronom_pattern.specs.Cells.{element_at, elements_at, elements_of, more_of};
 
 use crate::cell::Cell;
 use crate::class::Class;
-use crate::part::Part;
 use crate::pool::{put_choice, short_of};
 use crate::short::{Short, put_number};
+use crate::token::Token;
 use std::alloc::{AllocError, Global};
 
 /// A cell for each element, or for several stars, and the pool that some of them point into.
@@ -19,25 +19,25 @@ pub(crate) struct Packed {
     pub(crate) pool: Vec<u8>,
 }
 
-/// The same elements as those of the parts, in vectors of their very length.
-pub(crate) fn pack(alloc: Global, parts: &[Part]) -> Result<Packed, AllocError>
-    ensures { IfOk result (λ packed. elements_of packed ≡ map element_of parts.now) }
+/// The same elements as those of the tokens, in vectors of their very length.
+pub(crate) fn pack(alloc: Global, tokens: &[Token]) -> Result<Packed, AllocError>
+    ensures { IfOk result (λ packed. elements_of packed ≡ map element_of tokens.now) }
 {
-    let mut cells = Vec::with_capacity(alloc, cells_len(parts))?;
-    let mut pool = Vec::with_capacity(alloc, pool_len(parts))?;
-    for part in parts {
-        let cell = put(&mut pool, part)?;
+    let mut cells = Vec::with_capacity(alloc, cells_len(tokens))?;
+    let mut pool = Vec::with_capacity(alloc, pool_len(tokens))?;
+    for token in tokens {
+        let cell = put(&mut pool, token)?;
         add(&mut cells, cell)?;
     }
     Ok(Packed { cells, pool })
 }
 
-/// How many cells the parts take: one each, but none for a star behind a star.
-fn cells_len(parts: &[Part]) -> usize {
+/// How many cells the tokens take: one each, but none for a star behind a star.
+fn cells_len(tokens: &[Token]) -> usize {
     let mut len = 0usize;
     let mut behind_star = false;
-    for part in parts {
-        let star = part.is_star();
+    for token in tokens {
+        let star = token.is_star();
         if !star || !behind_star {
             len = len.saturating_add(1);
         }
@@ -46,11 +46,11 @@ fn cells_len(parts: &[Part]) -> usize {
     len
 }
 
-/// How many bytes of a pool the parts take.
-fn pool_len(parts: &[Part]) -> usize {
+/// How many bytes of a pool the tokens take.
+fn pool_len(tokens: &[Token]) -> usize {
     let mut len = 0usize;
-    for part in parts {
-        len = len.saturating_add(part.pool_len());
+    for token in tokens {
+        len = len.saturating_add(token.pool_len());
     }
     len
 }
@@ -69,29 +69,29 @@ fn add(cells: &mut Vec<Cell>, cell: Cell) -> Result<(), AllocError>
     Ok(())
 }
 
-/// The cell of this part, with what has no room in it behind the bytes of the pool.
-fn put(pool: &mut Vec<u8>, part: &Part) -> Result<Cell, AllocError>
+/// The cell of this token, with what has no room in it behind the bytes of the pool.
+fn put(pool: &mut Vec<u8>, token: &Token) -> Result<Cell, AllocError>
     ensures grown { OnOk result ((added : List ℕ) × (pool.new.items ≡ pool.old.items ++ added)) }
     ensures one { IfOk result (λ cell. more_of cell ≡ 0) }
     // Whatever is written behind it later, the cell stands for the element.
-    ensures stays { IfOk result (λ cell. (more : List ℕ) → element_at (pool.new.items ++ more) cell ≡ element_of part.now) }
+    ensures stays { IfOk result (λ cell. (more : List ℕ) → element_at (pool.new.items ++ more) cell ≡ element_of token.now) }
 {
-    match part {
-        Part::One(class) => Ok(cell_of_class(*class)),
-        Part::AnyByte => Ok(Cell::AnyByte),
-        Part::OpenGap { least: 0 } => Ok(Cell::Stars {
+    match token {
+        Token::One(class) => Ok(cell_of_class(*class)),
+        Token::AnyByte => Ok(Cell::AnyByte),
+        Token::OpenGap { least: 0 } => Ok(Cell::Stars {
             more: Short::new(0),
         }),
-        Part::OpenGap { least } => Ok(Cell::OpenGap {
+        Token::OpenGap { least } => Ok(Cell::OpenGap {
             least: Short::new(*least),
         }),
-        Part::Gap { least, more } => {
+        Token::Gap { least, more } => {
             let at = Short::new(short_of(pool.len())?);
             put_number(pool, *least)?;
             put_number(pool, *more)?;
             Ok(Cell::Gap { at })
         }
-        Part::Choice(alternatives) => {
+        Token::Choice(alternatives) => {
             let start = Short::new(short_of(pool.len())?);
             put_choice(pool, alternatives)?;
             Ok(Cell::Choice { at: start })

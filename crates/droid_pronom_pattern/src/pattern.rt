@@ -8,8 +8,8 @@ ghost use Rattle.droid_pronom_pattern.specs.Classes.{AreOf};
 use crate::fault::PatternFault;
 use crate::head::told_at;
 use crate::packed::{Packed, pack};
-use crate::part::any_byte;
-use crate::reading::parts_of;
+use crate::reading::tokens_of;
+use crate::token::any_byte;
 use crate::toward::Toward;
 use crate::window::Classes;
 use std::alloc::{AllocError, Global};
@@ -58,11 +58,11 @@ impl Pattern {
         if text.len() > TEXT_LIMIT {
             return Err(PatternFault::BadPattern);
         }
-        let parts = parts_of(alloc, text)?;
-        if !any_byte(&parts) {
+        let tokens = tokens_of(alloc, text)?;
+        if !any_byte(&tokens) {
             return Err(PatternFault::BadPattern);
         }
-        let packed = pack(alloc, &parts)?;
+        let packed = pack(alloc, &tokens)?;
         Ok(Pattern { packed })
     }
 

@@ -3,99 +3,99 @@
 ghost use Rattle.std.specs.Prelude.{◌≡◌, ◌++◌, ◌∷◌, ℕ, List, map, IfOk, IsErrOf, MatchOption, Contains};
 ghost use Rattle.droid_pronom_pattern.specs.Patterns.{Element};
 ghost use Rattle.droid_pronom_pattern.specs.PatternText.{IsPair, IsNumber, SpellsBytes, SpellsAlternative, SpellsChoice, SpellsAll};
-ghost use Rattle.droid_pronom_pattern.specs.Parts.{element_of, element_of_class};
+ghost use Rattle.droid_pronom_pattern.specs.Tokens.{element_of, element_of_class};
 ghost use Rattle.droid_pronom_pattern.specs.Fronts.{IsOnlyFront, HasNoFront, SpellsInPair, SpellsInBraces, SpellsInBrackets};
 
 use crate::class::Class;
 use crate::fault::PatternFault;
-use crate::part::Part;
+use crate::token::Token;
 use memchr::memchr;
 use std::alloc::Global;
 
-/// The parts that the text spells, all of it.
-pub(crate) fn parts_of(alloc: Global, text: &[u8]) -> Result<Vec<Part>, PatternFault>
-    ensures spelled { IfOk result (λ parts. SpellsAll text.now (map element_of parts.items)) }
-    ensures only { (es : List Element) → SpellsAll text.now es → IfOk result (λ parts. map element_of parts.items ≡ es) }
+/// The tokens that the text spells, all of it.
+pub(crate) fn tokens_of(alloc: Global, text: &[u8]) -> Result<Vec<Token>, PatternFault>
+    ensures spelled { IfOk result (λ tokens. SpellsAll text.now (map element_of tokens.items)) }
+    ensures only { (es : List Element) → SpellsAll text.now es → IfOk result (λ tokens. map element_of tokens.items ≡ es) }
     ensures bad { IsErrOf result PatternFault.BadPattern → (es : List Element) → SpellsAll text.now es → ⊥ }
 {
-    let mut parts = Vec::new(alloc);
+    let mut tokens = Vec::new(alloc);
     let mut rest = text;
     while !rest.is_empty() {
-        let (part, after) = part_of(alloc, rest)?;
-        parts.push(part)?;
+        let (token, after) = token_of(alloc, rest)?;
+        tokens.push(token)?;
         rest = after;
     }
-    Ok(parts)
+    Ok(tokens)
 }
 
 /// The element at the front of the text, and the text after it.
-fn part_of(alloc: Global, text: &[u8]) -> Result<(Part, &[u8]), PatternFault>
+fn token_of(alloc: Global, text: &[u8]) -> Result<(Token, &[u8]), PatternFault>
     ensures front { IfOk result (λ found. IsOnlyFront text.now (element_of found.0) found.1.now) }
     ensures bad { IsErrOf result PatternFault.BadPattern → HasNoFront text.now }
 {
     let (first, after) = text.split_first().ok_or(PatternFault::BadPattern)?;
     match *first {
-        b'*' => Ok((Part::OpenGap { least: 0 }, after)),
+        b'*' => Ok((Token::OpenGap { least: 0 }, after)),
         b'{' => {
             let (body, rest) = split_at_mark(b'}', after).ok_or(PatternFault::BadPattern)?;
-            let part = gap_of(body).ok_or(PatternFault::BadPattern)?;
-            Ok((part, rest))
+            let token = gap_of(body).ok_or(PatternFault::BadPattern)?;
+            Ok((token, rest))
         }
         b'[' => {
             let (body, rest) = split_at_mark(b']', after).ok_or(PatternFault::BadPattern)?;
             let class = class_of(body).ok_or(PatternFault::BadPattern)?;
-            Ok((Part::One(class), rest))
+            Ok((Token::One(class), rest))
         }
         b'(' => {
             let (body, rest) = split_at_mark(b')', after).ok_or(PatternFault::BadPattern)?;
             let alternatives = choice_of(alloc, body)?;
-            Ok((Part::Choice(alternatives), rest))
+            Ok((Token::Choice(alternatives), rest))
         }
         first => {
             let (second, rest) = after.split_first().ok_or(PatternFault::BadPattern)?;
-            let part = part_of_pair(first, *second).ok_or(PatternFault::BadPattern)?;
-            Ok((part, rest))
+            let token = token_of_pair(first, *second).ok_or(PatternFault::BadPattern)?;
+            Ok((token, rest))
         }
     }
 }
 
 /// What two characters stand for: `61` or `??`.
-fn part_of_pair(first: u8, second: u8) -> Option<Part>
+fn token_of_pair(first: u8, second: u8) -> Option<Token>
     ensures { MatchOption result ((e : Element) → SpellsInPair first second e → ⊥)
-        (λ part. SpellsInPair first second (element_of part)) }
+        (λ token. SpellsInPair first second (element_of token)) }
 {
     if first == b'?' && second == b'?' {
-        return Some(Part::AnyByte);
+        return Some(Token::AnyByte);
     }
     let byte = byte_of(first, second)?;
-    Some(Part::One(Class::Byte(byte)))
+    Some(Token::One(Class::Byte(byte)))
 }
 
 /// The text before the first such mark, and the text after it.
 fn split_at_mark(mark: u8, text: &[u8]) -> Option<(&[u8], &[u8])>
     ensures { MatchOption result (Contains text.now mark → ⊥)
-        (λ parts. (text.now ≡ parts.0.now ++ mark ∷ parts.1.now) × (Contains parts.0.now mark → ⊥)) }
+        (λ halves. (text.now ≡ halves.0.now ++ mark ∷ halves.1.now) × (Contains halves.0.now mark → ⊥)) }
 {
     let position = memchr(mark, text)?;
     Some((&text[..position], &text[position + 1..]))
 }
 
 /// What stands between braces: `3`, `2-5` or `2-*`.
-fn gap_of(body: &[u8]) -> Option<Part>
+fn gap_of(body: &[u8]) -> Option<Token>
     ensures { MatchOption result ((e : Element) → SpellsInBraces body.now e → ⊥)
-        (λ part. SpellsInBraces body.now (element_of part)) }
+        (λ token. SpellsInBraces body.now (element_of token)) }
 {
     let Some((low, high)) = split_at_mark(b'-', body) else {
         let least = number_of(body)?;
-        return Some(Part::Gap { least, more: 0 });
+        return Some(Token::Gap { least, more: 0 });
     };
     let least = number_of(low)?;
     if high == b"*".as_slice() {
-        return Some(Part::OpenGap { least });
+        return Some(Token::OpenGap { least });
     }
     let most = number_of(high)?;
     let more = most.checked_sub(least)?;
-    Some(Part::Gap { least, more })
+    Some(Token::Gap { least, more })
 }
 
 /// What stands between brackets: `61:7A` or `!61`.

@@ -1,7 +1,7 @@
 //! The direction in which a pattern is gone through.
 
 ghost use Rattle.std.specs.Prelude.{◌≡◌, ◌<◌, ◌+◌, ℕ, IsTrue, true, length, slice_index};
-ghost use Rattle.droid_pronom_pattern.specs.Parts.{accepts};
+ghost use Rattle.droid_pronom_pattern.specs.Tokens.{accepts};
 ghost use Rattle.droid_pronom_pattern.specs.Positions.{byte_behind};
 
 use crate::class::Class;

@@ -167,8 +167,8 @@ impl Registry {
         requires few { length first.now ≤ 65536 }
         requires inside { length first.now ≤ size }
         // What is found in every file of that size which begins and ends with these bytes, under
-        // every limit that leaves so many of them.
-        ensures found { IfOk result (λ found. (file : List ℕ) (limit : ℕ) → length file ≡ size → min limit size ≡ length first.now → take (length first.now) file ≡ first.now → drop (size - length first.now) file ≡ last.now → IsFound self.now name.now file limit match_all found) }
+        // every scan limit that leaves so many of them.
+        ensures found { IfOk result (λ found. (file : List ℕ) (scan_limit : ℕ) → length file ≡ size → min scan_limit size ≡ length first.now → take (length first.now) file ≡ first.now → drop (size - length first.now) file ≡ last.now → IsFound self.now name.now file scan_limit match_all found) }
         ensures few { IfOk result (λ found. length found.puids ≤ 4096) }
         ensures puids { IfOk result (λ found. AllByRecursion (λ puid. IsTrue (is_puid puid)) found.puids) }
     {

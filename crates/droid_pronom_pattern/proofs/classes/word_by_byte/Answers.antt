@@ -1,7 +1,7 @@
 -- One more byte, and all of them.
 use Rattle.std.proofs.Common.{◌≡◌, ◌+◌, ℕ, true, sym, ◌∙◌, arith}
 use Rattle.std.proofs.lemmas.Bool.{false≢true}
-use Rattle.droid_pronom_pattern.specs.Parts.{accepts}
+use Rattle.droid_pronom_pattern.specs.Tokens.{accepts}
 use Rattle.droid_pronom_pattern.specs.Positions.{byte_behind}
 use Rattle.droid_pronom_pattern.proofs.ClassLemmas.{tells_set, tells_unset}
 use Rattle.droid_pronom_pattern.proofs.classes.word_by_byte.Goals as goal

@@ -1,6 +1,6 @@
 -- The bits so far tell which bytes pass.
 use Rattle.std.proofs.Common.{◌≡◌, ◌+◌, true}
-use Rattle.droid_pronom_pattern.specs.Parts.{accepts}
+use Rattle.droid_pronom_pattern.specs.Tokens.{accepts}
 use Rattle.droid_pronom_pattern.specs.Positions.{byte_behind}
 use Rattle.droid_pronom_pattern.proofs.ClassLemmas.{Tells}
 use Rattle.droid_pronom_pattern.proofs.classes.word_by_byte.Given as goal

@@ -6,8 +6,8 @@ use Rattle.droid_pronom.proofs.registry.Registry.identify.Goals as goal
 
 pub returns-clause-found : goal.returns-clause-found
 returns-clause-found c =
-    IfOk-weaker c.identify_windows.result _ _ (λ found is file limit size reached begins ends.
-    found_in_file file c.args.first.now c.args.last.now limit
+    IfOk-weaker c.identify_windows.result _ _ (λ found is file scan_limit size reached begins ends.
+    found_in_file file c.args.first.now c.args.last.now scan_limit
     (record { same = c.requires.same; reached = rw size reached; begins = begins; ends = rw size ends })
     c.args.self.now c.args.name.now c.args.match_all found is) c.identify_windows.ensures
 

@@ -2,13 +2,13 @@
 
 ghost use Rattle.std.specs.Prelude.{◌≡◌, map};
 ghost use Rattle.droid_pronom_pattern.specs.Patterns.{is_gap, has_byte};
-ghost use Rattle.droid_pronom_pattern.specs.Parts.{element_of};
+ghost use Rattle.droid_pronom_pattern.specs.Tokens.{element_of};
 
 use crate::class::Class;
 
 /// An element of a pattern.
 #[derive(Drop)]
-pub(crate) enum Part {
+pub(crate) enum Token {
     /// One byte that passes a test.
     One(Class),
     /// Any one byte.
@@ -21,25 +21,25 @@ pub(crate) enum Part {
     Choice(Vec<Vec<u8>>),
 }
 
-impl Part {
+impl Token {
     /// Whether the element is a gap, which may match no byte.
     pub(crate) fn is_gap(&self) -> bool
         ensures { result ≡ is_gap (element_of self.now) }
     {
-        matches!(self, Part::Gap { .. } | Part::OpenGap { .. })
+        matches!(self, Token::Gap { .. } | Token::OpenGap { .. })
     }
 
     /// Whether the element is a star: any bytes, none included.
     pub(crate) fn is_star(&self) -> bool {
-        matches!(self, Part::OpenGap { least: 0 })
+        matches!(self, Token::OpenGap { least: 0 })
     }
 
     /// How many bytes of a pool it takes.
     pub(crate) fn pool_len(&self) -> usize {
         match self {
-            Part::One(_) | Part::AnyByte | Part::OpenGap { .. } => 0,
-            Part::Gap { .. } => 4,
-            Part::Choice(alternatives) => runs_len(alternatives).saturating_add(2),
+            Token::One(_) | Token::AnyByte | Token::OpenGap { .. } => 0,
+            Token::Gap { .. } => 4,
+            Token::Choice(alternatives) => runs_len(alternatives).saturating_add(2),
         }
     }
 }
@@ -54,11 +54,11 @@ fn runs_len(runs: &[Vec<u8>]) -> usize {
 }
 
 /// Whether some element is no gap.
-pub(crate) fn any_byte(parts: &[Part]) -> bool
-    ensures { result ≡ has_byte (map element_of parts.now) }
+pub(crate) fn any_byte(tokens: &[Token]) -> bool
+    ensures { result ≡ has_byte (map element_of tokens.now) }
 {
-    for part in parts {
-        if !part.is_gap() {
+    for token in tokens {
+        if !token.is_gap() {
             return true;
         }
     }

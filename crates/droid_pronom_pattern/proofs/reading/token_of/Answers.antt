@@ -3,7 +3,7 @@ use Rattle.std.proofs.Common.{◌∷◌, refl, ap, ◌∙◌, arith}
 use Rattle.droid_pronom_pattern.specs.Fronts.{SpellsInBraces, SpellsInBrackets}
 use Rattle.droid_pronom_pattern.proofs.FaultLemmas.{passed_on}
 use Rattle.droid_pronom_pattern.proofs.FrontLemmas.{SpellsInParentheses, opens_braces, opens_brackets, opens_parentheses, spells_braces, spells_brackets, spells_parentheses, same_braces, same_brackets, same_parentheses, marked_front, unmarked_front, bad_front, star_front, two_front, no_two_front}
-use Rattle.droid_pronom_pattern.proofs.reading.part_of.Goals as goal
+use Rattle.droid_pronom_pattern.proofs.reading.token_of.Goals as goal
 
 pub returns-in-42-clause-front : goal.returns-in-42-clause-front
 returns-in-42-clause-front c =
@@ -16,19 +16,19 @@ returns-in_err-body-in-123-clause-bad c = λ _.
     let whole = (rw c.in_ok-first.ensures.ok_part at c.split_first.ensures.cases).0 ∙ ap (λ x. x ∷ after) c.in-123.is in
     unmarked_front 123 125 SpellsInBraces opens_braces c.args.text.now after whole (rw c.in_err-body-in-123.ensures.ok_part at c.split_at_mark.ensures)
 
-pub returns-in_err-part-in-123-clause-bad : goal.returns-in_err-part-in-123-clause-bad
-returns-in_err-part-in-123-clause-bad c = λ was.
+pub returns-in_err-token-in-123-clause-bad : goal.returns-in_err-token-in-123-clause-bad
+returns-in_err-token-in-123-clause-bad c = λ was.
     let after = c.in_ok-first.after.now in
     let whole = (rw c.in_ok-first.ensures.ok_part at c.split_first.ensures.cases).0 ∙ ap (λ x. x ∷ after) c.in-123.is in
     let cut = rw c.in_ok-body-in-123.ensures.ok_part at c.split_at_mark.ensures in
-    bad_front 123 125 SpellsInBraces opens_braces c.args.text.now after c.in_ok-body-in-123.body.now c.in_ok-body-in-123.rest.now whole cut.0 cut.1 (rw c.in_err-part-in-123.ensures.ok_part at c.gap_of.ensures)
+    bad_front 123 125 SpellsInBraces opens_braces c.args.text.now after c.in_ok-body-in-123.body.now c.in_ok-body-in-123.rest.now whole cut.0 cut.1 (rw c.in_err-token-in-123.ensures.ok_part at c.gap_of.ensures)
 
-pub returns-in_ok-part-in-123-clause-front : goal.returns-in_ok-part-in-123-clause-front
-returns-in_ok-part-in-123-clause-front c =
+pub returns-in_ok-token-in-123-clause-front : goal.returns-in_ok-token-in-123-clause-front
+returns-in_ok-token-in-123-clause-front c =
     let after = c.in_ok-first.after.now in
     let whole = (rw c.in_ok-first.ensures.ok_part at c.split_first.ensures.cases).0 ∙ ap (λ x. x ∷ after) c.in-123.is in
     let cut = rw c.in_ok-body-in-123.ensures.ok_part at c.split_at_mark.ensures in
-    marked_front 123 125 SpellsInBraces opens_braces spells_braces same_braces c.args.text.now after c.in_ok-body-in-123.body.now c.in_ok-body-in-123.rest.now _ whole cut.0 cut.1 (rw c.in_ok-part-in-123.ensures.ok_part at c.gap_of.ensures)
+    marked_front 123 125 SpellsInBraces opens_braces spells_braces same_braces c.args.text.now after c.in_ok-body-in-123.body.now c.in_ok-body-in-123.rest.now _ whole cut.0 cut.1 (rw c.in_ok-token-in-123.ensures.ok_part at c.gap_of.ensures)
 
 pub returns-in_err-body-in-91-clause-bad : goal.returns-in_err-body-in-91-clause-bad
 returns-in_err-body-in-91-clause-bad c = λ _.
@@ -70,18 +70,18 @@ returns-in_ok-alternatives-in-40-clause-front c =
     let cut = rw c.in_ok-body-in-40.ensures.ok_part at c.split_at_mark-in-40.ensures in
     marked_front 40 41 SpellsInParentheses opens_parentheses spells_parentheses same_parentheses c.args.text.now after c.in_ok-body-in-40.body.now c.in_ok-body-in-40.rest.now _ whole cut.0 cut.1 (_, refl, c.in_ok-alternatives-in-40.ensures.spelled)
 
-pub returns-in_err-part-in_default-clause-bad : goal.returns-in_err-part-in_default-clause-bad
-returns-in_err-part-in_default-clause-bad c = λ _.
+pub returns-in_err-token-in_default-clause-bad : goal.returns-in_err-token-in_default-clause-bad
+returns-in_err-token-in_default-clause-bad c = λ _.
     let first = c.in_ok-first.first.now in
     let whole = (rw c.in_ok-first.ensures.ok_part at c.split_first.ensures.cases).0 in
     let cut = (rw c.in_ok-second-in_default.ensures.ok_part at c.split_first-in_default.ensures.cases).0 in
     no_two_front first (λ e. absurd (omega arith)) (λ e. absurd (omega arith)) (λ e. absurd (omega arith)) (λ e. absurd (omega arith))
-    c.args.text.now c.in_ok-first.after.now c.in_ok-second-in_default.rest.now c.in_ok-second-in_default.second.now whole cut (rw c.in_err-part-in_default.ensures.ok_part at c.part_of_pair.ensures)
+    c.args.text.now c.in_ok-first.after.now c.in_ok-second-in_default.rest.now c.in_ok-second-in_default.second.now whole cut (rw c.in_err-token-in_default.ensures.ok_part at c.token_of_pair.ensures)
 
-pub returns-in_ok-part-in_default-clause-front : goal.returns-in_ok-part-in_default-clause-front
-returns-in_ok-part-in_default-clause-front c =
+pub returns-in_ok-token-in_default-clause-front : goal.returns-in_ok-token-in_default-clause-front
+returns-in_ok-token-in_default-clause-front c =
     let first = c.in_ok-first.first.now in
     let whole = (rw c.in_ok-first.ensures.ok_part at c.split_first.ensures.cases).0 in
     let cut = (rw c.in_ok-second-in_default.ensures.ok_part at c.split_first-in_default.ensures.cases).0 in
     two_front first (λ e. absurd (omega arith)) (λ e. absurd (omega arith)) (λ e. absurd (omega arith)) (λ e. absurd (omega arith))
-    c.args.text.now c.in_ok-first.after.now c.in_ok-second-in_default.rest.now c.in_ok-second-in_default.second.now _ whole cut (rw c.in_ok-part-in_default.ensures.ok_part at c.part_of_pair.ensures)
+    c.args.text.now c.in_ok-first.after.now c.in_ok-second-in_default.rest.now c.in_ok-second-in_default.second.now _ whole cut (rw c.in_ok-token-in_default.ensures.ok_part at c.token_of_pair.ensures)

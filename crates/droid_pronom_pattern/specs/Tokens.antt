@@ -1,9 +1,9 @@
--- The parts of a pattern, as the elements that they stand for.
+-- The tokens of a pattern, as the elements that they stand for.
 use Rattle.std.specs.Prelude.{ℕ, ◌+◌, Bool, not, ◌&&◌, ◌==◌, nat_le, map}
 use Rattle.droid_pronom_pattern.specs.declared.class.Class.{Class}
 use Rattle.droid_pronom_pattern.specs.declared.class.Class.TheVariants as classes
-use Rattle.droid_pronom_pattern.specs.declared.part.Part.{Part}
-use Rattle.droid_pronom_pattern.specs.declared.part.Part.TheVariants as parts
+use Rattle.droid_pronom_pattern.specs.declared.token.Token.{Token}
+use Rattle.droid_pronom_pattern.specs.declared.token.Token.TheVariants as tokens
 use Rattle.droid_pronom_pattern.specs.Patterns.{Element, Byte, AnyByte, Gap, OpenGap, Range, Except, Choice}
 
 -- whether a byte passes the test
@@ -17,10 +17,10 @@ element_of_class (classes.Byte b) = Byte b
 element_of_class (classes.Range low high) = Range low high
 element_of_class (classes.Except b) = Except b
 
--- the element that a part stands for
-abbrev pub element_of : Part → Element
-element_of (parts.One class) = element_of_class class
-element_of parts.AnyByte = AnyByte
-element_of (parts.Gap least more) = Gap least (least + more)
-element_of (parts.OpenGap least) = OpenGap least
-element_of (parts.Choice alternatives) = Choice (map (λ v. v.items) alternatives.items)
+-- the element that a token stands for
+abbrev pub element_of : Token → Element
+element_of (tokens.One class) = element_of_class class
+element_of tokens.AnyByte = AnyByte
+element_of (tokens.Gap least more) = Gap least (least + more)
+element_of (tokens.OpenGap least) = OpenGap least
+element_of (tokens.Choice alternatives) = Choice (map (λ v. v.items) alternatives.items)
