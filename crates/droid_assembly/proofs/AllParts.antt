@@ -7,7 +7,7 @@ use Rattle.droid_assembly.specs.declared.ring.Ring.{Ring}
 pub of_assembly : (parts : Inside) → parts ≡ record {
   size = parts.size;
   piece_size = parts.piece_size;
-  limit = parts.limit;
+  scan_limit = parts.scan_limit;
   held = parts.held;
   missing = parts.missing;
   settled_bytes = parts.settled_bytes;

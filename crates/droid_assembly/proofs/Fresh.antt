@@ -8,7 +8,7 @@ use Rattle.droid_assembly.specs.Pieces.{AreSizes, piece_count, IsDue, file_bytes
 use Rattle.droid_assembly.specs.Rings.{ring_items}
 use Rattle.droid_assembly.specs.Fronts.{IsFront, FrontKnows}
 use Rattle.droid_assembly.specs.State.{State, Room, StandsFor}
-use Rattle.droid_assembly.specs.Kept.{weight, IsSound}
+use Rattle.droid_assembly.specs.Kept.{weight, IsConsistent}
 use Rattle.droid_assembly.specs.declared.front.Front.{Front}
 use Rattle.droid_assembly.proofs.Indexes.{missing_is}
 
@@ -24,10 +24,10 @@ free_place (suc count) (suc index) = free_place count index
 
 -- an assembly of this file that nothing was put into
 abbrev pub fresh : ℕ → ℕ → ℕ → Front → List (Option (List ℕ)) → Room → State
-fresh size piece_size limit front waiting reserved = record {
+fresh size piece_size scan_limit front waiting reserved = record {
   size = size;
   piece_size = piece_size;
-  limit = limit;
+  scan_limit = scan_limit;
   held_count = 0;
   first_missing = 0;
   settled_bytes = 0;
@@ -40,9 +40,9 @@ fresh size piece_size limit front waiting reserved = record {
   reserved = reserved;
 }
 
-pub fresh-stands : (size piece_size limit : ℕ) (front : Front) (waiting : List (Option (List ℕ))) (reserved : Room) → waiting ≡ replicate 16 None → front.width ≡ min size limit → FrontKnows front [] → StandsFor (fresh size piece_size limit front waiting reserved) []
+pub fresh-stands : (size piece_size scan_limit : ℕ) (front : Front) (waiting : List (Option (List ℕ))) (reserved : Room) → waiting ≡ replicate 16 None → front.width ≡ min size scan_limit → FrontKnows front [] → StandsFor (fresh size piece_size scan_limit front waiting reserved) []
 unfolding no_place file_bytes
-fresh-stands size piece_size limit front waiting reserved empty width knows =
+fresh-stands size piece_size scan_limit front waiting reserved empty width knows =
     let count = piece_count size piece_size in
     let none : List ℕ = [] in
     record {
@@ -58,9 +58,9 @@ fresh-stands size piece_size limit front waiting reserved empty width knows =
       none_beyond = λ index far. refl;
     }
 
-pub fresh-sound : (size piece_size limit : ℕ) (front : Front) (waiting : List (Option (List ℕ))) (reserved : Room) → AreSizes size piece_size limit → IsFront front → waiting ≡ replicate 16 None → front.width ≡ min size limit → FrontKnows front [] → IsSound (fresh size piece_size limit front waiting reserved) front
+pub fresh-sound : (size piece_size scan_limit : ℕ) (front : Front) (waiting : List (Option (List ℕ))) (reserved : Room) → AreSizes size piece_size scan_limit → IsFront front → waiting ≡ replicate 16 None → front.width ≡ min size scan_limit → FrontKnows front [] → IsConsistent (fresh size piece_size scan_limit front waiting reserved) front
 unfolding no_place file_bytes
-fresh-sound size piece_size limit front waiting reserved sizes sound empty width knows =
+fresh-sound size piece_size scan_limit front waiting reserved sizes sound empty width knows =
     let tally : Option (List ℕ) → ℕ = λ place. cond (is_some place) 1 0 in
     record {
       sizes = sizes;
@@ -69,7 +69,7 @@ fresh-sound size piece_size limit front waiting reserved sizes sound empty width
       front = sound;
       width = width;
       pieces = [];
-      stands = fresh-stands size piece_size limit front waiting reserved empty width knows;
+      stands = fresh-stands size piece_size scan_limit front waiting reserved empty width knows;
       weighed = rw empty (omega (arith, sum_by-replicate weight 16 no_place));
       counted = rw empty (omega (arith, sum_by-replicate tally 16 no_place));
       pending = tt;

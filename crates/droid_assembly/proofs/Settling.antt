@@ -12,7 +12,7 @@ use Rattle.droid_assembly.specs.Pieces.{Piece, LacksIndex, IsDue, missing, file_
 use Rattle.droid_assembly.specs.Rings.{ring_items}
 use Rattle.droid_assembly.specs.Fronts.{IsFront, FrontKnows}
 use Rattle.droid_assembly.specs.State.{State, Room, StandsFor, IsComplete, count_of, width_of, slot}
-use Rattle.droid_assembly.specs.Kept.{weight, pieces_from, IsAlong, IsFree, IsSound}
+use Rattle.droid_assembly.specs.Kept.{weight, pieces_from, IsAlong, IsFree, IsConsistent}
 use Rattle.droid_assembly.specs.declared.front.Front.{Front}
 use Rattle.droid_assembly.proofs.Indexes.{lacks_each}
 use Rattle.droid_assembly.proofs.Along.{along-begin, along-stands, along-within}
@@ -39,7 +39,7 @@ unsealed : (a : State) (hashed : Option HashValue) → (IsSome hashed → IsComp
 unsealed a None sealed low = refl
 unsealed a (Some value) sealed low = let complete : IsComplete a = sealed refl in absurd (omega (arith, complete, low))
 
-pub no_hash : (a : State) (front : Front) (piece : Piece) → IsSound a front → IsFree a piece → a.hashed ≡ None
+pub no_hash : (a : State) (front : Front) (piece : Piece) → IsConsistent a front → IsFree a piece → a.hashed ≡ None
 no_hash a front piece sound free = unsealed a a.hashed sound.sealed (omega (arith, free.is_due.0, free.not_passed))
 
 -- an assembly after a piece was settled, with this front, waiting pieces, first missing one and room
@@ -47,7 +47,7 @@ abbrev pub settled : State → Piece → Front → List (Option (List ℕ)) → 
 settled a piece front waiting from reserved = record {
   size = a.size;
   piece_size = a.piece_size;
-  limit = a.limit;
+  scan_limit = a.scan_limit;
   held_count = a.held_count + 1;
   first_missing = from;
   settled_bytes = a.settled_bytes + length piece.1;
@@ -63,7 +63,7 @@ settled a piece front waiting from reserved = record {
 module _ (a : State) (old new : Front) (waiting : List (Option (List ℕ))) (k : ℕ) (piece : Piece) where
   -- what became of the parts: they went along from the first missing piece over k pieces, and stopped
   pub record Went : Type 0 where
-    pub sound : IsSound a old
+    pub sound : IsConsistent a old
     pub same : IsOf a old
     pub free : IsFree a piece
     pub still : IsFront new
@@ -92,7 +92,7 @@ module _ (a : State) (old new : Front) (waiting : List (Option (List ℕ))) (k :
       (ap (λ n. n + length piece.1) stands.weighed ∙ sym (sum_by_push (λ (q : Piece). length q.1) pieces piece))
 
   -- and its parts belong together again
-  pub settled-sound : (reserved : Room) → Went → IsSound (settled a piece new waiting (a.first_missing + k) reserved) new
+  pub settled-sound : (reserved : Room) → Went → IsConsistent (settled a piece new waiting (a.first_missing + k) reserved) new
   settled-sound reserved went =
       let sound = went.sound in
       let pieces = sound.pieces in
@@ -125,5 +125,5 @@ pending_free : (a : State) (pending : Option Piece) (piece : Piece) → MatchOpt
 pending_free a None piece h e = absurd (cc)
 pending_free a (Some q) piece h e = let same : q ≡ piece = cc in rw (← same) h
 
-pub free_of : (a : State) (front : Front) (piece : Piece) → IsSound a front → a.pending ≡ Some piece → IsFree a piece
+pub free_of : (a : State) (front : Front) (piece : Piece) → IsConsistent a front → a.pending ≡ Some piece → IsFree a piece
 free_of a front piece sound e = pending_free a a.pending piece sound.pending e

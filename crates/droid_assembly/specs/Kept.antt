@@ -45,8 +45,8 @@ pub record IsFree (assembly : State) (piece : Piece) : Type 0 where
   pub free : slot assembly.waiting piece.0 ≡ None
 
 -- the parts of an assembly belong together, and it stands for some pieces
-pub record IsSound (assembly : State) (kept : Front) : Type 0 where
-  pub sizes : AreSizes assembly.size assembly.piece_size assembly.limit
+pub record IsConsistent (assembly : State) (kept : Front) : Type 0 where
+  pub sizes : AreSizes assembly.size assembly.piece_size assembly.scan_limit
   pub within : assembly.first_missing ≤ count_of assembly
   pub places : length assembly.waiting ≡ 16
   pub front : IsFront kept

@@ -9,7 +9,7 @@ abbrev pub state_of : Inside → State
 state_of parts = record {
   size = parts.size;
   piece_size = parts.piece_size;
-  limit = parts.limit;
+  scan_limit = parts.scan_limit;
   held_count = parts.held;
   first_missing = parts.missing;
   settled_bytes = parts.settled_bytes;

@@ -11,14 +11,15 @@ Piece = ℕ × List ℕ
 abbrev pub piece_count : ℕ → ℕ → ℕ
 piece_count size piece_size = size / piece_size + min 1 (size % piece_size)
 
--- what a file's size, the size of its pieces and its scan limit can be
-pub record AreSizes (size piece_size limit : ℕ) : Type 0 where
+-- what a file's size, the size of its pieces and its scan limit can be: at most 2^40, 4,194,304 and 65,536 bytes, and
+-- 1,048,576 pieces
+pub record AreSizes (size piece_size scan_limit : ℕ) : Type 0 where
   pub size_fits : size ≤ 2 ^ 40
   pub piece_size_positive : 1 ≤ piece_size
-  pub piece_size_fits : piece_size ≤ 2 ^ 20
+  pub piece_size_fits : piece_size ≤ 2 ^ 22
   pub count_fits : piece_count size piece_size ≤ 2 ^ 20
-  pub limit_positive : 1 ≤ limit
-  pub limit_fits : limit ≤ 2 ^ 16
+  pub scan_limit_positive : 1 ≤ scan_limit
+  pub scan_limit_fits : scan_limit ≤ 2 ^ 16
 
 -- the length of the piece of this index: the last piece has what is left
 abbrev pub due_length : ℕ → ℕ → ℕ → ℕ
@@ -62,16 +63,16 @@ file_bytes count pieces = flat_map (λ index. unwrap_or (bytes_at pieces index) 
 abbrev pub past : ℕ → List Piece → List Piece
 past index pieces = filter (λ piece. nat_lt index piece.0) pieces
 
--- how many bytes are kept of these pieces, where `limit` bytes are scanned from each end of a file of `count`:
+-- how many bytes are kept of these pieces, where `scan_limit` bytes are scanned from each end of a file of `count`:
 -- of those before the first missing one the first and the last bytes, and those past it whole
 abbrev pub kept_bytes : ℕ → ℕ → List Piece → ℕ
-kept_bytes limit count pieces =
-    2 * min limit (length (file_bytes (missing count pieces) pieces)) + bytes_held (past (missing count pieces) pieces)
+kept_bytes scan_limit count pieces =
+    2 * min scan_limit (length (file_bytes (missing count pieces) pieces)) + bytes_held (past (missing count pieces) pieces)
 
--- the first bytes of a file, at most `limit` of them
+-- the first bytes of a file, at most `scan_limit` of them
 abbrev pub first_window : ℕ → List ℕ → List ℕ
-first_window limit bytes = take limit bytes
+first_window scan_limit bytes = take scan_limit bytes
 
--- the last bytes of a file, at most `limit` of them
+-- the last bytes of a file, at most `scan_limit` of them
 abbrev pub last_window : ℕ → List ℕ → List ℕ
-last_window limit bytes = drop (length bytes - limit) bytes
+last_window scan_limit bytes = drop (length bytes - scan_limit) bytes

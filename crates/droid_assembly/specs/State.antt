@@ -17,7 +17,7 @@ pub record Room : Type 0 where
 pub record State : Type 0 where
   pub size : ℕ
   pub piece_size : ℕ
-  pub limit : ℕ
+  pub scan_limit : ℕ
   -- how many pieces are settled, the smallest index that isn't, and how many bytes they have
   pub held_count : ℕ
   pub first_missing : ℕ
@@ -52,7 +52,7 @@ with_pending assembly pending = record assembly { pending = pending }
 
 -- how many bytes a window of it has at most
 abbrev pub width_of : State → ℕ
-width_of assembly = min assembly.size assembly.limit
+width_of assembly = min assembly.size assembly.scan_limit
 
 -- the place of the piece of this index among those that wait
 abbrev pub slot : List (Option (List ℕ)) → ℕ → Option (List ℕ)
@@ -88,7 +88,7 @@ pending_bytes (Some piece) = length piece.1
 pub record IsOfSameFile (old new : State) : Type 0 where
   pub size : new.size ≡ old.size
   pub piece_size : new.piece_size ≡ old.piece_size
-  pub limit : new.limit ≡ old.limit
+  pub scan_limit : new.scan_limit ≡ old.scan_limit
   pub hash_kind : hash_kind_of new ≡ hash_kind_of old
 
 -- nothing that a caller can learn has changed

@@ -28,7 +28,7 @@ use std::marker::Model;
 pub struct Assembly {
     size: u64,
     piece_size: u32,
-    limit: u32,
+    scan_limit: u32,
     held: u32,
     missing: u32,
     settled_bytes: u64,
@@ -44,43 +44,43 @@ impl Model for Assembly {
 
     ghost Value = { State };
 
-    ghost use Rattle.droid_assembly.specs.Kept.{IsSound};
+    ghost use Rattle.droid_assembly.specs.Kept.{IsConsistent};
     ghost use Rattle.droid_assembly.specs.Parts.{state_of};
 
     ghost view = { state_of };
 
-    ghost invariant = { λ a. IsSound (state_of a) a.front };
+    ghost invariant = { λ a. IsConsistent (state_of a) a.front };
 }
 
 impl Assembly {
     ghost use Rattle.droid_assembly.specs.Lending.{StaysUnchanged};
 
     /// An assembly of no piece, for a file of `size` bytes in pieces of `piece_size` bytes, of which
-    /// `limit` bytes are scanned from each end, and which gets this hash. What the sizes can be is this
+    /// `scan_limit` bytes are scanned from each end, and which gets this hash. What the sizes can be is this
     /// project's own. Only want of memory refuses it, and no later call takes any: two windows are
     /// reserved, and sixteen places.
     pub fn new(
         alloc: Global,
         size: u64,
         piece_size: u32,
-        limit: u32,
+        scan_limit: u32,
         hash: HashKind,
     ) -> Result<Assembly, AllocError>
-        requires { AreSizes size piece_size limit }
+        requires { AreSizes size piece_size scan_limit }
         ensures size { IfOk result (λ assembly. assembly.size ≡ size) }
         ensures piece_size { IfOk result (λ assembly. assembly.piece_size ≡ piece_size) }
-        ensures limit { IfOk result (λ assembly. assembly.limit ≡ limit) }
+        ensures scan_limit { IfOk result (λ assembly. assembly.scan_limit ≡ scan_limit) }
         ensures hash { IfOk result (λ assembly. hash_kind_of assembly ≡ hash) }
         ensures none_pending { IfOk result (λ assembly. assembly.pending ≡ None) }
         ensures reserved { IfOk result (λ assembly. assembly.reserved
-            ≡ record { first = min size limit; last = min size limit; waiting = 16 }) }
+            ≡ record { first = min size scan_limit; last = min size scan_limit; waiting = 16 }) }
         ensures stands { IfOk result (λ assembly. StandsFor assembly []) }
     {
-        let width = size.min(u64::from(limit)) as usize;
+        let width = size.min(u64::from(scan_limit)) as usize;
         Ok(Assembly {
             size,
             piece_size,
-            limit,
+            scan_limit,
             held: 0,
             missing: 0,
             settled_bytes: 0,
@@ -192,13 +192,17 @@ impl Assembly {
     /// How many bytes are kept: in the two windows, and of the pieces that wait and the pending one.
     pub fn kept_bytes(&self) -> u64
         ensures kept { (pieces : List Piece) → StandsFor self.now pieces
-            → result ≡ kept_of self.now.limit (count_of self.now) pieces + pending_len self.now.pending }
-        ensures bound { result ≤ 2 * min self.now.limit self.now.size + 16 * self.now.piece_size }
+            → result ≡ kept_of self.now.scan_limit (count_of self.now) pieces + pending_len self.now.pending }
+        ensures bound { result ≤ 2 * min self.now.scan_limit self.now.size + 16 * self.now.piece_size }
+
+        // So many at most whatever the sizes are, and whatever they are with pieces of 1,048,576 bytes at most.
+        ensures most { result ≤ 67239936 }
+        ensures most_of_small { self.now.piece_size ≤ 1048576 → result ≤ 16908288 }
     {
         let passed = self
             .size
             .min(u64::from(self.missing) * u64::from(self.piece_size));
-        let windows = 2 * passed.min(u64::from(self.limit));
+        let windows = 2 * passed.min(u64::from(self.scan_limit));
         windows + (self.settled_bytes - passed) + self.pending_bytes()
     }
 
@@ -243,11 +247,11 @@ impl Assembly {
         requires none_pending { self.old.pending ≡ None }
         ensures* unchanged { sem 𝓛 (StaysUnchanged self.entry) }
         ensures first { (pieces : List Piece) → StandsFor self.old pieces
-            → result.first.now ≡ first_window self.old.limit (file_bytes (count_of self.old) pieces) }
+            → result.first.now ≡ first_window self.old.scan_limit (file_bytes (count_of self.old) pieces) }
         ensures last { (pieces : List Piece) → StandsFor self.old pieces
-            → result.last.now ≡ last_window self.old.limit (file_bytes (count_of self.old) pieces) }
-        ensures first_len { length result.first.now ≡ min self.old.limit self.old.size }
-        ensures last_len { length result.last.now ≡ min self.old.limit self.old.size }
+            → result.last.now ≡ last_window self.old.scan_limit (file_bytes (count_of self.old) pieces) }
+        ensures first_len { length result.first.now ≡ min self.old.scan_limit self.old.size }
+        ensures last_len { length result.last.now ≡ min self.old.scan_limit self.old.size }
     {
         self.front.straighten();
         self.front.windows()

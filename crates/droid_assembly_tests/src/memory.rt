@@ -82,7 +82,14 @@ fn growths_without_calls(rt: HostRuntime) -> Result<(), Fail> {
 
 #[test]
 fn files_of_many_pieces(rt: HostRuntime) -> Result<(), Fail> {
-    for (size, piece_size) in [(1 << 20, 1), (1 << 40, 1 << 20), ((1 << 40) - 1, 1 << 20)] {
+    let sizes = [
+        (1 << 20, 1),
+        (1 << 40, 1 << 20),
+        ((1 << 40) - 1, 1 << 20),
+        (1 << 40, 1 << 22),
+        (1 << 22, 4),
+    ];
+    for (size, piece_size) in sizes {
         let assembly = Assembly::new(rt.alloc(), size, piece_size, 65_536, HashKind::Md5)?;
         assert_eq!(rt; views_of(&assembly).missing, 0);
     }

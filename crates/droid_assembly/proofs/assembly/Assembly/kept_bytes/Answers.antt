@@ -60,3 +60,38 @@ returns-clause-bound c =
     let pending = rw (← c.self.view_is) at c.pending_bytes.ensures in
     rw (← c.self.view_is)
     (omega (arith, passed_was c, settled_is (state_of parts) parts.front sound, pending_le (state_of parts) parts.front parts.pending sound sound.pending, pending, c.min-windows.ensures, c.from-3.ensures))
+
+pub returns-clause-most : goal.returns-clause-most
+returns-clause-most c =
+    let parts = c.self.inside in
+    let sound = c.self.invariant in
+    let pending = rw (← c.self.view_is) at c.pending_bytes.ensures in
+    omega (
+      arith,
+      passed_was c,
+      settled_is (state_of parts) parts.front sound,
+      pending_le (state_of parts) parts.front parts.pending sound sound.pending,
+      pending,
+      c.min-windows.ensures,
+      c.from-3.ensures,
+      sound.sizes.scan_limit_fits,
+      sound.sizes.piece_size_fits,
+    )
+
+pub returns-clause-most_of_small : goal.returns-clause-most_of_small
+returns-clause-most_of_small c =
+    let parts = c.self.inside in
+    let sound = c.self.invariant in
+    let pending = rw (← c.self.view_is) at c.pending_bytes.ensures in
+    rw (← c.self.view_is)
+    (λ small. omega (
+      arith,
+      passed_was c,
+      settled_is (state_of parts) parts.front sound,
+      pending_le (state_of parts) parts.front parts.pending sound sound.pending,
+      pending,
+      c.min-windows.ensures,
+      c.from-3.ensures,
+      sound.sizes.scan_limit_fits,
+      small,
+    ))
