@@ -22,7 +22,8 @@ use Rattle.droid_frame.specs.types.hash_value.HashValue.{HashValue}
 use Rattle.droid_frame.specs.types.method.Method.{Method}
 use Rattle.droid_store.specs.declared.statements.TheConstants.{FINISH_NODE, REMOVE_NODE}
 use Rattle.droid_store.specs.Changes.{IsWord, finished, with_finished, without_node}
-use Rattle.droid_store.specs.Encoded.{number, flag, state_number, method_number, joined, node_row}
+use Rattle.droid_frame.specs.Fields.{method_number}
+use Rattle.droid_store.specs.Encoded.{number, flag, state_number, joined, node_row}
 use Rattle.droid_store.specs.Kept.{Holds, AreApart}
 use Rattle.droid_store.specs.Rows.{Node, Rows, is_node}
 use Rattle.droid_store.specs.Tables.{nodes, store_schema}

@@ -15,7 +15,8 @@ use Rattle.droid_store.specs.declared.rows.NodeState.{NodeState}
 use Rattle.droid_store.specs.declared.rows.NodeState.TheVariants.{Folder, Unfinished, Finished}
 use Rattle.droid_store.specs.declared.rows.ProfileRow.{ProfileRow}
 use Rattle.droid_store.specs.Changes.{IsWord}
-use Rattle.droid_store.specs.Encoded.{number, flag, flag_in, hash_kind_in, state_number, state_in, method_number, method_in, joined, words_of, profile_row, profile_in, node_row, node_in, reply_row, entry_in, rows_in}
+use Rattle.droid_frame.specs.Fields.{method_number}
+use Rattle.droid_store.specs.Encoded.{number, flag, flag_in, hash_kind_in, state_number, state_in, method_in, joined, words_of, profile_row, profile_in, node_row, node_in, reply_row, entry_in, rows_in}
 use Rattle.droid_store.specs.Kept.{Holds}
 use Rattle.droid_store.specs.Rows.{Node, Rows}
 

@@ -57,17 +57,17 @@ adds_profile old new profile limit all hash rows next count has h =
     }
 
 abbrev pub reply_tail : ℕ × Entry → Row
-reply_tail e = Null ∷ number e.1.client ∷ number e.1.number ∷ number e.1.kind ∷ Blob e.1.mark ∷ Blob e.1.body ∷ []
+reply_tail e = Null ∷ number e.1.client ∷ number e.1.number ∷ number e.1.version ∷ number e.1.kind ∷ Blob e.1.mark ∷ Blob e.1.body ∷ []
 
 pub adds_reply : (old new : State) (e : Entry) (rows : Rows) (count : ℕ) → Holds rows old.now
-    → Executes ADD_REPLY.now (number e.client ∷ number e.number ∷ number e.kind ∷ Blob e.mark ∷ Blob e.body ∷ []) old new (Ok count) → Holds (with_reply e rows) new.now
+    → Executes ADD_REPLY.now (number e.client ∷ number e.number ∷ number e.version ∷ number e.kind ∷ Blob e.mark ∷ Blob e.body ∷ []) old new (Ok count) → Holds (with_reply e rows) new.now
 adds_reply old new e rows count has h =
-    let params = number e.client ∷ number e.number ∷ number e.kind ∷ Blob e.mark ∷ Blob e.body ∷ [] in
+    let params = number e.client ∷ number e.number ∷ number e.version ∷ number e.kind ∷ Blob e.mark ∷ Blob e.body ∷ [] in
     let table = record replies { tree = 4 } in
-    let it = inserts store_schema 2 table refl (λ db edit none. refl) ADD_REPLY.now params old new reply_terms 7 count has.schema add_reply_is add_reply_plain h in
-    let values = Null ∷ Null ∷ number e.client ∷ number e.number ∷ number e.kind ∷ Blob e.mark ∷ Blob e.body ∷ [] in
-    let added = added_next (λ x. x.0) reply_tail old.now.trees table (numbered_from 1 rows.replies) has.replies params reply_terms 7 values (1 + length rows.replies, e) refl
-    (rw (cast_null, cast_int (pos e.client), cast_int (pos e.number), cast_int (pos e.kind)) refl) (rising_numbered 1 rows.replies) (sym (next_numbered rows.replies)) in
+    let it = inserts store_schema 2 table refl (λ db edit none. refl) ADD_REPLY.now params old new reply_terms 8 count has.schema add_reply_is add_reply_plain h in
+    let values = Null ∷ Null ∷ number e.client ∷ number e.number ∷ number e.version ∷ number e.kind ∷ Blob e.mark ∷ Blob e.body ∷ [] in
+    let added = added_next (λ x. x.0) reply_tail old.now.trees table (numbered_from 1 rows.replies) has.replies params reply_terms 8 values (1 + length rows.replies, e) refl
+    (rw (cast_null, cast_int (pos e.client), cast_int (pos e.number), cast_int (pos e.version), cast_int (pos e.kind)) refl) (rising_numbered 1 rows.replies) (sym (next_numbered rows.replies)) in
     record {
       schema = it.0;
       profiles = it.1.tables.0 (omega arith) ∙ has.profiles;

@@ -12,7 +12,8 @@ use Rattle.droid_frame.specs.types.method.Method.{Method}
 use Rattle.droid_frame.specs.types.method.Method.TheVariants.{Unidentified, Signature, Extension}
 use Rattle.droid_store.specs.declared.rows.NodeState.{NodeState}
 use Rattle.droid_store.specs.declared.rows.NodeState.TheVariants.{Folder, Unfinished, Finished}
-use Rattle.droid_store.specs.Encoded.{number, state_number, method_number}
+use Rattle.droid_frame.specs.Fields.{method_number}
+use Rattle.droid_store.specs.Encoded.{number, state_number}
 use Rattle.droid_store.specs.Ranges.{NodeFits}
 use Rattle.droid_store.specs.Rows.{Node}
 use Rattle.droid_store.specs.Shown.{shown_node}

@@ -67,9 +67,9 @@ unfolding understood everything
 add_node_plain = (refl, refl)
 
 abbrev pub reply_terms : List Term
-reply_terms = lit Null ∷ lit Null ∷ col 0 0 ∷ col 0 1 ∷ col 0 2 ∷ col 0 3 ∷ col 0 4 ∷ []
+reply_terms = lit Null ∷ lit Null ∷ col 0 0 ∷ col 0 1 ∷ col 0 2 ∷ col 0 3 ∷ col 0 4 ∷ col 0 5 ∷ []
 
-pub add_reply_is : command_of (understood store_schema ADD_REPLY.now) ≡ Insert 2 (Values reply_terms 7)
+pub add_reply_is : command_of (understood store_schema ADD_REPLY.now) ≡ Insert 2 (Values reply_terms 8)
 unfolding understood everything
 add_reply_is = refl
 
@@ -174,9 +174,9 @@ abbrev pub by_sender : List Term
 by_sender = equals (col 1 2) (col 0 0) ∷ equals (col 1 3) (col 0 1) ∷ []
 
 abbrev pub find_reply_query : Query
-find_reply_query = select 4 by_sender (col 1 4 ∷ col 1 5 ∷ col 1 6 ∷ []) []
+find_reply_query = select 4 by_sender (col 1 4 ∷ col 1 5 ∷ col 1 6 ∷ col 1 7 ∷ []) []
 
-pub find_reply_is : (command_of (understood store_schema FIND_REPLY.now) ≡ Select (record { lets = []; body = find_reply_query }) (codes "kind" ∷ codes "mark" ∷ codes "body" ∷ [])) × (reads_listing store_schema FIND_REPLY.now ≡ false)
+pub find_reply_is : (command_of (understood store_schema FIND_REPLY.now) ≡ Select (record { lets = []; body = find_reply_query }) (codes "version" ∷ codes "kind" ∷ codes "mark" ∷ codes "body" ∷ [])) × (reads_listing store_schema FIND_REPLY.now ≡ false)
 unfolding understood everything
 find_reply_is = (refl, refl)
 
@@ -220,7 +220,7 @@ pub add_node_whole : IsWhole ADD_NODE.now 9 (understood store_schema ADD_NODE.no
 unfolding understood everything
 add_node_whole = (refl, refl)
 
-pub add_reply_whole : IsWhole ADD_REPLY.now 5 (understood store_schema ADD_REPLY.now)
+pub add_reply_whole : IsWhole ADD_REPLY.now 6 (understood store_schema ADD_REPLY.now)
 unfolding understood everything
 add_reply_whole = (refl, refl)
 

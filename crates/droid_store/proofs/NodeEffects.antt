@@ -20,7 +20,8 @@ use Rattle.droid_store.specs.declared.rows.NodeState.{NodeState}
 use Rattle.droid_store.specs.declared.rows.ProfileRow.{ProfileRow}
 use Rattle.droid_store.specs.declared.statements.TheConstants.{ADD_NODE, COUNT_NODES}
 use Rattle.droid_store.specs.Changes.{IsWord, new_node, counted}
-use Rattle.droid_store.specs.Encoded.{number, flag, state_number, method_number, joined, profile_row}
+use Rattle.droid_frame.specs.Fields.{method_number}
+use Rattle.droid_store.specs.Encoded.{number, flag, state_number, joined, profile_row}
 use Rattle.droid_store.specs.Kept.{Holds}
 use Rattle.droid_store.specs.Rows.{Node, Rows}
 use Rattle.droid_store.specs.Tables.{profiles, nodes, store_schema}

@@ -54,9 +54,9 @@ wants_by sql params old new (Err e) before ran does saved has none = does e none
 -- ---- a reply
 
 abbrev pub reply_params : Entry → Row
-reply_params e = number e.client ∷ number e.number ∷ number e.kind ∷ Blob e.mark ∷ Blob e.body ∷ []
+reply_params e = number e.client ∷ number e.number ∷ number e.version ∷ number e.kind ∷ Blob e.mark ∷ Blob e.body ∷ []
 
-reply_typed : (e : Entry) (d : Database) (err : Error) → ¬ RefusesSource None d (stamped reply_table (reply_params e)) (Values reply_terms 7) err
+reply_typed : (e : Entry) (d : Database) (err : Error) → ¬ RefusesSource None d (stamped reply_table (reply_params e)) (Values reply_terms 8) err
 reply_typed e d err (inl h) = let bad : true ≡ false = h.1 in cc
 reply_typed e d err (inr h) = let bad : false ≡ true = h.1 in cc
 
@@ -70,17 +70,17 @@ reply_fits x small (inr (i, inr (inr (inl is)), at, big)) =
 reply_fits x small (inr (i, inr (inr (inr no_other)), at, big)) = no_other
 
 reply_edits : (e : Entry) (rows : Rows) (db : Database) → Holds rows db → HasKeys (with_reply e rows) → FitsARow (entry_size e)
-    → IsSure (Edited store_schema Enforced db.trees (insert_edit db.trees reply_table (stamped reply_table (reply_params e)) reply_terms 7))
+    → IsSure (Edited store_schema Enforced db.trees (insert_edit db.trees reply_table (stamped reply_table (reply_params e)) reply_terms 8))
 reply_edits e rows db has keys small =
     let params = stamped reply_table (reply_params e) in
     let xs = numbered_from 1 rows.replies in
     let x : ℕ × Entry = (1 + length rows.replies, e) in
-    let values = Null ∷ Null ∷ number e.client ∷ number e.number ∷ number e.kind ∷ Blob e.mark ∷ Blob e.body ∷ [] in
-    let stored : cast_row reply_table values ≡ Null ∷ reply_tail x = rw (cast_null, cast_int (pos e.client), cast_int (pos e.number), cast_int (pos e.kind)) refl in
+    let values = Null ∷ Null ∷ number e.client ∷ number e.number ∷ number e.version ∷ number e.kind ∷ Blob e.mark ∷ Blob e.body ∷ [] in
+    let stored : cast_row reply_table values ≡ Null ∷ reply_tail x = rw (cast_null, cast_int (pos e.client), cast_int (pos e.number), cast_int (pos e.version), cast_int (pos e.kind)) refl in
     let next = sym (next_numbered rows.replies) in
-    let edit = insert_edit db.trees reply_table params reply_terms 7 in
-    let news = brings_next (λ x. x.0) reply_tail db.trees reply_table xs has.replies params reply_terms 7 values x refl stored next in
-    let after = added_next (λ x. x.0) reply_tail db.trees reply_table xs has.replies params reply_terms 7 values x refl stored (rising_numbered 1 rows.replies) next ∙ ap (map reply_row) (sym (numbered_append 1 rows.replies e)) in
+    let edit = insert_edit db.trees reply_table params reply_terms 8 in
+    let news = brings_next (λ x. x.0) reply_tail db.trees reply_table xs has.replies params reply_terms 8 values x refl stored next in
+    let after = added_next (λ x. x.0) reply_tail db.trees reply_table xs has.replies params reply_terms 8 values x refl stored (rising_numbered 1 rows.replies) next ∙ ap (map reply_row) (sym (numbered_append 1 rows.replies e)) in
     let unique = keeps_unique (with_reply e rows) has.nodes (with_tree db.trees 4 (edited db.trees edit)) has.nodes_are keys has.node_rows after in
     let fresh = fresh_last (λ x. x.0) reply_tail db.trees reply_table xs has.replies x (numbered_below 1 (1 + length rows.replies) rows.replies (omega arith)) in
     edit_sure store_schema db.trees edit refl (free_by store_schema db.trees edit (reply_row x ∷ []) news refl refl refl fresh refl refl unique) (small_one store_schema edit (reply_row x) news (reply_fits x small))
@@ -88,8 +88,8 @@ reply_edits e rows db has keys small =
 pub reply_wants : (old new : State) (e : Entry) (rows : Rows) (err : Error) → InMemory old new → Holds rows old.now → HasKeys (with_reply e rows) → FitsARow (entry_size e)
     → ExecutesInside 0 ADD_REPLY.now (reply_params e) old new (Err err) → IsWant err
 reply_wants old new e rows err mem has keys small h =
-    inside_wants ADD_REPLY.now (reply_params e) old new store_schema mem has.schema add_reply_plain add_reply_whole (Insert 2 (Values reply_terms 7)) add_reply_is (insert_is_edit 2 (Values reply_terms 7))
-    (insert_sure store_schema 2 store_refers (reply_params e) old.now.trees (statement_of ADD_REPLY.now (understood store_schema ADD_REPLY.now)) reply_table refl reply_terms 7 (reply_typed e (record { schema = store_schema; trees = old.now.trees })) (reply_edits e rows old.now has keys small)) err h
+    inside_wants ADD_REPLY.now (reply_params e) old new store_schema mem has.schema add_reply_plain add_reply_whole (Insert 2 (Values reply_terms 8)) add_reply_is (insert_is_edit 2 (Values reply_terms 8))
+    (insert_sure store_schema 2 store_refers (reply_params e) old.now.trees (statement_of ADD_REPLY.now (understood store_schema ADD_REPLY.now)) reply_table refl reply_terms 8 (reply_typed e (record { schema = store_schema; trees = old.now.trees })) (reply_edits e rows old.now has keys small)) err h
 
 -- ---- a profile
 

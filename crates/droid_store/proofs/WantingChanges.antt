@@ -36,7 +36,8 @@ use Rattle.droid_store_sql.proofs.Wants.{inside_wants, update_is_edit, delete_is
 use Rattle.droid_store.specs.declared.rows.ProfileRow.{ProfileRow}
 use Rattle.droid_store.specs.declared.statements.TheConstants.{COUNT_NODES, FINISH_NODE, REMOVE_NODE}
 use Rattle.droid_store.specs.Changes.{finished, with_finished, without_node}
-use Rattle.droid_store.specs.Encoded.{number, flag, method_number, joined, profile_row, node_row}
+use Rattle.droid_frame.specs.Fields.{method_number}
+use Rattle.droid_store.specs.Encoded.{number, flag, joined, profile_row, node_row}
 use Rattle.droid_store.specs.Kept.{Holds, HasKeys}
 use Rattle.droid_store.specs.Rows.{Node, Rows, is_node, node_at}
 use Rattle.droid_store.specs.Sizes.{node_size, FitsARow}

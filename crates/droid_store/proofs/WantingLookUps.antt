@@ -63,12 +63,12 @@ child_wants old new profile parent name rows e mem has other h =
 
 reply_typed : (client sent : ℕ) (db : Trees) (err : Error) → ¬ RefusesQuery None (record { schema = store_schema; trees = db }) (record { lets = []; body = find_reply_query }) (number client ∷ number sent ∷ []) err
 reply_typed client sent db err (inl h) = let bad : true ≡ false = h.1 in cc
-reply_typed client sent db err (inr (inl h)) = never_overflows db 4 by_sender (col 1 4 ∷ col 1 5 ∷ col 1 6 ∷ []) [] (number client ∷ number sent ∷ []) h.1
+reply_typed client sent db err (inr (inl h)) = never_overflows db 4 by_sender (col 1 4 ∷ col 1 5 ∷ col 1 6 ∷ col 1 7 ∷ []) [] (number client ∷ number sent ∷ []) h.1
 reply_typed client sent db err (inr (inr h)) = let bad : false ≡ true = h.1 in cc
 
 pub reply_wants : (old new : State) (client sent : ℕ) (rows : Rows) (e : Error) → InMemory old new → Holds rows old.now → e ≢ QueryReturnedNoRows → QueriesRow FIND_REPLY.now (number client ∷ number sent ∷ []) old new (Err e) → IsWant e
 reply_wants old new client sent rows e mem has other h =
-    row_wants FIND_REPLY.now (number client ∷ number sent ∷ []) old new store_schema mem has.schema find_reply_plain find_reply_whole (record { lets = []; body = find_reply_query }) (codes "kind" ∷ codes "mark" ∷ codes "body" ∷ []) find_reply_is.0 find_reply_is.1 (reply_typed client sent old.now.trees) e other h
+    row_wants FIND_REPLY.now (number client ∷ number sent ∷ []) old new store_schema mem has.schema find_reply_plain find_reply_whole (record { lets = []; body = find_reply_query }) (codes "version" ∷ codes "kind" ∷ codes "mark" ∷ codes "body" ∷ []) find_reply_is.0 find_reply_is.1 (reply_typed client sent old.now.trees) e other h
 
 records_typed : (profile : ℕ) (db : Trees) (err : Error) → ¬ RefusesQuery None (record { schema = store_schema; trees = db }) (record { lets = []; body = records_query }) (number profile ∷ []) err
 records_typed profile db err (inl h) = let bad : true ≡ false = h.1 in cc

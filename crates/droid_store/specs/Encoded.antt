@@ -5,6 +5,7 @@ use Rattle.sqlite.specs.declared.types.Value.{Value}
 use Rattle.sqlite.specs.declared.types.Value.TheVariants.{Null, Int, Text, Blob}
 use Rattle.sqlite.specs.Order.{Row, column}
 use Rattle.sqlite.specs.Effect.{Database}
+use Rattle.droid_frame.specs.Fields.{method_number}
 use Rattle.droid_frame.specs.Hashes.{hash_kind_number}
 use Rattle.droid_frame.specs.types.hash_kind.HashKind.{HashKind}
 use Rattle.droid_frame.specs.types.hash_kind.HashKind.TheVariants as kinds
@@ -28,11 +29,6 @@ abbrev pub state_number : NodeState → ℕ
 state_number Folder = 0
 state_number Unfinished = 1
 state_number Finished = 2
-
-abbrev pub method_number : Method → ℕ
-method_number Unidentified = 0
-method_number Signature = 1
-method_number Extension = 2
 
 -- the identifiers joined by a space
 abbrev pub joined : List (List ℕ) → List ℕ
@@ -95,7 +91,7 @@ node_row n =
 
 abbrev pub reply_row : ℕ × Entry → Row
 reply_row e =
-    number e.0 ∷ Null ∷ number e.1.client ∷ number e.1.number ∷ number e.1.kind ∷ Blob e.1.mark ∷ Blob e.1.body ∷ []
+    number e.0 ∷ Null ∷ number e.1.client ∷ number e.1.number ∷ number e.1.version ∷ number e.1.kind ∷ Blob e.1.mark ∷ Blob e.1.body ∷ []
 
 -- ---- and back
 
@@ -123,9 +119,10 @@ abbrev pub entry_in : Row → Entry
 entry_in r = record {
   client = number_in (column r 2);
   number = number_in (column r 3);
-  mark = bytes_in (column r 5);
-  kind = number_in (column r 4);
-  body = bytes_in (column r 6);
+  version = number_in (column r 4);
+  mark = bytes_in (column r 6);
+  kind = number_in (column r 5);
+  body = bytes_in (column r 7);
 }
 
 abbrev pub rows_in : Database → Rows

@@ -25,6 +25,7 @@ pub record NodeFits (n : Node) : Type 0 where
 
 pub record EntryFits (e : Entry) : Type 0 where
   pub number : e.number < 2 ^ 63
+  pub version : e.version < 2 ^ 8
   pub kind : e.kind < 2 ^ 8
   pub mark : length e.mark ≡ 16
 

@@ -5,7 +5,8 @@ use Rattle.sqlite.specs.Order.{Row}
 use Rattle.droid_frame.specs.Hashes.{hash_kind_number}
 use Rattle.droid_store.specs.declared.rows.Entry.{Entry}
 use Rattle.droid_store.specs.declared.rows.ProfileRow.{ProfileRow}
-use Rattle.droid_store.specs.Encoded.{number, flag, state_number, method_number, joined}
+use Rattle.droid_frame.specs.Fields.{method_number}
+use Rattle.droid_store.specs.Encoded.{number, flag, state_number, joined}
 use Rattle.droid_store.specs.Rows.{Node}
 
 abbrev pub shown_profile : ProfileRow → Row
@@ -31,4 +32,4 @@ abbrev pub shown_id : Node → Row
 shown_id n = number n.id ∷ []
 
 abbrev pub shown_reply : Entry → Row
-shown_reply e = number e.kind ∷ Blob e.mark ∷ Blob e.body ∷ []
+shown_reply e = number e.version ∷ number e.kind ∷ Blob e.mark ∷ Blob e.body ∷ []

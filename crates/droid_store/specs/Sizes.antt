@@ -5,7 +5,7 @@ use Rattle.droid_store.specs.Encoded.{joined}
 use Rattle.droid_store.specs.Rows.{Node}
 
 abbrev pub entry_size : Entry → ℕ
-entry_size e = 18 * 7 + length e.mark + length e.body
+entry_size e = 18 * 8 + length e.mark + length e.body
 
 abbrev pub node_size : Node → ℕ
 node_size n = 18 * 14 + length n.name + length n.path + length (joined n.puids) + length n.hash

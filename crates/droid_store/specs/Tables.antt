@@ -77,6 +77,7 @@ replies = record {
       key_column (codes "seq")
       ∷ column_named (codes "client") Integer
       ∷ column_named (codes "number") Integer
+      ∷ column_named (codes "version") Integer
       ∷ column_named (codes "kind") Integer
       ∷ column_named (codes "mark") Blob
       ∷ column_named (codes "body") Blob

@@ -5,7 +5,8 @@ ghost use Rattle.sqlite.specs.Held.{state};
 ghost use Rattle.droid_store_trees.specs.Over.{over_trees};
 ghost use Rattle.std.specs.List.{AllByRecursion};
 ghost use Rattle.droid_store.specs.Changes.{with_profile, with_reply, with_node, with_finished, finished, without_node, counted, IsWord};
-ghost use Rattle.droid_store.specs.Encoded.{joined, method_number};
+ghost use Rattle.droid_frame.specs.Fields.{method_number};
+ghost use Rattle.droid_store.specs.Encoded.{joined};
 ghost use Rattle.droid_store.specs.Kept.{AreApart, HasKeys, Steps, Saves, Wants};
 ghost use Rattle.droid_store.specs.Ranges.{EntryFits};
 ghost use Rattle.droid_store.specs.Rows.{Rows, Node, node_at};
@@ -78,6 +79,7 @@ pub(crate) fn insert_reply(
         params![
             entry.client,
             signed(entry.number),
+            u32::from(entry.version),
             u32::from(entry.kind),
             mark,
             body
@@ -184,11 +186,7 @@ pub(crate) fn finish_node(
 fn number_of(method: Method) -> u32
     ensures { result ≡ method_number method }
 {
-    match method {
-        Method::Unidentified => 0,
-        Method::Signature => 1,
-        Method::Extension => 2,
-    }
+    u32::from(method.number())
 }
 
 pub(crate) fn delete_node(

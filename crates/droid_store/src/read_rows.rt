@@ -1,15 +1,16 @@
 //! Rows that a look-up shows, read as what they stand for.
 
-ghost use Rattle.std.specs.Prelude.{◌≡◌, ◌<◌, List, ℕ, IfOk, IfErr, IsTrue, Some, length, map};
+ghost use Rattle.std.specs.Prelude.{◌≡◌, ◌<◌, ◌^◌, List, ℕ, IfOk, IfErr, IsTrue, Some, length, map, pos};
 ghost use Rattle.std.specs.List.{AllByRecursion};
 ghost use Rattle.sqlite.specs.Order.{column};
-ghost use Rattle.sqlite.specs.declared.types.Value.TheVariants.{Blob as BlobValue};
+ghost use Rattle.sqlite.specs.declared.types.Value.TheVariants.{Int, Blob as BlobValue};
 ghost use Rattle.droid_frame.specs.types.method.Method.{Method as MethodValue};
 ghost use Rattle.droid_store.specs.declared.rows.Entry.{Entry as EntryValue};
 ghost use Rattle.droid_store.specs.declared.rows.NodeState.{NodeState as NodeStateValue};
 ghost use Rattle.droid_store.specs.declared.rows.ProfileRow.{ProfileRow as ProfileRowValue};
 ghost use Rattle.droid_store.specs.Changes.{IsWord};
-ghost use Rattle.droid_store.specs.Encoded.{state_number, method_number};
+ghost use Rattle.droid_frame.specs.Fields.{method_number};
+ghost use Rattle.droid_store.specs.Encoded.{state_number};
 ghost use Rattle.droid_store.specs.Rows.{Node, hash_of, row_of, record_of, kind_of};
 ghost use Rattle.droid_store.specs.Ranges.{is_hash_length, ProfileFits, NodeFits, EntryFits};
 ghost use Rattle.droid_store.specs.declared.fault.StoreFault.TheVariants.{Memory};
@@ -79,26 +80,29 @@ pub(crate) fn entry_of(row: &Row, client: u32, number: u64) -> Result<Entry, Sto
     ensures read { IfOk result (λ read. (e : EntryValue) → e.client ≡ client → e.number ≡ number → row.now ≡ shown_reply e → read ≡ e) }
     ensures memory { (e : EntryValue) → row.now ≡ shown_reply e → EntryFits e → IfErr result (λ fault. fault ≡ Memory) }
 {
-    let kind = kind_in(row)?;
-    let mark = digest_in(row, 1)?;
-    let body: Vec<u8> = row.get(2)?;
+    let version = byte_in(row, 0)?;
+    let kind = byte_in(row, 1)?;
+    let mark = digest_in(row, 2)?;
+    let body: Vec<u8> = row.get(3)?;
     let body = Blob::from(body);
     Ok(Entry {
         client,
         number,
+        version,
         mark,
         kind,
         body,
     })
 }
 
-fn kind_in(row: &Row) -> Result<u8, StoreFault>
-    ensures read { IfOk result (λ read. (e : EntryValue) → row.now ≡ shown_reply e → read ≡ e.kind) }
-    ensures memory { (e : EntryValue) → row.now ≡ shown_reply e → EntryFits e → IfErr result (λ fault. fault ≡ Memory) }
+/// The byte in this column.
+fn byte_in(row: &Row, at: usize) -> Result<u8, StoreFault>
+    ensures read { IfOk result (λ read. (n : ℕ) → column row.now at ≡ Int (pos n) → read ≡ n) }
+    ensures memory { (n : ℕ) → at < length row.now → column row.now at ≡ Int (pos n) → n < 2 ^ 8 → IfErr result (λ fault. fault ≡ Memory) }
 {
-    let kind: u32 = row.get(0)?;
-    match u8::try_from(kind) {
-        Ok(kind) => Ok(kind),
+    let number: u32 = row.get(at)?;
+    match u8::try_from(number) {
+        Ok(byte) => Ok(byte),
         Err(_) => Err(StoreFault::Refused),
     }
 }

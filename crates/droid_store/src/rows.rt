@@ -12,6 +12,8 @@ pub struct Entry {
     pub client: u32,
     /// The client's number for it, below 2^63.
     pub number: u64,
+    /// The version of the command's frame.
+    pub version: u8,
     /// The mark of the command's kind and body.
     pub mark: [u8; 16],
     /// The kind of the reply.

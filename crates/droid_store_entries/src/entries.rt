@@ -6,8 +6,8 @@ ghost use Rattle.sqlite_trees.specs.Probe.{IsCutBy, IsPlaceOf};
 ghost use Rattle.droid_store_entries.specs.Probe.{passes};
 
 use crate::node::Node;
+use crate::packed_row::PackedRow;
 use crate::probe::Probe;
-use sqlite_value::row::Row;
 use std::alloc::{AllocError, Global};
 use std::marker::Model;
 use std::rc::Rc;
@@ -53,7 +53,7 @@ impl Entries {
         })
     }
 
-    pub fn get(&self, at: usize) -> Option<&Row>
+    pub fn get(&self, at: usize) -> Option<&PackedRow>
         ensures found { IfSome result (λ row. (at < length self.now) × (row.now ≡ slice_index_or self.now at [])) }
         ensures none { IfNone result (length self.now ≤ at) }
     {
@@ -71,7 +71,7 @@ impl Entries {
         self.root.place(probe)
     }
 
-    pub fn set(&mut self, alloc: Global, at: usize, row: Row) -> Result<(), AllocError>
+    pub fn set(&mut self, alloc: Global, at: usize, row: PackedRow) -> Result<(), AllocError>
         ensures ok { OnOk result (self.new ≡ slice_set self.old at row) }
         ensures err { OnErr result (self.new ≡ self.old) }
     {
@@ -79,7 +79,7 @@ impl Entries {
         Ok(())
     }
 
-    pub fn insert(&mut self, alloc: Global, at: usize, row: Row) -> Result<(), AllocError>
+    pub fn insert(&mut self, alloc: Global, at: usize, row: PackedRow) -> Result<(), AllocError>
         requires { at ≤ length self.old }
         ensures ok { OnOk result (self.new ≡ insert self.old at row) }
         ensures err { OnErr result (self.new ≡ self.old) }

@@ -3,7 +3,9 @@
 
 mod entries;
 mod node;
+mod packed_row;
 mod probe;
 
 pub use entries::Entries;
+pub use packed_row::PackedRow;
 pub use probe::Probe;

@@ -7,8 +7,8 @@ ghost use Rattle.sqlite_trees.specs.Probe.{IsCutBy, IsPlaceOf};
 ghost use Rattle.droid_store_entries.specs.Probe.{passes};
 ghost use Rattle.droid_store_entries.specs.Entries.{rows, IsCounted};
 
+use crate::packed_row::PackedRow;
 use crate::probe::Probe;
-use sqlite_value::row::Row;
 use std::alloc::{AllocError, Global};
 use std::rc::Rc;
 
@@ -23,7 +23,7 @@ pub(crate) enum Node {
 #[derive(Drop)]
 pub(crate) struct Fork {
     left: Node,
-    row: Rc<Row>,
+    row: Rc<PackedRow>,
     right: Node,
     len: usize,
 }
@@ -51,7 +51,12 @@ impl Node {
         }
     }
 
-    fn joined(alloc: Global, left: Node, row: Rc<Row>, right: Node) -> Result<Node, AllocError>
+    fn joined(
+        alloc: Global,
+        left: Node,
+        row: Rc<PackedRow>,
+        right: Node,
+    ) -> Result<Node, AllocError>
         requires left { IsCounted left }
         requires right { IsCounted right }
         ensures counted { IfOk result IsCounted }
@@ -69,7 +74,12 @@ impl Node {
     }
 
     // By weights one above the numbers of rows: neither side has more than three times the other's.
-    fn balanced(alloc: Global, left: Node, row: Rc<Row>, right: Node) -> Result<Node, AllocError>
+    fn balanced(
+        alloc: Global,
+        left: Node,
+        row: Rc<PackedRow>,
+        right: Node,
+    ) -> Result<Node, AllocError>
         requires left { IsCounted left }
         requires right { IsCounted right }
         ensures counted { IfOk result IsCounted }
@@ -87,7 +97,7 @@ impl Node {
     fn turned_left(
         alloc: Global,
         left: Node,
-        row: Rc<Row>,
+        row: Rc<PackedRow>,
         right: &Node,
     ) -> Result<Node, AllocError>
         requires left { IsCounted left }
@@ -104,7 +114,7 @@ impl Node {
     fn turned_right(
         alloc: Global,
         left: &Node,
-        row: Rc<Row>,
+        row: Rc<PackedRow>,
         right: Node,
     ) -> Result<Node, AllocError>
         requires left { IsCounted left.now }
@@ -118,7 +128,7 @@ impl Node {
         }
     }
 
-    pub(crate) fn get(&self, at: usize) -> Option<&Rc<Row>>
+    pub(crate) fn get(&self, at: usize) -> Option<&Rc<PackedRow>>
         requires { IsCounted self.now }
         ensures found { IfSome result (λ row. (at < length (rows self.now)) × (row.now.value ≡ slice_index_or (rows self.now) at [])) }
         ensures none { IfNone result (length (rows self.now) ≤ at) }
@@ -157,7 +167,12 @@ impl Node {
     }
 
     #[tactic(auto, using(crate::proofs::Edits::set_left, crate::proofs::Edits::set_here, crate::proofs::Edits::set_right))]
-    pub(crate) fn set(&self, alloc: Global, at: usize, row: Rc<Row>) -> Result<Node, AllocError>
+    pub(crate) fn set(
+        &self,
+        alloc: Global,
+        at: usize,
+        row: Rc<PackedRow>,
+    ) -> Result<Node, AllocError>
         requires { IsCounted self.now }
         ensures counted { IfOk result IsCounted }
         ensures rows { IfOk result (λ node. rows node ≡ slice_set (rows self.now) at row.value) }
@@ -180,7 +195,12 @@ impl Node {
     }
 
     #[tactic(auto, using(crate::proofs::Edits::insert_left, crate::proofs::Edits::insert_right))]
-    pub(crate) fn insert(&self, alloc: Global, at: usize, row: Rc<Row>) -> Result<Node, AllocError>
+    pub(crate) fn insert(
+        &self,
+        alloc: Global,
+        at: usize,
+        row: Rc<PackedRow>,
+    ) -> Result<Node, AllocError>
         requires counted { IsCounted self.now }
         requires within { at ≤ length (rows self.now) }
         ensures counted { IfOk result IsCounted }
@@ -233,7 +253,7 @@ impl Node {
 
 impl Fork {
     // A row and a smaller tree stand before this one.
-    fn after(&self, alloc: Global, left: Node, row: Rc<Row>) -> Result<Node, AllocError>
+    fn after(&self, alloc: Global, left: Node, row: Rc<PackedRow>) -> Result<Node, AllocError>
         requires left { IsCounted left }
         requires parts { IsCounted self.now.left × IsCounted self.now.right }
         ensures counted { IfOk result IsCounted }
@@ -256,7 +276,7 @@ impl Fork {
     }
 
     // A row and a smaller tree stand behind this one.
-    fn before(&self, alloc: Global, row: Rc<Row>, right: Node) -> Result<Node, AllocError>
+    fn before(&self, alloc: Global, row: Rc<PackedRow>, right: Node) -> Result<Node, AllocError>
         requires right { IsCounted right }
         requires parts { IsCounted self.now.left × IsCounted self.now.right }
         ensures counted { IfOk result IsCounted }

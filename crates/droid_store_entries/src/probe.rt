@@ -3,6 +3,7 @@
 ghost use Rattle.std.specs.Prelude.{◌≡◌};
 ghost use Rattle.droid_store_entries.specs.Probe.{passes};
 
+use crate::packed_row::PackedRow;
 use sqlite_value::keys::Order;
 use sqlite_value::order::compare;
 use sqlite_value::row::Row;
@@ -21,13 +22,13 @@ pub enum Probe<'a> {
 }
 
 impl Probe<'_> {
-    pub(crate) fn passes(self, row: &Row) -> bool
+    pub(crate) fn passes(self, row: &PackedRow) -> bool
         ensures { result ≡ passes self.entry row.now }
     {
         match self {
             Probe::BelowKey(order, key) => row.cmp_prefix(order, key).is_lt(),
             Probe::UpToKey(order, key) => !row.cmp_prefix(order, key).is_gt(),
-            Probe::BelowRowid(id) => compare(row.get(0), id).is_lt(),
+            Probe::BelowRowid(id) => compare(row.first(), id).is_lt(),
             Probe::BelowEntry(order, other) => row.cmp_entry(order, other).is_lt(),
         }
     }

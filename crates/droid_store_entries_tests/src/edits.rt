@@ -2,7 +2,7 @@
 
 ghost use Rattle.std.specs.Prelude.{◌≡◌};
 
-use droid_store_entries::Entries;
+use droid_store_entries::{Entries, PackedRow};
 use sqlite_value::row::Row;
 use sqlite_value::value::ValueRef;
 use std::alloc::{AllocError, Global};
@@ -25,10 +25,10 @@ impl Numbers {
     }
 }
 
-fn row(alloc: Global, number: i64) -> Result<Row, AllocError> {
+fn row(alloc: Global, number: i64) -> Result<PackedRow, AllocError> {
     let mut row = Row::new(alloc);
     row.push(ValueRef::Int(number))?;
-    Ok(row)
+    PackedRow::of(alloc, &row)
 }
 
 /// Whether the list has these numbers, and no row behind them.
@@ -37,7 +37,7 @@ fn agrees(entries: &Entries, plain: &[i64]) -> bool {
         let Some(found) = entries.get(at) else {
             return false;
         };
-        if !matches!(found.get(0), ValueRef::Int(number) if number == plain[at]) {
+        if !matches!(found.first(), ValueRef::Int(number) if number == plain[at]) {
             return false;
         }
     }

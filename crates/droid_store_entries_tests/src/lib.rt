@@ -3,3 +3,5 @@
 
 #[cfg(test)]
 mod edits;
+#[cfg(test)]
+mod rows;

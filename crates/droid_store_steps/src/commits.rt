@@ -59,7 +59,7 @@ pub fn make_profile(
         match_all,
         hash,
     };
-    commit(alloc, store, &((1, number, 0, MADE, b""), change))
+    commit(alloc, store, &((1, number, 1, 0, MADE, b""), change))
 }
 
 fn commit_profile(

@@ -4,8 +4,8 @@ use droid_frame::{Blob, HashKind, HashValue, Method};
 use droid_store::Entry;
 use std::alloc::{AllocError, Global};
 
-/// An entry: its client and number, the byte that its mark repeats, and the kind and body of its reply.
-pub type Kept<'a> = (u32, u64, u8, u8, &'a [u8]);
+/// An entry: its client, number and version, the byte that its mark repeats, and the kind and body of its reply.
+pub type Kept<'a> = (u32, u64, u8, u8, u8, &'a [u8]);
 
 /// The kinds of replies that are kept.
 pub const MADE: u8 = 129;
@@ -20,10 +20,11 @@ pub const ABANDONED: u8 = 133;
 
 /// The entry, with a body of its own.
 pub fn entry_of(alloc: Global, kept: &Kept<'_>) -> Result<Entry, AllocError> {
-    let (client, number, byte, kind, body) = *kept;
+    let (client, number, version, byte, kind, body) = *kept;
     Ok(Entry {
         client,
         number,
+        version,
         mark: [byte; 16],
         kind,
         body: Blob::copy_of(alloc, body)?,
@@ -32,9 +33,11 @@ pub fn entry_of(alloc: Global, kept: &Kept<'_>) -> Result<Entry, AllocError> {
 
 // Whether this is the entry, field by field.
 fn is_entry(entry: &Entry, kept: &Kept<'_>) -> bool {
-    let (client, number, byte, kind, body) = *kept;
-    let numbers = (entry.client, entry.number, entry.kind);
-    numbers == (client, number, kind) && entry.mark == [byte; 16] && entry.body.as_slice() == body
+    let (client, number, version, byte, kind, body) = *kept;
+    let numbers = (entry.client, entry.number, entry.version, entry.kind);
+    numbers == (client, number, version, kind)
+        && entry.mark == [byte; 16]
+        && entry.body.as_slice() == body
 }
 
 /// Whether there is an entry, and it is this one.

@@ -45,9 +45,9 @@ fn many_identifiers(rt: HostRuntime) -> Result<(), Fail> {
         size: 0,
         piece_size: 1,
     };
-    commit(alloc, &mut store, &((1, 1, 0, NODE, b""), file))?;
+    commit(alloc, &mut store, &((1, 1, 1, 0, NODE, b""), file))?;
     let puids = numbered_words(alloc, 4_096)?;
-    let entry = entry_of(alloc, &(1, 2, 0, FINISHED, b""))?;
+    let entry = entry_of(alloc, &(1, 2, 2, 0, FINISHED, b""))?;
     commit_finish(&mut store, &entry, 1, 1, &NOTHING, &puids)?;
     let row = store.node(1, 1)?.expect(&rt, "the file is there");
     assert!(rt; row.state == NodeState::Finished);
@@ -100,7 +100,7 @@ fn make_folder(
         name,
         path,
     };
-    let step: Step<'_> = ((1, u64::from(id), 0, NODE, b""), Change::Folder(place));
+    let step: Step<'_> = ((1, u64::from(id), 1, 0, NODE, b""), Change::Folder(place));
     commit(alloc, store, &step)?;
     let child = store.child(1, parent, name)?;
     expect(child == Some(id), "each folder lies in the one before")
@@ -123,7 +123,7 @@ fn long_body(rt: HostRuntime) -> Result<(), Fail> {
     let mut body = vec![in alloc; 0xa5; 1_048_640]?;
     body[0] = 0;
     body[1_048_639] = 1;
-    let step: Step<'_> = ((1, 1, 0, TAKEN, &body), Change::Piece);
+    let step: Step<'_> = ((1, 1, 2, 0, TAKEN, &body), Change::Piece);
     commit(alloc, &mut store, &step)?;
     let found = store.reply_of(1, 1)?.expect(&rt, "the reply is kept");
     assert!(rt; found.body.as_slice() == body.as_slice());
@@ -152,7 +152,7 @@ fn many_profiles(rt: HostRuntime) -> Result<(), Fail> {
             match_all,
             hash,
         };
-        let step: Step<'_> = ((profile, 1, 0, MADE, b""), change);
+        let step: Step<'_> = ((profile, 1, 1, 0, MADE, b""), change);
         commit(alloc, &mut store, &step)?;
     }
     for profile in 1..65 {

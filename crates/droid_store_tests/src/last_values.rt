@@ -12,22 +12,22 @@ use std::test::Fail;
 
 const LAST_NUMBER: u64 = 9_223_372_036_854_775_807;
 
-/// Each differs from others in the client alone, in the number alone, or in what is kept.
+/// Each differs from others in the client alone, in the number alone, or in what is kept: the first and the last in number and version. The table takes versions that no frame has.
 const ENTRIES: [Kept<'static>; 14] = [
-    (1, 1, 0x00, 129, &[]),
-    (1, 2, 0xff, 130, &[0]),
-    (2, 1, 0x80, 131, &[0, 0]),
-    (2, 2, 0x7f, 132, &[0xff]),
-    (0, 0, 0x20, 133, b" "),
-    (0, 1, 0x27, 0, b"'"),
-    (1, 0, 0x25, 127, b"x'00'"),
-    (0, LAST_NUMBER, 0x01, 128, b"last"),
-    (4_294_967_295, LAST_NUMBER, 0x02, 255, &[0, 1, 254, 255]),
-    (4_294_967_295, 0, 0x03, 1, b"\xe9"),
-    (2_147_483_648, 4_294_967_296, 0x04, 2, b"\xff\xfe"),
-    (2_147_483_647, 2_147_483_648, 0x05, 3, b"\n"),
-    (1, 9_007_199_254_740_993, 0x06, 4, b"NULL"),
-    (1, LAST_NUMBER, 0x00, 129, &[]),
+    (1, 1, 1, 0x00, 129, &[]),
+    (1, 2, 2, 0xff, 130, &[0]),
+    (2, 1, 1, 0x80, 131, &[0, 0]),
+    (2, 2, 2, 0x7f, 132, &[0xff]),
+    (0, 0, 2, 0x20, 133, b" "),
+    (0, 1, 1, 0x27, 0, b"'"),
+    (1, 0, 2, 0x25, 127, b"x'00'"),
+    (0, LAST_NUMBER, 1, 0x01, 128, b"last"),
+    (4_294_967_295, LAST_NUMBER, 2, 0x02, 255, &[0, 1, 254, 255]),
+    (4_294_967_295, 0, 255, 0x03, 1, b"\xe9"),
+    (2_147_483_648, 4_294_967_296, 0, 0x04, 2, b"\xff\xfe"),
+    (2_147_483_647, 2_147_483_648, 127, 0x05, 3, b"\n"),
+    (1, 9_007_199_254_740_993, 128, 0x06, 4, b"NULL"),
+    (1, LAST_NUMBER, 2, 0x00, 129, &[]),
 ];
 
 /// Clients and numbers of no entry, each beside one of them, or as far past the last number as one of them is past 0.
@@ -224,7 +224,7 @@ fn make_each(
             size: shown.size,
             piece_size: shown.piece_size,
         };
-        let kept = (1, u64::from(id), 1, NODE, b"".as_slice());
+        let kept = (1, u64::from(id), 1, 1, NODE, b"".as_slice());
         commit(alloc, store, &(kept, change))?;
         look_at_node(store, &shown)?;
     }
@@ -244,7 +244,7 @@ fn finish_each(
             file,
             found: *found,
         };
-        let kept = (2, u64::from(file), 1, NODE, b"".as_slice());
+        let kept = (2, u64::from(file), 2, 1, NODE, b"".as_slice());
         commit(alloc, store, &(kept, change))?;
         let shown = Shown {
             state: NodeState::Finished,

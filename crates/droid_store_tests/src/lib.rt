@@ -14,6 +14,10 @@ mod memory;
 #[cfg(test)]
 mod names;
 #[cfg(test)]
+mod plain;
+#[cfg(test)]
 mod profiles;
+#[cfg(test)]
+mod random;
 #[cfg(test)]
 mod row;

@@ -31,7 +31,7 @@ fn place(id: u32, name: &str) -> Place<'_> {
 
 // What is kept of the reply to the command that made it.
 fn kept(id: u32) -> Kept<'static> {
-    (1, u64::from(id), 0x6e, NODE, b"node")
+    (1, u64::from(id), 1, 0x6e, NODE, b"node")
 }
 
 fn name_of(alloc: Global, id: u32) -> Result<String, Fail> {
@@ -59,7 +59,7 @@ fn abandon_one(rt: &impl Abort, alloc: Global, store: &mut Store) -> Result<(), 
         profile: 1,
         file: ABANDONED_FILE,
     };
-    commit(alloc, store, &((2, 1, 0, ABANDONED, b""), abandon))?;
+    commit(alloc, store, &((2, 1, 2, 0, ABANDONED, b""), abandon))?;
     assert!(rt; store.node(1, ABANDONED_FILE)?.is_none());
     Ok(())
 }

@@ -97,7 +97,7 @@ fn make_folder(
     number: u64,
     place: Place<'_>,
 ) -> Result<(), StepFault> {
-    let step: Step<'_> = ((1, number, 2, NODE, b"node"), Change::Folder(place));
+    let step: Step<'_> = ((1, number, 1, 2, NODE, b"node"), Change::Folder(place));
     commit(alloc, store, &step)
 }
 

@@ -90,7 +90,7 @@ const SECOND: Found<'static> = Found {
 /// The client says which profile a command is for, so clients share their numbers.
 const STEPS: [Step<'static>; 15] = [
     (
-        (1, 1, 1, MADE, b"\x01"),
+        (1, 1, 1, 1, MADE, b"\x01"),
         Change::Profile {
             profile: 1,
             scan_limit: 1,
@@ -99,7 +99,7 @@ const STEPS: [Step<'static>; 15] = [
         },
     ),
     (
-        (2, 1, 2, MADE, b"\x02"),
+        (2, 1, 2, 2, MADE, b"\x02"),
         Change::Profile {
             profile: 2,
             scan_limit: 65_536,
@@ -108,7 +108,7 @@ const STEPS: [Step<'static>; 15] = [
         },
     ),
     (
-        (2, 2, 3, NODE, b"\x03"),
+        (2, 2, 1, 3, NODE, b"\x03"),
         Change::File {
             place: A_OF_2,
             size: 21,
@@ -116,25 +116,25 @@ const STEPS: [Step<'static>; 15] = [
         },
     ),
     (
-        (1, 2, 4, NODE, b"\x04"),
+        (1, 2, 1, 4, NODE, b"\x04"),
         Change::File {
             place: A_OF_1,
             size: 11,
             piece_size: 1,
         },
     ),
-    ((1, 3, 5, NODE, b"\x05"), Change::Folder(FOLDER)),
+    ((1, 3, 2, 5, NODE, b"\x05"), Change::Folder(FOLDER)),
     (
-        (1, 4, 6, NODE, b"\x06"),
+        (1, 4, 1, 6, NODE, b"\x06"),
         Change::File {
             place: B_IN_FOLDER,
             size: 13,
             piece_size: 3,
         },
     ),
-    ((2, 3, 7, TAKEN, b"\x07"), Change::Piece),
+    ((2, 3, 2, 7, TAKEN, b"\x07"), Change::Piece),
     (
-        (2, 4, 8, FINISHED, b"\x08"),
+        (2, 4, 1, 8, FINISHED, b"\x08"),
         Change::Finish {
             profile: 2,
             file: 1,
@@ -142,14 +142,14 @@ const STEPS: [Step<'static>; 15] = [
         },
     ),
     (
-        (1, 5, 9, ABANDONED, b""),
+        (1, 5, 2, 9, ABANDONED, b""),
         Change::Abandon {
             profile: 1,
             file: 1,
         },
     ),
     (
-        (1, 6, 10, NODE, b"\x0a"),
+        (1, 6, 1, 10, NODE, b"\x0a"),
         Change::File {
             place: A_AGAIN,
             size: 14,
@@ -157,7 +157,7 @@ const STEPS: [Step<'static>; 15] = [
         },
     ),
     (
-        (1, 7, 11, FINISHED, b"\x0b"),
+        (1, 7, 2, 11, FINISHED, b"\x0b"),
         Change::Finish {
             profile: 1,
             file: 3,
@@ -165,7 +165,7 @@ const STEPS: [Step<'static>; 15] = [
         },
     ),
     (
-        (3, 1, 12, MADE, b"\x0c"),
+        (3, 1, 2, 12, MADE, b"\x0c"),
         Change::Profile {
             profile: 3,
             scan_limit: 512,
@@ -174,15 +174,15 @@ const STEPS: [Step<'static>; 15] = [
         },
     ),
     (
-        (1, 8, 13, ABANDONED, b""),
+        (1, 8, 1, 13, ABANDONED, b""),
         Change::Abandon {
             profile: 1,
             file: 4,
         },
     ),
-    ((1, 9, 14, NODE, b"\x0e"), Change::Folder(A_AS_FOLDER)),
+    ((1, 9, 2, 14, NODE, b"\x0e"), Change::Folder(A_AS_FOLDER)),
     (
-        (2, 5, 15, NODE, b"\x0f"),
+        (2, 5, 1, 15, NODE, b"\x0f"),
         Change::File {
             place: B_OF_2,
             size: 22,

@@ -1,5 +1,5 @@
-//! One profile with a folder, a file that is finished and one that is abandoned: after each command, what
-//! every reading call answers.
+//! One profile with a folder, a file that is finished and one that is abandoned, by commands of both
+//! versions: after each command, what every reading call answers.
 
 use droid_frame::{HashKind, HashValue, Method};
 use droid_store::{Counts, NodeState, ProfileRow, Store};
@@ -51,7 +51,7 @@ const FOUND: Found<'static> = Found {
 /// The commands in order.
 pub const STEPS: [Step<'static>; 7] = [
     (
-        (1, 1, 0x11, MADE, &[0, 0, 0, 1]),
+        (1, 1, 1, 0x11, MADE, &[0, 0, 0, 1]),
         Change::Profile {
             profile: 1,
             scan_limit: 65_536,
@@ -59,18 +59,18 @@ pub const STEPS: [Step<'static>; 7] = [
             hash: HashKind::Md5,
         },
     ),
-    ((1, 2, 0x22, NODE, &[0, 0, 0, 1]), Change::Folder(FOLDER)),
+    ((1, 2, 2, 0x22, NODE, &[0, 0, 0, 1]), Change::Folder(FOLDER)),
     (
-        (1, 3, 0x33, NODE, &[0, 0, 0, 2]),
+        (1, 3, 1, 0x33, NODE, &[0, 0, 0, 2]),
         Change::File {
             place: MESSAGE,
             size: 14,
             piece_size: 20,
         },
     ),
-    ((1, 4, 0x44, TAKEN, &[0, 0, 0, 1]), Change::Piece),
+    ((1, 4, 2, 0x44, TAKEN, &[0, 0, 0, 1]), Change::Piece),
     (
-        (1, 5, 0x55, FINISHED, b"\x01\x01"),
+        (1, 5, 2, 0x55, FINISHED, b"\x01\x01"),
         Change::Finish {
             profile: 1,
             file: 2,
@@ -78,7 +78,7 @@ pub const STEPS: [Step<'static>; 7] = [
         },
     ),
     (
-        (1, 6, 0x66, NODE, &[0, 0, 0, 3]),
+        (1, 6, 1, 0x66, NODE, &[0, 0, 0, 3]),
         Change::File {
             place: OTHER,
             size: 4,
@@ -86,7 +86,7 @@ pub const STEPS: [Step<'static>; 7] = [
         },
     ),
     (
-        (1, 7, 0x77, ABANDONED, &[]),
+        (1, 7, 2, 0x77, ABANDONED, &[]),
         Change::Abandon {
             profile: 1,
             file: 3,

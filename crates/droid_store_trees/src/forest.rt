@@ -90,7 +90,7 @@ impl Forest {
                 let Some(found) = tree.rows.get(cursor.at) else {
                     return Ok(None);
                 };
-                row.copy_from(found)?;
+                found.copy_into(row)?;
                 Ok(Some(Cursor {
                     at: cursor.at + 1,
                     ..cursor
@@ -105,7 +105,7 @@ impl Forest {
                 let Some(found) = tree.rows.get(at) else {
                     return Ok(None);
                 };
-                row.copy_from(found)?;
+                found.copy_into(row)?;
                 Ok(Some(Cursor { at, ..cursor }))
             }
         }

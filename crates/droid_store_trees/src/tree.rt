@@ -11,7 +11,7 @@ ghost use Rattle.sqlite_trees.specs.View.{IsShaped, Finds, is_int};
 ghost use Rattle.sqlite_trees.specs.Objects.{description, listing};
 
 use crate::edit::Edit;
-use droid_store_entries::{Entries, Probe};
+use droid_store_entries::{Entries, PackedRow, Probe};
 use sqlite_trees::schema::Object;
 use sqlite_trees::store::Shape;
 use sqlite_value::keys::Order;
@@ -34,7 +34,7 @@ fn has_rowid_at(rows: &Entries, at: usize, id: ValueRef<'_>) -> bool
     ensures { IsTestAt (λ r. is_eq (value_cmp (rowid r) (owned id.entry))) rows.now at result }
 {
     match rows.get(at) {
-        Some(row) => compare(row.get(0), id).is_eq(),
+        Some(row) => compare(row.first(), id).is_eq(),
         None => false,
     }
 }
@@ -132,25 +132,26 @@ impl Tree {
         }
         match self.rows.get(at) {
             Some(found) => {
-                row.copy_from(found)?;
+                found.copy_into(row)?;
                 Ok(true)
             }
             None => Ok(false),
         }
     }
 
-    fn put(&mut self, alloc: Global, new: Row) -> Result<(), AllocError>
+    fn put(&mut self, alloc: Global, new: &Row) -> Result<(), AllocError>
         requires table { self.old.shape ≡ Shape.Table }
-        requires keyed { IsTrue (is_int (rowid new)) }
-        ensures ok { OnOk result (self.new.rows ≡ put_row new self.old.rows) }
+        requires keyed { IsTrue (is_int (rowid new.now)) }
+        ensures ok { OnOk result (self.new.rows ≡ put_row new.now self.old.rows) }
         ensures err { OnErr result (self.new.rows ≡ self.old.rows) }
         ensures heading { heading self.new ≡ heading self.old }
     {
+        let packed = PackedRow::of(alloc, new)?;
         let at = self.rows.place(Probe::BelowRowid(new.get(0)));
         if has_rowid_at(&self.rows, at, new.get(0)) {
-            self.rows.set(alloc, at, new)
+            self.rows.set(alloc, at, packed)
         } else {
-            self.rows.insert(alloc, at, new)
+            self.rows.insert(alloc, at, packed)
         }
     }
 
@@ -168,17 +169,18 @@ impl Tree {
         }
     }
 
-    fn insert(&mut self, alloc: Global, order: Order, new: Row) -> Result<(), AllocError>
+    fn insert(&mut self, alloc: Global, order: Order, new: &Row) -> Result<(), AllocError>
         requires { self.old.shape ≡ Shape.Index order }
-        ensures ok { OnOk result (self.new.rows ≡ insert_entry order new self.old.rows) }
+        ensures ok { OnOk result (self.new.rows ≡ insert_entry order new.now self.old.rows) }
         ensures err { OnErr result (self.new.rows ≡ self.old.rows) }
         ensures heading { heading self.new ≡ heading self.old }
     {
-        let at = self.rows.place(Probe::BelowEntry(order, &new));
-        if has_entry_at(order, &self.rows, at, &new) {
+        let packed = PackedRow::of(alloc, new)?;
+        let at = self.rows.place(Probe::BelowEntry(order, new));
+        if has_entry_at(order, &self.rows, at, new) {
             Ok(())
         } else {
-            self.rows.insert(alloc, at, new)
+            self.rows.insert(alloc, at, packed)
         }
     }
 
@@ -203,9 +205,9 @@ impl Tree {
         ensures heading { heading self.new ≡ heading self.old }
     {
         match edit {
-            Edit::Put(row) => self.put(alloc, row.copy(alloc)?),
+            Edit::Put(row) => self.put(alloc, row),
             Edit::Delete(id) => self.delete(alloc, id),
-            Edit::Insert(order, entry) => self.insert(alloc, order, entry.copy(alloc)?),
+            Edit::Insert(order, entry) => self.insert(alloc, order, entry),
             Edit::Remove(order, entry) => self.remove(alloc, order, entry),
         }
     }

@@ -6,7 +6,8 @@ use Rattle.droid_store.proofs.Clean.{trees_are_clean}
 use Rattle.droid_frame.specs.Hashes.{hash_bytes}
 use Rattle.droid_store.specs.declared.statements.TheConstants.{FINISH_NODE}
 use Rattle.droid_store.specs.Changes.{with_finished}
-use Rattle.droid_store.specs.Encoded.{number, flag, method_number, joined}
+use Rattle.droid_frame.specs.Fields.{method_number}
+use Rattle.droid_store.specs.Encoded.{number, flag, joined}
 use Rattle.droid_store.proofs.ChangesNodes.{finishes_node}
 use Rattle.droid_store.proofs.Effects.{stepped, kept_safe}
 use Rattle.droid_store_sql.proofs.Wants.{in_memory}

@@ -20,7 +20,7 @@ returns-clause-ok c rows =
     let new = state over_trees c.execute.new.self.conn.now in
     let e = c.args.entry.now in
     let fits : FitsSigned w64 (pos e.number) = search rules in
-    stepped ADD_REPLY.now (number e.client ∷ number e.number ∷ number e.kind ∷ Blob e.mark ∷ Blob e.body ∷ []) old new c.execute.result rows (with_reply c.args.entry.now rows) (rw (c.params-to_sql.ensures, c.params-to_sql-2.ensures, c.params-to_sql-3.ensures, c.params-to_sql-4.ensures, c.params-to_sql-5.ensures, c.signed.ensures, to_z-of_z w64 (pos e.number) fits, c.from.ensures, c.as_slice-mark.ensures, c.as_slice-body.ensures.value) at (c.execute.ensures.runs (trees_are_clean c.execute.new.self.conn.now)))
+    stepped ADD_REPLY.now (number e.client ∷ number e.number ∷ number e.version ∷ number e.kind ∷ Blob e.mark ∷ Blob e.body ∷ []) old new c.execute.result rows (with_reply c.args.entry.now rows) (rw (c.params-to_sql.ensures, c.params-to_sql-2.ensures, c.params-to_sql-3.ensures, c.params-to_sql-4.ensures, c.params-to_sql-5.ensures, c.params-to_sql-6.ensures, c.signed.ensures, to_z-of_z w64 (pos e.number) fits, c.from.ensures, c.from-2.ensures, c.as_slice-mark.ensures, c.as_slice-body.ensures.value) at (c.execute.ensures.runs (trees_are_clean c.execute.new.self.conn.now)))
     (adds_reply old new c.args.entry.now rows)
 
 pub returns-clause-err : goal.returns-clause-err
@@ -39,5 +39,5 @@ returns-clause-want c rows keys small =
     let e = c.args.entry.now in
     let fits : FitsSigned w64 (pos e.number) = search rules in
     wants_by ADD_REPLY.now (reply_params c.args.entry.now) old new c.execute.result rows
-    (rw (c.params-to_sql.ensures, c.params-to_sql-2.ensures, c.params-to_sql-3.ensures, c.params-to_sql-4.ensures, c.params-to_sql-5.ensures, c.signed.ensures, to_z-of_z w64 (pos e.number) fits, c.from.ensures, c.as_slice-mark.ensures, c.as_slice-body.ensures.value) at (c.execute.ensures.runs (trees_are_clean c.execute.new.self.conn.now)))
+    (rw (c.params-to_sql.ensures, c.params-to_sql-2.ensures, c.params-to_sql-3.ensures, c.params-to_sql-4.ensures, c.params-to_sql-5.ensures, c.params-to_sql-6.ensures, c.signed.ensures, to_z-of_z w64 (pos e.number) fits, c.from.ensures, c.from-2.ensures, c.as_slice-mark.ensures, c.as_slice-body.ensures.value) at (c.execute.ensures.runs (trees_are_clean c.execute.new.self.conn.now)))
     (λ err none has h. reply_wants old new c.args.entry.now rows err (in_memory c.args.tx.now.conn.now c.execute.new.self.conn.now none) has keys small h)

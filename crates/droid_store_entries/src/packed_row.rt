@@ -1,0 +1,97 @@
+//! A row as a tree keeps it: in one buffer, as SQLite writes a record.
+
+ghost use Rattle.std.specs.Prelude.{◌≡◌, [], IfOk, OnOk, OnErr};
+ghost use Rattle.sqlite_value.specs.Value.{owned};
+ghost use Rattle.sqlite_value.specs.Keys.{entry_cmp, prefix_cmp};
+ghost use Rattle.sqlite_trees.specs.Tree.{rowid};
+
+use sqlite_record::compare;
+use sqlite_record::encode::encode;
+use sqlite_record::fields::{Fields, decode_into};
+use sqlite_value::keys::Order;
+use sqlite_value::row::Row;
+use sqlite_value::value::ValueRef;
+use std::alloc::{AllocError, Global};
+use std::cmp::Ordering;
+use std::marker::Model;
+
+/// How many bytes are set aside for a record's types while it is written.
+const TYPES_ROOM: usize = 16;
+
+/// The same for all of its bytes.
+const BYTES_ROOM: usize = 120;
+
+/// A list of values: first the type of each, then their bytes, and no more of them than each needs.
+#[derive(Drop)]
+pub struct PackedRow {
+    record: Vec<u8>,
+}
+
+impl Model for PackedRow {
+    ghost use Rattle.std.specs.Prelude.{List};
+    ghost use Rattle.std.specs.Coded.{coded_list};
+    ghost use Rattle.sqlite_value.specs.declared.value.Value.{Value as SqlValue};
+    ghost use Rattle.sqlite_value.specs.contracts.value.Value.{the_row};
+    ghost use Rattle.sqlite_record.specs.Record.{decode};
+
+    ghost Value = { List SqlValue };
+
+    ghost coded = { coded_list the_row.coded };
+
+    ghost view = { λ packed. decode packed.record.items };
+}
+
+impl PackedRow {
+    /// The same values. A row with a NaN, or of more than a billion bytes, counts as out of memory.
+    pub fn of(alloc: Global, row: &Row) -> Result<PackedRow, AllocError>
+        ensures { IfOk result (λ packed. packed ≡ row.now) }
+    {
+        let mut types = Vec::with_capacity(alloc, TYPES_ROOM)?;
+        let mut bytes = Vec::with_capacity(alloc, BYTES_ROOM)?;
+        match encode(row, 0, &mut types, &mut bytes) {
+            Ok(()) => {
+                let record = Vec::from_slice(alloc, bytes.as_slice())?;
+                Ok(PackedRow { record })
+            }
+            Err(_) => Err(AllocError),
+        }
+    }
+
+    /// The first value, and NULL where there is none.
+    pub fn first(&self) -> ValueRef<'_>
+        ensures { owned result ≡ rowid self.now }
+    {
+        let mut fields = Fields::new(self.record.as_slice());
+        match fields.next() {
+            Some(value) => value,
+            None => ValueRef::Null,
+        }
+    }
+
+    /// The order of a tree's entries: column by column, and a row before what extends it.
+    pub fn cmp_entry(&self, order: Order, other: &Row) -> Ordering
+        ensures { result ≡ entry_cmp order self.now other.now }
+    {
+        compare::with_row(order, self.record.as_slice(), other)
+    }
+
+    /// The same over the columns that the key has.
+    pub fn cmp_prefix(&self, order: Order, key: &Row) -> Ordering
+        ensures { result ≡ prefix_cmp order self.now key.now }
+    {
+        compare::with_key(order, self.record.as_slice(), key)
+    }
+
+    /// Writes the values over those of the row, or leaves it empty.
+    pub fn copy_into(&self, row: &mut Row) -> Result<(), AllocError>
+        ensures ok { OnOk result (row.new ≡ self.now) }
+        ensures err { OnErr result (row.new ≡ []) }
+    {
+        row.clear();
+        let written = decode_into(self.record.as_slice(), 0, row);
+        if written.is_err() {
+            row.clear();
+        }
+        written
+    }
+}
