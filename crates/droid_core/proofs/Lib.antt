@@ -6,4 +6,5 @@ pub mod KeptReplies
 pub mod Recalling
 pub mod RecentRows
 pub mod Running
+mod SmallFiles
 pub mod Starting

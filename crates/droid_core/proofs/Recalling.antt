@@ -87,10 +87,10 @@ accepted_row setting history frame request (Refuses refusal) is_new may goes com
 answered_row : (setting : Setting) (history : History) (frame : Frame) (request : Request) (reply : Reply) → command frame ≡ Some request → kept history frame.client frame.number ≡ None → reply ≡ answer setting history frame
     → is_command request ≡ true → is_refused reply ≡ false → IsKeptRow (next setting history frame) (frame.client, frame.number) (stamped (stamp_of frame) reply)
 answered_row setting history frame request reply asked is_new is commands unrefused =
-    let verdict = judge setting (world_of setting history) request in
+    let verdict = judge setting (world_of setting history) frame.version request in
     let its : verdict_reply verdict ≡ reply = sym (is ∙ answer_new setting history frame request asked is_new) in
     subst (λ (r : Reply). IsKeptRow (next setting history frame) (frame.client, frame.number) (stamped (stamp_of frame) r)) its
-    (accepted_row setting history frame request verdict is_new (judged setting (world_of setting history) request) (next_new setting history frame request asked is_new) commands (ap is_refused its ∙ unrefused))
+    (accepted_row setting history frame request verdict is_new (judged setting (world_of setting history) frame.version request) (next_new setting history frame request asked is_new) commands (ap is_refused its ∙ unrefused))
 
 no_want : (reply : Reply) → is_refused reply ≡ false → is_want reply ≡ false
 no_want (Refused refusal) is = absurd cc
@@ -115,10 +115,10 @@ last_after setting history frame request (Refuses refusal) last may is = is.0
 last_next : (setting : Setting) (history : History) (frame : Frame) (request : Request) (reply : Reply) (last : Option KeptText) → command frame ≡ Some request → kept history frame.client frame.number ≡ None
     → reply ≡ answer setting history frame → Forgets setting (world_of setting history) last (is_command request) reply → IsLastText setting (world_of setting (next setting history frame)) last
 last_next setting history frame request reply last asked is_new is forgets =
-    let verdict = judge setting (world_of setting history) request in
+    let verdict = judge setting (world_of setting history) frame.version request in
     let its : reply ≡ verdict_reply verdict = is ∙ answer_new setting history frame request asked is_new in
     subst (λ (h : History). IsLastText setting (world_of setting h) last) (sym (next_new setting history frame request asked is_new))
-    (last_after setting history frame request verdict last (judged setting (world_of setting history) request) (subst (Forgets setting (world_of setting history) last (is_command request)) its forgets))
+    (last_after setting history frame request verdict last (judged setting (world_of setting history) frame.version request) (subst (Forgets setting (world_of setting history) last (is_command request)) its forgets))
 
 kept_by : (b : Bool) (setting : Setting) (history : History) (frame : Frame) (request : Request) (reply : Reply) (old : List (Whose × rows.Entry)) (service : Service) → is_want reply ≡ b → command frame ≡ Some request
     → kept history frame.client frame.number ≡ None → AreKept history old → Keeps old service.recent.rows.entries (is_command request) (stamp_of frame) reply

@@ -1,6 +1,5 @@
 -- A run goes on by one request.
 use Rattle.std.proofs.Common.{◌≡◌, Bool, true, false, cond, not, List, [], ◌∷◌, ◌++◌, length, refl, sym, ap, ◌∙◌, arith, append-nil}
-use Rattle.std.specs.List.{AllByRecursion}
 use Rattle.std.specs.Prelude.{MatchBool, IsSome, ⊤}
 use Rattle.droid_frame.specs.types.frame.Frame.{Frame}
 use Rattle.droid_frame.specs.types.reply.Reply.{Reply}
@@ -9,7 +8,7 @@ use Rattle.std.proofs.lemmas.List.{length-append}
 use Rattle.droid_core.specs.declared.service.Service.{Service}
 use Rattle.droid_core_spec.specs.Setting.{Setting}
 use Rattle.droid_core_spec.specs.Histories.{History, command, answer, next, answers, history_from, Handles}
-use Rattle.droid_core.specs.Running.{without_wants, other_replies, NoWantOfMalformed, Runs}
+use Rattle.droid_core.specs.Running.{AreSpelled, without_wants, other_replies, NoWantOfMalformed, Runs}
 use Rattle.droid_core.specs.Standing.{StandsFor}
 use Rattle.droid_core_spec.specs.Wants.{is_want}
 
@@ -66,9 +65,11 @@ wants-push [] (r ∷ replies) frame reply wants last e = absurd (omega arith)
 wants-push (f ∷ frames) [] frame reply wants last e = absurd (omega arith)
 wants-push (f ∷ frames) (r ∷ replies) frame reply wants last e = (wants.0, wants-push frames replies frame reply wants.1 last (omega arith))
 
-spelled-push : (replies : List Reply) (reply : Reply) → AllByRecursion HasReplySpelling replies → HasReplySpelling reply → AllByRecursion HasReplySpelling (replies ++ reply ∷ [])
-spelled-push [] reply all last = (last, tt)
-spelled-push (r ∷ replies) reply all last = (all.0, spelled-push replies reply all.1 last)
+spelled-push : (frames : List Frame) (replies : List Reply) (frame : Frame) (reply : Reply) → AreSpelled frames replies → HasReplySpelling frame.version reply → length replies ≡ length frames → AreSpelled (frames ++ frame ∷ []) (replies ++ reply ∷ [])
+spelled-push [] [] frame reply all last e = (last, tt)
+spelled-push [] (r ∷ replies) frame reply all last e = absurd (omega arith)
+spelled-push (f ∷ frames) [] frame reply all last e = absurd (omega arith)
+spelled-push (f ∷ frames) (r ∷ replies) frame reply all last e = (all.0, spelled-push frames replies frame reply all.1 last (omega arith))
 
 -- ---- the step
 
@@ -86,13 +87,13 @@ goes_on false setting history frames replies frame reply after answered handled 
     (rw (answered, handled.0) (sym (answers-push setting history frames frame)), rw (history_from-push setting history frames frame) handled.1)
 
 pub Runs-push : (setting : Setting) (history : History) (frames : List Frame) (replies : List Reply) (before after : Service) (frame : Frame) (reply : Reply) → Runs setting history frames replies before
-    → Handles setting (history_from setting history (without_wants frames replies)) frame reply (StandsFor setting after) → HasReplySpelling reply → Runs setting history (frames ++ frame ∷ []) (replies ++ reply ∷ []) after
+    → Handles setting (history_from setting history (without_wants frames replies)) frame reply (StandsFor setting after) → HasReplySpelling frame.version reply → Runs setting history (frames ++ frame ∷ []) (replies ++ reply ∷ []) after
 Runs-push setting history frames replies before after frame reply runs handled spelled =
     let more = goes_on (is_want reply) setting history (without_wants frames replies) replies frame reply after runs.answered handled in
     let kept = without_wants-push frames replies frame reply runs.count in
     record {
       count = omega (arith, runs.count, length-append replies (reply ∷ []), length-append frames (frame ∷ []));
-      spelled = spelled-push replies reply runs.spelled spelled;
+      spelled = spelled-push frames replies frame reply runs.spelled spelled runs.count;
       wants = wants-push frames replies frame reply runs.wants (last_want (is_want reply) _ _ _ _ handled) runs.count;
       answered = other_replies-push replies reply ∙ (more.0 ∙ ap (answers setting history) (sym kept));
       stands = rw kept more.1;

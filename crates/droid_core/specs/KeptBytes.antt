@@ -30,6 +30,10 @@ kept_bytes_of world number id = in_profile bytes_kept (numbered world.profiles n
 abbrev pub most_bytes_of : World → ℕ → ℕ → Option ℕ
 most_bytes_of world number id = in_profile most_bytes (numbered world.profiles number) id
 
+-- how many bytes its pieces have, the last one perhaps fewer
+abbrev pub piece_size_of : World → ℕ → ℕ → Option ℕ
+piece_size_of world number id = in_profile (λ profile content. content.piece_size) (numbered world.profiles number) id
+
 -- both are there and the first is no larger, or neither is there
 abbrev pub IsAtMost : Option ℕ → Option ℕ → Type 0
 IsAtMost None None = ⊤

@@ -1,6 +1,5 @@
 -- What handling a list of requests gives.
 use Rattle.std.specs.Prelude.{◌≡◌, if◌then◌else◌, not, List, [], ◌∷◌, length, filter, MatchBool, IsSome, ⊤}
-use Rattle.std.specs.List.{AllByRecursion}
 use Rattle.droid_frame.specs.types.frame.Frame.{Frame}
 use Rattle.droid_frame.specs.types.reply.Reply.{Reply}
 use Rattle.droid_frame.specs.Replies.{HasReplySpelling}
@@ -26,11 +25,17 @@ NoWantOfMalformed [] replies = Unit {0}
 NoWantOfMalformed (frame ∷ frames) [] = Unit {0}
 NoWantOfMalformed (frame ∷ frames) (reply ∷ replies) = MatchBool (is_want reply) (IsSome (command frame)) ⊤ × NoWantOfMalformed frames replies
 
--- One reply for each request, each with a spelling. Along the requests that weren't refused for want of memory the replies
--- are the answers, and the service then stands for the history after these requests.
+-- each reply has a spelling in the version of the request that it answers
+abbrev pub AreSpelled : List Frame → List Reply → Type 0
+AreSpelled [] replies = Unit {0}
+AreSpelled (frame ∷ frames) [] = Unit {0}
+AreSpelled (frame ∷ frames) (reply ∷ replies) = HasReplySpelling frame.version reply × AreSpelled frames replies
+
+-- One reply for each request, each with a spelling in its request's version. Along the requests that weren't refused for
+-- want of memory the replies are the answers, and the service then stands for the history after these requests.
 pub record Runs (setting : Setting) (history : History) (frames : List Frame) (replies : List Reply) (after : Service) : Type 0 where
   pub count : length replies ≡ length frames
-  pub spelled : AllByRecursion HasReplySpelling replies
+  pub spelled : AreSpelled frames replies
   pub wants : NoWantOfMalformed frames replies
   pub answered : other_replies replies ≡ answers setting history (without_wants frames replies)
   pub stands : StandsFor setting after (history_from setting history (without_wants frames replies))

@@ -10,7 +10,7 @@ use Rattle.droid_core_files.specs.Kept.{AreNarrow, IsKept}
 use Rattle.droid_core_files.specs.declared.files.UnfinishedFiles.TheInside.{Inside}
 use Rattle.droid_core_files.proofs.Lookups.{distinct_added, distinct_removed, distinct_set}
 
-pub narrow_added : (files : List OpenFile) (file : OpenFile) → AreNarrow files → file.assembly.limit ≤ 65536 → AreNarrow (files ++ file ∷ [])
+pub narrow_added : (files : List OpenFile) (file : OpenFile) → AreNarrow files → file.assembly.scan_limit ≤ 65536 → AreNarrow (files ++ file ∷ [])
 narrow_added [] file narrow fits = (fits, tt)
 narrow_added (one ∷ files) file narrow fits = (narrow.0, narrow_added files file narrow.1 fits)
 
@@ -20,12 +20,12 @@ narrow_removed [] (suc place) narrow = tt
 narrow_removed (one ∷ files) zero narrow = narrow.1
 narrow_removed (one ∷ files) (suc place) narrow = (narrow.0, narrow_removed files place narrow.1)
 
-narrow_set : (files : List OpenFile) (place : ℕ) (file : OpenFile) → AreNarrow files → file.assembly.limit ≤ 65536 → AreNarrow (set files place file)
+narrow_set : (files : List OpenFile) (place : ℕ) (file : OpenFile) → AreNarrow files → file.assembly.scan_limit ≤ 65536 → AreNarrow (set files place file)
 narrow_set [] place file narrow fits = tt
 narrow_set (one ∷ files) zero file narrow fits = (fits, narrow.1)
 narrow_set (one ∷ files) (suc place) file narrow fits = (narrow.0, narrow_set files place file narrow.1 fits)
 
-narrow_at : (files : List OpenFile) (place : ℕ) (file : OpenFile) → AreNarrow files → IsAt files place file → file.assembly.limit ≤ 65536
+narrow_at : (files : List OpenFile) (place : ℕ) (file : OpenFile) → AreNarrow files → IsAt files place file → file.assembly.scan_limit ≤ 65536
 narrow_at [] place file narrow here = cc
 narrow_at (one ∷ files) zero file narrow here =
     let same : one ≡ file = cc in
@@ -33,16 +33,16 @@ narrow_at (one ∷ files) zero file narrow here =
 narrow_at (one ∷ files) (suc place) file narrow here = narrow_at files place file narrow.1 here
 
 -- the file that was read at a place is a narrow one
-pub narrow_read : (kept : Inside) → IsKept kept → (place : ℕ) (one : OpenFile) → one ≡ get_or kept.files.items place one → place < length kept.files.items → one.assembly.limit ≤ 65536
+pub narrow_read : (kept : Inside) → IsKept kept → (place : ℕ) (one : OpenFile) → one ≡ get_or kept.files.items place one → place < length kept.files.items → one.assembly.scan_limit ≤ 65536
 narrow_read kept is place one read within =
     narrow_at kept.files.items place one is.narrow (slice_get_read kept.files.items (length kept.files.items) place one refl within read)
 
 -- another assembly at a place, which scans as many bytes
 pub kept_changed : (kept : Inside) → IsKept kept → (place : ℕ) (one : OpenFile) (assembly : State) → one ≡ get_or kept.files.items place one → place < length kept.files.items
-    → assembly.limit ≡ one.assembly.limit → IsKept (record { files = with_item kept.files place (with_assembly one assembly); limit = kept.limit })
+    → assembly.scan_limit ≡ one.assembly.scan_limit → IsKept (record { files = with_item kept.files place (with_assembly one assembly); limit = kept.limit })
 kept_changed kept is place one assembly read within same =
     let here : IsAt kept.files.items place one = slice_get_read kept.files.items (length kept.files.items) place one refl within read in
-    let fits : assembly.limit ≤ 65536 = rw same (narrow_read kept is place one read within) in
+    let fits : assembly.scan_limit ≤ 65536 = rw same (narrow_read kept is place one read within) in
     record {
       few = is.few;
       within = is.within;
@@ -52,13 +52,13 @@ kept_changed kept is place one assembly read within same =
     }
 
 -- a piece that was put or refused
-pub put_limit : {E : Type 0} (result : Result (Unit {0}) E) (old new : State) (pending : Option Piece) → OnOk result (new ≡ with_pending old pending) → OnErr result (new ≡ old) → new.limit ≡ old.limit
-put_limit (Ok x) old new pending ok err = ap (λ (a : State). a.limit) ok
-put_limit (Err e) old new pending ok err = ap (λ (a : State). a.limit) err
+pub put_scan_limit : {E : Type 0} (result : Result (Unit {0}) E) (old new : State) (pending : Option Piece) → OnOk result (new ≡ with_pending old pending) → OnErr result (new ≡ old) → new.scan_limit ≡ old.scan_limit
+put_scan_limit (Ok x) old new pending ok err = ap (λ (a : State). a.scan_limit) ok
+put_scan_limit (Err e) old new pending ok err = ap (λ (a : State). a.scan_limit) err
 
 -- one file more, which is not among them
 pub kept_added : (kept new : Inside) → IsKept kept → (file : OpenFile) → new.files.items ≡ kept.files.items ++ file ∷ [] → new.limit ≡ kept.limit
-    → vec_len new.files ≤ kept.limit → kept.limit ≤ vec_capacity new.files → open_at file.profile file.file kept.files.items ≡ None → file.assembly.limit ≤ 65536 → IsKept new
+    → vec_len new.files ≤ kept.limit → kept.limit ≤ vec_capacity new.files → open_at file.profile file.file kept.files.items ≡ None → file.assembly.scan_limit ≤ 65536 → IsKept new
 kept_added kept new is file items limit within room fresh fits = record {
   few = rw limit is.few;
   within = rw limit within;

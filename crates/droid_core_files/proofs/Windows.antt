@@ -15,16 +15,16 @@ take_own (suc n) (b ∷ bytes) = ap (λ (rest : List ℕ). b ∷ rest) (take_own
 -- what every file with these ends comes to, as the registry tells it
 abbrev pub Tells : Contents → List ℕ → Bool → ℕ → List ℕ → List ℕ → Found → Type 0
 Tells registry name match_all size first last found =
-    (file : List ℕ) (limit : ℕ) → length file ≡ size → min limit size ≡ length first → take (length first) file ≡ first → drop (size - length first) file ≡ last → IsFound registry name file limit match_all found
+    (file : List ℕ) (scan_limit : ℕ) → length file ≡ size → min scan_limit size ≡ length first → take (length first) file ≡ first → drop (size - length first) file ≡ last → IsFound registry name file scan_limit match_all found
 
-pub found_in_whole : {E : Type 0} (result : Result Found E) (registry : Contents) (name : List ℕ) (match_all : Bool) (file : List ℕ) (limit size : ℕ) (first last : List ℕ)
-    → size ≡ length file → first ≡ first_window limit file → last ≡ last_window limit file
-    → IfOk result (Tells registry name match_all size first last) → IfOk result (λ found. IsFound registry name file limit match_all found)
-found_in_whole (Ok found) registry name match_all file limit size first last whole begun ended tells =
-    let width : length first ≡ min limit (length file) = ap length begun ∙ length-take limit file in
-    let reached : min limit size ≡ length first = ap (min limit) whole ∙ sym width in
-    let begins : take (length first) file ≡ first = ap (λ (xs : List ℕ). take (length xs) file) begun ∙ take_own limit file ∙ sym begun in
-    let left : size - length first ≡ length file - limit = omega (arith, whole, width) in
+pub found_in_whole : {E : Type 0} (result : Result Found E) (registry : Contents) (name : List ℕ) (match_all : Bool) (file : List ℕ) (scan_limit size : ℕ) (first last : List ℕ)
+    → size ≡ length file → first ≡ first_window scan_limit file → last ≡ last_window scan_limit file
+    → IfOk result (Tells registry name match_all size first last) → IfOk result (λ found. IsFound registry name file scan_limit match_all found)
+found_in_whole (Ok found) registry name match_all file scan_limit size first last whole begun ended tells =
+    let width : length first ≡ min scan_limit (length file) = ap length begun ∙ length-take scan_limit file in
+    let reached : min scan_limit size ≡ length first = ap (min scan_limit) whole ∙ sym width in
+    let begins : take (length first) file ≡ first = ap (λ (xs : List ℕ). take (length xs) file) begun ∙ take_own scan_limit file ∙ sym begun in
+    let left : size - length first ≡ length file - scan_limit = omega (arith, whole, width) in
     let ends : drop (size - length first) file ≡ last = ap (λ (n : ℕ). drop n file) left ∙ sym ended in
-    tells file limit (sym whole) reached begins ends
-found_in_whole (Err e) registry name match_all file limit size first last whole begun ended tells = tt
+    tells file scan_limit (sym whole) reached begins ends
+found_in_whole (Err e) registry name match_all file scan_limit size first last whole begun ended tells = tt

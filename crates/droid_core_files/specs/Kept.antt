@@ -10,7 +10,7 @@ files_of kept = record { limit = kept.limit; files = kept.files.items }
 
 -- of each file at most 65,536 bytes are scanned from each end
 abbrev pub AreNarrow : List OpenFile → Type 0
-AreNarrow files = AllByRecursion (λ file. file.assembly.limit ≤ 65536) files
+AreNarrow files = AllByRecursion (λ file. file.assembly.scan_limit ≤ 65536) files
 
 -- there are 64 at most, each has a place reserved, and no two are one file
 pub record IsKept (kept : Inside) : Type 0 where

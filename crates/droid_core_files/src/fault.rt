@@ -12,7 +12,7 @@ pub enum IdentifyFault {
     /// A piece is missing: `missing` is the smallest such index.
     #[error("piece {missing} is missing")]
     Incomplete { missing: u32 },
-    /// There was no memory for what is found.
+    /// Memory was refused for what is found.
     #[error("memory was refused")]
     Memory,
 }

@@ -2,12 +2,10 @@
 
 ghost use Rattle.std.specs.Prelude.{◌≡◌, ◌≢◌, ◌+◌, ◌*◌, ◌^◌, ◌<◌, ◌≤◌, ◌↔◌, ◌++◌, ◌∷◌, [], ℕ, List, length, min, Ok, Err, Some, None, IsTrue, IsOk, IfOk, IfSome, OnOk, OnErr, IsErrOf, IsSome, is_some, false};
 ghost use Rattle.std.specs.Bool.{OnFalse};
-ghost use Rattle.std.specs.List.{slice_get, remove, AllByRecursion};
-ghost use Rattle.droid_assembly.specs.Pieces.{Piece, IsDue, HasIndex, LacksIndex, held as held_of, missing as missing_of, kept_bytes as kept_of, file_bytes};
-ghost use Rattle.droid_assembly.specs.State.{StandsFor, IsComplete, IsOfSameFile, IsUnchanged, count_of, hash_kind_of, with_pending, pending_bytes};
-ghost use Rattle.droid_frame.specs.Hashes.{hash, IsHashValue};
-ghost use Rattle.droid_pronom.specs.Found.{IsFound};
-ghost use Rattle.droid_pronom.specs.RegistryFields.{is_puid};
+ghost use Rattle.std.specs.List.{slice_get, remove};
+ghost use Rattle.droid_assembly.specs.Pieces.{Piece, IsDue, HasIndex, LacksIndex, held as held_of, missing as missing_of, kept_bytes as kept_of};
+ghost use Rattle.droid_assembly.specs.State.{StandsFor, IsComplete, IsOfSameFile, IsUnchanged, count_of, with_pending, pending_bytes};
+ghost use Rattle.droid_core_files.specs.Identifying.{Identifies, IsWellFormed};
 
 use crate::fault::IdentifyFault;
 use crate::file::UnfinishedFile;
@@ -64,14 +62,6 @@ impl UnfinishedFiles {
         self.files.len() as u32
     }
 
-    /// How many files there can be.
-    pub fn limit(&self) -> u32
-        ensures limit { result ≡ self.now.limit }
-        ensures few { result ≤ 64 }
-    {
-        self.limit
-    }
-
     /// Whether there is no file.
     pub fn is_empty(&self) -> bool
         ensures { IsTrue result ↔ (self.now.files ≡ []) }
@@ -103,7 +93,7 @@ impl UnfinishedFiles {
     pub fn add(&mut self, profile: u32, file: u32, assembly: Assembly)
         requires room { length self.old.files < self.old.limit }
         requires fresh { open_at profile file self.old.files ≡ None }
-        requires narrow { assembly.limit ≤ 65536 }
+        requires narrow { assembly.scan_limit ≤ 65536 }
         ensures files { self.new.files ≡ self.old.files ++ record { profile = profile; file = file; assembly = assembly } ∷ [] }
         ensures limit { self.new.limit ≡ self.old.limit }
     {
@@ -218,8 +208,10 @@ impl UnfinishedFiles {
     pub fn kept_bytes(&self, place: usize) -> u64
         requires { place < length self.now.files }
         ensures kept { At self.now place (λ file. (pieces : List Piece) → StandsFor file pieces
-            → result ≡ kept_of file.limit (count_of file) pieces + pending_bytes file.pending) }
-        ensures bound { At self.now place (λ file. result ≤ 2 * min file.limit file.size + 16 * file.piece_size) }
+            → result ≡ kept_of file.scan_limit (count_of file) pieces + pending_bytes file.pending) }
+        ensures bound { At self.now place (λ file. result ≤ 2 * min file.scan_limit file.size + 16 * file.piece_size) }
+        ensures most { result ≤ 67239936 }
+        ensures most_of_small { At self.now place (λ file. file.piece_size ≤ 1048576 → result ≤ 16908288) }
     {
         self.files[place].assembly.kept_bytes()
     }
@@ -237,20 +229,8 @@ impl UnfinishedFiles {
     ) -> Result<Finding, IdentifyFault>
         requires within { place < length self.old.files }
         requires none_pending { At self.old place (λ file. file.pending ≡ None) }
-        // Exactly where a piece is missing it says which is the first.
-        ensures incomplete { At self.old place (λ file. (pieces : List Piece) (missing : ℕ) → StandsFor file pieces
-            → (IsErrOf result (IdentifyFault.Incomplete missing)
-            ↔ ((missing ≡ missing_of (count_of file) pieces) × (missing < count_of file)))) }
-        ensures complete { OnOk result (At self.old place IsComplete) }
-        ensures size { At self.old place (λ file. (pieces : List Piece) → StandsFor file pieces
-            → IfOk result (λ finding. finding.sealed.size ≡ length (file_bytes (count_of file) pieces))) }
-        ensures hash { At self.old place (λ file. (pieces : List Piece) → StandsFor file pieces
-            → IfOk result (λ finding. finding.sealed.hash ≡ hash (hash_kind_of file) (file_bytes (count_of file) pieces))) }
-        ensures length { IfOk result (λ finding. IsHashValue finding.sealed.hash) }
-        ensures found { At self.old place (λ file. (pieces : List Piece) → StandsFor file pieces
-            → IfOk result (λ finding. IsFound registry.now name.now (file_bytes (count_of file) pieces) file.limit match_all finding.found)) }
-        ensures few { IfOk result (λ finding. length finding.found.puids ≤ 4096) }
-        ensures puids { IfOk result (λ finding. AllByRecursion (λ puid. IsTrue (is_puid puid)) finding.found.puids) }
+        ensures identifies { At self.old place (λ file. Identifies registry.now name.now match_all file result) }
+        ensures well_formed { IfOk result IsWellFormed }
 
         // What stands afterwards.
         ensures unchanged { Turns self.old self.new place IsUnchanged }

@@ -8,6 +8,5 @@ mod finding;
 mod whole;
 
 pub use fault::IdentifyFault;
-pub use file::UnfinishedFile;
 pub use files::UnfinishedFiles;
 pub use finding::Finding;

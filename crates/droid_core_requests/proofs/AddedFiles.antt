@@ -27,9 +27,9 @@ use Rattle.droid_core_state.specs.Standing.{IsIn}
 use Rattle.droid_core_requests.proofs.AddedNodes.{new_content, assemblies_with_file}
 use Rattle.droid_core_state.proofs.Staying.{if_refused, still_of}
 
-module _ (setting : Setting) (world : World) (number parent : ℕ) (modified : ℤ) (size piece_size : ℕ) (name : List ℕ) where
+module _ (setting : Setting) (world : World) (version number parent : ℕ) (modified : ℤ) (size piece_size : ℕ) (name : List ℕ) where
   abbrev verdict : Verdict
-  verdict = judge_file setting world number parent modified size piece_size name
+  verdict = judge_file setting world version number parent modified size piece_size name
 
   nowhere : (refusal : Refusal) → (refusal ≡ NoSuchProfile) × (numbered world.profiles number ≡ None) → verdict ≡ Refuses refusal
   unfolding judge_file
@@ -41,7 +41,7 @@ module _ (setting : Setting) (world : World) (number parent : ℕ) (modified : �
 
   module _ (profile : Profile) (found : numbered world.profiles number ≡ Some profile) where
     abbrev first_refusal : Option Refusal
-    first_refusal = refusal_of (file_checks setting.limits world profile.nodes parent modified size piece_size name)
+    first_refusal = refusal_of (file_checks setting.limits world version profile.nodes parent modified size piece_size name)
 
     pub file_refused : (refusal : Refusal) → first_refusal ≡ Some refusal → verdict ≡ Refuses refusal
     unfolding judge_file
@@ -52,7 +52,7 @@ module _ (setting : Setting) (world : World) (number parent : ℕ) (modified : �
     file_misplaced refusal finds =
         if_refused (is_want_of refusal)
         (λ first. file_refused refusal (first (
-        (not (is_moment modified) || not (is_piece_size piece_size), BadOption)
+        (not (is_moment modified) || not (is_piece_size version piece_size), BadOption)
         ∷ (is_too_large size piece_size, TooLarge)
         ∷ (nat_le setting.limits.nodes (length profile.nodes), LimitReached reached.Nodes)
         ∷ (nat_le setting.limits.unfinished (unfinished_in world), LimitReached reached.Unfinished)
@@ -80,7 +80,7 @@ module _ (setting : Setting) (world : World) (number parent : ℕ) (modified : �
             world_is = record {
               is_setting = still_of setting old new limits registry is.is_setting;
               rows = rw made (file_added setting world old.store (stamped stamp (replies.Node (length profile.nodes + 1))) number profile is.rows found parent modified size piece_size name (subst (AreShort name) way_is short));
-              sound = sound_added world number profile node is.sound found (file_of_checks setting.limits world profile.nodes parent modified size piece_size name (new_content size piece_size) refl refl allowed);
+              sound = sound_added world number profile node is.sound found (file_of_checks setting.limits world version profile.nodes parent modified size piece_size name (new_content size piece_size) refl refl allowed);
               files = assemblies_with_file world number profile parent modified size piece_size name old.files new.files assembly found is.files added new_assembly;
               room = room ∙ is.room;
             };

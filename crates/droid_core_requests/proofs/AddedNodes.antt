@@ -22,7 +22,7 @@ still_open profile node content found is = record {
   assembled = record {
     size = is.assembled.size;
     piece_size = is.assembled.piece_size;
-    limit = is.assembled.limit;
+    scan_limit = is.assembled.scan_limit;
     hash = is.assembled.hash;
     pieces = is.assembled.pieces;
     none_pending = is.assembled.none_pending;
@@ -144,7 +144,7 @@ module _ (world : World) (number : ℕ) (profile : Profile) (parent : ℕ) (modi
           assembled = record {
             size = new_assembly.size;
             piece_size = new_assembly.piece_size;
-            limit = new_assembly.limit;
+            scan_limit = new_assembly.scan_limit;
             hash = new_assembly.hash;
             pieces = new_assembly.pieces;
             none_pending = new_assembly.none_pending;

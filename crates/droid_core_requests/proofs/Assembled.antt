@@ -36,21 +36,21 @@ module _ (world : World) (files : OpenFiles) (has : HasAssemblies world files) (
 
 -- which assembly a node has to have depends on its profile's scan limit and hash alone
 same_assembly : (before after : Profile) (node : Option Node) (found : Option OpenFile) → before.scan_limit ≡ after.scan_limit → before.hash ≡ after.hash → HasItsAssembly before node found → HasItsAssembly after node found
-same_assembly before after None found limit hash has = has
-same_assembly before after (Some (Folder parent modified name)) found limit hash has = has
-same_assembly before after (Some (File parent modified name content)) found limit hash has = by_finished content.finished _ (IsOpenFor before content found) (IsOpenFor after content found) has (λ it. record {
+same_assembly before after None found scan_limit hash has = has
+same_assembly before after (Some (Folder parent modified name)) found scan_limit hash has = has
+same_assembly before after (Some (File parent modified name content)) found scan_limit hash has = by_finished content.finished _ (IsOpenFor before content found) (IsOpenFor after content found) has (λ it. record {
   file = it.file;
   there = it.there;
   assembled = record {
     size = it.assembled.size;
     piece_size = it.assembled.piece_size;
-    limit = it.assembled.limit ∙ limit;
+    scan_limit = it.assembled.scan_limit ∙ scan_limit;
     hash = it.assembled.hash ∙ hash;
     pieces = it.assembled.pieces;
     none_pending = it.assembled.none_pending;
   };
 })
-same_assembly before after (Some Abandoned) found limit hash has = has
+same_assembly before after (Some Abandoned) found scan_limit hash has = has
 
 -- ---- one node in the place of another
 

@@ -8,7 +8,7 @@ use Rattle.droid_core_spec.specs.World.{Profile, World, numbered}
 use Rattle.droid_store.specs.Rows.{Rows, is_unfinished, records_of}
 use Rattle.droid_core_files.specs.Files.{At, OpenFiles, open_at}
 use Rattle.droid_core_state.specs.Assemblies.{HasAssemblies, HasItsAssemblyIn, IsOpenFor}
-use Rattle.droid_core_state.specs.Sound.{IsSound}
+use Rattle.droid_core_state.specs.Sound.{IsSoundWorld}
 use Rattle.droid_core_state.specs.Standing.{IsIn}
 use Rattle.droid_core_state.specs.declared.parts.Parts.{Parts}
 use Rattle.droid_core_state.proofs.Items.{numbered_past}
@@ -43,7 +43,7 @@ module _ (setting : Setting) (world : World) (number id : ℕ) (row : FileRow) (
   pub no_count : (0 < row.node.piece_size → piece_count row.node.item.size row.node.piece_size < 2 ^ 32 → ⊥) → ⊥
   no_count none =
       let sized = sound_sizes world number has.profile id has.parent has.modified has.name has.content is_in.sound has.there has.at in
-      let cut = piece_size_within has.content.piece_size sized.pieces in
+      let cut = piece_size_within 2 has.content.piece_size sized.pieces in
       let whole = size_within has.content.size has.content.piece_size sized.whole in
       (rw (has.size_is, has.piece_size_is) at none) (omega (arith, cut.0)) (omega (arith, whole.1))
 
@@ -61,5 +61,5 @@ no_file_yet world files number id profile has there next =
     rw (numbered_past profile.nodes id (omega (arith, next))) at its
 
 -- its scan limit is out of range
-pub limit_within : (world : World) (number : ℕ) (profile : Profile) → IsSound world → numbered world.profiles number ≡ Some profile → IsTrue (is_scan_limit profile.scan_limit)
-limit_within world number profile sound there = (sound_profile world number profile sound there).limit
+pub scan_limit_within : (world : World) (number : ℕ) (profile : Profile) → IsSoundWorld world → numbered world.profiles number ≡ Some profile → IsTrue (is_scan_limit profile.scan_limit)
+scan_limit_within world number profile sound there = (sound_profile world number profile sound there).scan_limit

@@ -1,7 +1,8 @@
 -- What comes of finishing a file that was found.
 use Rattle.std.proofs.Common.{◌≡◌, ℕ, ◌+◌, List, length, slice_get, true, false, Some, None, refl, sym, ap, subst, ◌∙◌}
 use Rattle.std.specs.Prelude.{ℤ, Bool, MatchBool, ⊤}
-use Rattle.droid_assembly.specs.State.{IsUnchanged}
+use Rattle.droid_assembly.specs.Pieces.{Piece}
+use Rattle.droid_assembly.specs.State.{StandsFor, IsUnchanged}
 use Rattle.droid_frame.specs.types.hash_value.HashValue.{HashValue}
 use Rattle.droid_frame.specs.types.refusal.Refusal.{Refusal}
 use Rattle.droid_frame.specs.types.refusal.Refusal.TheVariants.{AlreadyFinished, BadOption}
@@ -25,6 +26,8 @@ use Rattle.droid_store.specs.Changes.{with_reply}
 use Rattle.droid_store.specs.declared.rows.ProfileRow.{ProfileRow}
 use Rattle.droid_store.specs.Rows.{Rows, is_unfinished}
 use Rattle.droid_core_files.specs.Files.{OpenFile, OpenFiles, IsAt, At, Turns, IsAlikeBut, is_of, open_at}
+use Rattle.droid_core_files.specs.Identifying.{IsFindingOf}
+use Rattle.droid_core_files.specs.declared.finding.Finding as files
 use Rattle.droid_core_state.specs.Assemblies.{IsAssemblyOf, IsOpenFor}
 use Rattle.droid_core_state.specs.Changes.{Stays, Comes, stamped}
 use Rattle.droid_core_state.specs.declared.parts.Parts.{Parts}
@@ -40,14 +43,14 @@ use Rattle.droid_core_state.proofs.Staying.{comes_refused, of_any}
 use Rattle.droid_core_requests.proofs.UnchangedFiles.{assemblies_unchanged, place_still}
 
 -- what comes of finishing this file
-abbrev pub finish_there : Setting → World → ℕ → ℕ → Profile → ℕ → ℤ → List ℕ → Content → Verdict
-finish_there setting world number id profile parent modified name content =
-    unless_refused (refusal_of (finish_checks profile.hash content))
+abbrev pub finish_there : Setting → World → ℕ → ℕ → ℕ → Profile → ℕ → ℤ → List ℕ → Content → Verdict
+finish_there setting world version number id profile parent modified name content =
+    unless_refused (refusal_of (finish_checks version profile.hash content))
     (Accepted (finished_reply (finding_of setting profile name content)) (world_set world number (node_set profile id (File parent modified name (as_finished content)))))
 
-pub finish_for_file : (setting : Setting) (world : World) (number id : ℕ) → judge_finish setting world number id ≡ for_file world number id (finish_there setting world number id)
+pub finish_for_file : (setting : Setting) (world : World) (version number id : ℕ) → judge_finish setting world version number id ≡ for_file world number id (finish_there setting world version number id)
 unfolding judge_finish
-finish_for_file setting world number id = refl
+finish_for_file setting world version number id = refl
 
 -- ---- where a file was only looked at
 
@@ -75,16 +78,16 @@ unwanted false P Q is it = it
 -- ---- what is found
 
 -- what the registry finds is what the setting does
-found_is : (setting : Setting) (world : World) (old : Parts) (name bytes : List ℕ) (limit : ℕ) (match_all : Bool) (found : Found) → IsIn setting world old → IsFound old.registry name bytes limit match_all found
-    → found ≡ found_in (setting.identify name bytes limit match_all)
-found_is setting world old name bytes limit match_all found is_in is =
-    found_once (Hits bytes limit) old.registry name match_all found (found_in (setting.identify name bytes limit match_all)) is (is_in.is_setting.registry.identifies name bytes limit match_all)
+found_is : (setting : Setting) (world : World) (old : Parts) (name bytes : List ℕ) (scan_limit : ℕ) (match_all : Bool) (found : Found) → IsIn setting world old → IsFound old.registry name bytes scan_limit match_all found
+    → found ≡ found_in (setting.identify name bytes scan_limit match_all)
+found_is setting world old name bytes scan_limit match_all found is_in is =
+    found_once (Hits bytes scan_limit) old.registry name match_all found (found_in (setting.identify name bytes scan_limit match_all)) is (is_in.is_setting.registry.identifies name bytes scan_limit match_all)
 
-module _ (setting : Setting) (world : World) (number id : ℕ) (row : FileRow) (has : HasFile world number id row) where
-  judged : judge_finish setting world number id ≡ finish_there setting world number id has.profile has.parent has.modified has.name has.content
-  judged = finish_for_file setting world number id ∙ judged_there world number id row has (finish_there setting world number id)
+module _ (setting : Setting) (world : World) (version number id : ℕ) (row : FileRow) (has : HasFile world number id row) where
+  judged : judge_finish setting world version number id ≡ finish_there setting world version number id has.profile has.parent has.modified has.name has.content
+  judged = finish_for_file setting world version number id ∙ judged_there world number id row has (finish_there setting world version number id)
 
-  pub refused_finished : is_unfinished row.node.state ≡ false → judge_finish setting world number id ≡ Refuses AlreadyFinished
+  pub refused_finished : is_unfinished row.node.state ≡ false → judge_finish setting world version number id ≡ Refuses AlreadyFinished
   refused_finished isnt =
       let finished = finished_there world number id row has isnt in
       judged ∙ rw finished refl
@@ -93,23 +96,23 @@ module _ (setting : Setting) (world : World) (number id : ℕ) (row : FileRow) (
   abbrev reply_and_world : Verdict
   reply_and_world = Accepted (finished_reply (finding_of setting has.profile has.name has.content)) (world_set world number (node_set has.profile id (File has.parent has.modified has.name (as_finished has.content))))
 
-  -- of a hash that no reply can tell
-  pub refused_untold : is_unfinished row.node.state ≡ true → is_told row.profile.hash ≡ false → judge_finish setting world number id ≡ Refuses BadOption
+  -- of a hash that no reply of its version can tell
+  pub refused_untold : is_unfinished row.node.state ≡ true → is_told version row.profile.hash ≡ false → judge_finish setting world version number id ≡ Refuses BadOption
   refused_untold is untold =
-      let of_profile = ap (λ (p : ProfileRow). is_told p.hash) (sym has.profile_is) ∙ untold in
-      judged ∙ ap (λ found. unless_refused found reply_and_world) (hash_untold has.profile.hash has.content (unfinished_there world number id row has is) of_profile)
+      let of_profile = ap (λ (p : ProfileRow). is_told version p.hash) (sym has.profile_is) ∙ untold in
+      judged ∙ ap (λ found. unless_refused found reply_and_world) (hash_untold version has.profile.hash has.content (unfinished_there world number id row has is) of_profile)
 
-  pub told_there : is_told row.profile.hash ≡ true → is_told has.profile.hash ≡ true
-  told_there told = ap (λ (p : ProfileRow). is_told p.hash) (sym has.profile_is) ∙ told
+  pub told_there : is_told version row.profile.hash ≡ true → is_told version has.profile.hash ≡ true
+  told_there told = ap (λ (p : ProfileRow). is_told version p.hash) (sym has.profile_is) ∙ told
 
-  refused : (refusal : Refusal) → refusal_of (finish_checks has.profile.hash has.content) ≡ Some refusal → judge_finish setting world number id ≡ Refuses refusal
+  refused : (refusal : Refusal) → refusal_of (finish_checks version has.profile.hash has.content) ≡ Some refusal → judge_finish setting world version number id ≡ Refuses refusal
   refused refusal is = judged ∙ ap (λ found. unless_refused found reply_and_world) is
 
-  accepted : refusal_of (finish_checks has.profile.hash has.content) ≡ None → judge_finish setting world number id ≡ reply_and_world
+  accepted : refusal_of (finish_checks version has.profile.hash has.content) ≡ None → judge_finish setting world version number id ≡ reply_and_world
   accepted is = judged ∙ ap (λ found. unless_refused found reply_and_world) is
 
   module _ (old : Parts) (place : ℕ) (is_in : IsIn setting world old) (is : is_unfinished row.node.state ≡ true) (at_place : slice_get old.files.files place ≡ open_at number id old.files.files)
-      (told : is_told has.profile.hash ≡ true) where
+      (told : is_told version has.profile.hash ≡ true) where
     unfinished : has.content.finished ≡ false
     unfinished = unfinished_there world number id row has is
 
@@ -118,34 +121,40 @@ module _ (setting : Setting) (world : World) (number id : ℕ) (row : FileRow) (
 
     -- it is not identified
     pub comes_unfinished : (stamp : Stamp) (new : Parts) (refusal : Refusal) → Stays setting world old new
-        → At old.files place (λ file. (profile : Profile) (content : Content) → IsAssemblyOf profile content file → content.finished ≡ false → is_told profile.hash ≡ true → MatchBool (is_want_of refusal) ⊤ (refusal_of (finish_checks profile.hash content) ≡ Some refusal))
-        → Comes setting world old new stamp (judge_finish setting world number id) (replies.Refused refusal)
+        → At old.files place (λ file. (version : ℕ) (profile : Profile) (content : Content) → IsAssemblyOf profile content file → content.finished ≡ false → is_told version profile.hash ≡ true → MatchBool (is_want_of refusal) ⊤ (refusal_of (finish_checks version profile.hash content) ≡ Some refusal))
+        → Comes setting world old new stamp (judge_finish setting world version number id) (replies.Refused refusal)
     comes_unfinished stamp new refusal stays said =
-        wanting_or (is_want_of refusal) _ _ _ (said its.file (at_place ∙ its.there) has.profile has.content its.assembled unfinished told) stays
-        (λ refuses. comes_refused setting world old new stamp (judge_finish setting world number id) refusal (of_any _ (refused refusal refuses)) stays)
+        wanting_or (is_want_of refusal) _ _ _ (said its.file (at_place ∙ its.there) version has.profile has.content its.assembled unfinished told) stays
+        (λ refuses. comes_refused setting world old new stamp (judge_finish setting world version number id) refusal (of_any _ (refused refusal refuses)) stays)
+
+    -- the finding is one of the file at the place
+    abbrev IsSeen : files.Finding → Type 0
+    IsSeen seen = At old.files place (λ file. (pieces : List Piece) → StandsFor file pieces → IsFindingOf old.registry row.node.item.name row.profile.match_all file pieces seen)
 
     -- what is found is the setting's
-    pub finds : (found : Found) → At old.files place (λ file. (profile : Profile) (content : Content) → IsAssemblyOf profile content file
-        → IsFound old.registry row.node.item.name (bytes_of content) profile.scan_limit row.profile.match_all found)
-        → found ≡ found_in (identified setting has.profile has.name has.content)
-    finds found said =
-        let told = said its.file (at_place ∙ its.there) has.profile has.content its.assembled in
-        let named = subst (λ (name : List ℕ). IsFound old.registry name (bytes_of has.content) has.profile.scan_limit row.profile.match_all found) has.name_is told in
-        let of_profile = subst (λ (p : ProfileRow). IsFound old.registry has.name (bytes_of has.content) has.profile.scan_limit p.match_all found) has.profile_is named in
-        found_is setting world old has.name (bytes_of has.content) has.profile.scan_limit has.profile.match_all found is_in of_profile
+    pub finds : (seen : files.Finding) → IsSeen seen → seen.found ≡ found_in (identified setting has.profile has.name has.content)
+    finds seen said =
+        let made = said its.file (at_place ∙ its.there) has.content.pieces its.assembled.pieces in
+        let told : IsFound old.registry row.node.item.name (bytes_of has.content) has.profile.scan_limit row.profile.match_all seen.found =
+        rw (its.assembled.size, its.assembled.piece_size, its.assembled.scan_limit) at made.found in
+        let named = subst (λ (name : List ℕ). IsFound old.registry name (bytes_of has.content) has.profile.scan_limit row.profile.match_all seen.found) has.name_is told in
+        let of_profile = subst (λ (p : ProfileRow). IsFound old.registry has.name (bytes_of has.content) has.profile.scan_limit p.match_all seen.found) has.profile_is named in
+        found_is setting world old has.name (bytes_of has.content) has.profile.scan_limit has.profile.match_all seen.found is_in of_profile
 
-    pub digest_is : (digest : HashValue) → At old.files place (λ file. (profile : Profile) (content : Content) → IsAssemblyOf profile content file → digest ≡ digest_of profile.hash content) → digest ≡ digest_of has.profile.hash has.content
-    digest_is digest said = said its.file (at_place ∙ its.there) has.profile has.content its.assembled
+    pub digest_is : (seen : files.Finding) → IsSeen seen → seen.sealed.hash ≡ digest_of has.profile.hash has.content
+    digest_is seen said =
+        let made = said its.file (at_place ∙ its.there) has.content.pieces its.assembled.pieces in
+        rw (its.assembled.hash, its.assembled.size, its.assembled.piece_size) at made.hash
 
     -- so it is of the choice that the profile's row names
-    pub kind_is : (digest : HashValue) → At old.files place (λ file. (profile : Profile) (content : Content) → IsAssemblyOf profile content file → digest ≡ digest_of profile.hash content) → hash_value_kind digest ≡ row.profile.hash
-    kind_is digest said =
-        ap hash_value_kind (digest_is digest said)
+    pub kind_is : (seen : files.Finding) → IsSeen seen → hash_value_kind seen.sealed.hash ≡ row.profile.hash
+    kind_is seen said =
+        ap hash_value_kind (digest_is seen said)
         ∙ kind_of_hash has.profile.hash (bytes_of has.content)
         ∙ ap (λ (p : ProfileRow). p.hash) (sym has.profile_is)
 
-    pub allowed_there : At old.files place (λ file. (profile : Profile) (content : Content) → IsAssemblyOf profile content file → content.finished ≡ false → is_told profile.hash ≡ true → refusal_of (finish_checks profile.hash content) ≡ None) → refusal_of (finish_checks has.profile.hash has.content) ≡ None
-    allowed_there said = said its.file (at_place ∙ its.there) has.profile has.content its.assembled unfinished told
+    pub allowed_there : At old.files place (λ file. (version : ℕ) (profile : Profile) (content : Content) → IsAssemblyOf profile content file → content.finished ≡ false → is_told version profile.hash ≡ true → refusal_of (finish_checks version profile.hash content) ≡ None) → refusal_of (finish_checks version has.profile.hash has.content) ≡ None
+    allowed_there said = said its.file (at_place ∙ its.there) version has.profile has.content its.assembled unfinished told
 
     -- the finding, the reply, and the rows with it, as the verdict has them
     abbrev finding : Finding
@@ -164,13 +173,13 @@ module _ (setting : Setting) (world : World) (number id : ℕ) (row : FileRow) (
     abbrev finished_rows : Stamp → Rows
     finished_rows stamp = with_reply (stamped stamp reply) (with_finding number id finding old.store)
 
-    pub finished : (stamp : Stamp) (given : Reply) (store : Rows) (mid new : OpenFiles) (seen : Finding) → refusal_of (finish_checks has.profile.hash has.content) ≡ None
+    pub finished : (stamp : Stamp) (given : Reply) (store : Rows) (mid new : OpenFiles) (seen : Finding) → refusal_of (finish_checks version has.profile.hash has.content) ≡ None
         → seen ≡ finding → given ≡ finished_reply seen → store ≡ with_reply (stamped stamp given) (with_finding number id seen old.store)
         → IsAlikeBut place old.files mid → Turns old.files mid place IsUnchanged
         → ((one : OpenFile) → IsAt mid.files place one → open_at one.profile one.file new.files ≡ None)
         → ((one : OpenFile) (that_number that_id : ℕ) → IsAt mid.files place one → is_of that_number that_id one ≡ false → open_at that_number that_id new.files ≡ open_at that_number that_id mid.files)
         → length new.files + 1 ≡ length mid.files → new.limit ≡ mid.limit
-        → Comes setting world old (record old { store = store; files = new }) stamp (judge_finish setting world number id) given
+        → Comes setting world old (record old { store = store; files = new }) stamp (judge_finish setting world version number id) given
     finished stamp given store mid new seen allowed same gives stored alike unchanged gone others count limit =
         let after = world_set world number (node_set has.profile id (File has.parent has.modified has.name (as_finished has.content))) in
         let replied : given ≡ reply = gives ∙ ap (λ (it : Finding). finished_reply it) same in

@@ -1,4 +1,5 @@
--- What is answered to who finishes a file: that no reply can tell its hash, which piece is missing first, or nothing refuses it.
+-- What is answered to who finishes a file: that no reply of this version can tell its hash, which piece is missing first, or
+-- nothing refuses it.
 use Rattle.std.proofs.Common.{◌≡◌, ℕ, ◌<◌, true, false, Some, None, refl, sym, ap, arith}
 use Rattle.std.proofs.lemmas.Bool.{lt-ltb, le-ltb}
 use Rattle.droid_frame.specs.types.hash_kind.HashKind.{HashKind}
@@ -8,13 +9,13 @@ use Rattle.droid_core_spec.specs.Files.{count_of, missing_of}
 use Rattle.droid_core_spec.specs.Judging.{refusal_of, finish_checks}
 use Rattle.droid_core_spec.specs.World.{Content}
 
-pub hash_untold : (hash : HashKind) (content : Content) → content.finished ≡ false → is_told hash ≡ false → refusal_of (finish_checks hash content) ≡ Some BadOption
-hash_untold hash content unfinished untold = rw (unfinished, untold) refl
+pub hash_untold : (version : ℕ) (hash : HashKind) (content : Content) → content.finished ≡ false → is_told version hash ≡ false → refusal_of (finish_checks version hash content) ≡ Some BadOption
+hash_untold version hash content unfinished untold = rw (unfinished, untold) refl
 
-pub some_missing : (hash : HashKind) (content : Content) (missing : ℕ) → content.finished ≡ false → is_told hash ≡ true → (missing ≡ missing_of content) × (missing < count_of content) → refusal_of (finish_checks hash content) ≡ Some (Incomplete missing)
-some_missing hash content missing unfinished told is =
+pub some_missing : (version : ℕ) (hash : HashKind) (content : Content) (missing : ℕ) → content.finished ≡ false → is_told version hash ≡ true → (missing ≡ missing_of content) × (missing < count_of content) → refusal_of (finish_checks version hash content) ≡ Some (Incomplete missing)
+some_missing version hash content missing unfinished told is =
     let below : missing_of content < count_of content = omega (arith, is.0, is.1) in
     rw (unfinished, told, lt-ltb (missing_of content) (count_of content) below) (ap (λ n. Some (Incomplete n)) (sym is.0))
 
-pub none_missing : (hash : HashKind) (content : Content) → content.finished ≡ false → is_told hash ≡ true → missing_of content ≡ count_of content → refusal_of (finish_checks hash content) ≡ None
-none_missing hash content unfinished told is = rw (unfinished, told, le-ltb (missing_of content) (count_of content) (omega (arith, is))) refl
+pub none_missing : (version : ℕ) (hash : HashKind) (content : Content) → content.finished ≡ false → is_told version hash ≡ true → missing_of content ≡ count_of content → refusal_of (finish_checks version hash content) ≡ None
+none_missing version hash content unfinished told is = rw (unfinished, told, le-ltb (missing_of content) (count_of content) (omega (arith, is))) refl

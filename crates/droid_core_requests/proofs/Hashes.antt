@@ -1,13 +1,12 @@
--- The hash of a file is of its profile's choice, and where a reply can tell that choice, the hash has a spelling.
-use Rattle.std.proofs.Common.{◌≡◌, List, ℕ, true, Option, Some, None, option_map, refl, sym, ap, ◌∙◌}
-use Rattle.std.specs.Prelude.{Result, Ok, Err, IfOk}
+-- The hash of a file is of its profile's choice, and where a reply of the version can tell that choice, the hash has a spelling.
+use Rattle.std.proofs.Common.{◌≡◌, ◌==◌, List, ℕ, Bool, cond, true, false, Option, Some, option_map, refl, sym, ap}
+use Rattle.std.specs.Prelude.{Result, Ok, IfOk, MatchBool}
 use Rattle.droid_frame.specs.Hashes.{IsHashValue, hash, hash_value_kind}
 use Rattle.droid_frame.specs.Replies.{IsSpelledHash}
 use Rattle.droid_frame.specs.types.hash_kind.HashKind.{HashKind}
 use Rattle.droid_frame.specs.types.hash_kind.HashKind.TheVariants as kinds
 use Rattle.droid_frame.specs.types.hash_value.HashValue.{HashValue}
-use Rattle.droid_frame.specs.types.hash_value.HashValue.TheVariants as values
-use Rattle.droid_core_spec.specs.Conditions.{is_told}
+use Rattle.droid_core_spec.specs.Conditions.{is_md5, is_told}
 use Rattle.droid_store.specs.declared.fault.StoreFault.{StoreFault}
 use Rattle.droid_store.specs.declared.rows.ProfileRow.{ProfileRow}
 
@@ -16,15 +15,18 @@ kind_of_hash kinds.Nothing bytes = refl
 kind_of_hash kinds.Md5 bytes = refl
 kind_of_hash kinds.Sha256 bytes = refl
 
-pub spelled_hash : (value : HashValue) → IsHashValue value → is_told (hash_value_kind value) ≡ true → IsSpelledHash value
-spelled_hash values.Nothing is told = absurd cc
-spelled_hash (values.Md5 digest) is told = is
-spelled_hash (values.Sha256 digest) is told = absurd cc
+-- a kind that the version's Finished can tell is one that the version tells of
+told_as_md5 : (first : Bool) (kind : HashKind) → cond first (is_md5 kind) true ≡ true → MatchBool first (kind ≡ kinds.Md5) (Unit {0})
+told_as_md5 true kinds.Nothing told = absurd cc
+told_as_md5 true kinds.Md5 told = refl
+told_as_md5 true kinds.Sha256 told = absurd cc
+told_as_md5 false kind told = tt
 
-pub of_spelled : (value : HashValue) → IsSpelledHash value → IsHashValue value
-of_spelled values.Nothing is = absurd is
-of_spelled (values.Md5 digest) is = is
-of_spelled (values.Sha256 digest) is = absurd is
+pub spelled_hash : (version : ℕ) (value : HashValue) → IsHashValue value → is_told version (hash_value_kind value) ≡ true → IsSpelledHash version value
+spelled_hash version value is told = (told_as_md5 (version == 1) (hash_value_kind value) told, is)
+
+pub of_spelled : (version : ℕ) (value : HashValue) → IsSpelledHash version value → IsHashValue value
+of_spelled version value is = is.1
 
 -- what was found of a profile names its hash
 pub hash_found : (at : Option ProfileRow) (found : Result (Option ProfileRow) StoreFault) (row : ProfileRow) → found ≡ Ok (Some row) → IfOk found (λ one. one ≡ at) → option_map (λ (p : ProfileRow). p.hash) at ≡ Some row.hash

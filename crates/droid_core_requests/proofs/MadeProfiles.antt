@@ -14,7 +14,7 @@ use Rattle.droid_store.specs.Changes.{with_reply, with_profile}
 use Rattle.droid_store.specs.Rows.{Rows}
 use Rattle.droid_core_state.proofs.Items.{numbered_before, numbered_last, numbered_past}
 use Rattle.droid_core_state.proofs.Made.{profile_made}
-use Rattle.droid_core_state.proofs.Soundness.{sound_made, limit_of_checks}
+use Rattle.droid_core_state.proofs.Soundness.{sound_made, scan_limit_of_checks}
 use Rattle.droid_core_state.proofs.Unfinished.{unfinished_made}
 use Rattle.droid_core_state.specs.Rows.{profile_row, KeepsWorld}
 use Rattle.droid_core_files.specs.Files.{OpenFile, OpenFiles, open_at}
@@ -106,7 +106,7 @@ comes_made setting world old new stamp scan_limit match_all hash number is allow
         world_is = record {
           is_setting = still_of setting old new limits registry is.is_setting;
           rows = rw store (profile_made setting world old.store (stamped stamp (replies.Made number)) scan_limit match_all hash is.rows);
-          sound = sound_made world scan_limit match_all hash is.sound (limit_of_checks setting.limits world scan_limit allowed);
+          sound = sound_made world scan_limit match_all hash is.sound (scan_limit_of_checks setting.limits world scan_limit allowed);
           files = rw files (assemblies_made world old.files scan_limit match_all hash is.files);
           room = rw files is.room;
         };

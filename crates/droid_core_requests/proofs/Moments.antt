@@ -9,7 +9,7 @@ use Rattle.droid_core_spec.specs.Conditions.{is_moment}
 use Rattle.droid_core_spec.specs.Records.{option_list, record_of, records_from, records}
 use Rattle.droid_core_spec.specs.Setting.{Setting}
 use Rattle.droid_core_spec.specs.World.{Node, Folder, File, Abandoned, Profile, World, numbered}
-use Rattle.droid_core_state.specs.Sound.{IsSoundNode, IsSound}
+use Rattle.droid_core_state.specs.Sound.{IsSoundNode, IsSoundWorld}
 use Rattle.droid_core_state.proofs.Lists.{each_of_both}
 use Rattle.droid_core_state.proofs.Soundness.{sound_profile}
 
@@ -33,5 +33,5 @@ moments_from setting profile first (node ∷ nodes) sound =
     each_of_both _ (option_list (record_of setting profile first node)) (records_from setting profile (first + 1) nodes)
     (moment_of_record setting profile first node sound.0) (moments_from setting profile (first + 1) nodes sound.1)
 
-pub moments_found : (setting : Setting) (world : World) (number : ℕ) (profile : Profile) → IsSound world → numbered world.profiles number ≡ Some profile → HaveMoments (records setting profile)
+pub moments_found : (setting : Setting) (world : World) (number : ℕ) (profile : Profile) → IsSoundWorld world → numbered world.profiles number ≡ Some profile → HaveMoments (records setting profile)
 moments_found setting world number profile sound is = moments_from setting profile 1 profile.nodes (sound_profile world number profile sound is).nodes

@@ -61,14 +61,14 @@ module _ (old mid new : OpenFiles) (place : ℕ) (first : IsAlikeBut place old m
         → Turns mid new place (λ before after. (pieces : List Piece) (piece : Piece) → StandsFor before pieces → before.pending ≡ Some piece → StandsFor after (pieces ++ piece ∷ []))
         → Turns mid new place IsOfSameFile → Turns mid new place (λ before after. after.pending ≡ None)
         → (profile after : Profile) (content : Content) → profile.scan_limit ≡ after.scan_limit → profile.hash ≡ after.hash → IsAssemblyOf profile content file.assembly → IsAssemblyOf after (with_piece content index bytes) last.after
-    grown stood settled same_file none_pending profile after content limit kind is =
+    grown stood settled same_file none_pending profile after content scan_limit kind is =
         let was = with_assembly file middle.after in
         let now = with_assembly was last.after in
         let same = same_file was now middle.at last.at in
         record {
           size = same.size ∙ ap (λ (a : State). a.size) put_at ∙ is.size;
           piece_size = same.piece_size ∙ ap (λ (a : State). a.piece_size) put_at ∙ is.piece_size;
-          limit = same.limit ∙ ap (λ (a : State). a.limit) put_at ∙ is.limit ∙ limit;
+          scan_limit = same.scan_limit ∙ ap (λ (a : State). a.scan_limit) put_at ∙ is.scan_limit ∙ scan_limit;
           hash = same.hash_kind ∙ ap hash_kind_of put_at ∙ is.hash ∙ kind;
           pieces = settled was now middle.at last.at content.pieces (index, bytes) (stood file was here middle.at content.pieces is.pieces) (ap (λ (a : State). a.pending) put_at);
           none_pending = none_pending was now middle.at last.at;

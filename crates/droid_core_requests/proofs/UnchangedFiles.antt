@@ -22,7 +22,7 @@ module _ (file : OpenFile) (after : State) (same : IsUnchanged file.assembly aft
         assembled = record {
           size = same.same_file.size ∙ was.size;
           piece_size = same.same_file.piece_size ∙ was.piece_size;
-          limit = same.same_file.limit ∙ was.limit;
+          scan_limit = same.same_file.scan_limit ∙ was.scan_limit;
           hash = same.same_file.hash_kind ∙ was.hash;
           pieces = same.stands content.pieces was.pieces;
           none_pending = same.pending ∙ was.none_pending;

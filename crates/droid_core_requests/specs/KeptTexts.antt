@@ -22,8 +22,8 @@ IsLastText setting world (Some kept) = IsTextIn setting world kept
 
 -- the text is kept of this profile and by this filter
 abbrev pub IsFor : ℕ → Filter → Option KeptText → Type 0
-IsFor number filter None = ⊥
-IsFor number filter (Some kept) = (kept.profile ≡ number) × (kept.filter ≡ filter)
+IsFor profile filter None = ⊥
+IsFor profile filter (Some kept) = (kept.profile ≡ profile) × (kept.filter ≡ filter)
 
 -- the bytes of the text, where one is kept
 abbrev pub bytes_in : Option KeptText → List ℕ

@@ -1,4 +1,5 @@
 -- What the kinds of request look up, take and place.
+pub mod Answering
 pub mod Causes
 pub mod Findings
 pub mod KeptTexts

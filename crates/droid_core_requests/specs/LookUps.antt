@@ -40,7 +40,7 @@ pub record HasFile (world : World) (number id : ℕ) (row : FileRow) : Type 0 wh
 abbrev pub for_file : World → ℕ → ℕ → (Profile → ℕ → ℤ → List ℕ → Content → Verdict) → Verdict
 for_file world number id judge_there = in_profile (numbered world.profiles number) (λ profile. in_file (node_at profile.nodes id) (judge_there profile))
 
--- the file's row; or whatever is asked of it is refused so, or memory was wanting
+-- the file's row; or whatever is asked of it is refused so, or memory was refused
 abbrev pub FindsFile : World → ℕ → ℕ → Result FileRow Refusal → Type 0
 FindsFile world number id (Ok row) = HasFile world number id row
 FindsFile world number id (Err refusal) =

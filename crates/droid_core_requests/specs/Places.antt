@@ -19,7 +19,7 @@ abbrev pub taken_in : Result (Option ℕ) StoreFault → Result Bool Refusal
 taken_in (Ok found) = Ok (is_some found)
 taken_in (Err fault) = Err Memory
 
--- the path of the folder; or its refusal, whatever else is checked after it, or memory was wanting
+-- the path of the folder; or its refusal, whatever else is checked after it, or memory was refused
 abbrev pub FindsFolder : Profile → ℕ → Result (List ℕ) Refusal → Type 0
 FindsFolder profile parent (Ok found) = IsFolderPath profile parent found
 FindsFolder profile parent (Err refusal) =
@@ -27,7 +27,7 @@ FindsFolder profile parent (Err refusal) =
     refusal_of ((is_missing profile.nodes parent, NoSuchNode) ∷ (is_file (node_at profile.nodes parent), NotAFolder) ∷ more) ≡ Some refusal)
 
 -- the path of a new node that its place and name allow; or its first refusal, whatever else is checked after
--- these, or memory was wanting
+-- these, or memory was refused
 abbrev pub FindsPlace : Profile → ℕ → List ℕ → Result (List ℕ) Refusal → Type 0
 FindsPlace profile parent name (Ok found) = (refusal_of (place_checks profile.nodes parent name) ≡ None) × (found ≡ path profile.nodes parent ++ 47 ∷ name)
 FindsPlace profile parent name (Err refusal) =

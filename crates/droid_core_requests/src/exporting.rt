@@ -1,7 +1,8 @@
 //! Parts of a profile's export.
 
-ghost use Rattle.std.specs.Prelude.{◌≡◌, ◌≤◌, IfOk, IfErr, IsOk, IsTrue, length};
-ghost use Rattle.droid_core_state.specs.Changes.{Comes, answered};
+ghost use Rattle.std.specs.Prelude.{◌≡◌, ◌≤◌, ℕ, IfOk, IfErr, IsOk, IsTrue, length};
+ghost use Rattle.droid_core_requests.specs.Answering.{AnswersIn};
+ghost use Rattle.droid_core_state.specs.Changes.{answered};
 ghost use Rattle.droid_core_state.specs.Standing.{IsIn};
 ghost use Rattle.droid_core_state.specs.declared.stamps.Stamp.{Stamp};
 ghost use Rattle.droid_export.specs.Text.{HaveMoments};
@@ -25,46 +26,42 @@ use std::alloc::Global;
 pub fn export(
     parts: &mut Parts,
     last: &mut Option<KeptText>,
-    number: u32,
+    profile: u32,
     from: u64,
     max: u32,
     filter: Filter,
 ) -> Result<Reply, Refusal>
-    ensures comes { (setting : Setting) (world : World) (stamp : Stamp) → IsIn setting world parts.old → IsLastText setting world last.old
-        → Comes setting world parts.old parts.new stamp (judge_export setting world number from max filter) (answered result) }
+    ensures answers { (stamp : Stamp) → AnswersIn (λ setting world. IsIn setting world parts.old × IsLastText setting world last.old) (λ setting world. judge_export setting world profile from max filter) stamp parts.old parts.new (answered result) }
     ensures last { (setting : Setting) (world : World) → IsIn setting world parts.old → IsLastText setting world last.old → IsLastText setting world last.new }
     // It costs nothing anew where it is the last text, and it is the last text where something is left.
-    ensures kept { IfOk result (λ reply. IsTrue (is_followed from max reply) → IsFor number filter last.new) }
-    ensures spelled { HasReplySpelling (answered result) }
-    ensures limits { parts.new.limits ≡ parts.old.limits }
-    ensures registry { parts.new.registry ≡ parts.old.registry }
+    ensures kept { IfOk result (λ reply. IsTrue (is_followed from max reply) → IsFor profile filter last.new) }
 {
-    let row = profile_of(parts.store.profile(number))?;
+    let row = profile_of(parts.store.profile(profile))?;
     if let Some(refusal) = export_refusal(max) {
         return Err(refusal);
     }
     let accepted = accepted_by(&mut parts.store);
-    if let Some(text) = text_for(last, number, &filter) {
+    if let Some(text) = text_for(last, profile, &filter) {
         let reply = part_of(parts.alloc, accepted, text, from, max)?;
         return Ok(reply);
     }
     forget_text(last);
-    let records = records_in(&mut parts.store, number)?;
+    let records = records_in(&mut parts.store, profile)?;
     let shown = records.as_slice();
     let text = export_text(parts.alloc, shown, &parts.registry, &filter, row.hash)?;
     let reply = part_of(parts.alloc, accepted, &text, from, max)?;
-    keep_text(last, number, filter, text, from, max);
+    keep_text(last, profile, filter, text, from, max);
     Ok(reply)
 }
 
 /// The records of a profile, of which each has a moment that can be written.
-fn records_in(store: &mut Store, number: u32) -> Result<Vec<Record>, Refusal>
+fn records_in(store: &mut Store, profile: u32) -> Result<Vec<Record>, Refusal>
     ensures same { store.new ≡ store.old }
-    ensures found { IfOk result (λ records. records.items ≡ records_of number store.old) }
+    ensures found { IfOk result (λ records. records.items ≡ records_of profile store.old) }
     ensures moments { IfOk result (λ records. HaveMoments records.items) }
-    ensures memory { HaveMoments (records_of number store.old) → IfErr result (λ refusal. refusal ≡ Refusal.Memory) }
+    ensures memory { HaveMoments (records_of profile store.old) → IfErr result (λ refusal. refusal ≡ Refusal.Memory) }
 {
-    let records = store.records(number)?;
+    let records = store.records(profile)?;
     with_moments(records)
 }
 
@@ -107,7 +104,7 @@ fn accepted_by(store: &mut Store) -> u64
 /// The part of a text from a place on. Its bytes alone are copied, once.
 fn part_of(alloc: Global, accepted: u64, text: &Blob, from: u64, max: u32) -> Result<Reply, Refusal>
     ensures part { IfOk result (λ reply. reply ≡ part accepted text.now from max) }
-    ensures spelled { max ≤ 1048576 → HasReplySpelling (answered result) }
+    ensures spelled { (version : ℕ) → max ≤ 1048576 → HasReplySpelling version (answered result) }
     ensures want { IfErr result (λ refusal. refusal ≡ Refusal.Memory) }
 {
     let bytes = text.as_slice();

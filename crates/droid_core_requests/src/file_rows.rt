@@ -41,19 +41,19 @@ impl FileRow {
 }
 
 /// The file with this number in this profile.
-pub fn file_of(store: &mut Store, number: u32, file: u32) -> Result<FileRow, Refusal>
+pub fn file_of(store: &mut Store, profile: u32, file: u32) -> Result<FileRow, Refusal>
     ensures same { store.new ≡ store.old }
-    ensures open { IfOk result (λ row. row.node.state ≡ Unfinished → IsOpen number file store.old) }
-    ensures hash { IfOk result (λ row. option_map (λ p. p.hash) (profile_at number store.old) ≡ Some row.profile.hash) }
-    ensures found { (setting : Setting) (world : World) → KeepsWorld setting world store.old → FindsFile world number file result }
+    ensures open { IfOk result (λ row. row.node.state ≡ Unfinished → IsOpen profile file store.old) }
+    ensures hash { IfOk result (λ row. option_map (λ p. p.hash) (profile_at profile store.old) ≡ Some row.profile.hash) }
+    ensures found { (setting : Setting) (world : World) → KeepsWorld setting world store.old → FindsFile world profile file result }
 {
-    let profile = profile_of(store.profile(number))?;
-    let node = node_of(store.node(number, file))?;
+    let row = profile_of(store.profile(profile))?;
+    let node = node_of(store.node(profile, file))?;
     let state = node.state;
     match state {
         NodeState::Folder => Err(Refusal::NotAFile),
-        NodeState::Unfinished => Ok(FileRow { profile, node }),
-        NodeState::Finished => Ok(FileRow { profile, node }),
+        NodeState::Unfinished => Ok(FileRow { profile: row, node }),
+        NodeState::Finished => Ok(FileRow { profile: row, node }),
     }
 }
 
@@ -72,13 +72,13 @@ pub fn node_of(found: Result<Option<NodeRow>, StoreFault>) -> Result<NodeRow, Re
 }
 
 /// The place of a file's assembly, counted from 0. An unfinished file has one.
-pub fn place_of_file(files: &UnfinishedFiles, number: u32, file: u32) -> Result<usize, Refusal>
-    ensures place { IfOk result (λ place. slice_get files.now.files place ≡ open_at number file files.now.files) }
+pub fn place_of_file(files: &UnfinishedFiles, profile: u32, file: u32) -> Result<usize, Refusal>
+    ensures place { IfOk result (λ place. slice_get files.now.files place ≡ open_at profile file files.now.files) }
     ensures within { IfOk result (λ place. place < length files.now.files) }
-    ensures none { OnErr result (open_at number file files.now.files ≡ None) }
+    ensures none { OnErr result (open_at profile file files.now.files ≡ None) }
     ensures want { IfErr result (λ refusal. refusal ≡ Refusal.Store) }
 {
-    match files.place_of(number, file) {
+    match files.place_of(profile, file) {
         Some(place) => Ok(place),
         None => Err(Refusal::Store),
     }

@@ -1,28 +1,27 @@
 //! The end of a file whose pieces are all there.
 
-ghost use Rattle.std.specs.Prelude.{◌≡◌, ◌<◌, ◌≤◌, ◌^◌, ◌+◌, ℕ, length, true, false, None, Some, IsOk, IsTrue, MatchBool, ⊤, IfOk, IfErr, OnOk, OnErr};
+ghost use Rattle.std.specs.Prelude.{◌≡◌, ◌<◌, ◌^◌, ◌+◌, ℕ, List, length, true, false, None, Some, IsOk, MatchBool, ⊤, IfOk, IfErr, OnOk, OnErr};
 ghost use Rattle.std.specs.List.{AllByRecursion};
-ghost use Rattle.droid_assembly.specs.State.{IsUnchanged};
+ghost use Rattle.droid_assembly.specs.Pieces.{Piece};
+ghost use Rattle.droid_assembly.specs.State.{StandsFor, IsUnchanged};
 ghost use Rattle.droid_core_state.specs.Assemblies.{IsAssemblyOf};
-ghost use Rattle.droid_core_state.specs.Changes.{Comes, answered, stamped};
+ghost use Rattle.droid_core_requests.specs.Answering.{Answers};
+ghost use Rattle.droid_core_state.specs.Changes.{answered, stamped};
 ghost use Rattle.droid_core_state.specs.Rows.{IsShort, with_finding};
-ghost use Rattle.droid_core_state.specs.Standing.{IsIn};
 ghost use Rattle.droid_core_requests.specs.Causes.{says_store};
 ghost use Rattle.droid_core_requests.specs.Findings.{finding_in};
-ghost use Rattle.droid_frame.specs.Hashes.{IsHashValue, hash_value_kind};
-ghost use Rattle.droid_frame.specs.Replies.{HasReplySpelling, IsSpelledHash};
-ghost use Rattle.droid_frame.specs.types.reply.Reply.TheVariants as replies;
+ghost use Rattle.droid_frame.specs.Hashes.{hash_value_kind};
+ghost use Rattle.droid_frame.specs.Replies.{HasRefusalSpelling, HasReplySpelling, IsSpelledHash};
 ghost use Rattle.droid_core_spec.specs.Conditions.{is_told};
-ghost use Rattle.droid_core_spec.specs.Files.{bytes_of, digest_of, finished_reply};
+ghost use Rattle.droid_core_spec.specs.Files.{finished_reply};
 ghost use Rattle.droid_core_spec.specs.Judging.{judge_finish, refusal_of, finish_checks};
-ghost use Rattle.droid_core_spec.specs.Setting.{Setting};
 ghost use Rattle.droid_core_spec.specs.Wants.{is_want_of};
-ghost use Rattle.droid_core_spec.specs.World.{Content, Profile, World};
-ghost use Rattle.droid_pronom.specs.Found.{IsFound};
-ghost use Rattle.droid_pronom.specs.RegistryFields.{is_puid};
+ghost use Rattle.droid_core_spec.specs.World.{Content, Profile};
+ghost use Rattle.droid_frame.specs.Versions.{IsVersion};
 ghost use Rattle.droid_store.specs.Changes.{IsOfKind, IsOpen, with_reply};
 ghost use Rattle.droid_store.specs.Rows.{reply_for};
 ghost use Rattle.droid_core_files.specs.Files.{OpenFile, IsAt, At, Turns, IsAlikeBut, is_of, open_at};
+ghost use Rattle.droid_core_files.specs.Identifying.{IsFindingOf, IsWellFormed};
 
 use crate::file_rows::{FileRow, file_of, none_is_pending, place_of_file};
 use droid_core_files::{Finding, IdentifyFault, UnfinishedFiles};
@@ -33,23 +32,20 @@ use droid_store::Store;
 use std::alloc::Global;
 
 /// Finishes a file: it is identified, and its pieces are dropped.
-pub fn finish(parts: &mut Parts, stamp: Stamp, number: u32, file: u32) -> Result<Reply, Refusal>
+pub fn finish(parts: &mut Parts, stamp: Stamp, profile: u32, file: u32) -> Result<Reply, Refusal>
     requires new { reply_for stamp.client stamp.number parts.old.store ≡ None }
     requires small { stamp.number < 2 ^ 63 }
-    ensures comes { (setting : Setting) (world : World) → IsIn setting world parts.old
-        → Comes setting world parts.old parts.new stamp (judge_finish setting world number file) (answered result) }
-    ensures spelled { HasReplySpelling (answered result) }
-    ensures limits { parts.new.limits ≡ parts.old.limits }
-    ensures registry { parts.new.registry ≡ parts.old.registry }
+    requires version { IsVersion stamp.version }
+    ensures answers { Answers (λ setting world. judge_finish setting world stamp.version profile file) stamp parts.old parts.new (answered result) }
 {
-    let row = file_of(&mut parts.store, number, file)?;
+    let row = file_of(&mut parts.store, profile, file)?;
     if !row.is_unfinished() {
         return Err(Refusal::AlreadyFinished);
     }
-    if !is_told(row.profile.hash) {
+    if !is_told(stamp.version, row.profile.hash) {
         return Err(Refusal::BadOption);
     }
-    let place = place_of_file(&parts.files, number, file)?;
+    let place = place_of_file(&parts.files, profile, file)?;
     none_is_pending(&parts.files, place)?;
     let finding = identify_file(parts.alloc, &mut parts.files, place, &parts.registry, &row)?;
     is_of_kind(finding.sealed.hash, row.profile.hash)?;
@@ -59,7 +55,7 @@ pub fn finish(parts: &mut Parts, stamp: Stamp, number: u32, file: u32) -> Result
         &mut parts.files,
         place,
         stamp,
-        number,
+        profile,
         file,
         finding,
     )?;
@@ -76,21 +72,17 @@ fn identify_file(
 ) -> Result<Finding, Refusal>
     requires within { place < length files.old.files }
     requires none_pending { At files.old place (λ file. file.pending ≡ None) }
-    ensures refused { IfErr result (λ refusal. At files.old place (λ file. (profile : Profile) (content : Content) → IsAssemblyOf profile content file → content.finished ≡ false
-        → is_told profile.hash ≡ true → MatchBool (is_want_of refusal) ⊤ (refusal_of (finish_checks profile.hash content) ≡ Some refusal))) }
-    ensures allowed { OnOk result (At files.old place (λ file. (profile : Profile) (content : Content) → IsAssemblyOf profile content file → content.finished ≡ false
-        → is_told profile.hash ≡ true → refusal_of (finish_checks profile.hash content) ≡ None)) }
-    ensures digest { IfOk result (λ finding. At files.old place (λ file. (profile : Profile) (content : Content) → IsAssemblyOf profile content file
-        → finding.sealed.hash ≡ digest_of profile.hash content)) }
-    ensures found { IfOk result (λ finding. At files.old place (λ file. (profile : Profile) (content : Content) → IsAssemblyOf profile content file
-        → IsFound registry.now row.now.node.item.name (bytes_of content) profile.scan_limit row.now.profile.match_all finding.found)) }
-    ensures sized { IfOk result (λ finding. IsHashValue finding.sealed.hash) }
-    ensures few { IfOk result (λ finding. length finding.found.puids ≤ 4096) }
-    ensures puids { IfOk result (λ finding. AllByRecursion (λ puid. IsTrue (is_puid puid)) finding.found.puids) }
+    ensures refused { IfErr result (λ refusal. At files.old place (λ file. (version : ℕ) (profile : Profile) (content : Content) → IsAssemblyOf profile content file
+        → content.finished ≡ false → is_told version profile.hash ≡ true → MatchBool (is_want_of refusal) ⊤ (refusal_of (finish_checks version profile.hash content) ≡ Some refusal))) }
+    ensures allowed { OnOk result (At files.old place (λ file. (version : ℕ) (profile : Profile) (content : Content) → IsAssemblyOf profile content file
+        → content.finished ≡ false → is_told version profile.hash ≡ true → refusal_of (finish_checks version profile.hash content) ≡ None)) }
+    ensures finding { IfOk result (λ finding. At files.old place (λ file. (pieces : List Piece) → StandsFor file pieces
+        → IsFindingOf registry.now row.now.node.item.name row.now.profile.match_all file pieces finding)) }
+    ensures well_formed { IfOk result IsWellFormed }
     ensures unchanged { Turns files.old files.new place IsUnchanged }
     ensures others { IsAlikeBut place files.old files.new }
     ensures memory { IfErr result (λ refusal. says_store refusal ≡ false) }
-    ensures spelled { IfErr result (λ refusal. HasReplySpelling (replies.Refused refusal)) }
+    ensures spelled { IfErr result (λ refusal. HasRefusalSpelling refusal) }
 {
     let name = row.node.item.name.as_str();
     match files.identify(alloc, place, registry, name, row.profile.match_all) {
@@ -121,21 +113,21 @@ fn keep_finding(
     files: &mut UnfinishedFiles,
     place: usize,
     stamp: Stamp,
-    number: u32,
+    profile: u32,
     file: u32,
     finding: Finding,
 ) -> Result<Reply, Refusal>
     requires new { reply_for stamp.client stamp.number store.old ≡ None }
     requires small { stamp.number < 2 ^ 63 }
+    requires version { IsVersion stamp.version }
     requires within { place < length files.old.files }
-    requires file { IsOpen number file store.old }
-    requires kind { IsOfKind number finding.sealed.hash store.old }
-    requires hash { IsSpelledHash finding.sealed.hash }
-    requires few { length finding.found.puids ≤ 4096 }
-    requires puids { AllByRecursion (λ puid. IsTrue (is_puid puid)) finding.found.puids }
+    requires file { IsOpen profile file store.old }
+    requires kind { IsOfKind profile finding.sealed.hash store.old }
+    requires hash { IsSpelledHash stamp.version finding.sealed.hash }
+    requires well_formed { IsWellFormed finding }
     ensures reply { IfOk result (λ reply. reply ≡ finished_reply (finding_in finding)) }
-    ensures kept { IfOk result (λ reply. store.new ≡ with_reply (stamped stamp reply) (with_finding number file (finding_in finding) store.old)) }
-    ensures spelled { HasReplySpelling (answered result) }
+    ensures kept { IfOk result (λ reply. store.new ≡ with_reply (stamped stamp reply) (with_finding profile file (finding_in finding) store.old)) }
+    ensures spelled { HasReplySpelling stamp.version (answered result) }
     ensures gone { OnOk result ((one : OpenFile) → IsAt files.old.files place one → open_at one.profile one.file files.new.files ≡ None) }
     ensures others { OnOk result ((one : OpenFile) (that_number that_id : ℕ) → IsAt files.old.files place one → is_of that_number that_id one ≡ false
         → open_at that_number that_id files.new.files ≡ open_at that_number that_id files.old.files) }
@@ -150,7 +142,7 @@ fn keep_finding(
     let found = &finding.found;
     store.commit_finish(
         &entry,
-        number,
+        profile,
         file,
         found.method,
         found.mismatch,
@@ -163,11 +155,9 @@ fn keep_finding(
 
 /// The reply that says what was found, with a copy of the identifiers: the store is given the others.
 fn finished_reply(alloc: Global, finding: &Finding) -> Result<Reply, Refusal>
-    requires hash { IsSpelledHash finding.now.sealed.hash }
-    requires few { length finding.now.found.puids ≤ 4096 }
-    requires puids { AllByRecursion (λ puid. IsTrue (is_puid puid)) finding.now.found.puids }
+    requires well_formed { IsWellFormed finding.now }
     ensures reply { IfOk result (λ reply. reply ≡ finished_reply (finding_in finding.now)) }
-    ensures spelled { IfOk result (λ reply. HasReplySpelling reply) }
+    ensures spelled { IfOk result (λ reply. (version : ℕ) → IsSpelledHash version finding.now.sealed.hash → HasReplySpelling version reply) }
     ensures want { IfErr result (λ refusal. refusal ≡ Refusal.Memory) }
 {
     let found = &finding.found;

@@ -19,13 +19,13 @@ pub struct KeptText {
 }
 
 /// The kept text, where it is of this profile and by this filter.
-pub fn text_for<'a>(last: &'a Option<KeptText>, number: u32, filter: &Filter) -> Option<&'a Blob>
-    ensures its { IfSome result (λ text. IsFor number filter.now last.now) }
+pub fn text_for<'a>(last: &'a Option<KeptText>, profile: u32, filter: &Filter) -> Option<&'a Blob>
+    ensures its { IfSome result (λ text. IsFor profile filter.now last.now) }
     ensures text { IfSome result (λ text. text.now ≡ bytes_in last.now) }
-    ensures found { IsFor number filter.now last.now → IsSome result }
+    ensures found { IsFor profile filter.now last.now → IsSome result }
 {
     let kept = last.as_ref()?;
-    if kept.profile != number {
+    if kept.profile != profile {
         return None;
     }
     if !are_same_filters(&kept.filter, filter) {

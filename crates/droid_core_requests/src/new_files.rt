@@ -2,14 +2,12 @@
 
 ghost use Rattle.std.specs.Prelude.{◌≡◌, ◌<◌, ◌^◌, ℕ, None, IfOk, IfErr, OnOk, IsOk, IsTrue, length};
 ghost use Rattle.droid_assembly.specs.Pieces.{AreSizes};
-ghost use Rattle.droid_core_state.specs.Changes.{Comes, answered};
+ghost use Rattle.droid_core_requests.specs.Answering.{Answers};
+ghost use Rattle.droid_core_state.specs.Changes.{answered};
 ghost use Rattle.droid_core_requests.specs.NewAssemblies.{IsNew};
-ghost use Rattle.droid_core_state.specs.Standing.{IsIn};
-ghost use Rattle.droid_frame.specs.Replies.{HasReplySpelling};
 ghost use Rattle.droid_core_spec.specs.Conditions.{is_scan_limit};
 ghost use Rattle.droid_core_spec.specs.Judging.{judge_file};
-ghost use Rattle.droid_core_spec.specs.Setting.{Setting};
-ghost use Rattle.droid_core_spec.specs.World.{World};
+ghost use Rattle.droid_frame.specs.Versions.{IsVersion};
 ghost use Rattle.droid_store.specs.Rows.{reply_for};
 ghost use Rattle.droid_core_files.specs.Files.{open_at};
 
@@ -24,7 +22,7 @@ use std::alloc::Global;
 pub fn add_file(
     parts: &mut Parts,
     stamp: Stamp,
-    number: u32,
+    profile: u32,
     parent: u32,
     modified: i64,
     size: u64,
@@ -33,27 +31,37 @@ pub fn add_file(
 ) -> Result<Reply, Refusal>
     requires new { reply_for stamp.client stamp.number parts.old.store ≡ None }
     requires small { stamp.number < 2 ^ 63 }
-    ensures comes { (setting : Setting) (world : World) → IsIn setting world parts.old
-        → Comes setting world parts.old parts.new stamp (judge_file setting world number parent modified size piece_size name) (answered result) }
-    ensures spelled { HasReplySpelling (answered result) }
-    ensures limits { parts.new.limits ≡ parts.old.limits }
-    ensures registry { parts.new.registry ≡ parts.old.registry }
+    requires version { IsVersion stamp.version }
+    ensures answers { Answers (λ setting world. judge_file setting world stamp.version profile parent modified size piece_size name) stamp parts.old parts.new (answered result) }
 {
-    let row = profile_of(parts.store.profile(number))?;
-    let path = place_of(parts.alloc, &mut parts.store, number, parent, name.as_str())?;
+    let row = profile_of(parts.store.profile(profile))?;
+    let path = place_of(
+        parts.alloc,
+        &mut parts.store,
+        profile,
+        parent,
+        name.as_str(),
+    )?;
     let nodes = node_room(parts, row);
     let unfinished = unfinished_room(parts);
-    if let Some(refusal) = file_refusal(modified, size, piece_size, nodes, unfinished) {
+    if let Some(refusal) = file_refusal(
+        stamp.version,
+        modified,
+        size,
+        piece_size,
+        nodes,
+        unfinished,
+    ) {
         return Err(refusal);
     }
     let id = row.nodes + 1;
     let assembly = new_assembly(parts.alloc, size, piece_size, row.scan_limit, row.hash)?;
-    has_room(&parts.files, number, id)?;
+    has_room(&parts.files, profile, id)?;
     let reply = Reply::Node { id };
     let entry = entry_of(parts.alloc, stamp, &reply)?;
     parts.store.commit_file(
         &entry,
-        number,
+        profile,
         id,
         parent,
         modified,
@@ -62,7 +70,7 @@ pub fn add_file(
         name.as_str(),
         path.as_str(),
     )?;
-    parts.files.add(number, id, assembly);
+    parts.files.add(profile, id, assembly);
     Ok(reply)
 }
 
@@ -83,33 +91,33 @@ fn new_assembly(
     alloc: Global,
     size: u64,
     piece_size: u32,
-    limit: u32,
+    scan_limit: u32,
     hash: HashKind,
 ) -> Result<Assembly, Refusal>
     requires sizes { (any : ℕ) → IsTrue (is_scan_limit any) → AreSizes size piece_size any }
-    ensures new { IfOk result (λ assembly. IsNew assembly size piece_size limit hash) }
+    ensures new { IfOk result (λ assembly. IsNew assembly size piece_size scan_limit hash) }
     ensures small { OnOk result (size < 2 ^ 63) }
-    ensures memory { IsTrue (is_scan_limit limit) → IfErr result (λ refusal. refusal ≡ Refusal.Memory) }
+    ensures memory { IsTrue (is_scan_limit scan_limit) → IfErr result (λ refusal. refusal ≡ Refusal.Memory) }
 {
-    if !is_scan_limit(limit) {
+    if !is_scan_limit(scan_limit) {
         return Err(Refusal::Store);
     }
-    let assembly = Assembly::new(alloc, size, piece_size, limit, hash)?;
+    let assembly = Assembly::new(alloc, size, piece_size, scan_limit, hash)?;
     Ok(assembly)
 }
 
 /// Finds that one unfinished file more has room, and that none is kept under its number: both hold
 /// of each service, and where one failed, the request would be refused as by the database.
-fn has_room(files: &UnfinishedFiles, number: u32, file: u32) -> Result<(), Refusal>
+fn has_room(files: &UnfinishedFiles, profile: u32, file: u32) -> Result<(), Refusal>
     ensures room { OnOk result (length files.now.files < files.now.limit) }
-    ensures fresh { OnOk result (open_at number file files.now.files ≡ None) }
-    ensures fits { length files.now.files < files.now.limit → open_at number file files.now.files ≡ None → IsOk result }
+    ensures fresh { OnOk result (open_at profile file files.now.files ≡ None) }
+    ensures fits { length files.now.files < files.now.limit → open_at profile file files.now.files ≡ None → IsOk result }
     ensures want { IfErr result (λ refusal. refusal ≡ Refusal.Store) }
 {
     if files.is_full() {
         return Err(Refusal::Store);
     }
-    if files.place_of(number, file).is_some() {
+    if files.place_of(profile, file).is_some() {
         return Err(Refusal::Store);
     }
     Ok(())

@@ -4,7 +4,7 @@ ghost use Rattle.std.specs.Prelude.{◌≡◌, ◌≢◌, Some, None, IfOk, IfEr
 ghost use Rattle.droid_core_spec.specs.Setting.{Setting};
 ghost use Rattle.droid_core_spec.specs.World.{Profile, World, numbered};
 ghost use Rattle.droid_core_state.specs.Rows.{AreShort, KeepsWorld};
-ghost use Rattle.droid_core_state.specs.Sound.{IsSound};
+ghost use Rattle.droid_core_state.specs.Sound.{IsSoundWorld};
 ghost use Rattle.droid_core_requests.specs.Places.{FindsFolder, FindsPlace, taken_in};
 ghost use Rattle.droid_store.specs.Rows.{child_at};
 
@@ -18,39 +18,39 @@ use std::alloc::Global;
 pub fn place_of(
     alloc: Global,
     store: &mut Store,
-    number: u32,
+    profile: u32,
     parent: u32,
     name: &str,
 ) -> Result<Text, Refusal>
     ensures same { store.new ≡ store.old }
-    ensures free { OnOk result (child_at number parent name.now store.old ≡ None) }
+    ensures free { OnOk result (child_at profile parent name.now store.old ≡ None) }
     ensures short { IfOk result (λ path. AreShort name.now path) }
-    ensures found { (setting : Setting) (world : World) (profile : Profile) → KeepsWorld setting world store.old → IsSound world
-        → numbered world.profiles number ≡ Some profile → FindsPlace profile parent name.now result }
+    ensures found { (setting : Setting) (world : World) (its : Profile) → KeepsWorld setting world store.old → IsSoundWorld world
+        → numbered world.profiles profile ≡ Some its → FindsPlace its parent name.now result }
 {
-    let folder = folder_path(alloc, store, number, parent)?;
+    let folder = folder_path(alloc, store, profile, parent)?;
     if is_bad_name(name) {
         return Err(Refusal::BadName);
     }
     if is_too_deep_below(folder.as_str(), name) {
         return Err(Refusal::PathTooLong);
     }
-    if is_taken(store.child(number, parent, name))? {
+    if is_taken(store.child(profile, parent, name))? {
         return Err(Refusal::NameTaken);
     }
     Ok(new_path(alloc, folder.as_str(), name)?)
 }
 
 /// The path of a folder. The top's is empty.
-fn folder_path(alloc: Global, store: &mut Store, number: u32, parent: u32) -> Result<Text, Refusal>
+fn folder_path(alloc: Global, store: &mut Store, profile: u32, parent: u32) -> Result<Text, Refusal>
     ensures same { store.new ≡ store.old }
-    ensures found { (setting : Setting) (world : World) (profile : Profile) → KeepsWorld setting world store.old
-        → numbered world.profiles number ≡ Some profile → FindsFolder profile parent result }
+    ensures found { (setting : Setting) (world : World) (its : Profile) → KeepsWorld setting world store.old
+        → numbered world.profiles profile ≡ Some its → FindsFolder its parent result }
 {
     if parent == 0 {
         return Ok(Text::from(String::new(alloc)));
     }
-    let row = node_of(store.node(number, parent))?;
+    let row = node_of(store.node(profile, parent))?;
     path_of(row)
 }
 

@@ -1,13 +1,14 @@
 //! New profiles.
 
 ghost use Rattle.std.specs.Prelude.{◌≡◌, ◌<◌, ◌^◌, Err, None, length};
-ghost use Rattle.droid_core_state.specs.Changes.{Comes, answered};
+ghost use Rattle.droid_core_requests.specs.Answering.{Answers};
+ghost use Rattle.droid_core_state.specs.Changes.{answered};
 ghost use Rattle.droid_core_state.specs.Standing.{IsIn};
-ghost use Rattle.droid_frame.specs.Replies.{HasReplySpelling};
 ghost use Rattle.droid_frame.specs.types.refusal.Refusal.{Refusal as RefusalValue};
 ghost use Rattle.droid_core_spec.specs.Judging.{judge_create, Refuses};
 ghost use Rattle.droid_core_spec.specs.Setting.{Setting};
 ghost use Rattle.droid_core_spec.specs.World.{World};
+ghost use Rattle.droid_frame.specs.Versions.{IsVersion};
 ghost use Rattle.droid_store.specs.Rows.{reply_for};
 
 use droid_core_state::{Parts, Room, Stamp, create_refusal, entry_of};
@@ -23,14 +24,11 @@ pub fn create_profile(
 ) -> Result<Reply, Refusal>
     requires new { reply_for stamp.client stamp.number parts.old.store ≡ None }
     requires small { stamp.number < 2 ^ 63 }
-    ensures comes { (setting : Setting) (world : World) → IsIn setting world parts.old
-        → Comes setting world parts.old parts.new stamp (judge_create setting world scan_limit match_all hash) (answered result) }
+    requires version { IsVersion stamp.version }
+    ensures answers { Answers (λ setting world. judge_create setting world scan_limit match_all hash) stamp parts.old parts.new (answered result) }
     // What is refused is refused with no want of memory: no call before it takes any.
     ensures refused { (setting : Setting) (world : World) (refusal : RefusalValue) → IsIn setting world parts.old
         → judge_create setting world scan_limit match_all hash ≡ Refuses refusal → result ≡ Err refusal }
-    ensures spelled { HasReplySpelling (answered result) }
-    ensures limits { parts.new.limits ≡ parts.old.limits }
-    ensures registry { parts.new.registry ≡ parts.old.registry }
 {
     let profiles = profile_room(parts);
     if let Some(refusal) = create_refusal(scan_limit, profiles) {

@@ -4,14 +4,13 @@ ghost use Rattle.std.specs.Prelude.{◌≡◌, ◌<◌, ◌^◌, ◌+◌, ◌++�
 ghost use Rattle.droid_assembly.specs.Pieces.{Piece};
 ghost use Rattle.droid_assembly.specs.State.{StandsFor, IsOfSameFile, with_pending};
 ghost use Rattle.droid_core_state.specs.Assemblies.{IsAssemblyOf};
-ghost use Rattle.droid_core_state.specs.Changes.{Comes, answered};
-ghost use Rattle.droid_core_state.specs.Standing.{IsIn};
+ghost use Rattle.droid_core_requests.specs.Answering.{Answers};
+ghost use Rattle.droid_core_state.specs.Changes.{answered};
 ghost use Rattle.droid_core_requests.specs.Taking.{put_refusal, refusal_in};
-ghost use Rattle.droid_frame.specs.Replies.{HasReplySpelling};
-ghost use Rattle.droid_frame.specs.types.reply.Reply.TheVariants.{Refused};
+ghost use Rattle.droid_frame.specs.Replies.{HasRefusalSpelling};
 ghost use Rattle.droid_core_spec.specs.Judging.{judge_piece, refusal_of, piece_checks};
-ghost use Rattle.droid_core_spec.specs.Setting.{Setting};
-ghost use Rattle.droid_core_spec.specs.World.{Content, Profile, World};
+ghost use Rattle.droid_core_spec.specs.World.{Content, Profile};
+ghost use Rattle.droid_frame.specs.Versions.{IsVersion};
 ghost use Rattle.droid_store.specs.Changes.{with_reply};
 ghost use Rattle.droid_store.specs.Rows.{reply_for};
 ghost use Rattle.droid_store.specs.Sizes.{entry_size, FitsARow};
@@ -28,24 +27,21 @@ use droid_store::{Entry, Store};
 pub fn take_piece(
     parts: &mut Parts,
     stamp: Stamp,
-    number: u32,
+    profile: u32,
     file: u32,
     index: u32,
     bytes: Blob,
 ) -> Result<Reply, Refusal>
     requires new { reply_for stamp.client stamp.number parts.old.store ≡ None }
     requires small { stamp.number < 2 ^ 63 }
-    ensures comes { (setting : Setting) (world : World) → IsIn setting world parts.old
-        → Comes setting world parts.old parts.new stamp (judge_piece world number file index bytes) (answered result) }
-    ensures spelled { HasReplySpelling (answered result) }
-    ensures limits { parts.new.limits ≡ parts.old.limits }
-    ensures registry { parts.new.registry ≡ parts.old.registry }
+    requires version { IsVersion stamp.version }
+    ensures answers { Answers (λ setting world. judge_piece world profile file index bytes) stamp parts.old parts.new (answered result) }
 {
-    let row = file_of(&mut parts.store, number, file)?;
+    let row = file_of(&mut parts.store, profile, file)?;
     if !row.is_unfinished() {
         return Err(Refusal::AlreadyFinished);
     }
-    let place = place_of_file(&parts.files, number, file)?;
+    let place = place_of_file(&parts.files, profile, file)?;
     let held = held_with_one_more(&parts.files, place)?;
     let reply = Reply::Taken { held };
     let entry = entry_of(parts.alloc, stamp, &reply)?;
@@ -78,7 +74,7 @@ fn put_piece(
     requires none_pending { At files.old place (λ file. file.pending ≡ None) }
     ensures judged { At files.old place (λ file. (profile : Profile) (content : Content) → IsAssemblyOf profile content file → content.finished ≡ false
         → refusal_in result ≡ refusal_of (piece_checks content index bytes)) }
-    ensures spelled { IfErr result (λ refusal. HasReplySpelling (Refused refusal)) }
+    ensures spelled { IfErr result (λ refusal. HasRefusalSpelling refusal) }
     ensures pending { OnOk result (Turns files.old files.new place (λ before after. after ≡ with_pending before (Some (index, bytes)))) }
     ensures stands { Turns files.old files.new place (λ before after. (pieces : List Piece) → StandsFor before pieces → StandsFor after pieces) }
     ensures others { IsAlikeBut place files.old files.new }
@@ -93,7 +89,7 @@ fn put_piece(
 /// Which refusal it comes to that a piece was not taken.
 fn piece_refusal(fault: &PutFault) -> Refusal
     ensures refusal { result ≡ put_refusal fault.now }
-    ensures spelled { HasReplySpelling (Refused result) }
+    ensures spelled { HasRefusalSpelling result }
 {
     match fault {
         PutFault::BadPiece { .. } => Refusal::BadPiece,
@@ -124,7 +120,7 @@ fn keep_piece(
     ensures taken_back { OnErr result (Turns files.old files.new place (λ before after. after ≡ with_pending before None)) }
     ensures others { IsAlikeBut place files.old files.new }
     ensures memory { IfErr result (λ refusal. refusal ≡ Refusal.Memory) }
-    ensures spelled { IfErr result (λ refusal. HasReplySpelling (Refused refusal)) }
+    ensures spelled { IfErr result (λ refusal. HasRefusalSpelling refusal) }
 {
     match store.commit_piece(entry) {
         Ok(()) => {

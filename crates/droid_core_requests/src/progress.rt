@@ -3,13 +3,12 @@
 ghost use Rattle.std.specs.Prelude.{◌≡◌, ◌<◌, ◌^◌, ℕ, ℤ, List, false, Some, None, IsOk, IfOk, IfErr, OnErr};
 ghost use Rattle.droid_assembly.specs.Pieces.{piece_count};
 ghost use Rattle.droid_core_state.specs.Assemblies.{HasAssemblies};
-ghost use Rattle.droid_core_state.specs.Changes.{Comes, answered};
+ghost use Rattle.droid_core_requests.specs.Answering.{Answers};
+ghost use Rattle.droid_core_state.specs.Changes.{answered};
 ghost use Rattle.droid_core_state.specs.declared.stamps.Stamp.{Stamp};
-ghost use Rattle.droid_core_state.specs.Standing.{IsIn};
 ghost use Rattle.droid_frame.specs.Replies.{HasReplySpelling};
 ghost use Rattle.droid_core_spec.specs.Files.{progress_of};
 ghost use Rattle.droid_core_spec.specs.Judging.{judge_status};
-ghost use Rattle.droid_core_spec.specs.Setting.{Setting};
 ghost use Rattle.droid_core_spec.specs.World.{Content, File, Profile, World, numbered, node_at as node_there};
 ghost use Rattle.droid_store.specs.Rows.{is_unfinished};
 ghost use Rattle.droid_core_files.specs.Files.{open_at};
@@ -20,16 +19,12 @@ use droid_core_state::Parts;
 use droid_frame::{Refusal, Reply};
 
 /// Tells how far a file is.
-pub fn status(parts: &mut Parts, number: u32, file: u32) -> Result<Reply, Refusal>
-    ensures comes { (setting : Setting) (world : World) (stamp : Stamp) → IsIn setting world parts.old
-        → Comes setting world parts.old parts.new stamp (judge_status world number file) (answered result) }
-    ensures spelled { HasReplySpelling (answered result) }
-    ensures limits { parts.new.limits ≡ parts.old.limits }
-    ensures registry { parts.new.registry ≡ parts.old.registry }
+pub fn status(parts: &mut Parts, profile: u32, file: u32) -> Result<Reply, Refusal>
+    ensures answers { (stamp : Stamp) → Answers (λ setting world. judge_status world profile file) stamp parts.old parts.new (answered result) }
 {
-    let row = file_of(&mut parts.store, number, file)?;
+    let row = file_of(&mut parts.store, profile, file)?;
     if row.is_unfinished() {
-        return progress_of(&parts.files, number, file);
+        return progress_of(&parts.files, profile, file);
     }
     let pieces = count_of(row.node.item.size, row.node.piece_size)?;
     Ok(Reply::Progress {
@@ -39,15 +34,15 @@ pub fn status(parts: &mut Parts, number: u32, file: u32) -> Result<Reply, Refusa
 }
 
 /// How far an unfinished file is.
-fn progress_of(files: &UnfinishedFiles, number: u32, file: u32) -> Result<Reply, Refusal>
-    ensures progress { IfOk result (λ reply. (world : World) (profile : Profile) (parent : ℕ) (modified : ℤ) (name : List ℕ) (content : Content) → HasAssemblies world files.now
-        → numbered world.profiles number ≡ Some profile → node_there profile.nodes file ≡ Some (File parent modified name content) → content.finished ≡ false
+fn progress_of(files: &UnfinishedFiles, profile: u32, file: u32) -> Result<Reply, Refusal>
+    ensures progress { IfOk result (λ reply. (world : World) (its : Profile) (parent : ℕ) (modified : ℤ) (name : List ℕ) (content : Content) → HasAssemblies world files.now
+        → numbered world.profiles profile ≡ Some its → node_there its.nodes file ≡ Some (File parent modified name content) → content.finished ≡ false
         → reply ≡ progress_of content) }
-    ensures spelled { HasReplySpelling (answered result) }
-    ensures none { OnErr result (open_at number file files.now.files ≡ None) }
+    ensures spelled { (version : ℕ) → HasReplySpelling version (answered result) }
+    ensures none { OnErr result (open_at profile file files.now.files ≡ None) }
     ensures want { IfErr result (λ refusal. refusal ≡ Refusal.Store) }
 {
-    let place = place_of_file(files, number, file)?;
+    let place = place_of_file(files, profile, file)?;
     Ok(Reply::Progress {
         held: files.held(place),
         missing: files.missing(place),

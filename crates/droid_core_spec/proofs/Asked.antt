@@ -5,16 +5,17 @@ use Rattle.droid_frame.specs.types.frame.Frame.{Frame}
 use Rattle.droid_frame.specs.types.request.Request.{Request}
 use Rattle.droid_frame.specs.Bodies.{SpellsRequest}
 use Rattle.droid_frame.specs.Fields.{IsBytes}
-use Rattle.droid_frame.specs.Values.{request_in, request_value}
+use Rattle.droid_frame.specs.Values.{any_value, request_in, request_value}
+use Rattle.droid_frame.specs.Versions.{IsVersion, is_version}
 use Rattle.droid_frame.proofs.RequestLaws.{spelled_is_value, value_is_spelled}
 use Rattle.droid_core_spec.specs.Histories.{Asks, AsksNothing, command}
 
 -- what is spelled under a number below 2^63 is asked
-pub asked : (frame : Frame) (request : Request) → frame.number < 2 ^ 63 → SpellsRequest frame.kind frame.body request → command frame ≡ Some request
+pub asked : (frame : Frame) (request : Request) → frame.number < 2 ^ 63 → SpellsRequest frame.version frame.kind frame.body request → command frame ≡ Some request
 unfolding command request_in
-asked frame request small spelled = rw (lt-ltb frame.number (2 ^ 63) small) (spelled_is_value frame.kind frame.body request spelled)
+asked frame request small spelled = rw (lt-ltb frame.number (2 ^ 63) small) (spelled_is_value frame.version frame.kind frame.body request spelled)
 
-pub is_asked : (frame : Frame) (request : Request) → frame.number < 2 ^ 63 → SpellsRequest frame.kind frame.body request → IsSome (command frame)
+pub is_asked : (frame : Frame) (request : Request) → frame.number < 2 ^ 63 → SpellsRequest frame.version frame.kind frame.body request → IsSome (command frame)
 is_asked frame request small spelled = rw (asked frame request small spelled) refl
 
 no_value : (value : Option Request) → ((request : Request) → value ≡ Some request → ⊥) → value ≡ None
@@ -22,10 +23,10 @@ no_value None others = refl
 no_value (Some request) others = absurd (others request refl)
 
 -- where nothing is spelled, nothing is asked
-pub nothing_asked : (frame : Frame) → IsBytes frame.body → (frame.number < 2 ^ 63 → (request : Request) → SpellsRequest frame.kind frame.body request → ⊥) → command frame ≡ None
+pub nothing_asked : (frame : Frame) → IsBytes frame.body → (frame.number < 2 ^ 63 → (request : Request) → SpellsRequest frame.version frame.kind frame.body request → ⊥) → command frame ≡ None
 unfolding command request_in
 nothing_asked frame are unspelled = elim (cases_Bool (nat_lt frame.number (2 ^ 63))) [
-  | inl small ↦ rw small (no_value (request_value frame.kind frame.body) (λ request is. unspelled (ltb-true frame.number (2 ^ 63) small) request (value_is_spelled frame.kind frame.body request are is)))
+  | inl small ↦ rw small (no_value (request_value frame.version frame.kind frame.body) (λ request is. unspelled (ltb-true frame.number (2 ^ 63) small) request (value_is_spelled frame.version frame.kind frame.body request are is)))
   | inr large ↦ rw large refl
 ]
 
@@ -38,8 +39,23 @@ where_it_holds false value request is = absurd cc
 pub asks : (frame : Frame) (request : Request) → IsBytes frame.body → command frame ≡ Some request → Asks frame request
 unfolding command request_in
 asks frame request are is =
-    let read = where_it_holds (nat_lt frame.number (2 ^ 63)) (request_value frame.kind frame.body) request is in
-    record { small = ltb-true frame.number (2 ^ 63) read.0; spelled = value_is_spelled frame.kind frame.body request are read.1 }
+    let read = where_it_holds (nat_lt frame.number (2 ^ 63)) (request_value frame.version frame.kind frame.body) request is in
+    record { small = ltb-true frame.number (2 ^ 63) read.0; spelled = value_is_spelled frame.version frame.kind frame.body request are read.1 }
+
+-- and in a version that frames have
+pub asked_in_a_version : (frame : Frame) (request : Request) → command frame ≡ Some request → IsVersion frame.version
+unfolding command request_in request_value
+asked_in_a_version frame request is =
+    let read = where_it_holds (nat_lt frame.number (2 ^ 63)) (request_value frame.version frame.kind frame.body) request is in
+    (where_it_holds (is_version frame.version) (any_value frame.version frame.kind frame.body) request read.1).0
+
+-- in another version nothing is
+pub asked_in_no_version : (frame : Frame) → is_version frame.version ≡ false → command frame ≡ None
+unfolding command request_in request_value
+asked_in_no_version frame isnt = elim (cases_Bool (nat_lt frame.number (2 ^ 63))) [
+  | inl small ↦ rw (small, isnt) refl
+  | inr large ↦ rw large refl
+]
 
 pub asked_by : (frame : Frame) (request : Request) → Asks frame request → command frame ≡ Some request
 asked_by frame request is = asked frame request is.small is.spelled

@@ -6,7 +6,8 @@ use Rattle.md5.specs.Md5.{md5, block_words, rounds, compress, hash_after, digest
 use Rattle.sha2.specs.Sha256.{sha256}
 use Rattle.droid_core_spec.specs.Records.{records}
 use Rattle.droid_frame.specs.Reading.{truth_at, whole}
-use Rattle.droid_frame.specs.Values.{create_profile_value, plain_value, request_value, request_in}
+use Rattle.droid_frame.specs.HashFields.{hash_kind_at, told_kind_at}
+use Rattle.droid_frame.specs.Values.{abandon_value, any_value, create_profile_value, file_value, plain_value, request_value, request_in}
 use Rattle.droid_frame.specs.types.filter.Filter.{Filter}
 use Rattle.droid_frame.specs.types.frame.Frame.{Frame}
 use Rattle.droid_frame.specs.Hashes.{hash_kind_number}
@@ -23,7 +24,7 @@ use Rattle.droid_frame.specs.types.request.Request.TheVariants.{CreateProfile, A
 use Rattle.droid_frame.specs.types.reply.Reply.{Reply}
 use Rattle.droid_core_spec.specs.Limits.{Limits}
 use Rattle.droid_core_spec.specs.Conditions.{is_scan_limit, is_piece_size, is_part_size, is_too_large, is_moment, is_bad_name, is_missing, is_file, is_too_deep}
-use Rattle.droid_core_spec.specs.Histories.{command, world_of, verdict_reply, world_after, meeting, answer, answers, next}
+use Rattle.droid_core_spec.specs.Histories.{command, world_of, verdict_reply, world_after, meeting, answer, answers, entry_of, next}
 use Rattle.droid_core_spec.specs.Judging.{judge, judge_create, judge_folder, judge_file, judge_piece, judge_finish, judge_abandon, judge_status, judge_export}
 use Rattle.droid_core_spec.specs.Setting.{Setting}
 use Rattle.droid_core_spec.specs.World.{Folder, File, World, empty_world, is_taken}
@@ -39,11 +40,15 @@ plain limits = record {
 abbrev usual : Setting
 usual = plain (record { profiles = 64; nodes = 100000; unfinished = 64 })
 
--- the replies to requests under new numbers, one after the other
+-- the replies to requests under new numbers, each sent in its version, one after the other
+abbrev replies_to : Setting → World → List (ℕ × Request) → List Reply
+replies_to setting world [] = []
+replies_to setting world (asked ∷ rest) =
+    verdict_reply (judge setting world asked.0 asked.1) ∷ replies_to setting (world_after world (judge setting world asked.0 asked.1)) rest
+
+-- all of them sent in version 1
 abbrev replies_from : Setting → World → List Request → List Reply
-replies_from setting world [] = []
-replies_from setting world (request ∷ requests) =
-    verdict_reply (judge setting world request) ∷ replies_from setting (world_after world (judge setting world request)) requests
+replies_from setting world requests = replies_to setting world (map (λ request. (1, request)) requests)
 
 -- too far ahead: w of 20 pieces of one byte
 pub too_far_ahead : replies_from usual empty_world (
@@ -174,7 +179,7 @@ slices_of_an_export = refl
 -- the records of a profile: the folder and the finished file, not the unfinished nor the abandoned one
 abbrev world_from : Setting → World → List Request → World
 world_from setting world [] = world
-world_from setting world (request ∷ requests) = world_from setting (world_after world (judge setting world request)) requests
+world_from setting world (request ∷ requests) = world_from setting (world_after world (judge setting world 1 request)) requests
 
 abbrev records_shown : World → List (ℕ × List ℕ)
 records_shown world = map (λ record_. (record_.id, record_.path)) (flat_map (λ profile. records usual profile) world.profiles)
@@ -192,7 +197,7 @@ pub records_of_a_profile : records_shown (world_from usual empty_world (
 unfolding judge judge_create judge_folder judge_file judge_piece judge_finish judge_abandon judge_status judge_export is_scan_limit is_piece_size is_part_size is_too_large is_moment is_bad_name is_missing is_file is_too_deep is_taken missing file_bytes
 records_of_a_profile = refl
 
--- an export is told which hash its profile's files get; a file whose hash no reply can tell isn't finished, whole or not
+-- an export is told which hash its profile's files get; a file whose hash no reply of version 1 can tell isn't finished in it
 abbrev every_record : Filter
 every_record = record { all = true; criteria = [] }
 
@@ -215,6 +220,29 @@ pub hash_by_profile : replies_from (record usual { export_text = λ records filt
     ∷ replies.Part 7 1 (2 ∷ []) ∷ replies.Part 7 1 (0 ∷ []) ∷ replies.Part 7 1 (1 ∷ []) ∷ []
 unfolding judge judge_create judge_folder judge_file judge_piece judge_finish judge_abandon judge_status judge_export is_scan_limit is_piece_size is_part_size is_too_large is_moment is_bad_name is_missing is_file is_too_deep is_taken missing file_bytes
 hash_by_profile = refl
+
+-- a profile of SHA-256, made in version 2: in version 1 its files are added, and not finished, whole or not; larger
+-- pieces are announced in version 2 alone
+pub two_versions : replies_to usual empty_world (
+    (2, CreateProfile 65536 false hash_kinds.Sha256)
+    ∷ (1, AddFile 1 0 (pos 0) 0 4 (codes "e.txt"))
+    ∷ (1, Finish 1 1)
+    ∷ (2, Finish 1 1)
+    ∷ (1, Finish 1 1)
+    ∷ (1, AddFile 1 0 (pos 0) 4194304 4194304 (codes "g"))
+    ∷ (2, AddFile 1 0 (pos 0) 4194304 4194304 (codes "g"))
+    ∷ (2, AddFile 1 0 (pos 0) 4194305 4194305 (codes "h"))
+    ∷ (1, Finish 1 2)
+    ∷ (2, Finish 1 2)
+    ∷ (2, Finish 1 3)
+    ∷ (1, Finish 2 1)
+    ∷ (2, Export 1 0 1048577 every_record)
+    ∷ []
+    ) ≡ replies.Made 1 ∷ replies.Node 1 ∷ replies.Refused refusals.BadOption ∷ replies.Finished Unidentified false (hashes.Sha256 (sha256 [])) []
+    ∷ replies.Refused refusals.AlreadyFinished ∷ replies.Refused refusals.BadOption ∷ replies.Node 2 ∷ replies.Refused refusals.BadOption ∷ replies.Refused refusals.BadOption
+    ∷ replies.Refused (refusals.Incomplete 0) ∷ replies.Refused refusals.NoSuchNode ∷ replies.Refused refusals.NoSuchProfile ∷ replies.Refused refusals.BadOption ∷ []
+unfolding judge judge_create judge_folder judge_file judge_piece judge_finish judge_abandon judge_status judge_export is_scan_limit is_piece_size is_part_size is_too_large is_moment is_bad_name is_missing is_file is_too_deep is_taken missing file_bytes
+two_versions = refl
 
 -- a finished file's record has the hash of its profile's choice, and a folder's has none
 abbrev hashes_shown : HashKind → List HashValue
@@ -246,7 +274,7 @@ create client number all = record { version = 1; kind = 1; client = client; numb
 -- sent again; another request under the same number; that number of another client; the first again after all that
 pub repeats : answers usual [] (create 7 1 0 ∷ create 7 1 0 ∷ create 7 1 1 ∷ create 8 1 1 ∷ create 7 1 0 ∷ [])
     ≡ replies.Made 1 ∷ replies.Made 1 ∷ replies.Refused refusals.NumberReused ∷ replies.Made 2 ∷ replies.Made 1 ∷ []
-unfolding answer next meeting command request_in request_value plain_value create_profile_value truth_at whole world_of judge judge_create is_scan_limit md5 digest_bytes hash_after compress rounds block_words
+unfolding answer next meeting command request_in request_value any_value plain_value create_profile_value told_kind_at truth_at whole world_of judge judge_create is_scan_limit md5 digest_bytes hash_after compress rounds block_words
 repeats = refl
 
 -- no truth value, a byte past the end, a kind that is none, a number of 2^63: also under a number that is kept
@@ -258,5 +286,20 @@ pub malformed : answers usual [] (
     ∷ create 7 9223372036854775808 0
     ∷ []
     ) ≡ replies.Made 1 ∷ replies.Refused refusals.Malformed ∷ replies.Refused refusals.Malformed ∷ replies.Refused refusals.Malformed ∷ replies.Refused refusals.Malformed ∷ []
-unfolding answer next meeting command request_in request_value plain_value create_profile_value truth_at whole world_of judge judge_create is_scan_limit md5 digest_bytes hash_after compress rounds block_words
+unfolding answer next meeting command request_in request_value any_value plain_value create_profile_value told_kind_at truth_at whole world_of judge judge_create is_scan_limit md5 digest_bytes hash_after compress rounds block_words
 malformed = refl
+
+-- under a kept number the same bytes in the other version are another request; a body of version 1 may spell nothing in
+-- version 2, and nothing is spelled in version 3
+abbrev abandoning : ℕ → Frame
+abandoning version = record { version = version; kind = 6; client = 7; number = 1; body = 0 ∷ 0 ∷ 0 ∷ 1 ∷ 0 ∷ 0 ∷ 0 ∷ 1 ∷ [] }
+
+pub versions_apart : answers usual (entry_of (abandoning 2) replies.Abandoned ∷ []) (
+    abandoning 2
+    ∷ abandoning 1
+    ∷ abandoning 3
+    ∷ record (create 7 1 0) { version = 2 }
+    ∷ []
+    ) ≡ replies.Abandoned ∷ replies.Refused refusals.NumberReused ∷ replies.Refused refusals.Malformed ∷ replies.Refused refusals.Malformed ∷ []
+unfolding answer next meeting command request_in request_value any_value plain_value create_profile_value abandon_value file_value told_kind_at hash_kind_at truth_at whole md5 digest_bytes hash_after compress rounds block_words
+versions_apart = refl

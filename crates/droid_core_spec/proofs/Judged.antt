@@ -54,45 +54,45 @@ module _ (world : World) (request : Request) where
       (λ parent modified name content. unless_refused (refusal_of (checks profile parent modified name content)) (verdict profile parent modified name content))
       (λ parent modified name content. unless (checks profile parent modified name content) (verdict profile parent modified name content) (are profile parent modified name content) (judged profile parent modified name content)))
 
-pub judged : (setting : Setting) (world : World) (request : Request) → MayCome world request (judge setting world request)
+pub judged : (setting : Setting) (world : World) (version : ℕ) (request : Request) → MayCome world request (judge setting world version request)
 unfolding judge judge_create judge_folder judge_file judge_piece judge_finish judge_abandon judge_status judge_export
-judged setting world (CreateProfile scan_limit match_all hash) =
+judged setting world version (CreateProfile scan_limit match_all hash) =
     unless world (CreateProfile scan_limit match_all hash) (create_checks setting.limits world scan_limit)
     (Accepted (replies.Made (length world.profiles + 1)) (world_with world (world.profiles ++ record { scan_limit = scan_limit; match_all = match_all; hash = hash; nodes = [] } ∷ [])))
     (refl, (refl, tt)) (record { command = refl; no_refusal = refl; one_more = refl })
-judged setting world (AddFolder number parent modified name) =
+judged setting world version (AddFolder number parent modified name) =
     let request = AddFolder number parent modified name in
     let place = λ (profile : Profile). Accepted (replies.Node (length profile.nodes + 1)) (world_set world number (with_node profile (Folder parent modified name))) in
     in_a_profile world request (numbered world.profiles number)
     (λ profile. unless_refused (refusal_of (folder_checks setting.limits profile.nodes parent modified name)) (place profile))
     (λ profile. unless world request (folder_checks setting.limits profile.nodes parent modified name) (place profile)
     (refl, (refl, (refl, (refl, (refl, (refl, (refl, tt))))))) (record { command = refl; no_refusal = refl; one_more = refl }))
-judged setting world (AddFile number parent modified size piece_size name) =
+judged setting world version (AddFile number parent modified size piece_size name) =
     let request = AddFile number parent modified size piece_size name in
     let place = λ (profile : Profile). Accepted (replies.Node (length profile.nodes + 1)) (world_set world number (with_node profile (File parent modified name (record { size = size; piece_size = piece_size; pieces = []; finished = false })))) in
     in_a_profile world request (numbered world.profiles number)
-    (λ profile. unless_refused (refusal_of (file_checks setting.limits world profile.nodes parent modified size piece_size name)) (place profile))
-    (λ profile. unless world request (file_checks setting.limits world profile.nodes parent modified size piece_size name) (place profile)
+    (λ profile. unless_refused (refusal_of (file_checks setting.limits world version profile.nodes parent modified size piece_size name)) (place profile))
+    (λ profile. unless world request (file_checks setting.limits world version profile.nodes parent modified size piece_size name) (place profile)
     (refl, (refl, (refl, (refl, (refl, (refl, (refl, (refl, (refl, tt))))))))) (record { command = refl; no_refusal = refl; one_more = refl }))
-judged setting world (Piece number file index bytes) =
+judged setting world version (Piece number file index bytes) =
     in_file_of world (Piece number file index bytes) number file
     (λ profile parent modified name content. piece_checks content index bytes)
     (λ profile parent modified name content. Accepted (replies.Taken (length content.pieces + 1)) (world_set world number (node_set profile file (File parent modified name (with_piece content index bytes)))))
     (λ profile parent modified name content. (refl, (refl, (refl, (refl, tt)))))
     (λ profile parent modified name content. record { command = refl; no_refusal = refl; one_more = refl })
-judged setting world (Finish number file) =
+judged setting world version (Finish number file) =
     in_file_of world (Finish number file) number file
-    (λ profile parent modified name content. finish_checks profile.hash content)
+    (λ profile parent modified name content. finish_checks version profile.hash content)
     (λ profile parent modified name content. Accepted (finished_reply (finding_of setting profile name content)) (world_set world number (node_set profile file (File parent modified name (as_finished content)))))
     (λ profile parent modified name content. (refl, (refl, (refl, tt))))
     (λ profile parent modified name content. record { command = refl; no_refusal = refl; one_more = refl })
-judged setting world (Abandon number file) =
+judged setting world version (Abandon number file) =
     in_file_of world (Abandon number file) number file
     (λ profile parent modified name content. abandon_checks content)
     (λ profile parent modified name content. Accepted replies.Abandoned (world_set world number (node_set profile file Abandoned)))
     (λ profile parent modified name content. (refl, tt))
     (λ profile parent modified name content. record { command = refl; no_refusal = refl; one_more = refl })
-judged setting world (Status number file) =
+judged setting world version (Status number file) =
     in_file_of world (Status number file) number file
     (λ profile parent modified name content. [])
     (λ profile parent modified name content. Answered (progress_of content))
@@ -101,7 +101,7 @@ judged setting world (Status number file) =
       query = refl;
       no_refusal = told content.finished (replies.Progress (count_of content) (count_of content)) (replies.Progress (length content.pieces) (missing_of content)) refl refl;
     })
-judged setting world (Export number from max filter) =
+judged setting world version (Export number from max filter) =
     let request = Export number from max filter in
     let place = λ (profile : Profile). Answered (part_of setting world.accepted profile from max filter) in
     in_a_profile world request (numbered world.profiles number)
@@ -109,8 +109,8 @@ judged setting world (Export number from max filter) =
     (λ profile. unless world request (export_checks max) (place profile) (refl, tt) (record { query = refl; no_refusal = refl }))
 
 -- so it is of the verdict, whatever it is called
-pub judged_as : (setting : Setting) (world : World) (request : Request) (verdict : Verdict) → judge setting world request ≡ verdict → MayCome world request verdict
-judged_as setting world request verdict is = rw (← is) (judged setting world request)
+pub judged_as : (setting : Setting) (world : World) (version : ℕ) (request : Request) (verdict : Verdict) → judge setting world version request ≡ verdict → MayCome world request verdict
+judged_as setting world version request verdict is = rw (← is) (judged setting world version request)
 
 -- ---- the number that a part of an export tells
 
@@ -126,9 +126,9 @@ number_unless None as_of total its_as_of its_total bytes its_bytes is = sym_numb
     sym_number same = cc
 number_unless (Some refusal) as_of total its_as_of its_total bytes its_bytes is = absurd cc
 
-pub exported_as_of : (setting : Setting) (world : World) (number from max as_of total : ℕ) (filter : Filter) (bytes : List ℕ) → judge setting world (Export number from max filter) ≡ Answered (replies.Part as_of total bytes) → as_of ≡ world.accepted
+pub exported_as_of : (setting : Setting) (world : World) (version number from max as_of total : ℕ) (filter : Filter) (bytes : List ℕ) → judge setting world version (Export number from max filter) ≡ Answered (replies.Part as_of total bytes) → as_of ≡ world.accepted
 unfolding judge judge_export
-exported_as_of setting world number from max as_of total filter bytes is = by (numbered world.profiles number) is
+exported_as_of setting world version number from max as_of total filter bytes is = by (numbered world.profiles number) is
   where
     by : (found : Option Profile) → in_profile found (λ profile. unless_refused (refusal_of (export_checks max)) (Answered (part_of setting world.accepted profile from max filter))) ≡ Answered (replies.Part as_of total bytes) → as_of ≡ world.accepted
     by None told = absurd cc

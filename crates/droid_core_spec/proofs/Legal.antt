@@ -9,9 +9,9 @@ use Rattle.droid_core_spec.specs.World.{World}
 use Rattle.droid_core_spec.proofs.Judged.{judged_as}
 
 -- the world after one entry more
-pub world-push : (setting : Setting) (history : History) (entry : Entry) → world_of setting (history ++ entry ∷ []) ≡ world_asked setting (world_of setting history) (command entry.frame)
+pub world-push : (setting : Setting) (history : History) (entry : Entry) → world_of setting (history ++ entry ∷ []) ≡ world_asked setting (world_of setting history) entry.frame.version (command entry.frame)
 unfolding world_of
-world-push setting history entry = fold-append (λ (world : World) entry. world_asked setting world (command entry.frame)) _ history (entry ∷ [])
+world-push setting history entry = fold-append (λ (world : World) entry. world_asked setting world entry.frame.version (command entry.frame)) _ history (entry ∷ [])
 
 pub GoesOn-push : (setting : Setting) (before entries : History) (entry : Entry) → GoesOn setting before entries → IsNext setting (before ++ entries) entry → GoesOn setting before (entries ++ entry ∷ [])
 GoesOn-push setting before [] entry legal may = (let nothing : before ++ [] ≡ before = append-nil before in rw nothing at may, tt)
@@ -21,13 +21,13 @@ GoesOn-push setting before (first ∷ entries) entry legal may =
 -- the world after an entry that may come next is the one that its command left
 pub world_next : (setting : Setting) (history : History) (entry : Entry) (may : IsNext setting history entry) → world_of setting (history ++ entry ∷ []) ≡ may.after
 world_next setting history entry may =
-    world-push setting history entry ∙ (ap (world_asked setting (world_of setting history)) may.asked ∙ ap (world_after (world_of setting history)) may.accepted)
+    world-push setting history entry ∙ (ap (world_asked setting (world_of setting history) entry.frame.version) may.asked ∙ ap (world_after (world_of setting history)) may.accepted)
 
 -- ---- how many commands were accepted
 
 counted_next : (setting : Setting) (history : History) (entry : Entry) → IsNext setting history entry → (world_of setting history).accepted ≡ length history → (world_of setting (history ++ entry ∷ [])).accepted ≡ length (history ++ entry ∷ [])
 counted_next setting history entry may counted =
-    let one_more = (judged_as setting (world_of setting history) may.request (Accepted entry.reply may.after) may.accepted).one_more in
+    let one_more = (judged_as setting (world_of setting history) entry.frame.version may.request (Accepted entry.reply may.after) may.accepted).one_more in
     ap (λ (world : World). world.accepted) (world_next setting history entry may) ∙ (one_more ∙ (ap (λ n. n + 1) counted ∙ sym (length-append history (entry ∷ []))))
 
 counted_on : (setting : Setting) (before entries : History) → GoesOn setting before entries → (world_of setting before).accepted ≡ length before → (world_of setting (before ++ entries)).accepted ≡ length (before ++ entries)

@@ -1,8 +1,11 @@
+pub mod After
 pub mod Asked
 mod ByHand
 pub mod ByKind
+pub mod ByVersion
 pub mod Counted
 pub mod Each
+pub mod FirstVersion
 pub mod Judged
 pub mod Legal
 pub mod Meetings

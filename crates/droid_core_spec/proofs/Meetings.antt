@@ -5,7 +5,7 @@ use Rattle.droid_frame.specs.types.frame.Frame.{Frame}
 use Rattle.droid_frame.specs.types.refusal.Refusal.TheVariants.{Malformed, NumberReused}
 use Rattle.droid_frame.specs.types.reply.Reply.TheVariants.{Refused}
 use Rattle.droid_frame.specs.types.request.Request.{Request}
-use Rattle.droid_core_spec.specs.Histories.{Entry, History, command, frame_mark, kept, world_of, is_same_request, Meeting, Nothing, Repeat, Reuse, New, meeting, meeting_under, meeting_asked, verdict_reply, reply_to, answer, history_with, next}
+use Rattle.droid_core_spec.specs.Histories.{Entry, History, command, kept, world_of, is_request_of, Meeting, Nothing, Repeat, Reuse, New, meeting, meeting_under, meeting_asked, verdict_reply, reply_to, answer, history_with, next}
 use Rattle.droid_core_spec.specs.Judging.{judge}
 use Rattle.droid_core_spec.specs.Setting.{Setting}
 
@@ -33,15 +33,15 @@ next_malformed setting history frame asked = next_by setting history frame Nothi
 -- ---- something asked, under a number that is kept or new
 
 module _ (setting : Setting) (history : History) (frame : Frame) (request : Request) (asked : command frame ≡ Some request) where
-  meets_under : meeting setting history frame ≡ meeting_under setting history (kept history frame.client frame.number) (frame_mark frame) request
+  meets_under : meeting setting history frame ≡ meeting_under setting history (kept history frame.client frame.number) frame request
   unfolding meeting
   meets_under = ap (meeting_asked setting history frame) asked
 
-  pub meets_kept : (entry : Entry) → kept history frame.client frame.number ≡ Some entry → meeting setting history frame ≡ cond (is_same_request entry.mark (frame_mark frame)) (Repeat entry) Reuse
-  meets_kept entry there = meets_under ∙ ap (λ (o : Option Entry). meeting_under setting history o (frame_mark frame) request) there
+  pub meets_kept : (entry : Entry) → kept history frame.client frame.number ≡ Some entry → meeting setting history frame ≡ cond (is_request_of entry frame) (Repeat entry) Reuse
+  meets_kept entry there = meets_under ∙ ap (λ (o : Option Entry). meeting_under setting history o frame request) there
 
-  pub meets_new : kept history frame.client frame.number ≡ None → meeting setting history frame ≡ New (judge setting (world_of setting history) request)
-  meets_new is_new = meets_under ∙ ap (λ (o : Option Entry). meeting_under setting history o (frame_mark frame) request) is_new
+  pub meets_new : kept history frame.client frame.number ≡ None → meeting setting history frame ≡ New (judge setting (world_of setting history) frame.version request)
+  meets_new is_new = meets_under ∙ ap (λ (o : Option Entry). meeting_under setting history o frame request) is_new
 
   reply_either : (same : Bool) (entry : Entry) → reply_to (cond same (Repeat entry) Reuse) ≡ cond same entry.reply (Refused NumberReused)
   reply_either true entry = refl
@@ -51,17 +51,17 @@ module _ (setting : Setting) (history : History) (frame : Frame) (request : Requ
   history_either true entry = refl
   history_either false entry = refl
 
-  pub answer_kept : (entry : Entry) → kept history frame.client frame.number ≡ Some entry → answer setting history frame ≡ cond (is_same_request entry.mark (frame_mark frame)) entry.reply (Refused NumberReused)
-  answer_kept entry there = answer_by setting history frame (cond (is_same_request entry.mark (frame_mark frame)) (Repeat entry) Reuse) (meets_kept entry there) ∙ reply_either (is_same_request entry.mark (frame_mark frame)) entry
+  pub answer_kept : (entry : Entry) → kept history frame.client frame.number ≡ Some entry → answer setting history frame ≡ cond (is_request_of entry frame) entry.reply (Refused NumberReused)
+  answer_kept entry there = answer_by setting history frame (cond (is_request_of entry frame) (Repeat entry) Reuse) (meets_kept entry there) ∙ reply_either (is_request_of entry frame) entry
 
   pub next_kept : (entry : Entry) → kept history frame.client frame.number ≡ Some entry → next setting history frame ≡ history
-  next_kept entry there = next_by setting history frame (cond (is_same_request entry.mark (frame_mark frame)) (Repeat entry) Reuse) (meets_kept entry there) ∙ history_either (is_same_request entry.mark (frame_mark frame)) entry
+  next_kept entry there = next_by setting history frame (cond (is_request_of entry frame) (Repeat entry) Reuse) (meets_kept entry there) ∙ history_either (is_request_of entry frame) entry
 
-  pub answer_new : kept history frame.client frame.number ≡ None → answer setting history frame ≡ verdict_reply (judge setting (world_of setting history) request)
-  answer_new is_new = answer_by setting history frame (New (judge setting (world_of setting history) request)) (meets_new is_new)
+  pub answer_new : kept history frame.client frame.number ≡ None → answer setting history frame ≡ verdict_reply (judge setting (world_of setting history) frame.version request)
+  answer_new is_new = answer_by setting history frame (New (judge setting (world_of setting history) frame.version request)) (meets_new is_new)
 
-  pub next_new : kept history frame.client frame.number ≡ None → next setting history frame ≡ history_with history frame (New (judge setting (world_of setting history) request))
-  next_new is_new = next_by setting history frame (New (judge setting (world_of setting history) request)) (meets_new is_new)
+  pub next_new : kept history frame.client frame.number ≡ None → next setting history frame ≡ history_with history frame (New (judge setting (world_of setting history) frame.version request))
+  next_new is_new = next_by setting history frame (New (judge setting (world_of setting history) frame.version request)) (meets_new is_new)
 
 -- ---- whatever it meets
 
@@ -69,14 +69,14 @@ module _ (setting : Setting) (history : History) (frame : Frame) (P : Meeting �
     (nothing : P Nothing)
     (repeat : (entry : Entry) → kept history frame.client frame.number ≡ Some entry → P (Repeat entry))
     (reuse : P Reuse)
-    (new : (request : Request) → command frame ≡ Some request → kept history frame.client frame.number ≡ None → P (New (judge setting (world_of setting history) request))) where
+    (new : (request : Request) → command frame ≡ Some request → kept history frame.client frame.number ≡ None → P (New (judge setting (world_of setting history) frame.version request))) where
   by_mark : (same : Bool) (entry : Entry) → kept history frame.client frame.number ≡ Some entry → P (cond same (Repeat entry) Reuse)
   by_mark true entry there = repeat entry there
   by_mark false entry there = reuse
 
-  by_entry : (request : Request) (o : Option Entry) → command frame ≡ Some request → kept history frame.client frame.number ≡ o → P (meeting_under setting history o (frame_mark frame) request)
+  by_entry : (request : Request) (o : Option Entry) → command frame ≡ Some request → kept history frame.client frame.number ≡ o → P (meeting_under setting history o frame request)
   by_entry request None asked is_new = new request asked is_new
-  by_entry request (Some entry) asked there = by_mark (is_same_request entry.mark (frame_mark frame)) entry there
+  by_entry request (Some entry) asked there = by_mark (is_request_of entry frame) entry there
 
   by_command : (o : Option Request) → command frame ≡ o → P (meeting_asked setting history frame o)
   by_command None asked = nothing

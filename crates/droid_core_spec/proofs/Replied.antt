@@ -11,7 +11,7 @@ use Rattle.droid_frame.specs.types.reply.Reply.{Reply}
 use Rattle.droid_frame.specs.types.reply.Reply.TheVariants.{Refused}
 use Rattle.droid_frame.specs.types.request.Request.{Request}
 use Rattle.droid_frame.specs.Values.{request_in}
-use Rattle.droid_core_spec.specs.Histories.{Entry, History, IsLegal, HasReply, command, frame_mark, is_under, kept, world_of, is_same_request, Meeting, Nothing, Repeat, Reuse, New, meeting, verdict_reply, reply_to, answer, entry_of, history_with, next, history_from}
+use Rattle.droid_core_spec.specs.Histories.{Entry, History, IsLegal, HasReply, command, frame_mark, is_under, kept, world_of, is_same_request, is_request_of, Meeting, Nothing, Repeat, Reuse, New, meeting, verdict_reply, reply_to, answer, entry_of, history_with, next, history_from}
 use Rattle.droid_core_spec.specs.Judging.{Verdict, Accepted, Answered, Refuses, judge}
 use Rattle.droid_core_spec.specs.Setting.{Setting}
 use Rattle.droid_core_spec.specs.Verdicts.{is_command, is_refused, is_of_judging, MayCome}
@@ -59,21 +59,21 @@ no_verdict_stores world request (Refuses refusal) may = no_store_of refusal may
 pub kept_unrefused : (setting : Setting) (history : History) (client number : ℕ) (entry : Entry) → IsLegal setting history → kept history client number ≡ Some entry → is_refused entry.reply ≡ false
 kept_unrefused setting history client number entry legal there =
     let came = kept_came setting history client number entry legal there in
-    (judged_as setting (world_of setting came.past) came.may.request (Accepted entry.reply came.may.after) came.may.accepted).no_refusal
+    (judged_as setting (world_of setting came.past) entry.frame.version came.may.request (Accepted entry.reply came.may.after) came.may.accepted).no_refusal
 
 pub answer_no_want : (setting : Setting) (history : History) (frame : Frame) → IsLegal setting history → is_want (answer setting history frame) ≡ false
 unfolding answer
 answer_no_want setting history frame legal =
     whatever_meets setting history frame (λ (met : Meeting). is_want (reply_to met) ≡ false) refl
     (λ entry there. no_want entry.reply (kept_unrefused setting history frame.client frame.number entry legal there)) refl
-    (λ request asked is_new. no_verdict_wants (world_of setting history) request (judge setting (world_of setting history) request) (judged setting (world_of setting history) request))
+    (λ request asked is_new. no_verdict_wants (world_of setting history) request (judge setting (world_of setting history) frame.version request) (judged setting (world_of setting history) frame.version request))
 
 pub answer_no_store : (setting : Setting) (history : History) (frame : Frame) → IsLegal setting history → answer setting history frame ≢ Refused Store
 unfolding answer
 answer_no_store setting history frame legal =
     whatever_meets setting history frame (λ (met : Meeting). reply_to met ≢ Refused Store) (λ same. absurd cc)
     (λ entry there. no_store entry.reply (kept_unrefused setting history frame.client frame.number entry legal there)) (λ same. absurd cc)
-    (λ request asked is_new. no_verdict_stores (world_of setting history) request (judge setting (world_of setting history) request) (judged setting (world_of setting history) request))
+    (λ request asked is_new. no_verdict_stores (world_of setting history) request (judge setting (world_of setting history) frame.version request) (judged setting (world_of setting history) frame.version request))
 
 -- ---- a refusal changes nothing
 
@@ -87,7 +87,7 @@ unfolding answer next
 refused_stays setting history frame =
     whatever_meets setting history frame (λ (met : Meeting). is_refused (reply_to met) ≡ true → history_with history frame met ≡ history)
     (λ refused. refl) (λ entry there refused. refl) (λ refused. refl)
-    (λ request asked is_new refused. by_verdict history frame (world_of setting history) request (judge setting (world_of setting history) request) (judged setting (world_of setting history) request) refused)
+    (λ request asked is_new refused. by_verdict history frame (world_of setting history) request (judge setting (world_of setting history) frame.version request) (judged setting (world_of setting history) frame.version request) refused)
 
 -- ---- what is kept stays kept
 
@@ -120,15 +120,15 @@ kept_from setting history (frame ∷ frames) client number entry there =
 -- ---- the answer to what is kept
 
 module _ (setting : Setting) (history : History) (frames : List Frame) (frame : Frame) (entry : Entry) (there : kept history frame.client frame.number ≡ Some entry) where
-  answer_either : (request : Request) → command frame ≡ Some request → answer setting (history_from setting history frames) frame ≡ cond (is_same_request entry.mark (frame_mark frame)) entry.reply (Refused NumberReused)
+  answer_either : (request : Request) → command frame ≡ Some request → answer setting (history_from setting history frames) frame ≡ cond (is_request_of entry frame) entry.reply (Refused NumberReused)
   answer_either request asked = answer_kept setting (history_from setting history frames) frame request asked entry (kept_from setting history frames frame.client frame.number entry there)
 
-  pub answer_marked : IsSome (command frame) → is_same_request entry.mark (frame_mark frame) ≡ true → answer setting (history_from setting history frames) frame ≡ entry.reply
+  pub answer_marked : IsSome (command frame) → is_request_of entry frame ≡ true → answer setting (history_from setting history frames) frame ≡ entry.reply
   answer_marked some same =
       let asked = asks_something (command frame) some in
       answer_either asked.0 asked.1 ∙ ap (λ b. cond b entry.reply (Refused NumberReused)) same
 
-  pub answer_reused : IsSome (command frame) → is_same_request entry.mark (frame_mark frame) ≡ false → answer setting (history_from setting history frames) frame ≡ Refused NumberReused
+  pub answer_reused : IsSome (command frame) → is_request_of entry frame ≡ false → answer setting (history_from setting history frames) frame ≡ Refused NumberReused
   answer_reused some other =
       let asked = asks_something (command frame) some in
       answer_either asked.0 asked.1 ∙ ap (λ b. cond b entry.reply (Refused NumberReused)) other
@@ -149,26 +149,27 @@ same_number history client number entry there =
     let parts = and_parts (entry.frame.client == client) (entry.frame.number == number) (found_passes (is_under client number) history entry there) in
     eqb-true entry.frame.number number parts.1
 
--- what is asked goes by number, kind and body
-asks_the_same : (one other : Frame) → one.number ≡ other.number → one.kind ≡ other.kind → one.body ≡ other.body → command one ≡ command other
+-- what is asked goes by number, version, kind and body
+asks_the_same : (one other : Frame) → one.number ≡ other.number → one.version ≡ other.version → one.kind ≡ other.kind → one.body ≡ other.body → command one ≡ command other
 unfolding command request_in
-asks_the_same one other number kind body = rw (number, kind, body) refl
+asks_the_same one other number version kind body = rw (number, version, kind, body) refl
 
 same_mark : (one other : Frame) → one.kind ≡ other.kind → one.body ≡ other.body → frame_mark one ≡ frame_mark other
 same_mark one other kind body = rw (kind, body) refl
 
-is_itself : (one other : List ℕ) → one ≡ other → is_same_request one other ≡ true
-is_itself one other same = (bytes_eq-Decides one other).1 same
+-- of one version and one mark
+is_itself : (one_version version : ℕ) (one mark : List ℕ) → one_version ≡ version → one ≡ mark → is_same_request one_version one version mark ≡ true
+is_itself one_version version one mark same_version same = rw (eq-eqb one_version version same_version) ((bytes_eq-Decides one mark).1 same)
 
 some_is_some : (o : Option Request) (request : Request) → o ≡ Some request → IsSome o
 some_is_some o request is = rw is refl
 
 pub answer_again : (setting : Setting) (history : History) (frames : List Frame) (frame : Frame) (entry : Entry) → IsLegal setting history → kept history frame.client frame.number ≡ Some entry
-    → frame.kind ≡ entry.frame.kind → frame.body ≡ entry.frame.body → answer setting (history_from setting history frames) frame ≡ entry.reply
-answer_again setting history frames frame entry legal there kind body =
+    → frame.version ≡ entry.frame.version → frame.kind ≡ entry.frame.kind → frame.body ≡ entry.frame.body → answer setting (history_from setting history frames) frame ≡ entry.reply
+answer_again setting history frames frame entry legal there version kind body =
     let came = kept_came setting history frame.client frame.number entry legal there in
-    let asked = asks_the_same frame entry.frame (sym (same_number history frame.client frame.number entry there)) kind body ∙ came.may.asked in
-    let same = is_itself entry.mark (frame_mark frame) (came.may.marked ∙ same_mark entry.frame frame (sym kind) (sym body)) in
+    let asked = asks_the_same frame entry.frame (sym (same_number history frame.client frame.number entry there)) version kind body ∙ came.may.asked in
+    let same = is_itself entry.frame.version frame.version entry.mark (frame_mark frame) (sym version) (came.may.marked ∙ same_mark entry.frame frame (sym kind) (sym body)) in
     answer_marked setting history frames frame entry there (some_is_some (command frame) came.may.request asked) same
 
 -- ---- the answer to an accepted command is its answer ever after
@@ -190,7 +191,7 @@ had_as : (history : History) (frame : Frame) (reply other : Reply) → HasReply 
 had_as history frame reply other has same = subst (HasReply history frame) same has
 
 module _ (setting : Setting) (history : History) (frame : Frame) (request : Request) (asked : command frame ≡ Some request) (commands : is_command request ≡ true) where
-  repeated : (entry : Entry) (same : Bool) → kept history frame.client frame.number ≡ Some entry → is_same_request entry.mark (frame_mark frame) ≡ same
+  repeated : (entry : Entry) (same : Bool) → kept history frame.client frame.number ≡ Some entry → is_request_of entry frame ≡ same
       → is_refused (cond same entry.reply (Refused NumberReused)) ≡ false → HasReply (next setting history frame) frame (cond same entry.reply (Refused NumberReused))
   repeated entry true there same unrefused = record { entry = entry; there = kept_next setting history frame frame.client frame.number entry there; same = same; its = refl }
   repeated entry false there same unrefused = absurd cc
@@ -200,7 +201,7 @@ module _ (setting : Setting) (history : History) (frame : Frame) (request : Requ
   judged_first (Accepted reply after) is_new may goes unrefused = record {
     entry = entry_of frame reply;
     there = ap (λ (longer : History). kept longer frame.client frame.number) goes ∙ kept_added history frame reply is_new;
-    same = is_itself (frame_mark frame) (frame_mark frame) refl;
+    same = is_itself frame.version frame.version (frame_mark frame) (frame_mark frame) refl refl;
     its = refl;
   }
   judged_first (Answered reply) is_new may goes unrefused = absurd (let query = may.query in cc)
@@ -209,11 +210,11 @@ module _ (setting : Setting) (history : History) (frame : Frame) (request : Requ
   by_kept : (o : Option Entry) → kept history frame.client frame.number ≡ o → is_refused (answer setting history frame) ≡ false → HasReply (next setting history frame) frame (answer setting history frame)
   by_kept (Some entry) there unrefused =
       let is = answer_kept setting history frame request asked entry there in
-      had_as (next setting history frame) frame _ _ (repeated entry (is_same_request entry.mark (frame_mark frame)) there refl (ap is_refused (sym is) ∙ unrefused)) (sym is)
+      had_as (next setting history frame) frame _ _ (repeated entry (is_request_of entry frame) there refl (ap is_refused (sym is) ∙ unrefused)) (sym is)
   by_kept None is_new unrefused =
       let is = answer_new setting history frame request asked is_new in
       had_as (next setting history frame) frame _ _
-      (judged_first (judge setting (world_of setting history) request) is_new (judged setting (world_of setting history) request) (next_new setting history frame request asked is_new) (ap is_refused (sym is) ∙ unrefused)) (sym is)
+      (judged_first (judge setting (world_of setting history) frame.version request) is_new (judged setting (world_of setting history) frame.version request) (next_new setting history frame request asked is_new) (ap is_refused (sym is) ∙ unrefused)) (sym is)
 
   -- a command that isn't refused is kept with its answer
   pub accepted_is_kept : is_refused (answer setting history frame) ≡ false → HasReply (next setting history frame) frame (answer setting history frame)
@@ -233,7 +234,7 @@ module _ (setting : Setting) (history : History) (frame : Frame) (request : Requ
 
   asked_kept : (o : Option Entry) → kept history frame.client frame.number ≡ o → next setting history frame ≡ history
   asked_kept (Some entry) there = next_kept setting history frame request asked entry there
-  asked_kept None is_new = next_new setting history frame request asked is_new ∙ told_only (judge setting (world_of setting history) request) (judged setting (world_of setting history) request)
+  asked_kept None is_new = next_new setting history frame request asked is_new ∙ told_only (judge setting (world_of setting history) frame.version request) (judged setting (world_of setting history) frame.version request)
 
   pub query_stays : next setting history frame ≡ history
   query_stays = asked_kept (kept history frame.client frame.number) refl

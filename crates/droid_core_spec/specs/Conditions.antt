@@ -1,5 +1,5 @@
 -- The conditions under which requests are refused.
-use Rattle.std.specs.Prelude.{ℕ, zero, suc, ℤ, pos, negsuc, ◌+◌, ◌^◌, ◌==◌, ◌&&◌, ◌||◌, nat_lt, nat_le, Bool, true, false, not, List, [], ◌∷◌, length, Option, Some, None, is_none}
+use Rattle.std.specs.Prelude.{ℕ, zero, suc, ℤ, pos, negsuc, ◌+◌, ◌^◌, ◌==◌, ◌&&◌, ◌||◌, if◌then◌else◌, nat_lt, nat_le, Bool, true, false, not, List, [], ◌∷◌, length, Option, Some, None, is_none}
 use Rattle.std.specs.Int.Signed.{lt_z}
 use Rattle.std.specs.List.{list_any}
 use Rattle.std.specs.Str.{bytes_eq}
@@ -12,11 +12,15 @@ use Rattle.droid_core_spec.specs.World.{Node, Folder, File, Abandoned, node_at, 
 unfoldable pub is_scan_limit : ℕ → Bool
 is_scan_limit n = nat_le 1 n && nat_le n 65536
 
--- the size of a piece: from 1 to 1,048,576
-unfoldable pub is_piece_size : ℕ → Bool
-is_piece_size n = nat_le 1 n && nat_le n 1048576
+-- how many bytes a piece may have that is announced in this version
+abbrev pub piece_size_limit : ℕ → ℕ
+piece_size_limit version = if version == 1 then 1048576 else 4194304
 
--- how many bytes a part of an export may have: from 1 to 1,048,576
+-- the size of a piece: from 1 to 1,048,576 in version 1, and to 4,194,304 in version 2
+unfoldable pub is_piece_size : ℕ → ℕ → Bool
+is_piece_size version n = nat_le 1 n && nat_le n (piece_size_limit version)
+
+-- how many bytes a part of an export may have: from 1 to 1,048,576, in both versions
 unfoldable pub is_part_size : ℕ → Bool
 is_part_size n = nat_le 1 n && nat_le n 1048576
 
@@ -52,8 +56,11 @@ is_file (Some Abandoned) = false
 unfoldable pub is_too_deep : List Node → ℕ → List ℕ → Bool
 is_too_deep nodes parent name = nat_lt 4096 (length (path nodes parent) + 1 + length name)
 
--- a Finished can tell a file's hash of this kind: it has the bytes of an MD5, and no others
-abbrev pub is_told : HashKind → Bool
-is_told hashes.Nothing = false
-is_told hashes.Md5 = true
-is_told hashes.Sha256 = false
+abbrev pub is_md5 : HashKind → Bool
+is_md5 hashes.Nothing = false
+is_md5 hashes.Md5 = true
+is_md5 hashes.Sha256 = false
+
+-- a Finished of this version can tell a file's hash of this kind: in version 1 it has the bytes of an MD5 and no others
+abbrev pub is_told : ℕ → HashKind → Bool
+is_told version hash = if version == 1 then is_md5 hash else true

@@ -26,10 +26,10 @@ pub record Entry : Type 0 where
 abbrev pub History : Type 0
 History = List Entry
 
--- the frame asks the request: its number is below 2^63, and its kind and body spell the request
+-- the frame asks the request: its number is below 2^63, and its version, kind and body spell the request
 pub record Asks (frame : Frame) (request : Request) : Type 0 where
   pub small : frame.number < 2 ^ 63
-  pub spelled : SpellsRequest frame.kind frame.body request
+  pub spelled : SpellsRequest frame.version frame.kind frame.body request
 
 -- the frame asks no request
 abbrev pub AsksNothing : Frame → Type 0
@@ -59,13 +59,14 @@ world_after world (Accepted reply after) = after
 world_after world (Answered reply) = world
 world_after world (Refuses refusal) = world
 
-abbrev pub world_asked : Setting → World → Option Request → World
-world_asked setting world None = world
-world_asked setting world (Some request) = world_after world (judge setting world request)
+-- the world after a request of this version
+abbrev pub world_asked : Setting → World → ℕ → Option Request → World
+world_asked setting world version None = world
+world_asked setting world version (Some request) = world_after world (judge setting world version request)
 
 -- the world after the commands of the history, from the empty world
 unfoldable pub world_of : Setting → History → World
-world_of setting history = fold (λ world entry. world_asked setting world (command entry.frame)) empty_world history
+world_of setting history = fold (λ world entry. world_asked setting world entry.frame.version (command entry.frame)) empty_world history
 
 -- the entry may come next: its number is new, its mark is its request's, and its command is accepted
 -- there, with its reply
@@ -75,7 +76,7 @@ pub record IsNext (setting : Setting) (history : History) (entry : Entry) : Type
   pub request : Request
   pub asked : command entry.frame ≡ Some request
   pub after : World
-  pub accepted : judge setting (world_of setting history) request ≡ Accepted entry.reply after
+  pub accepted : judge setting (world_of setting history) entry.frame.version request ≡ Accepted entry.reply after
 
 -- each entry may come after those before it
 abbrev pub GoesOn : Setting → History → History → Type 0
@@ -87,9 +88,13 @@ IsLegal setting history = GoesOn setting [] history
 
 -- ---- what a request meets
 
--- under one client and number a request is the one that was accepted where it has its mark
-abbrev pub is_same_request : List ℕ → List ℕ → Bool
-is_same_request accepted_mark mark = bytes_eq accepted_mark mark
+-- under one client and number a request is the one that was accepted where it has its version and its mark
+abbrev pub is_same_request : ℕ → List ℕ → ℕ → List ℕ → Bool
+is_same_request accepted_version accepted_mark version mark = (accepted_version == version) && bytes_eq accepted_mark mark
+
+-- the frame, of the entry's client and number, has the entry's request
+abbrev pub is_request_of : Entry → Frame → Bool
+is_request_of entry frame = is_same_request entry.frame.version entry.mark frame.version (frame_mark frame)
 
 pub data Meeting : Type 0 where
   -- the frame asks nothing
@@ -102,14 +107,14 @@ pub data Meeting : Type 0 where
   New : (verdict : Verdict) → Meeting
 
 -- by the entry of its client and number, where one is kept
-abbrev pub meeting_under : Setting → History → Option Entry → List ℕ → Request → Meeting
-meeting_under setting history (Some entry) mark request = if is_same_request entry.mark mark then Repeat entry else Reuse
-meeting_under setting history None mark request = New (judge setting (world_of setting history) request)
+abbrev pub meeting_under : Setting → History → Option Entry → Frame → Request → Meeting
+meeting_under setting history (Some entry) frame request = if is_request_of entry frame then Repeat entry else Reuse
+meeting_under setting history None frame request = New (judge setting (world_of setting history) frame.version request)
 
 abbrev pub meeting_asked : Setting → History → Frame → Option Request → Meeting
 meeting_asked setting history frame None = Nothing
 meeting_asked setting history frame (Some request) =
-    meeting_under setting history (kept history frame.client frame.number) (frame_mark frame) request
+    meeting_under setting history (kept history frame.client frame.number) frame request
 
 -- what the request of the frame meets in the history
 unfoldable pub meeting : Setting → History → Frame → Meeting
@@ -152,7 +157,7 @@ next setting history frame = history_with history frame (meeting setting history
 pub record HasReply (history : History) (frame : Frame) (reply : Reply) : Type 0 where
   pub entry : Entry
   pub there : kept history frame.client frame.number ≡ Some entry
-  pub same : is_same_request entry.mark (frame_mark frame) ≡ true
+  pub same : is_request_of entry frame ≡ true
   pub its : entry.reply ≡ reply
 
 -- the history after a list of requests, from this one

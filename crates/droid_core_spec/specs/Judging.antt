@@ -1,5 +1,5 @@
 -- Judging a request in a world: the first refusal whose condition holds, or else the reply, and of a command
--- the world after it (this project's own).
+-- the world after it (this project's own). By the version in which it was sent only a new file and a finish are judged.
 use Rattle.std.specs.Prelude.{ℕ, ℤ, ◌+◌, ◌-◌, ◌||◌, nat_lt, nat_le, if◌then◌else◌, Bool, false, not, List, [], ◌∷◌, ◌++◌, length, slice_set, Option, Some, None}
 use Rattle.droid_frame.specs.types.filter.Filter.{Filter}
 use Rattle.droid_frame.specs.types.hash_kind.HashKind.{HashKind}
@@ -91,11 +91,11 @@ folder_checks limits nodes parent modified name =
     ∷ (nat_le limits.nodes (length nodes), LimitReached reached.Nodes)
     ∷ []
 
--- the limit of unfinished files is that of the whole service
-abbrev pub file_checks : Limits → World → List Node → ℕ → ℤ → ℕ → ℕ → List ℕ → List Check
-file_checks limits world nodes parent modified size piece_size name =
+-- the limit of unfinished files is that of the whole service; a file may have larger pieces in version 2
+abbrev pub file_checks : Limits → World → ℕ → List Node → ℕ → ℤ → ℕ → ℕ → List ℕ → List Check
+file_checks limits world version nodes parent modified size piece_size name =
     place_checks nodes parent name
-    ++ (not (is_moment modified) || not (is_piece_size piece_size), BadOption)
+    ++ (not (is_moment modified) || not (is_piece_size version piece_size), BadOption)
     ∷ (is_too_large size piece_size, TooLarge)
     ∷ (nat_le limits.nodes (length nodes), LimitReached reached.Nodes)
     ∷ (nat_le limits.unfinished (unfinished_in world), LimitReached reached.Unfinished)
@@ -109,11 +109,11 @@ piece_checks content index bytes =
     ∷ (is_too_far content index, TooFarAhead (missing_of content))
     ∷ []
 
--- of a file that gets this hash
-abbrev pub finish_checks : HashKind → Content → List Check
-finish_checks hash content =
+-- of a file that gets this hash, which the reply has to tell in the version that it answers
+abbrev pub finish_checks : ℕ → HashKind → Content → List Check
+finish_checks version hash content =
     (content.finished, AlreadyFinished)
-    ∷ (not (is_told hash), BadOption)
+    ∷ (not (is_told version hash), BadOption)
     ∷ (nat_lt (missing_of content) (count_of content), Incomplete (missing_of content))
     ∷ []
 
@@ -136,10 +136,10 @@ judge_folder setting world number parent modified name =
     unless_refused (refusal_of (folder_checks setting.limits profile.nodes parent modified name))
     (Accepted (replies.Node (length profile.nodes + 1)) (world_set world number (with_node profile (Folder parent modified name)))))
 
-unfoldable pub judge_file : Setting → World → ℕ → ℕ → ℤ → ℕ → ℕ → List ℕ → Verdict
-judge_file setting world number parent modified size piece_size name =
+unfoldable pub judge_file : Setting → World → ℕ → ℕ → ℕ → ℤ → ℕ → ℕ → List ℕ → Verdict
+judge_file setting world version number parent modified size piece_size name =
     in_profile (numbered world.profiles number) (λ profile.
-    unless_refused (refusal_of (file_checks setting.limits world profile.nodes parent modified size piece_size name))
+    unless_refused (refusal_of (file_checks setting.limits world version profile.nodes parent modified size piece_size name))
     (Accepted (replies.Node (length profile.nodes + 1)) (world_set world number (with_node profile
     (File parent modified name (record { size = size; piece_size = piece_size; pieces = []; finished = false }))))))
 
@@ -150,11 +150,11 @@ judge_piece world number file index bytes =
     unless_refused (refusal_of (piece_checks content index bytes))
     (Accepted (replies.Taken (length content.pieces + 1)) (world_set world number (node_set profile file (File parent modified name (with_piece content index bytes)))))))
 
-unfoldable pub judge_finish : Setting → World → ℕ → ℕ → Verdict
-judge_finish setting world number file =
+unfoldable pub judge_finish : Setting → World → ℕ → ℕ → ℕ → Verdict
+judge_finish setting world version number file =
     in_profile (numbered world.profiles number) (λ profile.
     in_file (node_at profile.nodes file) (λ parent modified name content.
-    unless_refused (refusal_of (finish_checks profile.hash content))
+    unless_refused (refusal_of (finish_checks version profile.hash content))
     (Accepted (finished_reply (finding_of setting profile name content)) (world_set world number (node_set profile file (File parent modified name (as_finished content)))))))
 
 unfoldable pub judge_abandon : World → ℕ → ℕ → Verdict
@@ -176,13 +176,13 @@ judge_export setting world number from max filter =
     unless_refused (refusal_of (export_checks max))
     (Answered (part_of setting world.accepted profile from max filter)))
 
--- by the kind of request
-unfoldable pub judge : Setting → World → Request → Verdict
-judge setting world (CreateProfile scan_limit match_all hash) = judge_create setting world scan_limit match_all hash
-judge setting world (AddFolder number parent modified name) = judge_folder setting world number parent modified name
-judge setting world (AddFile number parent modified size piece_size name) = judge_file setting world number parent modified size piece_size name
-judge setting world (Piece number file index bytes) = judge_piece world number file index bytes
-judge setting world (Finish number file) = judge_finish setting world number file
-judge setting world (Abandon number file) = judge_abandon world number file
-judge setting world (Status number file) = judge_status world number file
-judge setting world (Export number from max filter) = judge_export setting world number from max filter
+-- by the kind of request, in the version in which it was sent
+unfoldable pub judge : Setting → World → ℕ → Request → Verdict
+judge setting world version (CreateProfile scan_limit match_all hash) = judge_create setting world scan_limit match_all hash
+judge setting world version (AddFolder number parent modified name) = judge_folder setting world number parent modified name
+judge setting world version (AddFile number parent modified size piece_size name) = judge_file setting world version number parent modified size piece_size name
+judge setting world version (Piece number file index bytes) = judge_piece world number file index bytes
+judge setting world version (Finish number file) = judge_finish setting world version number file
+judge setting world version (Abandon number file) = judge_abandon world number file
+judge setting world version (Status number file) = judge_status world number file
+judge setting world version (Export number from max filter) = judge_export setting world number from max filter

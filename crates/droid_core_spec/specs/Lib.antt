@@ -1,6 +1,7 @@
 pub mod Conditions
 pub mod Exported
 pub mod Files
+pub mod FirstVersion
 pub mod Histories
 pub mod Judging
 pub mod Limits

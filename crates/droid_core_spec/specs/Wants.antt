@@ -1,11 +1,11 @@
--- Which refusals say that memory was wanting.
+-- Which refusals say want of memory.
 use Rattle.std.specs.Prelude.{Bool, true, false}
 use Rattle.droid_frame.specs.types.refusal.Refusal.{Refusal}
 use Rattle.droid_frame.specs.types.refusal.Refusal.TheVariants as refusals
 use Rattle.droid_frame.specs.types.reply.Reply.{Reply}
 use Rattle.droid_frame.specs.types.reply.Reply.TheVariants.{Made, Node, Refused}
 
--- Memory was wanting. That a database refused for another cause (Store) is no want: no service answers it.
+-- Memory was refused. That a database refused for another cause (Store) is no want: no service answers it.
 abbrev pub is_want_of : Refusal → Bool
 is_want_of refusals.Memory = true
 is_want_of refusals.Store = false

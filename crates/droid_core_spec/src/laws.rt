@@ -1,19 +1,22 @@
 //! Laws of histories: each stands on a function that does nothing, and is proved with it.
 
-ghost use Rattle.std.specs.Prelude.{◌≡◌, ◌≢◌, ◌+◌, ◌↔◌, ℕ, true, false, List, length, None, Some, IsSome};
-ghost use Rattle.std.specs.List.{Contains};
+ghost use Rattle.std.specs.Prelude.{◌≡◌, ◌≢◌, ◌+◌, ◌↔◌, ℕ, true, false, List, [], length, None, Some, IsSome};
+ghost use Rattle.std.specs.List.{AllByRecursion, Contains};
+ghost use Rattle.droid_frame.specs.Bodies.{request_kind};
 ghost use Rattle.droid_frame.specs.Fields.{IsBytes};
+ghost use Rattle.droid_frame.specs.Versions.{is_version};
 ghost use Rattle.droid_frame.specs.types.filter.Filter.{Filter};
 ghost use Rattle.droid_frame.specs.types.frame.Frame.{Frame};
 ghost use Rattle.droid_frame.specs.types.record.Record.{Record};
 ghost use Rattle.droid_frame.specs.types.refusal.Refusal.{Refusal};
-ghost use Rattle.droid_frame.specs.types.refusal.Refusal.TheVariants.{Malformed, NumberReused, Store};
+ghost use Rattle.droid_frame.specs.types.refusal.Refusal.TheVariants.{BadOption, Malformed, NumberReused, Store};
 ghost use Rattle.droid_frame.specs.types.reply.Reply.{Reply};
 ghost use Rattle.droid_frame.specs.types.reply.Reply.TheVariants.{Part, Refused};
 ghost use Rattle.droid_frame.specs.types.request.Request.{Request};
-ghost use Rattle.droid_frame.specs.types.request.Request.TheVariants.{Export};
-ghost use Rattle.droid_core_spec.specs.Histories.{Entry, History, IsLegal, Asks, AsksNothing, HasReply, command, frame_mark, kept, world_of, is_same_request, answer, next, history_from};
-ghost use Rattle.droid_core_spec.specs.Judging.{Answered, judge};
+ghost use Rattle.droid_frame.specs.types.request.Request.TheVariants.{Export, Finish};
+ghost use Rattle.droid_core_spec.specs.FirstVersion.{IsOfVersion1, IsWorldOfVersion1};
+ghost use Rattle.droid_core_spec.specs.Histories.{Entry, History, IsLegal, Asks, AsksNothing, HasReply, command, kept, world_of, is_request_of, answer, next, history_from};
+ghost use Rattle.droid_core_spec.specs.Judging.{Answered, Refuses, judge};
 ghost use Rattle.droid_core_spec.specs.Records.{records, IsRecordIn};
 ghost use Rattle.droid_core_spec.specs.Setting.{Setting};
 ghost use Rattle.droid_core_spec.specs.Verdicts.{is_command, is_refused, MayCome};
@@ -21,8 +24,8 @@ ghost use Rattle.droid_core_spec.specs.Wants.{is_want};
 ghost use Rattle.droid_core_spec.specs.Whole.{FinishedAreWhole};
 ghost use Rattle.droid_core_spec.specs.World.{Profile, World};
 
-/// What a frame asks, for all kinds of request: a request exactly where its number is below 2^63 and its kind
-/// and body spell that request, and nothing exactly where there is no such request.
+/// What a frame asks, for all kinds of request: a request exactly where its number is below 2^63 and its
+/// version, kind and body spell that request, and nothing exactly where there is no such request.
 pub fn a_frame_asks_what_it_spells()
     ensures something { (frame : Frame) (request : Request) → IsBytes frame.body → (command frame ≡ Some request) ↔ Asks frame request }
     ensures nothing { (frame : Frame) → IsBytes frame.body → (command frame ≡ None) ↔ AsksNothing frame }
@@ -32,7 +35,27 @@ pub fn a_frame_asks_what_it_spells()
 /// accepted command is one more, and judging refuses for no other reason than its own: never as Malformed, for
 /// a number used again, or for want of memory or of the database.
 pub fn judging_goes_by_kind()
-    ensures { (setting : Setting) (world : World) (request : Request) → MayCome world request (judge setting world request) }
+    ensures { (setting : Setting) (world : World) (version : ℕ) (request : Request) → MayCome world request (judge setting world version request) }
+{}
+
+/// Only a new file and a finish are judged by the version in which they were sent: all other requests come to the same
+/// in every version.
+pub fn judging_goes_by_version_in_two_kinds()
+    ensures { (setting : Setting) (world : World) (one other : ℕ) (request : Request) → request_kind request ≢ 3 → request_kind request ≢ 5
+        → judge setting world one request ≡ judge setting world other request }
+{}
+
+/// Frames of another version than 1 and 2 ask nothing, and are answered so whatever was kept.
+pub fn other_versions_ask_nothing()
+    ensures asks { (frame : Frame) → is_version frame.version ≡ false → command frame ≡ None }
+    ensures answer { (setting : Setting) (history : History) (frame : Frame) → is_version frame.version ≡ false → answer setting history frame ≡ Refused Malformed }
+{}
+
+/// Where all frames are of version 1, it is as if there were no other: after any list of them each profile's files get
+/// MD5s and no file has larger pieces, and so no Finish of theirs is refused for its profile's hash.
+pub fn version_1_stands_alone()
+    ensures world { (setting : Setting) (frames : List Frame) → AllByRecursion IsOfVersion1 frames → IsWorldOfVersion1 (world_of setting (history_from setting [] frames)) }
+    ensures finish { (setting : Setting) (world : World) (profile file : ℕ) → IsWorldOfVersion1 world → judge setting world 1 (Finish profile file) ≢ Refuses BadOption }
 {}
 
 /// After a legal history no answer is want of memory, and none is that the database refused.
@@ -62,20 +85,21 @@ pub fn an_accepted_reply_stays()
     // So what a command is answered, unless it is refused, it is answered ever after.
     ensures accepted { (setting : Setting) (history : History) (frame : Frame) (request : Request) (frames : List Frame) → command frame ≡ Some request → is_command request ≡ true
         → is_refused (answer setting history frame) ≡ false → answer setting (history_from setting (next setting history frame) frames) frame ≡ answer setting history frame }
-    // Where a legal history has an entry of this client, number, kind and body, its reply is the answer.
+    // Where a legal history has an entry of this client, number, version, kind and body, its reply is the answer.
     ensures again { (setting : Setting) (history : History) (frame : Frame) (entry : Entry) (frames : List Frame) → IsLegal setting history → kept history frame.client frame.number ≡ Some entry
-        → frame.kind ≡ entry.frame.kind → frame.body ≡ entry.frame.body → answer setting (history_from setting history frames) frame ≡ entry.reply }
-    // Another request under a number that is kept is told so, and one that asks nothing is malformed.
+        → frame.version ≡ entry.frame.version → frame.kind ≡ entry.frame.kind → frame.body ≡ entry.frame.body → answer setting (history_from setting history frames) frame ≡ entry.reply }
+    // Another request under a number that is kept, also the same bytes in the other version, is told so, and one that
+    // asks nothing is malformed.
     ensures other { (setting : Setting) (history : History) (frame : Frame) (entry : Entry) (frames : List Frame) → kept history frame.client frame.number ≡ Some entry → IsSome (command frame)
-        → is_same_request entry.mark (frame_mark frame) ≡ false → answer setting (history_from setting history frames) frame ≡ Refused NumberReused }
+        → is_request_of entry frame ≡ false → answer setting (history_from setting history frames) frame ≡ Refused NumberReused }
     ensures malformed { (setting : Setting) (history : History) (frame : Frame) → command frame ≡ None → answer setting history frame ≡ Refused Malformed }
 {}
 
 /// What a part of an export is as of is how many commands were accepted: the length of the history.
 pub fn an_export_is_as_of_the_history()
     ensures accepted { (setting : Setting) (history : History) → IsLegal setting history → (world_of setting history).accepted ≡ length history }
-    ensures part { (setting : Setting) (history : History) (profile from max as_of total : ℕ) (filter : Filter) (bytes : List ℕ) → IsLegal setting history
-        → judge setting (world_of setting history) (Export profile from max filter) ≡ Answered (Part as_of total bytes) → as_of ≡ length history }
+    ensures part { (setting : Setting) (history : History) (version profile from max as_of total : ℕ) (filter : Filter) (bytes : List ℕ) → IsLegal setting history
+        → judge setting (world_of setting history) version (Export profile from max filter) ≡ Answered (Part as_of total bytes) → as_of ≡ length history }
 {}
 
 /// In the world that any history leads to, no piece of a finished file is missing, and as many pieces of it

@@ -11,7 +11,7 @@ use Rattle.droid_store.specs.declared.rows.Entry.{Entry}
 use Rattle.droid_store.specs.Rows as rows
 use Rattle.droid_store.specs.Rows.{Rows, is_node}
 use Rattle.droid_core_state.specs.Rows.{profile_row, rows_in, KeepsWorld}
-use Rattle.droid_core_state.specs.Sound.{IsSound}
+use Rattle.droid_core_state.specs.Sound.{IsSoundWorld}
 use Rattle.droid_core_state.proofs.Apart.{path_elsewhere}
 use Rattle.droid_core_state.proofs.InPlace.{at_file, profiles_set, rows_set}
 use Rattle.droid_core_state.proofs.Items.{filter_turned, filter_kept}
@@ -38,7 +38,7 @@ module _ (number id : ℕ) where
       ∙ filter_kept (λ (n : rows.Node). n.profile == other) stays (others_stay other apart) before.nodes
 
 pub file_abandoned : (setting : Setting) (world : World) (before : Rows) (e : Entry) (number : ℕ) (profile : Profile) (id parent : ℕ) (modified : ℤ) (name : List ℕ) (content : Content)
-    → IsSound world → KeepsWorld setting world before → numbered world.profiles number ≡ Some profile → node_at profile.nodes id ≡ Some (File parent modified name content) → content.finished ≡ false
+    → IsSoundWorld world → KeepsWorld setting world before → numbered world.profiles number ≡ Some profile → node_at profile.nodes id ≡ Some (File parent modified name content) → content.finished ≡ false
     → KeepsWorld setting (world_set world number (node_set profile id Abandoned)) (with_reply e (without_node number id before))
 file_abandoned setting world before e number profile id parent modified name content sound has found at_id unfinished =
     let after = node_set profile id Abandoned in

@@ -13,6 +13,7 @@ pub mod NodeTests
 pub mod ProfileRows
 pub mod Replying
 pub mod RowsOfNodes
+mod SameRequests
 pub mod Sizes
 pub mod ShortRows
 pub mod Soundness

@@ -5,15 +5,15 @@ use Rattle.std.specs.Int.Signed.{lt_z}
 use Rattle.std.specs.List.{list_any}
 use Rattle.std.specs.Str.{bytes_eq}
 use Rattle.droid_assembly.specs.Pieces.{piece_count}
-use Rattle.droid_core_spec.specs.Conditions.{is_scan_limit, is_piece_size, is_part_size, is_too_large, is_moment, is_bad_name, is_separator}
+use Rattle.droid_core_spec.specs.Conditions.{is_scan_limit, is_piece_size, piece_size_limit, is_part_size, is_too_large, is_moment, is_bad_name, is_separator}
 
 pub scan_limit_is : (n : ℕ) → is_scan_limit n ≡ (nat_le 1 n && nat_le n 65536)
 unfolding is_scan_limit
 scan_limit_is n = refl
 
-pub piece_size_is : (n : ℕ) → is_piece_size n ≡ (nat_le 1 n && nat_le n 1048576)
+pub piece_size_is : (version n : ℕ) → is_piece_size version n ≡ (nat_le 1 n && nat_le n (piece_size_limit version))
 unfolding is_piece_size
-piece_size_is n = refl
+piece_size_is version n = refl
 
 pub part_size_is : (n : ℕ) → is_part_size n ≡ (nat_le 1 n && nat_le n 1048576)
 unfolding is_part_size

@@ -7,8 +7,9 @@ use Rattle.std.specs.Prelude.{nat_lt}
 use Rattle.std.specs.Str.{bytes_eq}
 use Rattle.droid_frame.proofs.ReplyParts.{puids_are_short}
 use Rattle.droid_frame.specs.Fields.{truth_bytes, u16_bytes}
-use Rattle.droid_frame.specs.Hashes.{IsHashValue, hash_bytes}
+use Rattle.droid_frame.specs.Hashes.{IsHashValue, hash_bytes, hash_field, hash_value_kind}
 use Rattle.droid_frame.specs.Replies.{HasReplySpelling, IsPuidText, refusal_bytes, reply_bytes}
+use Rattle.droid_frame.specs.types.hash_kind.HashKind.{HashKind}
 use Rattle.droid_frame.specs.types.hash_value.HashValue.{HashValue}
 use Rattle.droid_frame.specs.types.hash_value.HashValue.TheVariants as hashes
 use Rattle.droid_frame.specs.types.method.Method.{Method}
@@ -103,19 +104,35 @@ one_byte : (b : Bool) → length (truth_bytes b) ≡ 1
 one_byte true = refl
 one_byte false = refl
 
-body_is_short : (reply : Reply) → HasReplySpelling reply → length (reply_bytes reply) ≤ 1048640
-body_is_short (Made profile) has = omega arith
-body_is_short (Node id) has = omega arith
-body_is_short (Taken held) has = omega arith
-body_is_short (Finished method mismatch hashes.Nothing puids) has = absurd has.0
-body_is_short (Finished method mismatch (hashes.Sha256 digest) puids) has = absurd has.0
-body_is_short (Finished method mismatch (hashes.Md5 md5) puids) has =
-    let list = u16_bytes (length puids) ++ texts_bytes puids in
-    omega (arith, has.0.0, has.1, puids_are_short puids has.2, one_byte mismatch, length-append (truth_bytes mismatch) (md5 ++ list), length-append md5 list)
-body_is_short Abandoned has = omega arith
-body_is_short (Progress held missing) has = omega arith
-body_is_short (Part as_of total bytes) has = omega (arith, has.2)
-body_is_short (Refused refusal) has = omega (arith, details_are_short refusal)
+-- the kind of a hash is one byte at most
+field_is_short : (version : ℕ) (kind : HashKind) → length (hash_field version kind) ≤ 1
+field_is_short version kind = elim (cases_Bool (version == 1)) [
+  | inl is ↦ rw is (omega arith)
+  | inr isnt ↦ rw isnt (omega arith)
+]
 
-pub entry_fits : (stamp : Stamp) (reply : Reply) → length stamp.mark ≡ 16 → HasReplySpelling reply → FitsARow (entry_size (stamped stamp reply))
-entry_fits stamp reply sixteen has = omega (arith, sixteen, body_is_short reply has)
+body_is_short : (version : ℕ) (reply : Reply) → HasReplySpelling version reply → length (reply_bytes version reply) ≤ 1048640
+body_is_short version (Made profile) has = omega arith
+body_is_short version (Node id) has = omega arith
+body_is_short version (Taken held) has = omega arith
+body_is_short version (Finished method mismatch hash puids) has =
+    let list = u16_bytes (length puids) ++ texts_bytes puids in
+    let field = hash_field version (hash_value_kind hash) in
+    omega (
+      arith,
+      hash_is_short hash has.0.1,
+      field_is_short version (hash_value_kind hash),
+      has.1,
+      puids_are_short puids has.2,
+      one_byte mismatch,
+      length-append (truth_bytes mismatch) ((field ++ hash_bytes hash) ++ list),
+      length-append (field ++ hash_bytes hash) list,
+      length-append field (hash_bytes hash),
+    )
+body_is_short version Abandoned has = omega arith
+body_is_short version (Progress held missing) has = omega arith
+body_is_short version (Part as_of total bytes) has = omega (arith, has.2)
+body_is_short version (Refused refusal) has = omega (arith, details_are_short refusal)
+
+pub entry_fits : (stamp : Stamp) (reply : Reply) → length stamp.mark ≡ 16 → HasReplySpelling stamp.version reply → FitsARow (entry_size (stamped stamp reply))
+entry_fits stamp reply sixteen has = omega (arith, sixteen, body_is_short stamp.version reply has)

@@ -7,19 +7,20 @@ use Rattle.droid_core_spec.specs.Conditions.{is_moment, is_piece_size, is_scan_l
 use Rattle.droid_core_spec.specs.Judging.{Check, refusal_of, create_checks, place_checks, folder_checks, file_checks, world_set, with_node, node_set}
 use Rattle.droid_core_spec.specs.Limits.{Limits}
 use Rattle.droid_core_spec.specs.World.{Content, Node, Folder, File, Abandoned, Profile, World, empty_world, world_with, numbered, node_at, unless_abandoned}
-use Rattle.droid_core_state.specs.Sound.{is_folder, IsPlace, IsSized, IsSoundNode, IsSoundProfile, IsSound}
+use Rattle.droid_core_state.specs.Sound.{is_folder, IsPlace, IsSized, IsSoundNode, IsSoundProfile, IsSoundWorld}
 use Rattle.droid_core_spec.proofs.Each.{each_at, each_with_one_more, each_with_one_set}
 use Rattle.droid_core_state.proofs.Lists.{each_weaker}
+use Rattle.droid_core_state.proofs.Sizes.{allowed_in_2}
 
-pub sound_empty : IsSound empty_world
+pub sound_empty : IsSoundWorld empty_world
 sound_empty = tt
 
-pub sound_made : (world : World) (scan_limit : ℕ) (match_all : Bool) (hash : HashKind) → IsSound world → IsTrue (is_scan_limit scan_limit)
-    → IsSound (world_with world (world.profiles ++ record { scan_limit = scan_limit; match_all = match_all; hash = hash; nodes = [] } ∷ []))
+pub sound_made : (world : World) (scan_limit : ℕ) (match_all : Bool) (hash : HashKind) → IsSoundWorld world → IsTrue (is_scan_limit scan_limit)
+    → IsSoundWorld (world_with world (world.profiles ++ record { scan_limit = scan_limit; match_all = match_all; hash = hash; nodes = [] } ∷ []))
 sound_made world scan_limit match_all hash sound within =
-    each_with_one_more IsSoundProfile world.profiles (record { scan_limit = scan_limit; match_all = match_all; hash = hash; nodes = [] }) sound (record { limit = within; nodes = tt })
+    each_with_one_more IsSoundProfile world.profiles (record { scan_limit = scan_limit; match_all = match_all; hash = hash; nodes = [] }) sound (record { scan_limit = within; nodes = tt })
 
-pub sound_profile : (world : World) (number : ℕ) (profile : Profile) → IsSound world → numbered world.profiles number ≡ Some profile → IsSoundProfile profile
+pub sound_profile : (world : World) (number : ℕ) (profile : Profile) → IsSoundWorld world → numbered world.profiles number ≡ Some profile → IsSoundProfile profile
 sound_profile world zero profile sound is = absurd cc
 sound_profile world (suc place) profile sound is = each_at IsSoundProfile world.profiles place profile sound is
 
@@ -51,14 +52,14 @@ folders_of_more [] more place is = absurd (false≢true is)
 folders_of_more (node ∷ nodes) more zero is = is
 folders_of_more (node ∷ nodes) more (suc place) is = folders_of_more nodes more place is
 
-pub sound_added : (world : World) (number : ℕ) (profile : Profile) (node : Node) → IsSound world → numbered world.profiles number ≡ Some profile → IsSoundNode profile.nodes node
-    → IsSound (world_set world number (with_node profile node))
+pub sound_added : (world : World) (number : ℕ) (profile : Profile) (node : Node) → IsSoundWorld world → numbered world.profiles number ≡ Some profile → IsSoundNode profile.nodes node
+    → IsSoundWorld (world_set world number (with_node profile node))
 sound_added world number profile node sound is it =
     let old = sound_profile world number profile sound is in
     let more = profile.nodes ++ node ∷ [] in
     let still = folders_of_more profile.nodes (node ∷ []) in
     each_with_one_set IsSoundProfile world.profiles (number - 1) (with_node profile node) sound (record {
-      limit = old.limit;
+      scan_limit = old.scan_limit;
       nodes = each_with_one_more (IsSoundNode more) profile.nodes node (nodes_still profile.nodes more still profile.nodes old.nodes) (node_still profile.nodes more still node it);
     })
 
@@ -86,16 +87,16 @@ file_place nodes (suc place) parent modified name content is =
     unless (Some (File p m n c)) it = it
     unless (Some Abandoned) it = absurd cc
 
-module _ (world : World) (number : ℕ) (profile : Profile) (id parent : ℕ) (modified : ℤ) (name : List ℕ) (content : Content) (sound : IsSound world)
+module _ (world : World) (number : ℕ) (profile : Profile) (id parent : ℕ) (modified : ℤ) (name : List ℕ) (content : Content) (sound : IsSoundWorld world)
     (is : numbered world.profiles number ≡ Some profile) (there : node_at profile.nodes id ≡ Some (File parent modified name content)) where
-  sound_set : (node : Node) → IsSoundNode profile.nodes node → IsSound (world_set world number (node_set profile id node))
+  sound_set : (node : Node) → IsSoundNode profile.nodes node → IsSoundWorld (world_set world number (node_set profile id node))
   sound_set node it =
       let old = sound_profile world number profile sound is in
       let place = id - 1 in
       let now = slice_set profile.nodes place node in
       let still = folders_of_set profile.nodes place node (ap (λ found. is_folder (unless_abandoned found)) (file_place profile.nodes id parent modified name content there)) in
       each_with_one_set IsSoundProfile world.profiles (number - 1) (node_set profile id node) sound (record {
-        limit = old.limit;
+        scan_limit = old.scan_limit;
         nodes = each_with_one_set (IsSoundNode now) profile.nodes place node (nodes_still profile.nodes now still profile.nodes old.nodes) (node_still profile.nodes now still node it);
       })
 
@@ -106,10 +107,10 @@ module _ (world : World) (number : ℕ) (profile : Profile) (id parent : ℕ) (m
   sound_sizes = its_soundness.2
 
   -- another content of the same sizes
-  pub sound_file_set : (after : Content) → after.size ≡ content.size → after.piece_size ≡ content.piece_size → IsSound (world_set world number (node_set profile id (File parent modified name after)))
+  pub sound_file_set : (after : Content) → after.size ≡ content.size → after.piece_size ≡ content.piece_size → IsSoundWorld (world_set world number (node_set profile id (File parent modified name after)))
   sound_file_set after size piece_size = sound_set (File parent modified name after) (its_soundness.0, its_soundness.1, rw (size, piece_size) its_soundness.2)
 
-  pub sound_abandoned : IsSound (world_set world number (node_set profile id Abandoned))
+  pub sound_abandoned : IsSoundWorld (world_set world number (node_set profile id Abandoned))
   sound_abandoned = sound_set Abandoned tt
 
 -- ---- what the checks of a command see to
@@ -139,8 +140,8 @@ place_of_checks nodes parent name more none =
     let all = none_holds (place_checks nodes parent name ++ more) none in
     place_of nodes parent all.0 all.1.0
 
-pub limit_of_checks : (limits : Limits) (world : World) (scan_limit : ℕ) → refusal_of (create_checks limits world scan_limit) ≡ None → IsTrue (is_scan_limit scan_limit)
-limit_of_checks limits world scan_limit none = not-false (is_scan_limit scan_limit) (none_holds (create_checks limits world scan_limit) none).0
+pub scan_limit_of_checks : (limits : Limits) (world : World) (scan_limit : ℕ) → refusal_of (create_checks limits world scan_limit) ≡ None → IsTrue (is_scan_limit scan_limit)
+scan_limit_of_checks limits world scan_limit none = not-false (is_scan_limit scan_limit) (none_holds (create_checks limits world scan_limit) none).0
 
 pub folder_of_checks : (limits : Limits) (nodes : List Node) (parent : ℕ) (modified : ℤ) (name : List ℕ) → refusal_of (folder_checks limits nodes parent modified name) ≡ None
     → IsSoundNode nodes (Folder parent modified name)
@@ -148,9 +149,9 @@ folder_of_checks limits nodes parent modified name none =
     let all = none_holds (folder_checks limits nodes parent modified name) none in
     (place_of nodes parent all.0 all.1.0, not-false (is_moment modified) all.1.1.1.1.1.0)
 
-pub file_of_checks : (limits : Limits) (world : World) (nodes : List Node) (parent : ℕ) (modified : ℤ) (size piece_size : ℕ) (name : List ℕ) (content : Content)
-    → content.size ≡ size → content.piece_size ≡ piece_size → refusal_of (file_checks limits world nodes parent modified size piece_size name) ≡ None → IsSoundNode nodes (File parent modified name content)
-file_of_checks limits world nodes parent modified size piece_size name content size_is piece_size_is none =
-    let all = none_holds (file_checks limits world nodes parent modified size piece_size name) none in
-    let fits = or_parts (not (is_moment modified)) (not (is_piece_size piece_size)) all.1.1.1.1.1.0 in
-    (place_of nodes parent all.0 all.1.0, not-false (is_moment modified) fits.0, rw (size_is, piece_size_is) (record { pieces = not-false (is_piece_size piece_size) fits.1; whole = all.1.1.1.1.1.1.0 }))
+pub file_of_checks : (limits : Limits) (world : World) (version : ℕ) (nodes : List Node) (parent : ℕ) (modified : ℤ) (size piece_size : ℕ) (name : List ℕ) (content : Content)
+    → content.size ≡ size → content.piece_size ≡ piece_size → refusal_of (file_checks limits world version nodes parent modified size piece_size name) ≡ None → IsSoundNode nodes (File parent modified name content)
+file_of_checks limits world version nodes parent modified size piece_size name content size_is piece_size_is none =
+    let all = none_holds (file_checks limits world version nodes parent modified size piece_size name) none in
+    let fits = or_parts (not (is_moment modified)) (not (is_piece_size version piece_size)) all.1.1.1.1.1.0 in
+    (place_of nodes parent all.0 all.1.0, not-false (is_moment modified) fits.0, rw (size_is, piece_size_is) (record { pieces = allowed_in_2 version piece_size (not-false (is_piece_size version piece_size) fits.1); whole = all.1.1.1.1.1.1.0 }))

@@ -11,7 +11,7 @@ use Rattle.droid_core_files.specs.Files.{OpenFile, OpenFiles, open_at}
 pub record IsAssemblyOf (profile : Profile) (content : Content) (assembly : State) : Type 0 where
   pub size : assembly.size ≡ content.size
   pub piece_size : assembly.piece_size ≡ content.piece_size
-  pub limit : assembly.limit ≡ profile.scan_limit
+  pub scan_limit : assembly.scan_limit ≡ profile.scan_limit
   pub hash : hash_kind_of assembly ≡ profile.hash
   pub pieces : assemblies.StandsFor assembly content.pieces
   pub none_pending : assembly.pending ≡ None

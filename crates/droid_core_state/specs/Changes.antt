@@ -1,5 +1,5 @@
 -- What one request changes inside the service. No public clause names these: they only serve proofs.
-use Rattle.std.specs.Prelude.{◌≡◌, ℕ, List, ◌∷◌, [], ◌++◌, if◌then◌else◌, MatchBool, Result, Ok, Err}
+use Rattle.std.specs.Prelude.{◌≡◌, ◌∷◌, [], ◌++◌, if◌then◌else◌, Bool, MatchBool, Result, Ok, Err}
 use Rattle.droid_frame.specs.Replies.{reply_kind, reply_bytes}
 use Rattle.droid_frame.specs.types.frame.Frame.{Frame}
 use Rattle.droid_frame.specs.types.refusal.Refusal.{Refusal}
@@ -21,17 +21,21 @@ abbrev pub answered : Result Reply Refusal → Reply
 answered (Ok reply) = reply
 answered (Err refusal) = Refused refusal
 
--- the row of a reply to the request with this stamp
+-- the row of a reply to the request with this stamp, in the request's version
 abbrev pub stamped : Stamp → Reply → rows.Entry
-stamped stamp reply = record { client = stamp.client; number = stamp.number; mark = stamp.mark; kind = reply_kind reply; body = reply_bytes reply }
+stamped stamp reply = record { client = stamp.client; number = stamp.number; version = stamp.version; mark = stamp.mark; kind = reply_kind reply; body = reply_bytes stamp.version reply }
 
--- whose the request of a frame is, and its mark
+-- whose the request of a frame is, its version and its mark
 abbrev pub stamp_of : Frame → Stamp
-stamp_of frame = record { client = frame.client; number = frame.number; mark = frame_mark frame }
+stamp_of frame = record { client = frame.client; number = frame.number; version = frame.version; mark = frame_mark frame }
 
--- what a request with this mark is answered where the row is kept under its number, and spells this reply
-abbrev pub again : rows.Entry → List ℕ → Reply → Reply
-again entry mark kept = if is_same_request entry.mark mark then kept else Refused NumberReused
+-- the row is that of the reply to the request with this stamp, under one client and number
+abbrev pub is_row_of : rows.Entry → Stamp → Bool
+is_row_of entry stamp = is_same_request entry.version entry.mark stamp.version stamp.mark
+
+-- what the request with this stamp is answered where the row is kept under its number, and spells this reply
+abbrev pub again : rows.Entry → Stamp → Reply → Reply
+again entry stamp kept = if is_row_of entry stamp then kept else Refused NumberReused
 
 -- the service is in the same world, with the same replies kept
 pub record Stays (setting : Setting) (world : World) (old new : Parts) : Type 0 where

@@ -12,9 +12,9 @@ moment_checks modified nodes =
     ∷ (nat_le nodes.limit nodes.count, LimitReached Nodes)
     ∷ []
 
-abbrev pub size_checks : ℤ → ℕ → ℕ → Room → Room → List Check
-size_checks modified size piece_size nodes unfinished =
-    (not (is_moment modified) || not (is_piece_size piece_size), BadOption)
+abbrev pub size_checks : ℕ → ℤ → ℕ → ℕ → Room → Room → List Check
+size_checks version modified size piece_size nodes unfinished =
+    (not (is_moment modified) || not (is_piece_size version piece_size), BadOption)
     ∷ (is_too_large size piece_size, TooLarge)
     ∷ (nat_le nodes.limit nodes.count, LimitReached Nodes)
     ∷ (nat_le unfinished.limit unfinished.count, LimitReached Unfinished)

@@ -20,7 +20,7 @@ pub record HasProfile (world : World) (number : ℕ) (row : ProfileRow) : Type 0
   pub there : numbered world.profiles number ≡ Some profile
   pub row_is : row ≡ profile_row profile
 
--- the profile's row; or it is missing, or memory was wanting
+-- the profile's row; or it is missing, or memory was refused
 abbrev pub FindsProfile : World → ℕ → Result ProfileRow Refusal → Type 0
 FindsProfile world number (Ok row) = HasProfile world number row
 FindsProfile world number (Err refusal) = MatchBool (is_want_of refusal) ⊤ ((refusal ≡ NoSuchProfile) × (numbered world.profiles number ≡ None))

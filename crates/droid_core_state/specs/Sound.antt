@@ -15,9 +15,9 @@ abbrev pub IsPlace : List Node → ℕ → Type 0
 IsPlace nodes zero = Unit {0}
 IsPlace nodes (suc place) = IsTrue (is_folder (node_at nodes (suc place)))
 
--- the sizes of a file are in range
+-- the sizes of a file are in range: those of its pieces in that of version 2, which has that of version 1 in it
 pub record IsSized (size piece_size : ℕ) : Type 0 where
-  pub pieces : IsTrue (is_piece_size piece_size)
+  pub pieces : IsTrue (is_piece_size 2 piece_size)
   pub whole : is_too_large size piece_size ≡ false
 
 -- it lies in a folder or at the top, and its moment and its sizes are in range
@@ -27,8 +27,8 @@ IsSoundNode nodes (File parent modified name content) = IsPlace nodes parent × 
 IsSoundNode nodes Abandoned = Unit {0}
 
 pub record IsSoundProfile (profile : Profile) : Type 0 where
-  pub limit : IsTrue (is_scan_limit profile.scan_limit)
+  pub scan_limit : IsTrue (is_scan_limit profile.scan_limit)
   pub nodes : AllByRecursion (IsSoundNode profile.nodes) profile.nodes
 
-abbrev pub IsSound : World → Type 0
-IsSound world = AllByRecursion IsSoundProfile world.profiles
+abbrev pub IsSoundWorld : World → Type 0
+IsSoundWorld world = AllByRecursion IsSoundProfile world.profiles

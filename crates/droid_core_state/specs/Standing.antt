@@ -5,7 +5,7 @@ use Rattle.droid_core_spec.specs.Limits.{Limits}
 use Rattle.droid_core_spec.specs.Setting.{Setting}
 use Rattle.droid_core_spec.specs.World.{World}
 use Rattle.droid_core_state.specs.Rows.{KeepsWorld}
-use Rattle.droid_core_state.specs.Sound.{IsSound}
+use Rattle.droid_core_state.specs.Sound.{IsSoundWorld}
 use Rattle.droid_core_state.specs.Assemblies.{HasAssemblies}
 use Rattle.droid_core_state.specs.declared.limits.Limits as given
 use Rattle.droid_core_state.specs.declared.parts.Parts.{Parts}
@@ -30,6 +30,6 @@ pub record IsSettingOf (setting : Setting) (parts : Parts) : Type 0 where
 pub record IsIn (setting : Setting) (world : World) (parts : Parts) : Type 0 where
   pub is_setting : IsSettingOf setting parts
   pub rows : KeepsWorld setting world parts.store
-  pub sound : IsSound world
+  pub sound : IsSoundWorld world
   pub files : HasAssemblies world parts.files
   pub room : parts.files.limit ≡ setting.limits.unfinished

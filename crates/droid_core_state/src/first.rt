@@ -57,6 +57,7 @@ fn moment_refusal(modified: i64, nodes: Room) -> Option<Refusal>
 
 /// The first refusal of a new file whose place and name are not refused, where there is one.
 pub fn file_refusal(
+    version: u8,
     modified: i64,
     size: u64,
     piece_size: u32,
@@ -66,26 +67,27 @@ pub fn file_refusal(
     ensures first { (limits : Limits) (world : World) (all : List Node) (parent : ℕ) (name : List ℕ) → nodes.limit ≡ limits.nodes → nodes.count ≡ length all
         → unfinished.limit ≡ limits.unfinished → unfinished.count ≡ unfinished_in world
         → refusal_of (place_checks all parent name) ≡ None
-        → result ≡ refusal_of (file_checks limits world all parent modified size piece_size name) }
+        → result ≡ refusal_of (file_checks limits world version all parent modified size piece_size name) }
     ensures moment { IfNone result (IsTrue (is_moment modified)) }
-    ensures sizes { IfNone result ((limit : ℕ) → IsTrue (is_scan_limit limit) → AreSizes size piece_size limit) }
+    ensures sizes { IfNone result ((scan_limit : ℕ) → IsTrue (is_scan_limit scan_limit) → AreSizes size piece_size scan_limit) }
     ensures room { IfNone result (nodes.count < nodes.limit) }
     ensures unfinished { IfNone result (unfinished.count < unfinished.limit) }
 {
-    size_refusal(modified, size, piece_size, nodes, unfinished)
+    size_refusal(version, modified, size, piece_size, nodes, unfinished)
 }
 
 /// The first refusal of a moment, of sizes, or of one unfinished file more.
 fn size_refusal(
+    version: u8,
     modified: i64,
     size: u64,
     piece_size: u32,
     nodes: Room,
     unfinished: Room,
 ) -> Option<Refusal>
-    ensures first { result ≡ refusal_of (size_checks modified size piece_size nodes unfinished) }
+    ensures first { result ≡ refusal_of (size_checks version modified size piece_size nodes unfinished) }
     ensures moment { IfNone result (IsTrue (is_moment modified)) }
-    ensures piece_size { IfNone result (IsTrue (is_piece_size piece_size)) }
+    ensures piece_size { IfNone result (IsTrue (is_piece_size version piece_size)) }
     ensures size { IfNone result (is_too_large size piece_size ≡ false) }
     ensures room { IfNone result (nodes.count < nodes.limit) }
     ensures unfinished { IfNone result (unfinished.count < unfinished.limit) }
@@ -93,7 +95,7 @@ fn size_refusal(
     if !is_moment(modified) {
         return Some(Refusal::BadOption);
     }
-    if !is_piece_size(piece_size) {
+    if !is_piece_size(version, piece_size) {
         return Some(Refusal::BadOption);
     }
     if is_too_large(size, piece_size) {

@@ -19,7 +19,7 @@ pub use first::{create_refusal, export_refusal, file_refusal, folder_refusal};
 pub use limits::Limits;
 pub use look_ups::profile_of;
 pub use names::is_bad_name;
-pub use options::{is_moment, is_part_size, is_piece_size, is_scan_limit, is_told, is_too_large};
+pub use options::{is_moment, is_scan_limit, is_told};
 pub use parts::Parts;
 pub use paths::{is_too_deep_below, new_path};
 pub use replies::{answer_again, entry_of, reply_from};

@@ -1,12 +1,14 @@
 //! Whose a request is, and the row that keeps its reply.
 
-/// Whose a request is, and its mark.
+/// Whose a request is, the version in which it was sent, and its mark.
 #[derive(Clone, Copy, Debug, PartialEq, Eq)]
 pub struct Stamp {
     /// Who sent the request.
     pub client: u32,
     /// The client's number for it, below 2^63.
     pub number: u64,
+    /// The version of its frame, in which it is answered.
+    pub version: u8,
     /// The mark of its kind and body.
     pub mark: [u8; 16],
 }

@@ -29,7 +29,7 @@ pub fn service(rt: &impl Abort, alloc: Global, limits: Limits) -> Result<Service
 /// The request of a line.
 pub fn frame(rt: &impl Abort, alloc: Global, line: &str) -> Result<Frame, AllocError> {
     match parse_line(alloc, line.as_bytes())? {
-        Some(line) => request_frame(alloc, line.client, line.number, &line.request),
+        Some(line) => request_frame(alloc, line.version, line.client, line.number, &line.request),
         None => panic!(rt; "no request: {line}"),
     }
 }

@@ -37,12 +37,12 @@ pub fn printed_again(alloc: Global, reply: Reply) -> Result<Vec<u8>, AllocError>
     print_answer(alloc, &answer).or_else(|_| print_answer(alloc, &answer))
 }
 
-/// Whether memory was wanting, also that of the database.
+/// Whether memory was refused, also that of the database.
 fn is_wanting(reply: &Reply) -> bool {
     matches!(reply, Reply::Refused(Refusal::Memory | Refusal::Store))
 }
 
-/// What the reply to a line prints. The request is sent again where memory was wanting.
+/// What the reply to a line prints. The request is sent again where memory was refused.
 pub fn ask_again(
     rt: &impl Abort,
     alloc: Global,

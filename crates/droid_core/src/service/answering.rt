@@ -1,18 +1,20 @@
 //! How a request that is spelled is answered: under a kept number again, and under a new one by its kind.
 
 ghost use Rattle.std.specs.Prelude.{◌≡◌, ◌≢◌, ◌<◌, ◌^◌, true, false, None, Some, IfOk, IfErr};
-ghost use Rattle.droid_core_state.specs.Changes.{Comes, again, answered, stamp_of, stamped};
+ghost use Rattle.droid_core_requests.specs.Answering.{AnswersIn};
+ghost use Rattle.droid_core_state.specs.Changes.{again, answered, is_row_of, stamp_of, stamped};
 ghost use Rattle.droid_core.specs.Recent.{AreKept, IsKeptRow};
 ghost use Rattle.droid_core.specs.Standing.{StandsFor, limits_of, registry_of};
 ghost use Rattle.droid_core_requests.specs.KeptTexts.{IsLastText};
 ghost use Rattle.droid_core_state.specs.Standing.{IsIn};
 ghost use Rattle.droid_frame.specs.Replies.{HasReplySpelling, SpellsReply};
+ghost use Rattle.droid_frame.specs.Versions.{IsVersion};
 ghost use Rattle.droid_frame.specs.types.frame.Frame.{Frame};
 ghost use Rattle.droid_frame.specs.types.refusal.Refusal.TheVariants.{Memory, NumberReused};
 ghost use Rattle.droid_frame.specs.types.reply.Reply.{Reply as ReplyValue};
 ghost use Rattle.droid_frame.specs.types.reply.Reply.TheVariants.{Refused};
 ghost use Rattle.droid_frame.specs.types.request.Request.{Request as RequestValue};
-ghost use Rattle.droid_core_spec.specs.Histories.{History, Handles, command, is_same_request};
+ghost use Rattle.droid_core_spec.specs.Histories.{History, Handles, command};
 ghost use Rattle.droid_core_spec.specs.Judging.{judge};
 ghost use Rattle.droid_core_spec.specs.Setting.{Setting};
 ghost use Rattle.droid_core_spec.specs.Verdicts.{is_command, is_refused};
@@ -33,14 +35,15 @@ use droid_store::{Entry, StoreFault};
 /// kept reply is looked for at hand first.
 pub fn answer(service: &mut Service, stamp: Stamp, request: Request) -> Reply
     requires small { stamp.number < 2 ^ 63 }
+    requires version { IsVersion stamp.version }
     ensures handles { (setting : Setting) (history : History) (frame : Frame) → stamp ≡ stamp_of frame → command frame ≡ Some request
         → StandsFor setting service.old history → Handles setting history frame result (StandsFor setting service.new) }
-    ensures spelled { HasReplySpelling result }
+    ensures spelled { HasReplySpelling stamp.version result }
     ensures limits { limits_of service.new ≡ limits_of service.old }
     ensures registry { registry_of service.new ≡ registry_of service.old }
 {
     match service.recent.find(stamp.client, stamp.number) {
-        Some(row) => answer_again(service.parts.alloc, row, stamp.mark),
+        Some(row) => answer_again(service.parts.alloc, row, stamp),
         None => answer_from_store(service, stamp, request),
     }
 }
@@ -48,9 +51,10 @@ pub fn answer(service: &mut Service, stamp: Stamp, request: Request) -> Reply
 /// The same, by what the store has.
 fn answer_from_store(service: &mut Service, stamp: Stamp, request: Request) -> Reply
     requires small { stamp.number < 2 ^ 63 }
+    requires version { IsVersion stamp.version }
     ensures handles { (setting : Setting) (history : History) (frame : Frame) → stamp ≡ stamp_of frame → command frame ≡ Some request
         → StandsFor setting service.old history → Handles setting history frame result (StandsFor setting service.new) }
-    ensures spelled { HasReplySpelling result }
+    ensures spelled { HasReplySpelling stamp.version result }
     ensures limits { limits_of service.new ≡ limits_of service.old }
     ensures registry { registry_of service.new ≡ registry_of service.old }
 {
@@ -67,12 +71,13 @@ fn answer_found(
     found: Result<Option<Entry>, StoreFault>,
 ) -> Reply
     requires small { stamp.number < 2 ^ 63 }
+    requires version { IsVersion stamp.version }
     requires found { IfOk found (λ entry. entry ≡ reply_for stamp.client stamp.number service.old.parts.store) }
     requires memory { IfErr found (λ fault. fault ≡ StoreFault.Memory) }
     ensures told { IfErr found (λ fault. result ≡ Refused Memory) }
     ensures handles { (setting : Setting) (history : History) (frame : Frame) → stamp ≡ stamp_of frame → command frame ≡ Some request
         → StandsFor setting service.old history → Handles setting history frame result (StandsFor setting service.new) }
-    ensures spelled { HasReplySpelling result }
+    ensures spelled { HasReplySpelling stamp.version result }
     ensures limits { limits_of service.new ≡ limits_of service.old }
     ensures registry { registry_of service.new ≡ registry_of service.old }
 {
@@ -88,24 +93,25 @@ fn answer_kept(service: &mut Service, stamp: Stamp, row: Entry) -> Reply
     requires found { reply_for stamp.client stamp.number service.old.parts.store ≡ Some row }
     ensures handles { (setting : Setting) (history : History) (frame : Frame) (request : RequestValue) → stamp ≡ stamp_of frame → command frame ≡ Some request
         → StandsFor setting service.old history → Handles setting history frame result (StandsFor setting service.new) }
-    // No want of the copy at hand is told: another mark is never a want, and neither is any reply but a Finished.
-    ensures reused { is_same_request row.mark stamp.mark ≡ false → result ≡ Refused NumberReused }
-    ensures exact { (kept : ReplyValue) → SpellsReply row.kind row.body kept → row.kind ≢ 132 → result ≡ again row stamp.mark kept }
-    ensures spelled { HasReplySpelling result }
+    // No want of the copy at hand is told: another version or mark is never a want, and neither is any reply but a Finished.
+    ensures reused { is_row_of row stamp ≡ false → result ≡ Refused NumberReused }
+    ensures exact { (kept : ReplyValue) → SpellsReply row.version row.kind row.body kept → row.kind ≢ 132 → result ≡ again row stamp kept }
+    ensures spelled { HasReplySpelling stamp.version result }
     ensures limits { limits_of service.new ≡ limits_of service.old }
     ensures registry { registry_of service.new ≡ registry_of service.old }
 {
     service.recent.put_copy(stamp.client, stamp.number, &row);
-    answer_again(service.parts.alloc, row, stamp.mark)
+    answer_again(service.parts.alloc, row, stamp)
 }
 
 /// Answers a request under a new number by its verdict, and puts the reply at hand where it is kept.
 fn answer_new(service: &mut Service, stamp: Stamp, request: Request) -> Reply
     requires new { reply_for stamp.client stamp.number service.old.parts.store ≡ None }
     requires small { stamp.number < 2 ^ 63 }
+    requires version { IsVersion stamp.version }
     ensures handles { (setting : Setting) (history : History) (frame : Frame) → stamp ≡ stamp_of frame → command frame ≡ Some request
         → StandsFor setting service.old history → Handles setting history frame result (StandsFor setting service.new) }
-    ensures spelled { HasReplySpelling result }
+    ensures spelled { HasReplySpelling stamp.version result }
     ensures limits { limits_of service.new ≡ limits_of service.old }
     ensures registry { registry_of service.new ≡ registry_of service.old }
 {
@@ -129,7 +135,8 @@ fn tell_new(
     commands: bool,
     outcome: Result<Reply, Refusal>,
 ) -> Reply
-    requires spelled { HasReplySpelling (answered outcome) }
+    requires version { IsVersion stamp.version }
+    requires spelled { HasReplySpelling stamp.version (answered outcome) }
     ensures told { result ≡ answered outcome }
     ensures kept { (history : History) → AreKept history recent.old.rows.entries
         → (commands ≡ true → is_refused (answered outcome) ≡ false → IsKeptRow history (stamp.client, stamp.number) (stamped stamp (answered outcome)))
@@ -173,12 +180,9 @@ fn apply(
 ) -> Result<Reply, Refusal>
     requires new { reply_for stamp.client stamp.number parts.old.store ≡ None }
     requires small { stamp.number < 2 ^ 63 }
-    ensures comes { (setting : Setting) (world : World) → IsIn setting world parts.old → IsLastText setting world last.old
-        → Comes setting world parts.old parts.new stamp (judge setting world request) (answered result) }
+    requires version { IsVersion stamp.version }
+    ensures answers { AnswersIn (λ setting world. IsIn setting world parts.old × IsLastText setting world last.old) (λ setting world. judge setting world stamp.version request) stamp parts.old parts.new (answered result) }
     ensures last { (setting : Setting) (world : World) → IsIn setting world parts.old → IsLastText setting world last.old → IsLastText setting world last.new }
-    ensures spelled { HasReplySpelling (answered result) }
-    ensures limits { parts.new.limits ≡ parts.old.limits }
-    ensures registry { parts.new.registry ≡ parts.old.registry }
 {
     match request {
         Request::CreateProfile {

@@ -1,12 +1,13 @@
 //! The service: what it keeps, and how it answers.
 
-ghost use Rattle.std.specs.Prelude.{◌≡◌, ◌≢◌, ◌≤◌, [], IfOk, IfErr, OnErr, vec_len};
+ghost use Rattle.std.specs.Prelude.{◌≡◌, ◌≢◌, ◌≤◌, [], false, IfOk, IfErr, IfSome, OnErr, vec_len};
 ghost use Rattle.std.specs.List.{AllByRecursion};
-ghost use Rattle.droid_core.specs.KeptBytes.{IsAtMost, kept_bytes_of, most_bytes_of};
+ghost use Rattle.droid_core.specs.KeptBytes.{IsAtMost, kept_bytes_of, most_bytes_of, piece_size_of};
 ghost use Rattle.droid_core.specs.Running.{Runs};
 ghost use Rattle.droid_core.specs.Standing.{StandsFor, limits_of, registry_of};
 ghost use Rattle.droid_core_state.specs.Standing.{limits_given};
 ghost use Rattle.droid_frame.specs.Replies.{HasReplySpelling};
+ghost use Rattle.droid_frame.specs.Versions.{is_version};
 ghost use Rattle.droid_frame.specs.types.refusal.Refusal.TheVariants as refusals;
 ghost use Rattle.droid_frame.specs.types.reply.Reply.TheVariants.{Refused};
 ghost use Rattle.droid_core_spec.specs.Histories.{History, Handles, world_of};
@@ -100,19 +101,21 @@ impl Service {
         })
     }
 
-    /// Handles one request, and gives its one reply. That the database refused for another cause than
-    /// memory it never answers.
+    /// Handles one request, and gives its one reply, which has a spelling in the request's version. A frame of another
+    /// version than 1 and 2 is malformed. That the database refused for another cause than memory it never answers.
     pub fn handle(&mut self, frame: Frame) -> Reply
         ensures handles { (setting : Setting) (history : History) → StandsFor setting self.old history →
             Handles setting history frame result (StandsFor setting self.new) }
         ensures no_store { (setting : Setting) (history : History) → StandsFor setting self.old history → result ≢ Refused refusals.Store }
-        ensures spelled { HasReplySpelling result }
+        ensures spelled { HasReplySpelling frame.version result }
+        ensures other_version { is_version frame.version ≡ false → result ≡ Refused refusals.Malformed }
         ensures limits { limits_of self.new ≡ limits_of self.old }
         ensures registry { registry_of self.new ≡ registry_of self.old }
     {
         let stamp = Stamp {
             client: frame.client,
             number: frame.number,
+            version: frame.version,
             mark: mark(frame.kind, frame.body.as_slice()),
         };
         match request_of(self.parts.alloc, frame) {
@@ -143,12 +146,15 @@ impl Service {
     }
 
     /// How many bytes of content are kept of the file with this number in this profile, or `None`
-    /// unless it is unfinished.
+    /// unless it is unfinished: at most 67,239,936, and 16,908,288 of a file whose pieces version 1 allows.
     pub fn kept_bytes(&self, profile: u32, file: u32) -> Option<u64>
         ensures kept { (setting : Setting) (history : History) → StandsFor setting self.now history
             → result ≡ kept_bytes_of (world_of setting history) profile file }
         ensures bound { (setting : Setting) (history : History) → StandsFor setting self.now history
             → IsAtMost result (most_bytes_of (world_of setting history) profile file) }
+        ensures most { IfSome result (λ bytes. bytes ≤ 67239936) }
+        ensures of_version_1 { (setting : Setting) (history : History) → StandsFor setting self.now history
+            → IfSome (piece_size_of (world_of setting history) profile file) (λ bytes. bytes ≤ 1048576) → IfSome result (λ bytes. bytes ≤ 16908288) }
     {
         let place = self.parts.files.place_of(profile, file)?;
         Some(self.parts.files.kept_bytes(place))

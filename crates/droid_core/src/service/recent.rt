@@ -5,6 +5,7 @@ ghost use Rattle.droid_core.specs.Recent.{AreKept, IsKeptRow};
 ghost use Rattle.droid_core_spec.specs.Histories.{History};
 ghost use Rattle.droid_core_state.specs.Changes.{stamped};
 ghost use Rattle.droid_frame.specs.Replies.{HasReplySpelling};
+ghost use Rattle.droid_frame.specs.Versions.{IsVersion};
 
 use droid_core_state::{Stamp, entry_of};
 use droid_frame::Reply;
@@ -13,8 +14,8 @@ use lru::LruCache;
 use std::alloc::{AllocError, Global};
 use std::num::NonZeroUsize;
 
-/// Rows of kept replies by client and number, those that were used last. A row for which no memory is
-/// found is left out, and nobody is told: the store has it.
+/// Rows of kept replies by client and number, those that were used last. A row for which memory was
+/// refused is left out, and nobody is told: the store has it.
 #[derive(Drop)]
 pub struct RecentReplies {
     alloc: Global,
@@ -32,8 +33,8 @@ impl RecentReplies {
         })
     }
 
-    /// A copy of the row of this client and number, or `None` where it isn't at hand or no memory is
-    /// found for a copy. A row that is looked for is the last to make place for another.
+    /// A copy of the row of this client and number, or `None` where it isn't at hand or memory was
+    /// refused for a copy. A row that is looked for is the last to make place for another.
     pub fn find(&mut self, client: u32, number: u64) -> Option<Entry>
         ensures found { (history : History) → AreKept history self.old.rows.entries → IfSome result (λ row. IsKeptRow history (client, number) row) }
         ensures kept { (history : History) → AreKept history self.old.rows.entries → AreKept history self.new.rows.entries }
@@ -46,7 +47,8 @@ impl RecentReplies {
 
     /// Puts the reply to the request with this stamp at hand.
     pub fn put_reply(&mut self, stamp: Stamp, reply: &Reply)
-        requires spelled { HasReplySpelling reply.now }
+        requires version { IsVersion stamp.version }
+        requires spelled { HasReplySpelling stamp.version reply.now }
         ensures kept { (history : History) → AreKept history self.old.rows.entries → IsKeptRow history (stamp.client, stamp.number) (stamped stamp reply.now)
             → AreKept history self.new.rows.entries }
     {
@@ -75,7 +77,7 @@ impl RecentReplies {
     }
 }
 
-/// A copy of a row, or `None` where no memory is found for it.
+/// A copy of a row, or `None` where memory was refused.
 fn copy_of(alloc: Global, row: &Entry) -> Option<Entry>
     ensures { IfSome result (λ copy. copy ≡ row.now) }
 {
@@ -84,6 +86,7 @@ fn copy_of(alloc: Global, row: &Entry) -> Option<Entry>
     Some(Entry {
         client: row.client,
         number: row.number,
+        version: row.version,
         mark,
         kind: row.kind,
         body,

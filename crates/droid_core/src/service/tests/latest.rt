@@ -41,6 +41,7 @@ fn use_row(alloc: Global, recent: &mut RecentReplies, number: u64) {
         let row = Entry {
             client: 1,
             number,
+            version: 1,
             mark: [7; 16],
             kind: 130,
             body,

@@ -8,11 +8,12 @@ mod memory;
 mod scripts;
 mod steps;
 mod texts;
+mod versions;
 
 use crate::service::Service;
 use crate::service::tests::steps::{Step, frame_of, is_due, is_kept};
 use droid_core_state::Limits;
-use droid_frame::{Blob, mark, reply_body};
+use droid_frame::{Blob, is_version, mark, reply_body};
 use droid_pronom::Registry;
 use std::alloc::Global;
 use std::num::NonZeroUsize;
@@ -123,8 +124,13 @@ fn number_of(mark: [u8; 16]) -> u64 {
 
 /// Whether the step is answered by what is due.
 pub fn is_answered(alloc: Global, service: &mut Service, step: &Step<'_>) -> bool {
+    is_answered_in(1, alloc, service, step)
+}
+
+/// The same of a step in another version.
+pub fn is_answered_in(version: u8, alloc: Global, service: &mut Service, step: &Step<'_>) -> bool {
     let (_, _, _, due) = *step;
-    match answer(alloc, service, step) {
+    match answer_in(version, alloc, service, step) {
         Some((kind, body)) => is_due(kind, body.as_slice(), due),
         None => false,
     }
@@ -132,7 +138,22 @@ pub fn is_answered(alloc: Global, service: &mut Service, step: &Step<'_>) -> boo
 
 /// The kind and the body of the reply to a step, or `None` where memory was refused for the frame or that body.
 pub fn answer(alloc: Global, service: &mut Service, step: &Step<'_>) -> Option<(u8, Blob)> {
-    let reply = service.handle(frame_of(alloc, step)?);
-    let body = reply_body(alloc, &reply).ok()?;
+    answer_in(1, alloc, service, step)
+}
+
+/// The same of a step in another version. The body is the reply's in that version.
+fn answer_in(
+    version: u8,
+    alloc: Global,
+    service: &mut Service,
+    step: &Step<'_>,
+) -> Option<(u8, Blob)> {
+    let frame = frame_of(alloc, version, step)?;
+    let version = frame.version;
+    let reply = service.handle(frame);
+    if !is_version(version) {
+        return None;
+    }
+    let body = reply_body(alloc, version, &reply).ok()?;
     Some((reply.kind(), body))
 }

@@ -1,6 +1,6 @@
 //! Requests and the replies that are due, written out so that tests can be tables.
 
-use droid_frame::{Blob, Criteria, Filter, Frame, HashKind, Request, Text, VERSION, request_frame};
+use droid_frame::{Blob, Criteria, Filter, Frame, HashKind, Request, Text, request_frame};
 use std::alloc::{AllocError, Global};
 
 /// The kinds of replies that a table names.
@@ -15,8 +15,10 @@ pub const REFUSED: u8 = 136;
 /// What a frame asks.
 #[derive(Clone, Copy)]
 pub enum Ask<'a> {
-    /// The scan limit, and whether all formats may be found by extension.
+    /// The scan limit, and whether all formats may be found by extension; the hash is MD5.
     Create(u32, bool),
+    /// The same with another hash.
+    Hashed(u32, bool, HashKind),
     /// The profile, the parent, the moment and the name.
     Folder(u32, u32, i64, &'a str),
     /// The profile, the parent, the moment, the size, the size of a piece and the name.
@@ -50,22 +52,29 @@ pub enum Due<'a> {
 /// A client, one of its numbers, what it asks and what is due.
 pub type Step<'a> = (u32, u64, Ask<'a>, Due<'a>);
 
-/// The frame of a step, or `None` where memory was refused.
-pub fn frame_of(alloc: Global, step: &Step<'_>) -> Option<Frame> {
+/// The frame of a step in this version, or `None` where memory was refused.
+pub fn frame_of(alloc: Global, version: u8, step: &Step<'_>) -> Option<Frame> {
     let (client, number, ask, _) = *step;
     match ask {
-        Ask::Spelled(kind, body) => spelled(alloc, client, number, kind, body),
+        Ask::Spelled(kind, body) => spelled(alloc, version, client, number, kind, body),
         _ => {
             let request = request_of(alloc, ask)?;
-            requested(alloc, client, number, &request)
+            requested(alloc, version, client, number, &request)
         }
     }
 }
 
-fn spelled(alloc: Global, client: u32, number: u64, kind: u8, body: &[u8]) -> Option<Frame> {
+fn spelled(
+    alloc: Global,
+    version: u8,
+    client: u32,
+    number: u64,
+    kind: u8,
+    body: &[u8],
+) -> Option<Frame> {
     let body = Blob::copy_of(alloc, body).ok()?;
     Some(Frame {
-        version: VERSION,
+        version,
         kind,
         client,
         number,
@@ -73,20 +82,23 @@ fn spelled(alloc: Global, client: u32, number: u64, kind: u8, body: &[u8]) -> Op
     })
 }
 
-fn requested(alloc: Global, client: u32, number: u64, request: &Request) -> Option<Frame> {
-    if !request.fits() {
+fn requested(
+    alloc: Global,
+    version: u8,
+    client: u32,
+    number: u64,
+    request: &Request,
+) -> Option<Frame> {
+    if !request.fits(version) {
         return None;
     }
-    request_frame(alloc, client, number, request).ok()
+    request_frame(alloc, version, client, number, request).ok()
 }
 
 fn request_of(alloc: Global, ask: Ask<'_>) -> Option<Request> {
     Some(match ask {
-        Ask::Create(scan_limit, match_all) => Request::CreateProfile {
-            scan_limit,
-            match_all,
-            hash: HashKind::Md5,
-        },
+        Ask::Create(scan_limit, match_all) => created(scan_limit, match_all, HashKind::Md5),
+        Ask::Hashed(scan_limit, match_all, hash) => created(scan_limit, match_all, hash),
         Ask::Folder(profile, parent, modified, name) => Request::AddFolder {
             profile,
             parent,
@@ -121,6 +133,14 @@ fn request_of(alloc: Global, ask: Ask<'_>) -> Option<Request> {
         },
         Ask::Spelled(..) => return None,
     })
+}
+
+fn created(scan_limit: u32, match_all: bool, hash: HashKind) -> Request {
+    Request::CreateProfile {
+        scan_limit,
+        match_all,
+        hash,
+    }
 }
 
 /// Whether a reply of this kind with this body is due.

@@ -5,8 +5,8 @@ use Rattle.droid_core_requests.proofs.PuidTexts.{are_texts}
 use Rattle.droid_core_requests.proofs.finishing.finished_reply.Goals as goal
 
 pub returns-clause-spelled : goal.returns-clause-spelled
-returns-clause-spelled c = (
-  c.requires.hash,
-  subst (λ (all : List (List ℕ)). length all ≤ 4096) (sym c.in_ok-puids.ensures) c.requires.few,
-  subst (λ (all : List (List ℕ)). AllByRecursion IsPuidText all) (sym c.in_ok-puids.ensures) (are_texts c.args.finding.now.found.puids c.requires.puids),
+returns-clause-spelled c = λ version hash. (
+  hash,
+  subst (λ (all : List (List ℕ)). length all ≤ 4096) (sym c.in_ok-puids.ensures) c.requires.well_formed.few,
+  subst (λ (all : List (List ℕ)). AllByRecursion IsPuidText all) (sym c.in_ok-puids.ensures) (are_texts c.args.finding.now.found.puids c.requires.well_formed.puids),
 )

@@ -11,10 +11,10 @@ returns-then-parent-eq0-clause-found c = λ setting world profile keeps found.
 pub returns-in_err-row-clause-found : goal.returns-in_err-row-clause-found
 returns-in_err-row-clause-found c = λ setting world profile keeps found.
     let fault = err_from_is_err_and c.from_residual.result c.from_residual.ensures.1 in
-    rw (fault.1, fault.2) (nothing_finds setting world c.args.store.now c.args.number profile keeps found c.args.parent _ c.if-parent-eq0.false
-    (no_node_there c.args.number c.args.parent c.args.store.now c.node.result c.in_err-row.field-0.0 c.node.ensures.found c.in_err-row.ensures.none))
+    rw (fault.1, fault.2) (nothing_finds setting world c.args.store.now c.args.profile profile keeps found c.args.parent _ c.if-parent-eq0.false
+    (no_node_there c.args.profile c.args.parent c.args.store.now c.node.result c.in_err-row.field-0.0 c.node.ensures.found c.in_err-row.ensures.none))
 
 pub returns-clause-found : goal.returns-clause-found
 returns-clause-found c = λ setting world profile keeps found.
-    row_finds setting world c.args.store.now c.args.number profile keeps found c.args.parent c.in_ok-row.row c.path_of.result c.if-parent-eq0.false
-    (sym (node_there c.args.number c.args.parent c.args.store.now c.node.result c.in_ok-row.row c.node.ensures.found c.in_ok-row.ensures.found)) c.path_of.ensures.folder c.path_of.ensures.file
+    row_finds setting world c.args.store.now c.args.profile profile keeps found c.args.parent c.in_ok-row.row c.path_of.result c.if-parent-eq0.false
+    (sym (node_there c.args.profile c.args.parent c.args.store.now c.node.result c.in_ok-row.row c.node.ensures.found c.in_ok-row.ensures.found)) c.path_of.ensures.folder c.path_of.ensures.file

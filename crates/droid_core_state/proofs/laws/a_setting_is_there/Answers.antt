@@ -4,6 +4,6 @@ use Rattle.droid_core_state.proofs.laws.a_setting_is_there.Goals as goal
 
 pub returns : goal.returns
 returns c limits registry = record {
-  identifies = λ name bytes limit match_all. found_is registry name bytes limit match_all;
+  identifies = λ name bytes scan_limit match_all. found_is registry name bytes scan_limit match_all;
   exports = λ records filter hash. refl;
 }

@@ -9,7 +9,7 @@ use Rattle.droid_core.proofs.service.Service.handle.Goals as goal
 pub returns-in-Ok-clause-handles : goal.returns-in-Ok-clause-handles
 returns-in-Ok-clause-handles c = λ setting history stands.
     let frame = c.args.frame in
-    let stamp : List ℕ → Stamp = λ mark. record { client = frame.client; number = frame.number; mark = mark } in
+    let stamp : List ℕ → Stamp = λ mark. record { client = frame.client; number = frame.number; version = frame.version; mark = mark } in
     let marked = c.mark.ensures ∙ ap (mark_of frame.kind) c.as_slice.ensures.value in
     let spelled = c.in-Ok.ensures.found in
     c.answer.ensures.handles setting history frame (ap stamp marked) (asked frame c.in-Ok.request spelled.0 spelled.1) stands
@@ -34,3 +34,17 @@ returns-in-Err-Malformed-clause-no_store c = λ setting history stands.
 pub returns-in-Err-Memory-clause-no_store : goal.returns-in-Err-Memory-clause-no_store
 returns-in-Err-Memory-clause-no_store c = λ setting history stands.
     never_store setting history c.args.frame _ (StandsFor setting c.args.self.now) stands.parts.legal (returns-in-Err-Memory-clause-handles c setting history stands)
+
+pub answer-requires-clause-version : goal.answer-requires-clause-version
+answer-requires-clause-version c = c.in-Ok.ensures.found.1.version_is
+
+pub returns-in-Ok-clause-other_version : goal.returns-in-Ok-clause-other_version
+returns-in-Ok-clause-other_version c = λ isnt.
+    let is = c.in-Ok.ensures.found.1.version_is in
+    absurd cc
+
+pub returns-in-Err-Memory-clause-other_version : goal.returns-in-Err-Memory-clause-other_version
+returns-in-Err-Memory-clause-other_version c = λ isnt.
+    let spelled = (rw c.in-Err-Memory.field-0-is at c.in-Err-Memory.ensures.memory) refl in
+    let is = spelled.3.version_is in
+    absurd cc

@@ -6,19 +6,10 @@ use Rattle.droid_core_files.proofs.files.UnfinishedFiles.identify.Goals as goal
 
 pub invariant_of-self : goal.invariant_of-self
 invariant_of-self c =
-    kept_changed c.self.inside c.self.invariant c.args.place c.index_mut.result.now c.identify_whole.new.file c.index_mut.ensures.value (inside c.self.inside c.args.self.now c.args.place c.self.view_is c.requires.within) c.identify_whole.ensures.unchanged.same_file.limit
+    kept_changed c.self.inside c.self.invariant c.args.place c.index_mut.result.now c.identify_whole.new.file c.index_mut.ensures.value (inside c.self.inside c.args.self.now c.args.place c.self.view_is c.requires.within) c.identify_whole.ensures.unchanged.same_file.scan_limit
 
-pub returns-clause-incomplete : goal.returns-clause-incomplete
-returns-clause-incomplete c = rw (← c.self.view_is) (of_read (files_of c.self.inside) c.args.place c.index_mut.result.now c.index_mut.ensures.value _ c.identify_whole.ensures.incomplete)
-
-pub returns-clause-size : goal.returns-clause-size
-returns-clause-size c = rw (← c.self.view_is) (of_read (files_of c.self.inside) c.args.place c.index_mut.result.now c.index_mut.ensures.value _ c.identify_whole.ensures.size)
-
-pub returns-clause-hash : goal.returns-clause-hash
-returns-clause-hash c = rw (← c.self.view_is) (of_read (files_of c.self.inside) c.args.place c.index_mut.result.now c.index_mut.ensures.value _ c.identify_whole.ensures.hash)
-
-pub returns-clause-found : goal.returns-clause-found
-returns-clause-found c = rw (← c.self.view_is) (of_read (files_of c.self.inside) c.args.place c.index_mut.result.now c.index_mut.ensures.value _ c.identify_whole.ensures.found)
+pub returns-clause-identifies : goal.returns-clause-identifies
+returns-clause-identifies c = rw (← c.self.view_is) (of_read (files_of c.self.inside) c.args.place c.index_mut.result.now c.index_mut.ensures.value _ c.identify_whole.ensures.identifies)
 
 pub returns-clause-unchanged : goal.returns-clause-unchanged
 returns-clause-unchanged c =

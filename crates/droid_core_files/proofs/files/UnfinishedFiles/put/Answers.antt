@@ -2,13 +2,13 @@ use Rattle.std.proofs.Common.{◌≡◌, List, Some}
 use Rattle.droid_assembly.specs.Pieces.{Piece}
 use Rattle.droid_assembly.specs.State.{StandsFor, with_pending}
 use Rattle.droid_core_files.specs.Kept.{files_of}
-use Rattle.droid_core_files.proofs.Keeping.{kept_changed, put_limit}
+use Rattle.droid_core_files.proofs.Keeping.{kept_changed, put_scan_limit}
 use Rattle.droid_core_files.proofs.Places.{inside, of_read, alike, turned, turned_ok, same_err}
 use Rattle.droid_core_files.proofs.files.UnfinishedFiles.put.Goals as goal
 
 pub invariant_of-self : goal.invariant_of-self
 invariant_of-self c =
-    kept_changed c.self.inside c.self.invariant c.args.place c.index_mut.result.now c.put.new.self c.index_mut.ensures.value (inside c.self.inside c.args.self.now c.args.place c.self.view_is c.requires.within) (put_limit c.put.result c.index_mut.result.now.assembly c.put.new.self (Some (c.args.index, c.args.bytes)) c.put.ensures.pending c.put.ensures.err)
+    kept_changed c.self.inside c.self.invariant c.args.place c.index_mut.result.now c.put.new.self c.index_mut.ensures.value (inside c.self.inside c.args.self.now c.args.place c.self.view_is c.requires.within) (put_scan_limit c.put.result c.index_mut.result.now.assembly c.put.new.self (Some (c.args.index, c.args.bytes)) c.put.ensures.pending c.put.ensures.err)
 
 pub returns-clause-bad_piece : goal.returns-clause-bad_piece
 returns-clause-bad_piece c = rw (← c.self.view_is) (of_read (files_of c.self.inside) c.args.place c.index_mut.result.now c.index_mut.ensures.value _ c.put.ensures.bad_piece)

@@ -8,7 +8,7 @@ use Rattle.droid_core_files.proofs.files.UnfinishedFiles.settle.Goals as goal
 
 pub invariant_of-self : goal.invariant_of-self
 invariant_of-self c =
-    kept_changed c.self.inside c.self.invariant c.args.place c.index_mut.result.now c.settle.new.self c.index_mut.ensures.value (inside c.self.inside c.args.self.now c.args.place c.self.view_is c.requires.within) c.settle.ensures.same_file.limit
+    kept_changed c.self.inside c.self.invariant c.args.place c.index_mut.result.now c.settle.new.self c.index_mut.ensures.value (inside c.self.inside c.args.self.now c.args.place c.self.view_is c.requires.within) c.settle.ensures.same_file.scan_limit
 
 pub returns-clause-stands : goal.returns-clause-stands
 returns-clause-stands c =

@@ -8,7 +8,7 @@ use Rattle.droid_core_files.proofs.files.UnfinishedFiles.take_back.Goals as goal
 
 pub invariant_of-self : goal.invariant_of-self
 invariant_of-self c =
-    kept_changed c.self.inside c.self.invariant c.args.place c.index_mut.result.now c.take_back.new.self c.index_mut.ensures.value (inside c.self.inside c.args.self.now c.args.place c.self.view_is c.requires.within) (ap (λ (a : State). a.limit) c.take_back.ensures.as_before)
+    kept_changed c.self.inside c.self.invariant c.args.place c.index_mut.result.now c.take_back.new.self c.index_mut.ensures.value (inside c.self.inside c.args.self.now c.args.place c.self.view_is c.requires.within) (ap (λ (a : State). a.scan_limit) c.take_back.ensures.as_before)
 
 pub returns-clause-as_before : goal.returns-clause-as_before
 returns-clause-as_before c =
