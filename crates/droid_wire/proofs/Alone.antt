@@ -76,9 +76,9 @@ placed_set clients cores at old new there same placed which core is =
 
 -- ---- a core submits
 
-submitting_goes : (core : Core) (request : Request) → next_number (core_submitting core request) ≡ next_number core + 1
-submitting_goes core request =
-    let long = length-append core.slots (new_slot (next_frame core request) ∷ []) in
+submitting_goes : (core : Core) (version : ℕ) (request : Request) → next_number (core_submitting core version request) ≡ next_number core + 1
+submitting_goes core version request =
+    let long = length-append core.slots (new_slot (next_frame core version request) ∷ []) in
     omega (arith, long)
 
 -- an earlier frame of the same client has another number
@@ -91,12 +91,12 @@ earlier clients moment at core frame apart is there known same =
     let one : passed.which ≡ at = apart passed.which at its.client mine.client its.is_there mine.is_there (its.is_its ∙ (passed.client_is ∙ (same ∙ sym mine.is_its))) in
     subst (λ (core : Core). frame.number < next_number core) (got_same moment.cores passed.which at passed.core core one passed.is_there there) passed.passed
 
-submits : (clients : List (ℕ × ℕ)) (moment : Moment) (at : ℕ) (core : Core) (request : Request) → AreApart clients → Distinct clients moment → slice_get moment.cores at ≡ Some core
-    → Distinct clients (record { history = moment.history; cores = set moment.cores at (core_submitting core request); frames = moment.frames ++ next_frame core request ∷ []; replies = moment.replies })
-submits clients moment at core request apart is there =
-    let new = core_submitting core request in
-    let frame = next_frame core request in
-    let more = submitting_goes core request in
+submits : (clients : List (ℕ × ℕ)) (moment : Moment) (at : ℕ) (core : Core) (version : ℕ) (request : Request) → AreApart clients → Distinct clients moment → slice_get moment.cores at ≡ Some core
+    → Distinct clients (record { history = moment.history; cores = set moment.cores at (core_submitting core version request); frames = moment.frames ++ next_frame core version request ∷ []; replies = moment.replies })
+submits clients moment at core version request apart is there =
+    let new = core_submitting core version request in
+    let frame = next_frame core version request in
+    let more = submitting_goes core version request in
     let goes : GoesOn core new = record { client = refl; number = omega (arith, more) } in
     record {
       ones = λ one other in_one in_other client_is number_is.
@@ -125,15 +125,15 @@ submits clients moment at core request apart is there =
 
 -- ---- a core hears a reply
 
-hearing_slots : (core : Core) (number : ℕ) (reply : Reply) (o : Option Slot) → length (slots_hearing core number reply o) ≡ length core.slots
-hearing_slots core number reply None = refl
-hearing_slots core number reply (Some slot) = length-set core.slots (number - core.first) (slot_hearing slot reply)
+hearing_slots : (core : Core) (version number : ℕ) (reply : Reply) (o : Option Slot) → length (slots_hearing core version number reply o) ≡ length core.slots
+hearing_slots core version number reply None = refl
+hearing_slots core version number reply (Some slot) = length-set core.slots (number - core.first) (slot_hearing slot version reply)
 
-hearing_goes : (core : Core) (client number : ℕ) (reply : Reply) → GoesOn core (core_hearing core client number reply)
-hearing_goes core client number reply =
+hearing_goes : (core : Core) (version client number : ℕ) (reply : Reply) → GoesOn core (core_hearing core version client number reply)
+hearing_goes core version client number reply =
     elim (eqb_tells client core.client) [
       | inl t ↦
-          let long = hearing_slots core number reply (slot_at core number) in
+          let long = hearing_slots core version number reply (slot_at core number) in
           rw t.0 (record { client = refl; number = omega (arith, long) })
       | inr t ↦ rw t.0 (record { client = refl; number = omega arith })
     ]
@@ -160,9 +160,9 @@ if_distinct : (b : Bool) (clients : List (ℕ × ℕ)) (old new : Moment) → Di
 if_distinct true clients old new is goes = goes
 if_distinct false clients old new is goes = is
 
-by_submitted : (clients : List (ℕ × ℕ)) (moment : Moment) (at : ℕ) (request : Request) (o : Option Core) → slice_get moment.cores at ≡ o → AreApart clients → Distinct clients moment → Distinct clients (submitted moment at request o)
-by_submitted clients moment at request None there apart is = is
-by_submitted clients moment at request (Some core) there apart is = if_distinct (ltb (next_number core) (2 ^ 63)) clients moment _ is (submits clients moment at core request apart is there)
+by_submitted : (clients : List (ℕ × ℕ)) (moment : Moment) (at : ℕ) (version : ℕ) (request : Request) (o : Option Core) → slice_get moment.cores at ≡ o → AreApart clients → Distinct clients moment → Distinct clients (submitted moment at version request o)
+by_submitted clients moment at version request None there apart is = is
+by_submitted clients moment at version request (Some core) there apart is = if_distinct (ltb (next_number core) (2 ^ 63)) clients moment _ is (submits clients moment at core version request apart is there)
 
 by_arrived : (clients : List (ℕ × ℕ)) (desk : Desk) (moment : Moment) (o : Option Frame) → Distinct clients moment → Distinct clients (arrived desk moment o)
 by_arrived clients desk moment None is = is
@@ -175,10 +175,10 @@ by_wanted clients desk moment want (Some frame) is = if_distinct (desk.is_spelle
 by_replied : (clients : List (ℕ × ℕ)) (moment : Moment) (at : ℕ) (o : Option Core) (s : Option Sent) → slice_get moment.cores at ≡ o → Distinct clients moment → Distinct clients (replied moment at o s)
 by_replied clients moment at None s there is = is
 by_replied clients moment at (Some core) None there is = is
-by_replied clients moment at (Some core) (Some sent) there is = hears clients moment at core (core_hearing core sent.client sent.number sent.reply) is there (hearing_goes core sent.client sent.number sent.reply)
+by_replied clients moment at (Some core) (Some sent) there is = hears clients moment at core (core_hearing core sent.version sent.client sent.number sent.reply) is there (hearing_goes core sent.version sent.client sent.number sent.reply)
 
 step : (clients : List (ℕ × ℕ)) (desk : Desk) (moment : Moment) (event : Event) → AreApart clients → Distinct clients moment → Distinct clients (happens desk moment event)
-step clients desk moment (Submits at request) apart is = by_submitted clients moment at request (slice_get moment.cores at) refl apart is
+step clients desk moment (Submits at version request) apart is = by_submitted clients moment at version request (slice_get moment.cores at) refl apart is
 step clients desk moment (Arrives at) apart is = by_arrived clients desk moment (slice_get moment.frames at) is
 step clients desk moment (Wants at want) apart is = by_wanted clients desk moment want (slice_get moment.frames at) is
 step clients desk moment (Replies at sent) apart is = by_replied clients moment at (slice_get moment.cores at) (slice_get moment.replies sent) refl is

@@ -1,5 +1,6 @@
 -- The service answers each command once.
-use Rattle.std.proofs.Common.{◌≡◌, ◌≢◌, ℕ, nat_lt, Bool, true, false, cond, List, [], ◌∷◌, ◌++◌, Option, Some, None, refl, sym, ap, subst, ◌∙◌}
+use Rattle.std.proofs.Common.{◌≡◌, ◌≢◌, nat_lt, Bool, true, false, cond, eqb, [], ◌∷◌, ◌++◌, Option, Some, None, refl, sym, ap, subst, ◌∙◌}
+use Rattle.std.proofs.lemmas.Bool.{eq-eqb}
 use Rattle.std.proofs.lemmas.Slice.Eq.{bytes_eq-Decides}
 use Rattle.droid_frame.specs.types.frame.Frame.{Frame}
 use Rattle.droid_frame.specs.types.refusal.Refusal.{Refusal}
@@ -8,7 +9,7 @@ use Rattle.droid_frame.specs.types.reply.Reply.{Reply}
 use Rattle.droid_frame.specs.types.reply.Reply.TheVariants.{Refused}
 use Rattle.droid_frame.specs.types.request.Request.{Request}
 use Rattle.droid_frame.specs.Bodies.{request_kind}
-use Rattle.droid_core.specs.Histories.{Entry, History, kept, command, frame_mark, is_same_request, New, answer, history_with, next, verdict_reply, world_of}
+use Rattle.droid_core.specs.Histories.{Entry, History, kept, command, frame_mark, is_request_of, New, answer, history_with, next, verdict_reply, world_of}
 use Rattle.droid_core.specs.Judging.{Verdict, Accepted, Answered, Refuses as RefusesIt, judge}
 use Rattle.droid_core.specs.Setting.{Setting}
 use Rattle.droid_core.specs.Verdicts.{is_of_judging, MayCome}
@@ -29,16 +30,18 @@ malformed : (setting : Setting) (history : History) (frame : Frame) → command 
 malformed setting history frame asked =
     Refuses refusals.Malformed not_reused (answer_malformed setting history frame asked) (next_malformed setting history frame asked)
 
-same_mark : (entry : Entry) (mark : List ℕ) → entry.mark ≡ mark → cond (is_same_request entry.mark mark) entry.reply (Refused refusals.NumberReused) ≡ entry.reply
-same_mark entry mark same =
-    ap (λ (b : Bool). cond b entry.reply (Refused refusals.NumberReused)) ((bytes_eq-Decides entry.mark mark).1 same)
+same_request : (entry : Entry) (frame : Frame) → entry.frame ≡ frame → entry.mark ≡ frame_mark frame → is_request_of entry frame ≡ true
+same_request entry frame own marked =
+    let version : eqb entry.frame.version frame.version ≡ true = eq-eqb entry.frame.version frame.version (ap (λ (f : Frame). f.version) own) in
+    rw version ((bytes_eq-Decides entry.mark (frame_mark frame)).1 marked)
 
 again : (setting : Setting) (history : History) (frame : Frame) (request : Request) (entry : Entry) → command frame ≡ Some request → kept history frame.client frame.number ≡ Some entry
     → IsAccepted (desk_of setting) entry → entry.frame ≡ frame → Answering (desk_of setting) history frame
 again setting history frame request entry asked there sound own =
     let marked : entry.mark ≡ frame_mark frame = sound.marked ∙ ap frame_mark own in
     Again entry there
-    (answer_kept setting history frame request asked entry there ∙ same_mark entry (frame_mark frame) marked)
+    (answer_kept setting history frame request asked entry there
+    ∙ ap (λ (b : Bool). cond b entry.reply (Refused refusals.NumberReused)) (same_request entry frame own marked))
     (next_kept setting history frame request asked entry there)
 
 -- a refusal of judging is none for a number used again
@@ -59,8 +62,8 @@ by_verdict setting history frame world request (RefusesIt refusal) is_new kind m
 
 anew : (setting : Setting) (history : History) (frame : Frame) (request : Request) → command frame ≡ Some request → kept history frame.client frame.number ≡ None → Answering (desk_of setting) history frame
 anew setting history frame request asked is_new =
-    by_verdict setting history frame (world_of setting history) request (judge setting (world_of setting history) request) is_new (asked_kind frame request asked)
-    (judged setting (world_of setting history) request)
+    by_verdict setting history frame (world_of setting history) request (judge setting (world_of setting history) frame.version request) is_new (asked_kind frame request asked)
+    (judged setting (world_of setting history) frame.version request)
     (answer_new setting history frame request asked is_new)
     (next_new setting history frame request asked is_new)
 

@@ -67,7 +67,7 @@ pub cut_short : (setting : Setting) (history : History) (input : List ℕ) (left
     → ServesCut setting history turns input more old new after cut
 cut_short setting history input left more old mid new now after turn turns written cut within so_far on given =
     let front = reply_frames so_far.frames so_far.replies in
-    let last = reply_frame given.frame.client given.frame.number given.reply in
+    let last = reply_frame given.frame.version given.frame.client given.frame.number given.reply in
     let push = reply_frames-push so_far.frames so_far.replies given.frame given.reply so_far.handled.runs.count in
     let some = all_but_some front last written cut so_far.written_is on in
     record {

@@ -1,10 +1,9 @@
 -- A service goes on from a history, by one request or by what two calls have made.
 use Rattle.std.proofs.Common.{◌≡◌, ℕ, ◌+◌, ◌≤◌, Bool, true, false, cond, not, List, [], ◌∷◌, ◌++◌, length, refl, sym, ap, subst, ◌∙◌, arith, length-append}
-use Rattle.std.specs.List.{AllByRecursion}
 use Rattle.droid_frame.specs.types.frame.Frame.{Frame}
 use Rattle.droid_frame.specs.types.reply.Reply.{Reply}
 use Rattle.droid_frame.specs.Replies.{HasReplySpelling}
-use Rattle.droid_core.specs.Running.{NoWantOfMalformed, Runs, other_replies, without_wants}
+use Rattle.droid_core.specs.Running.{AreSpelled, NoWantOfMalformed, Runs, other_replies, without_wants}
 use Rattle.droid_core.specs.Standing.{StandsFor}
 use Rattle.droid_core.specs.declared.service.Service.{Service}
 use Rattle.droid_core.specs.Histories.{History, Handles, answer, answers, history_from, next}
@@ -40,9 +39,11 @@ wants-append [] ys (r ∷ first) second e p q = absurd (omega arith)
 wants-append (x ∷ xs) ys [] second e p q = absurd (omega arith)
 wants-append (x ∷ xs) ys (r ∷ first) second e p q = (p.0, wants-append xs ys first second (omega arith) p.1 q)
 
-spelled-append : (first second : List Reply) → AllByRecursion HasReplySpelling first → AllByRecursion HasReplySpelling second → AllByRecursion HasReplySpelling (first ++ second)
-spelled-append [] second p q = q
-spelled-append (r ∷ first) second p q = (p.0, spelled-append first second p.1 q)
+spelled-append : (xs ys : List Frame) (first second : List Reply) → length first ≡ length xs → AreSpelled xs first → AreSpelled ys second → AreSpelled (xs ++ ys) (first ++ second)
+spelled-append [] ys [] second e p q = q
+spelled-append [] ys (r ∷ first) second e p q = absurd (omega arith)
+spelled-append (x ∷ xs) ys [] second e p q = absurd (omega arith)
+spelled-append (x ∷ xs) ys (r ∷ first) second e p q = (p.0, spelled-append xs ys first second (omega arith) p.1 q)
 
 history_from-append : (setting : Setting) (history : History) (xs ys : List Frame) → history_from setting history (xs ++ ys) ≡ history_from setting (history_from setting history xs) ys
 history_from-append setting history [] ys = refl
@@ -61,7 +62,7 @@ runs_on setting history xs ys first second mid after one two =
     ap (λ (rs : List Reply). rs ++ other_replies second) one.answered ∙ ap (λ (rs : List Reply). answers setting history (without_wants xs first) ++ rs) two.answered in
     record {
       count = omega (arith, one.count, two.count, length-append first second, length-append xs ys);
-      spelled = spelled-append first second one.spelled two.spelled;
+      spelled = spelled-append xs ys first second one.count one.spelled two.spelled;
       wants = wants-append xs ys first second one.count one.wants two.wants;
       answered = other_replies-append first second ∙ (joined ∙ (sym (answers-append setting history (without_wants xs first) (without_wants ys second)) ∙ ap (answers setting history) (sym kept)));
       stands = subst (λ (fs : List Frame). StandsFor setting after (history_from setting history fs)) (sym kept)
@@ -76,7 +77,7 @@ goes_nowhere setting history most service stands = record { requests = []; repli
 
 -- a request was handled
 pub goes_on : (setting : Setting) (history : History) (before after : Service) (frame : Frame) (reply : Reply) → StandsFor setting before history → Handles setting history frame reply (StandsFor setting after)
-    → HasReplySpelling reply → GoesOnFrom setting history 1 after
+    → HasReplySpelling frame.version reply → GoesOnFrom setting history 1 after
 goes_on setting history before after frame reply stands handles spelled = record {
   requests = frame ∷ [];
   replies = reply ∷ [];

@@ -27,9 +27,9 @@ within_if : (b : Bool) (old new : Moment) → Within old.frames new.frames → W
 within_if true old new more = more
 within_if false old new more = same_within old.frames
 
-within_submitted : (moment : Moment) (which : ℕ) (request : Request) (o : Option Core) → Within moment.frames (submitted moment which request o).frames
-within_submitted moment which request None = same_within moment.frames
-within_submitted moment which request (Some core) = within_if (ltb (next_number core) (2 ^ 63)) moment _ (Contains-append_left moment.frames (next_frame core request ∷ []))
+within_submitted : (moment : Moment) (which : ℕ) (version : ℕ) (request : Request) (o : Option Core) → Within moment.frames (submitted moment which version request o).frames
+within_submitted moment which version request None = same_within moment.frames
+within_submitted moment which version request (Some core) = within_if (ltb (next_number core) (2 ^ 63)) moment _ (Contains-append_left moment.frames (next_frame core version request ∷ []))
 
 within_arrived : (desk : Desk) (moment : Moment) (o : Option Frame) → Within moment.frames (arrived desk moment o).frames
 within_arrived desk moment None = same_within moment.frames
@@ -45,7 +45,7 @@ within_replied moment which (Some core) None = same_within moment.frames
 within_replied moment which (Some core) (Some sent) = same_within moment.frames
 
 within_step : (desk : Desk) (moment : Moment) (event : Event) → Within moment.frames (happens desk moment event).frames
-within_step desk moment (Submits which request) = within_submitted moment which request (slice_get moment.cores which)
+within_step desk moment (Submits which version request) = within_submitted moment which version request (slice_get moment.cores which)
 within_step desk moment (Arrives which) = within_arrived desk moment (slice_get moment.frames which)
 within_step desk moment (Wants which want) = within_wanted desk moment want (slice_get moment.frames which)
 within_step desk moment (Replies which at) = within_replied moment which (slice_get moment.cores which) (slice_get moment.replies at)
@@ -74,7 +74,7 @@ record At (desk : Desk) (from : Moment) (events : List Event) (past : History) (
   past_is : past ≡ (run desk before from).history
 
 marks : (desk : Desk) (from : Moment) (all done rest : List Event) (event : Event) → done ++ event ∷ rest ≡ all → Marks (At desk from all) (run desk done from) event
-marks desk from all done rest (Submits which request) parts = tt
+marks desk from all done rest (Submits which version request) parts = tt
 marks desk from all done rest (Arrives which) parts = λ frame is. record { before = done; which = which; after = rest; parts = parts; arriving = is; past_is = refl }
 marks desk from all done rest (Wants which want) parts = tt
 marks desk from all done rest (Replies which at) parts = tt

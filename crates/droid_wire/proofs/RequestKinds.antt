@@ -1,4 +1,4 @@
--- A request that is read from a kind and a body is of that kind.
+-- A request that is read from a version, a kind and a body is of that kind.
 use Rattle.std.proofs.Common.{◌≡◌, ℕ, ◌^◌, ◌==◌, Bool, true, false, cond, List, [], ◌∷◌, Option, Some, None, refl, sym, ap, ◌∙◌, inl, inr}
 use Rattle.std.specs.Prelude.{nat_lt, IfSome}
 use Rattle.std.specs.Bool.{if◌then◌else◌}
@@ -7,7 +7,8 @@ use Rattle.droid_frame.specs.types.frame.Frame.{Frame}
 use Rattle.droid_frame.specs.types.request.Request.{Request}
 use Rattle.droid_frame.specs.Bodies.{request_kind}
 use Rattle.droid_frame.specs.Reading.{◌>>=◌, whole}
-use Rattle.droid_frame.specs.Values.{create_profile_value, add_folder_value, add_file_value, piece_value, finish_value, abandon_value, status_value, export_value, plain_value, request_value, request_in}
+use Rattle.droid_frame.specs.Versions.{is_version}
+use Rattle.droid_frame.specs.Values.{create_profile_value, add_folder_value, add_file_value, piece_value, finish_value, abandon_value, status_value, export_value, plain_value, any_value, request_value, request_in}
 
 -- a request of this kind, or none
 record IsOf (kind : ℕ) (read : Option Request) : Type 0 where
@@ -25,9 +26,9 @@ whole_of kind (byte ∷ rest) request is = record { of = tt }
 some_of : (kind : ℕ) (request : Request) → request_kind request ≡ kind → IsOf kind (Some request)
 some_of kind request is = record { of = is }
 
-create_profile_of : (body : List ℕ) → IsOf 1 (create_profile_value body)
+create_profile_of : (version : ℕ) (body : List ℕ) → IsOf 1 (create_profile_value version body)
 unfolding create_profile_value
-create_profile_of body = search (then_of, whole_of, some_of, refl) depth 12
+create_profile_of version body = search (then_of, whole_of, some_of, refl) depth 12
 
 add_folder_of : (body : List ℕ) → IsOf 2 (add_folder_value body)
 unfolding add_folder_value
@@ -64,10 +65,10 @@ by_kind kind n this others here there =
       | inr t ↦ rw (t.0) there
     ]
 
-plain_of : (kind : ℕ) (body : List ℕ) → IsOf kind (plain_value kind body)
+plain_of : (version kind : ℕ) (body : List ℕ) → IsOf kind (plain_value version kind body)
 unfolding plain_value
-plain_of kind body =
-    by_kind kind 1 _ _ (create_profile_of body)
+plain_of version kind body =
+    by_kind kind 1 _ _ (create_profile_of version body)
     (by_kind kind 2 _ _ (add_folder_of body)
     (by_kind kind 3 _ _ (add_file_of body)
     (by_kind kind 4 _ _ (piece_of body)
@@ -75,13 +76,17 @@ plain_of kind body =
     (by_kind kind 6 _ _ (abandon_of body)
     (by_kind kind 7 _ _ (status_of body) (record { of = tt })))))))
 
-value_of : (kind : ℕ) (body : List ℕ) → IsOf kind (request_value kind body)
-unfolding request_value
-value_of kind body = by_kind kind 8 _ _ (export_of body) (plain_of kind body)
+any_of : (version kind : ℕ) (body : List ℕ) → IsOf kind (any_value version kind body)
+unfolding any_value
+any_of version kind body = by_kind kind 8 _ _ (export_of body) (plain_of version kind body)
 
-of_numbered : (b : Bool) (kind : ℕ) (read : Option Request) → IsOf kind read → IsOf kind (cond b read None)
-of_numbered true kind read is = is
-of_numbered false kind read is = record { of = tt }
+where_true : (b : Bool) (kind : ℕ) (read : Option Request) → IsOf kind read → IsOf kind (cond b read None)
+where_true true kind read is = is
+where_true false kind read is = record { of = tt }
+
+value_of : (version kind : ℕ) (body : List ℕ) → IsOf kind (request_value version kind body)
+unfolding request_value
+value_of version kind body = where_true (is_version version) kind (any_value version kind body) (any_of version kind body)
 
 kind_in : (kind : ℕ) (read : Option Request) (request : Request) → read ≡ Some request → IsOf kind read → request_kind request ≡ kind
 kind_in kind None request asked is = absurd cc
@@ -89,4 +94,4 @@ kind_in kind (Some found) request asked is = let same : found ≡ request = cc i
 
 pub kind_of_request : (frame : Frame) (request : Request) → request_in frame ≡ Some request → request_kind request ≡ frame.kind
 unfolding request_in
-kind_of_request frame request asked = kind_in frame.kind _ request asked (of_numbered (nat_lt frame.number (2 ^ 63)) frame.kind (request_value frame.kind frame.body) (value_of frame.kind frame.body))
+kind_of_request frame request asked = kind_in frame.kind _ request asked (where_true (nat_lt frame.number (2 ^ 63)) frame.kind (request_value frame.version frame.kind frame.body) (value_of frame.version frame.kind frame.body))

@@ -22,14 +22,14 @@ use Rattle.droid_wire.proofs.Passing.{if_some_is}
 -- ---- one more
 
 pub reply_frames-push : (frames : List Frame) (replies : List Reply) (frame : Frame) (reply : Reply) → length replies ≡ length frames
-    → reply_frames (frames ++ frame ∷ []) (replies ++ reply ∷ []) ≡ reply_frames frames replies ++ reply_frame frame.client frame.number reply
-reply_frames-push [] [] frame reply e = append-nil (reply_frame frame.client frame.number reply)
+    → reply_frames (frames ++ frame ∷ []) (replies ++ reply ∷ []) ≡ reply_frames frames replies ++ reply_frame frame.version frame.client frame.number reply
+reply_frames-push [] [] frame reply e = append-nil (reply_frame frame.version frame.client frame.number reply)
 reply_frames-push [] (r ∷ replies) frame reply e = absurd (omega arith)
 reply_frames-push (f ∷ frames) [] frame reply e = absurd (omega arith)
 reply_frames-push (f ∷ frames) (r ∷ replies) frame reply e =
-    let first = reply_frame f.client f.number r in
+    let first = reply_frame f.version f.client f.number r in
     ap (λ (bytes : List ℕ). first ++ bytes) (reply_frames-push frames replies frame reply (omega arith))
-    ∙ sym (append_assoc first (reply_frames frames replies) (reply_frame frame.client frame.number reply))
+    ∙ sym (append_assoc first (reply_frames frames replies) (reply_frame frame.version frame.client frame.number reply))
 
 all-push : {A : Type 0} (P : A → Type 0) (xs : List A) (x : A) → AllByRecursion P xs → P x → AllByRecursion P (xs ++ x ∷ [])
 all-push P [] x all last = (last, tt)
@@ -101,7 +101,7 @@ so_far_more setting history (Some input) left more old mid new now after turn wr
     let given = turn_here setting history input left old mid now turn written (λ here rest. TurnGives setting here rest more mid new now after written (Ok (Some size))) so_far (rw is at gives) in
     let push = reply_frames-push so_far.frames so_far.replies given.frame given.reply so_far.handled.runs.count in
     let all = reply_frames so_far.frames so_far.replies in
-    let last = reply_frame given.frame.client given.frame.number given.reply in
+    let last = reply_frame given.frame.version given.frame.client given.frame.number given.reply in
     record {
       frames = so_far.frames ++ given.frame ∷ [];
       replies = so_far.replies ++ given.reply ∷ [];

@@ -36,11 +36,11 @@ slot_there core number slot from there = slot_there_by (ltb number core.first) c
 keeps_by : (core : Core) (number : ℕ) (slot : Slot) (reply : Reply) → core.first ≤ number → slice_get core.slots (number - core.first) ≡ Some slot → slot.state ≡ Answered reply → Keeps core number reply
 keeps_by core number slot reply from there is = ap slot_answer (slot_there core number slot from there) ∙ ap answer_in is
 
-submitting : (core : Core) (request : Request) (number : ℕ) (reply : Reply) → Keeps core number reply → Keeps (core_submitting core request) number reply
-submitting core request number reply keeps =
+submitting : (core : Core) (version : ℕ) (request : Request) (number : ℕ) (reply : Reply) → Keeps core number reply → Keeps (core_submitting core version request) number reply
+submitting core version request number reply keeps =
     let slot = answered_slot (slot_at core number) reply keeps in
     let found = slot_found core number slot.0 slot.1 in
-    keeps_by (core_submitting core request) number slot.0 reply found.0 (push_stays core.slots (new_slot (next_frame core request) ∷ []) (number - core.first) slot.0 found.1) slot.2
+    keeps_by (core_submitting core version request) number slot.0 reply found.0 (push_stays core.slots (new_slot (next_frame core version request) ∷ []) (number - core.first) slot.0 found.1) slot.2
 
 -- ---- hearing
 
@@ -49,40 +49,40 @@ not_pending slot answer is some =
     let none : IsSome (pending_in (Answered answer)) = subst (λ (state : State). IsSome (pending_in state)) is some in
     absurd cc
 
-after_answer : (slot : Slot) (reply answer : Reply) (h : Heard) → heard_at slot reply ≡ h → slot.state ≡ Answered answer → (slot_after slot reply h).state ≡ Answered answer
-after_answer slot reply answer heard.Answered so is = absurd (not_pending slot answer is (was_pending slot reply so))
-after_answer slot reply answer heard.Refused so is = is
-after_answer slot reply answer heard.Repeated so is = is
-after_answer slot reply answer heard.Stranger so is = is
+after_answer : (slot : Slot) (version : ℕ) (reply answer : Reply) (h : Heard) → heard_at slot version reply ≡ h → slot.state ≡ Answered answer → (slot_after slot reply h).state ≡ Answered answer
+after_answer slot version reply answer heard.Answered so is = absurd (not_pending slot answer is (was_pending slot version reply so))
+after_answer slot version reply answer heard.Refused so is = is
+after_answer slot version reply answer heard.Repeated so is = is
+after_answer slot version reply answer heard.Stranger so is = is
 
 same_element : (slots : List Slot) (place at : ℕ) (one other : Slot) → place ≡ at → slice_get slots place ≡ Some one → slice_get slots at ≡ Some other → one ≡ other
 same_element slots place at one other same is too =
     let here : slice_get slots at ≡ Some one = subst (λ (n : ℕ). slice_get slots n ≡ Some one) same is in
     cc
 
-hearing_slots : (core : Core) (to : ℕ) (reply : Reply) (o : Option Slot) → slot_at core to ≡ o → (number : ℕ) (answer : Reply) → Keeps core number answer → Keeps (record core { slots = slots_hearing core to reply o }) number answer
-hearing_slots core to reply None there number answer keeps = keeps
-hearing_slots core to reply (Some other) there number answer keeps =
+hearing_slots : (core : Core) (version to : ℕ) (reply : Reply) (o : Option Slot) → slot_at core to ≡ o → (number : ℕ) (answer : Reply) → Keeps core number answer → Keeps (record core { slots = slots_hearing core version to reply o }) number answer
+hearing_slots core version to reply None there number answer keeps = keeps
+hearing_slots core version to reply (Some other) there number answer keeps =
     let place = number - core.first in
     let at = to - core.first in
     let slot = answered_slot (slot_at core number) answer keeps in
     let found = slot_found core number slot.0 slot.1 in
     let heard_there = (slot_found core to other there).1 in
-    let after = slot_hearing other reply in
+    let after = slot_hearing other version reply in
     let new : Core = record core { slots = set core.slots at after } in
     elim (set_stays core.slots at after place slot.0 found.1) [
       | inl t ↦
           let same : slot.0 ≡ other = same_element core.slots place at slot.0 other t found.1 heard_there in
           let is : other.state ≡ Answered answer = subst (λ (s : Slot). s.state ≡ Answered answer) same slot.2 in
           let here : slice_get (set core.slots at after) place ≡ Some after = subst (λ (n : ℕ). slice_get (set core.slots at after) n ≡ Some after) (sym t) (set_here core.slots at after other heard_there) in
-          keeps_by new number after answer found.0 here (after_answer other reply answer (heard_at other reply) refl is)
+          keeps_by new number after answer found.0 here (after_answer other version reply answer (heard_at other version reply) refl is)
       | inr t ↦ keeps_by new number slot.0 answer found.0 t slot.2
     ]
 
-hearing : (core : Core) (client to : ℕ) (reply : Reply) (number : ℕ) (answer : Reply) → Keeps core number answer → Keeps (core_hearing core client to reply) number answer
-hearing core client to reply number answer keeps =
+hearing : (core : Core) (version client to : ℕ) (reply : Reply) (number : ℕ) (answer : Reply) → Keeps core number answer → Keeps (core_hearing core version client to reply) number answer
+hearing core version client to reply number answer keeps =
     elim (eqb_tells client core.client) [
-      | inl t ↦ rw t.0 (hearing_slots core to reply (slot_at core to) refl number answer keeps)
+      | inl t ↦ rw t.0 (hearing_slots core version to reply (slot_at core to) refl number answer keeps)
       | inr t ↦ rw t.0 keeps
     ]
 
@@ -114,11 +114,11 @@ stays_if : (b : Bool) (old new : Moment) (which number : ℕ) (reply : Reply) �
 stays_if true old new which number reply is goes = goes
 stays_if false old new which number reply is goes = is
 
-stays_submitted : (moment : Moment) (at : ℕ) (request : Request) (o : Option Core) → slice_get moment.cores at ≡ o → (which number : ℕ) (reply : Reply) → answer_at moment which number ≡ Some reply → answer_at (submitted moment at request o) which number ≡ Some reply
-stays_submitted moment at request None there which number reply is = is
-stays_submitted moment at request (Some core) there which number reply is =
+stays_submitted : (moment : Moment) (at : ℕ) (version : ℕ) (request : Request) (o : Option Core) → slice_get moment.cores at ≡ o → (which number : ℕ) (reply : Reply) → answer_at moment which number ≡ Some reply → answer_at (submitted moment at version request o) which number ≡ Some reply
+stays_submitted moment at version request None there which number reply is = is
+stays_submitted moment at version request (Some core) there which number reply is =
     stays_if (ltb (next_number core) (2 ^ 63)) moment _ which number reply is
-    (set_keeps moment.cores at core (core_submitting core request) which number reply there (submitting core request number reply) is)
+    (set_keeps moment.cores at core (core_submitting core version request) which number reply there (submitting core version request number reply) is)
 
 stays_arrived : (desk : Desk) (moment : Moment) (o : Option Frame) (which number : ℕ) (reply : Reply) → answer_at moment which number ≡ Some reply → answer_at (arrived desk moment o) which number ≡ Some reply
 stays_arrived desk moment None which number reply is = is
@@ -132,10 +132,10 @@ stays_replied : (moment : Moment) (at : ℕ) (o : Option Core) (s : Option Sent)
 stays_replied moment at None s there which number reply is = is
 stays_replied moment at (Some core) None there which number reply is = is
 stays_replied moment at (Some core) (Some sent) there which number reply is =
-    set_keeps moment.cores at core (core_hearing core sent.client sent.number sent.reply) which number reply there (hearing core sent.client sent.number sent.reply number reply) is
+    set_keeps moment.cores at core (core_hearing core sent.version sent.client sent.number sent.reply) which number reply there (hearing core sent.version sent.client sent.number sent.reply number reply) is
 
 stays : (desk : Desk) (moment : Moment) (event : Event) (which number : ℕ) (reply : Reply) → answer_at moment which number ≡ Some reply → answer_at (happens desk moment event) which number ≡ Some reply
-stays desk moment (Submits at request) which number reply is = stays_submitted moment at request (slice_get moment.cores at) refl which number reply is
+stays desk moment (Submits at version request) which number reply is = stays_submitted moment at version request (slice_get moment.cores at) refl which number reply is
 stays desk moment (Arrives at) which number reply is = stays_arrived desk moment (slice_get moment.frames at) which number reply is
 stays desk moment (Wants at want) which number reply is = stays_wanted desk moment want (slice_get moment.frames at) which number reply is
 stays desk moment (Replies at sent) which number reply is = stays_replied moment at (slice_get moment.cores at) (slice_get moment.replies sent) refl which number reply is

@@ -16,7 +16,7 @@ use Rattle.droid_wire_client.specs.declared.heard.Heard.TheVariants as heard
 use Rattle.droid_wire_client.specs.declared.slot.Slot.{Slot}
 use Rattle.droid_wire_client.specs.declared.slot.State.{State}
 use Rattle.droid_wire_client.specs.declared.slot.State.TheVariants.{Pending, Answered}
-use Rattle.droid_wire_client.specs.Cores.{Core, belongs, core_hearing, core_submitting, heard_at, heard_in, new_slot, next_frame, next_number, slot_after, slot_at, slot_hearing, slots_hearing}
+use Rattle.droid_wire_client.specs.Cores.{Core, belongs_at, core_hearing, core_submitting, heard_at, heard_in, new_slot, next_frame, next_number, slot_after, slot_at, slot_hearing, slots_hearing}
 use Rattle.droid_wire.specs.Desks.{Desk, Answering, Again, Accepts, Refuses, Tells, IsDesk, IsItsOwn, entry_at, is_command, is_refused}
 use Rattle.droid_wire.specs.Schedules.{AreOnes, Event, Submits, Arrives, Wants, Replies, Drops, Moment, Sent, Want, OfMemory, OfStore, arrived, happens, refusal_for, replied, reply_to, submitted, wanted}
 use Rattle.droid_wire_client.proofs.Elements.{contains_got, count_push, found_in, none_there, push_cases, set_cases}
@@ -25,10 +25,10 @@ use Rattle.droid_wire.proofs.Invariant.{Within, IsEntry, Says, Refusing, Kept, T
 
 -- ---- a core submits
 
-submitting_core : (Was : History → Frame → Type 0) (desk : Desk) (history : History) (frames : List Frame) (core : Core) (request : Request) → IsCore Was desk history frames core
-    → IsCore Was desk history (frames ++ next_frame core request ∷ []) (core_submitting core request)
-submitting_core Was desk history frames core request is place slot there =
-    let frame = next_frame core request in
+submitting_core : (Was : History → Frame → Type 0) (desk : Desk) (history : History) (frames : List Frame) (core : Core) (version : ℕ) (request : Request) → IsCore Was desk history frames core
+    → IsCore Was desk history (frames ++ next_frame core version request ∷ []) (core_submitting core version request)
+submitting_core Was desk history frames core version request is place slot there =
+    let frame = next_frame core version request in
     let more = frames ++ frame ∷ [] in
     elim (push_cases core.slots (new_slot frame) place slot there) [
       | inl t ↦ slot_more Was desk history history frames more core.client (core.first + place) slot (same_within history) (Contains-append_left frames (frame ∷ [])) (is place slot t)
@@ -40,10 +40,10 @@ submitting_core Was desk history frames core request is place slot there =
       })
     ]
 
-submits : (Was : History → Frame → Type 0) (desk : Desk) (moment : Moment) (which : ℕ) (core : Core) (request : Request) → Holds Was desk moment → slice_get moment.cores which ≡ Some core
-    → Holds Was desk (record { history = moment.history; cores = set moment.cores which (core_submitting core request); frames = moment.frames ++ next_frame core request ∷ []; replies = moment.replies })
-submits Was desk moment which core request holds there =
-    let frame = next_frame core request in
+submits : (Was : History → Frame → Type 0) (desk : Desk) (moment : Moment) (which : ℕ) (core : Core) (version : ℕ) (request : Request) → Holds Was desk moment → slice_get moment.cores which ≡ Some core
+    → Holds Was desk (record { history = moment.history; cores = set moment.cores which (core_submitting core version request); frames = moment.frames ++ next_frame core version request ∷ []; replies = moment.replies })
+submits Was desk moment which core version request holds there =
+    let frame = next_frame core version request in
     let more = moment.frames ++ frame ∷ [] in
     let within : Within moment.frames more = Contains-append_left moment.frames (frame ∷ []) in
     let same : Within moment.history moment.history = same_within moment.history in
@@ -51,8 +51,8 @@ submits Was desk moment which core request holds there =
       entries = λ entry is. entry_more desk moment.frames more entry within (holds.entries entry is);
       once = holds.once;
       replies = λ sent is. reply_more Was desk moment.history moment.history moment.frames more sent same within (holds.replies sent is);
-      cores = λ at other is. elim (set_cases moment.cores which (core_submitting core request) at other is) [
-        | inl t ↦ subst (IsCore Was desk moment.history more) t.1 (submitting_core Was desk moment.history moment.frames core request (holds.cores which core there))
+      cores = λ at other is. elim (set_cases moment.cores which (core_submitting core version request) at other is) [
+        | inl t ↦ subst (IsCore Was desk moment.history more) t.1 (submitting_core Was desk moment.history moment.frames core version request (holds.cores which core there))
         | inr t ↦ core_more Was desk moment.history moment.history moment.frames more other same within (holds.cores at other t)
       ];
     }
@@ -61,10 +61,10 @@ submits_if : (b : Bool) (Was : History → Frame → Type 0) (desk : Desk) (old 
 submits_if true Was desk old new holds goes = goes
 submits_if false Was desk old new holds goes = holds
 
-keeps_submitted : (Was : History → Frame → Type 0) (desk : Desk) (moment : Moment) (which : ℕ) (request : Request) (o : Option Core) → slice_get moment.cores which ≡ o → Holds Was desk moment → Holds Was desk (submitted moment which request o)
-keeps_submitted Was desk moment which request None there holds = holds
-keeps_submitted Was desk moment which request (Some core) there holds =
-    submits_if (ltb (next_number core) (2 ^ 63)) Was desk moment _ holds (submits Was desk moment which core request holds there)
+keeps_submitted : (Was : History → Frame → Type 0) (desk : Desk) (moment : Moment) (which : ℕ) (version : ℕ) (request : Request) (o : Option Core) → slice_get moment.cores which ≡ o → Holds Was desk moment → Holds Was desk (submitted moment which version request o)
+keeps_submitted Was desk moment which version request None there holds = holds
+keeps_submitted Was desk moment which version request (Some core) there holds =
+    submits_if (ltb (next_number core) (2 ^ 63)) Was desk moment _ holds (submits Was desk moment which core version request holds there)
 
 -- ---- a reply is sent
 
@@ -182,40 +182,40 @@ is_no_refusal true (Pending frame) (Progress held missing) is = refl
 is_no_refusal true (Pending frame) (Part as_of total bytes) is = refl
 is_no_refusal true (Pending frame) (Refused refusal) is = absurd cc
 
-hearing_slot : (Was : History → Frame → Type 0) (desk : Desk) (history : History) (frames : List Frame) (client number : ℕ) (slot : Slot) (reply : Reply) (h : Heard) → heard_at slot reply ≡ h
+hearing_slot : (Was : History → Frame → Type 0) (desk : Desk) (history : History) (frames : List Frame) (version client number : ℕ) (slot : Slot) (reply : Reply) (h : Heard) → heard_at slot version reply ≡ h
     → (is : IsSlot Was desk history frames client number slot) → Says Was desk history is.frame reply → IsSlot Was desk history frames client number (slot_after slot reply h)
-hearing_slot Was desk history frames client number slot reply heard.Answered so is says = record {
+hearing_slot Was desk history frames version client number slot reply heard.Answered so is says = record {
   frame = is.frame;
   request = is.request;
   kind_is = is.kind_is;
-  state = (says, is_no_refusal (belongs slot.kind reply) slot.state reply so);
+  state = (says, is_no_refusal (belongs_at slot version reply) slot.state reply so);
 }
-hearing_slot Was desk history frames client number slot reply heard.Refused so is says = record { frame = is.frame; request = is.request; kind_is = is.kind_is; state = is.state }
-hearing_slot Was desk history frames client number slot reply heard.Repeated so is says = is
-hearing_slot Was desk history frames client number slot reply heard.Stranger so is says = is
+hearing_slot Was desk history frames version client number slot reply heard.Refused so is says = record { frame = is.frame; request = is.request; kind_is = is.kind_is; state = is.state }
+hearing_slot Was desk history frames version client number slot reply heard.Repeated so is says = is
+hearing_slot Was desk history frames version client number slot reply heard.Stranger so is says = is
 
-hearing_slots : (Was : History → Frame → Type 0) (desk : Desk) (history : History) (frames : List Frame) (core : Core) (number : ℕ) (reply : Reply) (o : Option Slot) → slot_at core number ≡ o → IsCore Was desk history frames core
-    → ((frame : Frame) → IsRequest frames frame core.client number → Says Was desk history frame reply) → IsCore Was desk history frames (record core { slots = slots_hearing core number reply o })
-hearing_slots Was desk history frames core number reply None there is says = is
-hearing_slots Was desk history frames core number reply (Some slot) there is says = λ place other at.
+hearing_slots : (Was : History → Frame → Type 0) (desk : Desk) (history : History) (frames : List Frame) (core : Core) (version number : ℕ) (reply : Reply) (o : Option Slot) → slot_at core number ≡ o → IsCore Was desk history frames core
+    → ((frame : Frame) → IsRequest frames frame core.client number → Says Was desk history frame reply) → IsCore Was desk history frames (record core { slots = slots_hearing core version number reply o })
+hearing_slots Was desk history frames core version number reply None there is says = is
+hearing_slots Was desk history frames core version number reply (Some slot) there is says = λ place other at.
     let found = slot_found core number slot there in
     let before = is (number - core.first) slot found.1 in
     let numbered : core.first + (number - core.first) ≡ number = omega (arith, found.0) in
     let known : IsSlot Was desk history frames core.client number slot = subst (λ (n : ℕ). IsSlot Was desk history frames core.client n slot) numbered before in
-    elim (set_cases core.slots (number - core.first) (slot_hearing slot reply) place other at) [
+    elim (set_cases core.slots (number - core.first) (slot_hearing slot version reply) place other at) [
       | inl t ↦
           let placed : number ≡ core.first + place = sym numbered ∙ ap (λ (n : ℕ). core.first + n) (sym t.0) in
           subst (λ (n : ℕ). IsSlot Was desk history frames core.client n other) placed
           (subst (IsSlot Was desk history frames core.client number) t.1
-          (hearing_slot Was desk history frames core.client number slot reply (heard_at slot reply) refl known (says known.frame known.request)))
+          (hearing_slot Was desk history frames version core.client number slot reply (heard_at slot version reply) refl known (says known.frame known.request)))
       | inr t ↦ is place other t
     ]
 
 hearing_core : (Was : History → Frame → Type 0) (desk : Desk) (history : History) (frames : List Frame) (core : Core) (sent : Sent) → AreOnes frames → IsCore Was desk history frames core → IsReply Was desk history frames sent
-    → IsCore Was desk history frames (core_hearing core sent.client sent.number sent.reply)
+    → IsCore Was desk history frames (core_hearing core sent.version sent.client sent.number sent.reply)
 hearing_core Was desk history frames core sent ones is reply =
     elim (eqb_tells sent.client core.client) [
-      | inl t ↦ rw t.0 (hearing_slots Was desk history frames core sent.number sent.reply (slot_at core sent.number) refl is
+      | inl t ↦ rw t.0 (hearing_slots Was desk history frames core sent.version sent.number sent.reply (slot_at core sent.number) refl is
           (λ frame request.
           let same : reply.frame ≡ frame = ones reply.frame frame reply.request.submitted request.submitted (reply.request.client_is ∙ (t.1 ∙ sym request.client_is)) (reply.request.number_is ∙ sym request.number_is) in
           subst (λ (frame : Frame). Says Was desk history frame sent.reply) same reply.says))
@@ -230,7 +230,7 @@ keeps_replied Was desk moment which at (Some core) (Some sent) there sent_is hol
   entries = holds.entries;
   once = holds.once;
   replies = holds.replies;
-  cores = λ place other is. elim (set_cases moment.cores which (core_hearing core sent.client sent.number sent.reply) place other is) [
+  cores = λ place other is. elim (set_cases moment.cores which (core_hearing core sent.version sent.client sent.number sent.reply) place other is) [
     | inl t ↦ subst (IsCore Was desk moment.history moment.frames) t.1
         (hearing_core Was desk moment.history moment.frames core sent ones (holds.cores which core there) (holds.replies sent (contains_got moment.replies at sent sent_is)))
     | inr t ↦ holds.cores place other t
@@ -241,14 +241,14 @@ keeps_replied Was desk moment which at (Some core) (Some sent) there sent_is hol
 
 -- where the event is an arrival, this frame arrives after this history
 abbrev pub Marks : (History → Frame → Type 0) → Moment → Event → Type 0
-Marks Was moment (Submits which request) = Unit {0}
+Marks Was moment (Submits which version request) = Unit {0}
 Marks Was moment (Arrives which) = (frame : Frame) → slice_get moment.frames which ≡ Some frame → Was moment.history frame
 Marks Was moment (Wants which want) = Unit {0}
 Marks Was moment (Replies which at) = Unit {0}
 Marks Was moment (Drops which at) = Unit {0}
 
 pub keeps : (Was : History → Frame → Type 0) (desk : Desk) (moment : Moment) (event : Event) → IsDesk desk → AreOnes moment.frames → Marks Was moment event → Holds Was desk moment → Holds Was desk (happens desk moment event)
-keeps Was desk moment (Submits which request) can ones marks holds = keeps_submitted Was desk moment which request (slice_get moment.cores which) refl holds
+keeps Was desk moment (Submits which version request) can ones marks holds = keeps_submitted Was desk moment which version request (slice_get moment.cores which) refl holds
 keeps Was desk moment (Arrives which) can ones marks holds = keeps_arrived Was desk moment which (slice_get moment.frames which) refl can holds ones marks
 keeps Was desk moment (Wants which want) can ones marks holds = keeps_wanted Was desk moment which want (slice_get moment.frames which) refl holds
 keeps Was desk moment (Replies which at) can ones marks holds = keeps_replied Was desk moment which at (slice_get moment.cores which) (slice_get moment.replies at) refl refl holds ones

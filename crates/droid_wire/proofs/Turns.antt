@@ -16,19 +16,19 @@ use Rattle.droid_wire.specs.declared.fault.ServeFault.TheVariants as faults
 use Rattle.droid_wire.specs.Steps.{Turn, TurnGives}
 
 turn_is : (setting : Setting) (history : History) (input : List ℕ) (left : Option (List ℕ)) (after : Service) (frame : Frame) (reply : Reply)
-    → IsReadable frame → Consumes (Some input) left (frame_bytes frame) → Handles setting history frame reply (StandsFor setting after) → HasReplySpelling reply
+    → IsReadable frame → Consumes (Some input) left (frame_bytes frame) → Handles setting history frame reply (StandsFor setting after) → HasReplySpelling frame.version reply
     → Turn setting history input left after frame reply
 turn_is setting history input None after frame reply readable consumed handles spelled = absurd consumed
 turn_is setting history input (Some rest) after frame reply readable consumed handles spelled =
     record { rest = rest; readable = readable; joined = consumed; is_left = refl; handles = handles; spelled = spelled }
 
-pub frame_size : (client number : ℕ) (reply : Reply) → length (reply_frame client number reply) ≡ 18 + length (reply_bytes reply)
-frame_size client number reply = omega arith
+pub frame_size : (version client number : ℕ) (reply : Reply) → length (reply_frame version client number reply) ≡ 18 + length (reply_bytes version reply)
+frame_size version client number reply = omega arith
 
 -- the reply was written
 pub gives_answered : (setting : Setting) (history : History) (known left old new : Option (List ℕ)) (before after : Service) (count size body : ℕ) (frame : Frame) (reply : Reply)
-    → IsReadable frame × Consumes known left (frame_bytes frame) → Handles setting history frame reply (StandsFor setting after) → HasReplySpelling reply
-    → Appends old new (reply_frame frame.client frame.number reply) → size ≡ 18 + body → body ≡ length (reply_bytes reply)
+    → IsReadable frame × Consumes known left (frame_bytes frame) → Handles setting history frame reply (StandsFor setting after) → HasReplySpelling frame.version reply
+    → Appends old new (reply_frame frame.version frame.client frame.number reply) → size ≡ 18 + body → body ≡ length (reply_bytes frame.version reply)
     → IfSome known (λ input. TurnGives setting history input left old new before after count (Ok (Some size)))
 gives_answered setting history None left old new before after count size body frame reply came handles spelled written is body_is = tt
 gives_answered setting history (Some input) left old new before after count size body frame reply came handles spelled written is body_is = record {
@@ -36,13 +36,13 @@ gives_answered setting history (Some input) left old new before after count size
   reply = reply;
   turn = turn_is setting history input left after frame reply came.0 came.1 handles spelled;
   written = written;
-  size_is = omega (arith, is, body_is, frame_size frame.client frame.number reply);
+  size_is = omega (arith, is, body_is, frame_size frame.version frame.client frame.number reply);
 }
 
 -- only a front of it was
 pub gives_cut : (setting : Setting) (history : History) (known left old new : Option (List ℕ)) (before after : Service) (count size : ℕ) (frame : Frame) (reply : Reply)
-    → IsReadable frame × Consumes known left (frame_bytes frame) → Handles setting history frame reply (StandsFor setting after) → HasReplySpelling reply
-    → Stops old new (reply_frame frame.client frame.number reply) size
+    → IsReadable frame × Consumes known left (frame_bytes frame) → Handles setting history frame reply (StandsFor setting after) → HasReplySpelling frame.version reply
+    → Stops old new (reply_frame frame.version frame.client frame.number reply) size
     → IfSome known (λ input. TurnGives setting history input left old new before after count (Err (faults.Write (count + size))))
 gives_cut setting history None left old new before after count size frame reply came handles spelled stops = tt
 gives_cut setting history (Some input) left old new before after count size frame reply came handles spelled stops =
@@ -53,6 +53,6 @@ gives_cut setting history (Some input) left old new before after count size fram
         reply = reply;
         turn = turn_is setting history input left after frame reply came.0 came.1 handles spelled;
         short = omega (arith, stops.some_left);
-        written = subst (λ (n : ℕ). Appends old new (take n (reply_frame frame.client frame.number reply))) here stops.front;
+        written = subst (λ (n : ℕ). Appends old new (take n (reply_frame frame.version frame.client frame.number reply))) here stops.front;
       },
     )

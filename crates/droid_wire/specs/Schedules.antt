@@ -11,8 +11,9 @@ use Rattle.droid_wire_client.specs.Cores.{Core, new_core, next_number, next_fram
 use Rattle.droid_core.specs.Histories.{Entry, History, is_under}
 use Rattle.droid_wire.specs.Desks.{Desk, is_command}
 
--- a reply that was sent, and the client and the number of its request
+-- a reply that was sent, and the version, the client and the number of its request
 pub record Sent : Type 0 where
+  pub version : ℕ
   pub client : ℕ
   pub number : ℕ
   pub reply : Reply
@@ -32,8 +33,8 @@ pub data Want : Type 0 where
 
 -- what may happen next; a loss is a delivery that never comes
 pub data Event : Type 0 where
-  -- a core submits a request
-  Submits : (core : ℕ) (request : Request) → Event
+  -- a core submits a request in a version
+  Submits : (core version : ℕ) (request : Request) → Event
   -- a frame that was submitted arrives at the service, which answers it
   Arrives : (frame : ℕ) → Event
   -- the same, and the service is wanting
@@ -49,20 +50,20 @@ start clients = record { history = []; cores = map (λ client. new_core client.0
 
 -- ---- the steps
 
-abbrev pub submitted : Moment → ℕ → Request → Option Core → Moment
-submitted moment which request None = moment
-submitted moment which request (Some core) =
+abbrev pub submitted : Moment → ℕ → ℕ → Request → Option Core → Moment
+submitted moment which version request None = moment
+submitted moment which version request (Some core) =
     if nat_lt (next_number core) (2 ^ 63)
     then record {
       history = moment.history;
-      cores = slice_set moment.cores which (core_submitting core request);
-      frames = moment.frames ++ next_frame core request ∷ [];
+      cores = slice_set moment.cores which (core_submitting core version request);
+      frames = moment.frames ++ next_frame core version request ∷ [];
       replies = moment.replies;
     }
     else moment
 
 abbrev pub reply_to : Frame → Reply → Sent
-reply_to frame reply = record { client = frame.client; number = frame.number; reply = reply }
+reply_to frame reply = record { version = frame.version; client = frame.client; number = frame.number; reply = reply }
 
 abbrev pub arrived : Desk → Moment → Option Frame → Moment
 arrived desk moment None = moment
@@ -97,13 +98,13 @@ replied moment which (Some core) None = moment
 replied moment which (Some core) (Some sent) =
     record {
       history = moment.history;
-      cores = slice_set moment.cores which (core_hearing core sent.client sent.number sent.reply);
+      cores = slice_set moment.cores which (core_hearing core sent.version sent.client sent.number sent.reply);
       frames = moment.frames;
       replies = moment.replies;
     }
 
 abbrev pub happens : Desk → Moment → Event → Moment
-happens desk moment (Submits core request) = submitted moment core request (slice_get moment.cores core)
+happens desk moment (Submits core version request) = submitted moment core version request (slice_get moment.cores core)
 happens desk moment (Arrives frame) = arrived desk moment (slice_get moment.frames frame)
 happens desk moment (Wants frame want) = wanted desk moment want (slice_get moment.frames frame)
 happens desk moment (Replies core reply) = replied moment core (slice_get moment.cores core) (slice_get moment.replies reply)

@@ -17,11 +17,11 @@ use Rattle.droid_wire.specs.declared.ended.Ended.TheVariants.{Closed, Turns}
 use Rattle.droid_wire.specs.declared.fault.ServeFault.{ServeFault}
 use Rattle.droid_wire.specs.declared.fault.ServeFault.TheVariants as faults
 
--- the replies' frames, one after the other, each with its request's client and number
+-- the replies' frames, one after the other, each with its request's version, client and number
 abbrev pub reply_frames : List Frame → List Reply → List ℕ
 reply_frames [] replies = []
 reply_frames (frame ∷ frames) [] = []
-reply_frames (frame ∷ frames) (reply ∷ replies) = reply_frame frame.client frame.number reply ++ reply_frames frames replies
+reply_frames (frame ∷ frames) (reply ∷ replies) = reply_frame frame.version frame.client frame.number reply ++ reply_frames frames replies
 
 -- these frames were read from the front of the input, which leaves a rest, and were handled one after the
 -- other, with these replies

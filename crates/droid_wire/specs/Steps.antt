@@ -22,23 +22,23 @@ pub record Turn (setting : Setting) (history : History) (input : List ℕ) (left
   pub joined : input ≡ frame_bytes frame ++ rest
   pub is_left : left ≡ Some rest
   pub handles : Handles setting history frame reply (StandsFor setting after)
-  pub spelled : HasReplySpelling reply
+  pub spelled : HasReplySpelling frame.version reply
 
 -- and its reply was written, of so many bytes
 pub record Answered (setting : Setting) (history : History) (input : List ℕ) (left old new : Option (List ℕ)) (after : Service) (size : ℕ) : Type 0 where
   pub frame : Frame
   pub reply : Reply
   pub turn : Turn setting history input left after frame reply
-  pub written : Appends old new (reply_frame frame.client frame.number reply)
-  pub size_is : size ≡ length (reply_frame frame.client frame.number reply)
+  pub written : Appends old new (reply_frame frame.version frame.client frame.number reply)
+  pub size_is : size ≡ length (reply_frame frame.version frame.client frame.number reply)
 
 -- or only the first so many bytes of it, which are not all
 pub record Cut (setting : Setting) (history : History) (input : List ℕ) (left old new : Option (List ℕ)) (after : Service) (size : ℕ) : Type 0 where
   pub frame : Frame
   pub reply : Reply
   pub turn : Turn setting history input left after frame reply
-  pub short : size < length (reply_frame frame.client frame.number reply)
-  pub written : Appends old new (take size (reply_frame frame.client frame.number reply))
+  pub short : size < length (reply_frame frame.version frame.client frame.number reply)
+  pub written : Appends old new (take size (reply_frame frame.version frame.client frame.number reply))
 
 -- nothing was handled or written
 pub record Idle (before after : Service) (old new : Option (List ℕ)) : Type 0 where

@@ -7,6 +7,7 @@ ghost use Rattle.droid_frame.specs.Writes.{Takes, TellsWrite};
 ghost use Rattle.droid_frame.specs.Replies.{HasReplySpelling};
 ghost use Rattle.droid_frame.specs.ReplyFrames.{reply_frame};
 ghost use Rattle.droid_frame.specs.StreamWrites.{Stops};
+ghost use Rattle.droid_frame.specs.Versions.{IsVersion};
 
 use droid_frame::{
     HEADER_LENGTH, Progress, Reply, SteadyWrite, Unsteady, WriteFault, reply_body_len, write_all,
@@ -21,31 +22,34 @@ const GATHERED: usize = 4_096;
 /// gather its parts in. Nothing is held back: what is said here is of the writer itself.
 pub(crate) fn send_reply<W: SteadyWrite>(
     alloc: Global,
+    version: u8,
     client: u32,
     number: u64,
     reply: &Reply,
     writer: &mut W,
 ) -> Result<(), WriteFault>
-    requires { HasReplySpelling reply.now }
-    ensures ok { OnOk result (Appends (W.contents writer.old) (W.contents writer.new) (reply_frame client number reply.now)) }
-    ensures err { IfErr result (λ fault. Stops (W.contents writer.old) (W.contents writer.new) (reply_frame client number reply.now) fault.written) }
+    requires version { IsVersion version }
+    requires spelling { HasReplySpelling version reply.now }
+    ensures ok { OnOk result (Appends (W.contents writer.old) (W.contents writer.new) (reply_frame version client number reply.now)) }
+    ensures err { IfErr result (λ fault. Stops (W.contents writer.old) (W.contents writer.new) (reply_frame version client number reply.now) fault.written) }
     ensures failed { IsSound (W.seen writer.old) →
-        TellsWrite (W.seen writer.old).interruptions (W.seen writer.new) (W.room writer.old) (length (reply_frame client number reply.now)) (IsErr result) }
-    ensures room_ok { OnOk result (Takes (W.room writer.old) (W.room writer.new) (length (reply_frame client number reply.now))) }
+        TellsWrite (W.seen writer.old).interruptions (W.seen writer.new) (W.room writer.old) (length (reply_frame version client number reply.now)) (IsErr result) }
+    ensures room_ok { OnOk result (Takes (W.room writer.old) (W.room writer.new) (length (reply_frame version client number reply.now))) }
     ensures room_err { IfErr result (λ fault. Takes (W.room writer.old) (W.room writer.new) fault.written) }
 {
-    match gathered(alloc, client, number, reply) {
+    match gathered(alloc, version, client, number, reply) {
         Some(frame) => write_all(writer, frame.as_slice(), &mut Progress::new()),
-        None => write_reply(client, number, reply, writer),
+        None => write_reply(version, client, number, reply, writer),
     }
 }
 
 /// The bytes of a small reply's frame, or `None` where it isn't small or memory is refused.
-fn gathered(alloc: Global, client: u32, number: u64, reply: &Reply) -> Option<Vec<u8>>
-    requires { HasReplySpelling reply.now }
-    ensures { IfSome result (λ frame. frame.items ≡ reply_frame client number reply.now) }
+fn gathered(alloc: Global, version: u8, client: u32, number: u64, reply: &Reply) -> Option<Vec<u8>>
+    requires version { IsVersion version }
+    requires spelling { HasReplySpelling version reply.now }
+    ensures { IfSome result (λ frame. frame.items ≡ reply_frame version client number reply.now) }
 {
-    let size = reply_body_len(reply);
+    let size = reply_body_len(version, reply);
     if size > GATHERED {
         return None;
     }
@@ -53,7 +57,7 @@ fn gathered(alloc: Global, client: u32, number: u64, reply: &Reply) -> Option<Ve
         return None;
     };
     let mut frame = Unsteady::new(bytes);
-    match write_reply(client, number, reply, &mut frame) {
+    match write_reply(version, client, number, reply, &mut frame) {
         Ok(()) => Some(frame.stream),
         Err(_) => None,
     }

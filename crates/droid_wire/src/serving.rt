@@ -21,7 +21,7 @@ use droid_frame::{
 };
 use std::alloc::Global;
 
-/// Reads frames, at most `turns` of them, and answers each by one reply frame with its client and number
+/// Reads frames, at most `turns` of them, and answers each by one reply frame with its version, client and number
 /// before the next is read. A reply's bytes have all gone to the writer by then: none is held back.
 pub fn serve<R: SteadyRead, W: SteadyWrite>(
     alloc: Global,
@@ -81,10 +81,10 @@ fn answer_next<R: SteadyRead, W: SteadyWrite>(
     let Arrival::Frame(frame) = read_frame(alloc, reader)? else {
         return Ok(None);
     };
-    let (client, number) = (frame.client, frame.number);
+    let (version, client, number) = (frame.version, frame.client, frame.number);
     let reply = service.handle(frame);
-    let size = HEADER_LENGTH as u64 + reply_body_len(&reply) as u64;
-    match send_reply(alloc, client, number, &reply, writer) {
+    let size = HEADER_LENGTH as u64 + reply_body_len(version, &reply) as u64;
+    match send_reply(alloc, version, client, number, &reply, writer) {
         Ok(()) => Ok(Some(size)),
         Err(fault) => Err(ServeFault::Write {
             written: written + fault.written as u64,

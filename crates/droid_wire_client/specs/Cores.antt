@@ -1,5 +1,5 @@
 -- A client's core: what it keeps, its two steps, and what it shows (this project's own).
-use Rattle.std.specs.Prelude.{ℕ, ◌+◌, ◌-◌, ◌==◌, ◌||◌, nat_lt, if◌then◌else◌, Bool, true, List, [], ◌∷◌, ◌++◌, length, slice_set, Option, Some, None}
+use Rattle.std.specs.Prelude.{ℕ, ◌+◌, ◌-◌, ◌==◌, ◌&&◌, ◌||◌, nat_lt, if◌then◌else◌, Bool, true, List, [], ◌∷◌, ◌++◌, length, slice_set, Option, Some, None}
 use Rattle.std.specs.List.{slice_get, filter_map}
 use Rattle.droid_frame.specs.types.frame.Frame.{Frame}
 use Rattle.droid_frame.specs.types.refusal.Refusal.{Refusal}
@@ -27,20 +27,20 @@ new_core client first = record { client = client; first = first; slots = [] }
 abbrev pub next_number : Core → ℕ
 next_number core = core.first + length core.slots
 
--- the frame of a request: version 1, its kind and its one spelling
-abbrev pub frame_of : ℕ → ℕ → Request → Frame
-frame_of client number request =
-    record { version = 1; kind = request_kind request; client = client; number = number; body = request_body request }
+-- the frame of a request in a version: its kind and its one spelling there
+abbrev pub frame_of : ℕ → ℕ → ℕ → Request → Frame
+frame_of version client number request =
+    record { version = version; kind = request_kind request; client = client; number = number; body = request_body version request }
 
-abbrev pub next_frame : Core → Request → Frame
-next_frame core request = frame_of core.client (next_number core) request
+abbrev pub next_frame : Core → ℕ → Request → Frame
+next_frame core version request = frame_of version core.client (next_number core) request
 
 abbrev pub new_slot : Frame → Slot
-new_slot frame = record { kind = frame.kind; state = Pending frame; refusal = None }
+new_slot frame = record { version = frame.version; kind = frame.kind; state = Pending frame; refusal = None }
 
--- the core after a request was submitted
-abbrev pub core_submitting : Core → Request → Core
-core_submitting core request = record core { slots = core.slots ++ new_slot (next_frame core request) ∷ [] }
+-- the core after a request was submitted in a version
+abbrev pub core_submitting : Core → ℕ → Request → Core
+core_submitting core version request = record core { slots = core.slots ++ new_slot (next_frame core version request) ∷ [] }
 
 -- ---- hearing
 
@@ -69,21 +69,25 @@ abbrev pub heard_in : State → Reply → Heard
 heard_in (Pending frame) reply = heard_pending reply
 heard_in (Answered answer) reply = heard.Repeated
 
--- what a reply to the request of a slot is heard as
-abbrev pub heard_at : Slot → Reply → Heard
-heard_at slot reply = if belongs slot.kind reply then heard_in slot.state reply else heard.Stranger
+-- a reply belongs to the request of a slot where it comes in the request's version, and is of a kind that belongs to it
+abbrev pub belongs_at : Slot → ℕ → Reply → Bool
+belongs_at slot version reply = (version == slot.version) && belongs slot.kind reply
 
-abbrev pub heard_by : Option Slot → Reply → Heard
-heard_by None reply = heard.Stranger
-heard_by (Some slot) reply = heard_at slot reply
+-- what a reply in a version to the request of a slot is heard as
+abbrev pub heard_at : Slot → ℕ → Reply → Heard
+heard_at slot version reply = if belongs_at slot version reply then heard_in slot.state reply else heard.Stranger
+
+abbrev pub heard_by : Option Slot → ℕ → Reply → Heard
+heard_by None version reply = heard.Stranger
+heard_by (Some slot) version reply = heard_at slot version reply
 
 -- the slot of a number, where it was submitted
 abbrev pub slot_at : Core → ℕ → Option Slot
 slot_at core number = if nat_lt number core.first then None else slice_get core.slots (number - core.first)
 
--- what a reply to this client's request of this number is heard as
-abbrev pub heard_of : Core → ℕ → ℕ → Reply → Heard
-heard_of core client number reply = if client == core.client then heard_by (slot_at core number) reply else heard.Stranger
+-- what a reply in this version to this client's request of this number is heard as
+abbrev pub heard_of : Core → ℕ → ℕ → ℕ → Reply → Heard
+heard_of core version client number reply = if client == core.client then heard_by (slot_at core number) version reply else heard.Stranger
 
 -- an answer takes the place of the frame, and a refusal that of an earlier one
 abbrev pub slot_after : Slot → Reply → Heard → Slot
@@ -92,18 +96,18 @@ slot_after slot reply heard.Refused = record slot { refusal = refusal_in reply }
 slot_after slot reply heard.Repeated = slot
 slot_after slot reply heard.Stranger = slot
 
--- the slot after a reply to its request
-abbrev pub slot_hearing : Slot → Reply → Slot
-slot_hearing slot reply = slot_after slot reply (heard_at slot reply)
+-- the slot after a reply in a version to its request
+abbrev pub slot_hearing : Slot → ℕ → Reply → Slot
+slot_hearing slot version reply = slot_after slot reply (heard_at slot version reply)
 
-abbrev pub slots_hearing : Core → ℕ → Reply → Option Slot → List Slot
-slots_hearing core number reply None = core.slots
-slots_hearing core number reply (Some slot) = slice_set core.slots (number - core.first) (slot_hearing slot reply)
+abbrev pub slots_hearing : Core → ℕ → ℕ → Reply → Option Slot → List Slot
+slots_hearing core version number reply None = core.slots
+slots_hearing core version number reply (Some slot) = slice_set core.slots (number - core.first) (slot_hearing slot version reply)
 
--- the core after a reply to this client's request of this number
-abbrev pub core_hearing : Core → ℕ → ℕ → Reply → Core
-core_hearing core client number reply =
-    if client == core.client then record core { slots = slots_hearing core number reply (slot_at core number) } else core
+-- the core after a reply in this version to this client's request of this number
+abbrev pub core_hearing : Core → ℕ → ℕ → ℕ → Reply → Core
+core_hearing core version client number reply =
+    if client == core.client then record core { slots = slots_hearing core version number reply (slot_at core number) } else core
 
 -- ---- what a core shows
 

@@ -63,11 +63,12 @@ impl Client {
         }
     }
 
-    /// Submits a request, and gives its number. The request is pending from then on.
-    pub fn submit(&mut self, request: Request) -> Result<u64, SubmitFault>
-        requires { Fits request }
+    /// Submits a request in this version, 1 or 2, and gives its number. The request is pending from then on, and
+    /// its replies have to come in the same version.
+    pub fn submit(&mut self, version: u8, request: Request) -> Result<u64, SubmitFault>
+        requires { Fits version request }
         ensures number { IfOk result (λ number. number ≡ next_number self.old) }
-        ensures submitted { OnOk result (self.new ≡ core_submitting self.old request) }
+        ensures submitted { OnOk result (self.new ≡ core_submitting self.old version request) }
         ensures used_up { IsErrOf result SubmitFault.NumbersUsedUp ↔ (next_number self.old ≡ 2 ^ 63) }
         ensures unchanged { OnErr result (self.new ≡ self.old) }
     {
@@ -76,7 +77,7 @@ impl Client {
         if number >= NUMBER_LIMIT {
             return Err(SubmitFault::NumbersUsedUp);
         }
-        let frame = request_frame(self.alloc, self.client, number, &request)?;
+        let frame = request_frame(self.alloc, version, self.client, number, &request)?;
         self.slots.reserve(1)?;
         self.pending.reserve(1)?;
         self.slots.push(Slot::new(frame)).unwrap();
@@ -107,22 +108,23 @@ impl Client {
     /// whichever are fewer, move up by one.
     pub fn on_reply(&mut self, frame: Frame) -> Result<Heard, HearFault>
         // For the reply that the frame holds.
-        ensures heard { (reply : Reply) → SpellsReply frame.kind frame.body reply
-            → IfOk result (λ heard. heard ≡ heard_of self.old frame.client frame.number reply) }
-        ensures after { (reply : Reply) → SpellsReply frame.kind frame.body reply
-            → OnOk result (self.new ≡ core_hearing self.old frame.client frame.number reply) }
+        ensures heard { (reply : Reply) → SpellsReply frame.version frame.kind frame.body reply
+            → IfOk result (λ heard. heard ≡ heard_of self.old frame.version frame.client frame.number reply) }
+        ensures after { (reply : Reply) → SpellsReply frame.version frame.kind frame.body reply
+            → OnOk result (self.new ≡ core_hearing self.old frame.version frame.client frame.number reply) }
         // Where it is heard, the frame holds one.
-        ensures spelled { OnOk result ((reply : Reply) × SpellsReply frame.kind frame.body reply) }
+        ensures spelled { OnOk result ((reply : Reply) × SpellsReply frame.version frame.kind frame.body reply) }
         // This comes exactly where the frame holds none.
-        ensures malformed { IsErrOf result HearFault.Malformed ↔ ((reply : Reply) → ¬ SpellsReply frame.kind frame.body reply) }
+        ensures malformed { IsErrOf result HearFault.Malformed ↔ ((reply : Reply) → ¬ SpellsReply frame.version frame.kind frame.body reply) }
         // This comes only for a Finished, whose list takes memory.
         ensures memory { IsErrOf result HearFault.Memory → frame.kind ≡ 132 }
         ensures unchanged { OnErr result (self.new ≡ self.old) }
     {
+        let version = frame.version;
         let client = frame.client;
         let number = frame.number;
         match reply_of(self.alloc, frame) {
-            Ok(reply) => Ok(self.hear(client, number, reply)),
+            Ok(reply) => Ok(self.hear(version, client, number, reply)),
             Err(BodyFault::Malformed) => Err(HearFault::Malformed),
             Err(BodyFault::Memory) => Err(HearFault::Memory),
         }
@@ -143,9 +145,9 @@ impl Client {
         self.slot(number)?.refusal()
     }
 
-    fn hear(&mut self, client: u32, number: u64, reply: Reply) -> Heard
-        ensures heard { result ≡ heard_of self.old client number reply }
-        ensures after { self.new ≡ core_hearing self.old client number reply }
+    fn hear(&mut self, version: u8, client: u32, number: u64, reply: Reply) -> Heard
+        ensures heard { result ≡ heard_of self.old version client number reply }
+        ensures after { self.new ≡ core_hearing self.old version client number reply }
     {
         if client != self.client {
             return Heard::Stranger;
@@ -153,7 +155,7 @@ impl Client {
         let Some(place) = place_of(self.first, self.slots.len(), number) else {
             return Heard::Stranger;
         };
-        hear_at(&mut self.slots, &mut self.pending, place, reply)
+        hear_at(&mut self.slots, &mut self.pending, place, version, reply)
     }
 
     fn slot(&self, number: u64) -> Option<&Slot>

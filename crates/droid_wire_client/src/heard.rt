@@ -9,7 +9,7 @@ pub enum Heard {
     Refused,
     /// The request has its answer already, which stays.
     Repeated,
-    /// It is to another client or to a number that was never submitted, or its kind doesn't belong to the
-    /// request.
+    /// It is to another client or to a number that was never submitted, or its version isn't the request's, or its
+    /// kind doesn't belong to the request.
     Stranger,
 }

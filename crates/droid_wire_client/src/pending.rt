@@ -11,21 +11,22 @@ use crate::slot::Slot;
 use droid_frame::Reply;
 use std::collections::VecDeque;
 
-/// Lets the slot at this place take a reply. Where that is its answer, the place is no longer one of a
+/// Lets the slot at this place take a reply in this version. Where that is its answer, the place is no longer one of a
 /// pending request.
 pub(crate) fn hear_at(
     slots: &mut Vec<Slot>,
     pending: &mut VecDeque<usize>,
     place: usize,
+    version: u8,
     reply: Reply,
 ) -> Heard
     requires { place < vec_len slots.old }
-    ensures heard { (slot : Slot) → slice_get slots.old.items place ≡ Some slot → result ≡ heard_at slot reply }
+    ensures heard { (slot : Slot) → slice_get slots.old.items place ≡ Some slot → result ≡ heard_at slot version reply }
     ensures after { (slot : Slot) → slice_get slots.old.items place ≡ Some slot
-        → slots.new.items ≡ slice_set slots.old.items place (slot_hearing slot reply) }
+        → slots.new.items ≡ slice_set slots.old.items place (slot_hearing slot version reply) }
     ensures places { pending.old.items ≡ places_from 0 slots.old.items → pending.new.items ≡ places_from 0 slots.new.items }
 {
-    let heard = slots[place].hear(reply);
+    let heard = slots[place].hear(version, reply);
     match heard {
         Heard::Answered => {
             settle(pending, place);

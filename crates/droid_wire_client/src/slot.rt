@@ -2,14 +2,15 @@
 
 ghost use Rattle.std.specs.Prelude.{◌≡◌, IfSome, IfNone, None, Some, is_some};
 ghost use Rattle.std.specs.Option.{option_copied};
-ghost use Rattle.droid_wire_client.specs.Cores.{answer_in, belongs, heard_at, new_slot, pending_in, refusal_in, slot_hearing};
+ghost use Rattle.droid_wire_client.specs.Cores.{answer_in, belongs, belongs_at, heard_at, new_slot, pending_in, refusal_in, slot_hearing};
 
 use crate::heard::Heard;
 use droid_frame::{Frame, Refusal, Reply};
 
-/// A submitted request: its kind, whether it is answered, and its last refusal.
+/// A submitted request: its version and kind, whether it is answered, and its last refusal.
 #[derive(Drop)]
 pub(crate) struct Slot {
+    version: u8,
     kind: u8,
     state: State,
     refusal: Option<Refusal>,
@@ -30,18 +31,19 @@ impl Slot {
         ensures { result ≡ new_slot frame }
     {
         Slot {
+            version: frame.version,
             kind: frame.kind,
             state: State::Pending(frame),
             refusal: None,
         }
     }
 
-    /// Takes a reply to this request.
-    pub(crate) fn hear(&mut self, reply: Reply) -> Heard
-        ensures heard { result ≡ heard_at self.old reply }
-        ensures after { self.new ≡ slot_hearing self.old reply }
+    /// Takes a reply in this version to this request.
+    pub(crate) fn hear(&mut self, version: u8, reply: Reply) -> Heard
+        ensures heard { result ≡ heard_at self.old version reply }
+        ensures after { self.new ≡ slot_hearing self.old version reply }
     {
-        let heard = self.heard(&reply);
+        let heard = self.heard(version, &reply);
         match heard {
             Heard::Answered => self.state = State::Answered(reply),
             Heard::Refused => self.refusal = refusal_in(&reply),
@@ -51,11 +53,11 @@ impl Slot {
         heard
     }
 
-    /// What a reply to this request is heard as.
-    fn heard(&self, reply: &Reply) -> Heard
-        ensures { result ≡ heard_at self.now reply.now }
+    /// What a reply in this version to this request is heard as.
+    fn heard(&self, version: u8, reply: &Reply) -> Heard
+        ensures { result ≡ heard_at self.now version reply.now }
     {
-        if !belongs(self.kind, reply) {
+        if !self.is_answered_by(version, reply) {
             return Heard::Stranger;
         }
         if self.answer().is_some() {
@@ -65,6 +67,13 @@ impl Slot {
             Reply::Refused(_) => Heard::Refused,
             _ => Heard::Answered,
         }
+    }
+
+    /// Whether a reply in this version is of the request's own version, and of a kind that belongs to it.
+    fn is_answered_by(&self, version: u8, reply: &Reply) -> bool
+        ensures { result ≡ belongs_at self.now version reply.now }
+    {
+        version == self.version && belongs(self.kind, reply)
     }
 
     /// The answer, where there is one.

@@ -59,13 +59,13 @@ fn are_pending(client: &Client, count: usize, refused: Option<Refusal>) -> bool 
 // Submits a request behind so many, once more where memory was refused and those are as they were.
 fn submitted(client: &mut Client, before: usize) -> Option<u64> {
     let (first, second) = (finish(), finish());
-    if !first.fits() || !second.fits() {
+    if !first.fits(1) || !second.fits(1) {
         return None;
     }
-    match client.submit(first) {
+    match client.submit(1, first) {
         Ok(number) => Some(number),
         Err(SubmitFault::Memory) if are_pending(client, before, None) => {
-            client.submit(second).ok()
+            client.submit(1, second).ok()
         }
         Err(_) => None,
     }

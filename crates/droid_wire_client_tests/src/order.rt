@@ -1,4 +1,4 @@
-//! Many requests, whose answers arrive in another order.
+//! Many requests in both versions, whose answers arrive in another order.
 
 use droid_frame::{Blob, Frame, Reply, Request};
 use droid_wire_client::{Client, Heard};
@@ -14,10 +14,15 @@ fn answered_at(step: u64) -> u64 {
     step.wrapping_mul(37) % COUNT
 }
 
+// Every other request is of version 2.
+fn version_of(number: u64) -> u8 {
+    if number % 2 == 0 { 1 } else { 2 }
+}
+
 fn progress(alloc: Global, number: u64) -> Result<Frame, AllocError> {
     let held = (number % 256) as u8;
     Ok(Frame {
-        version: 1,
+        version: version_of(number),
         kind: 134,
         client: 3,
         number,
@@ -31,8 +36,9 @@ fn submit_all(rt: &impl Abort, client: &mut Client) {
             profile: 1,
             file: 1,
         };
-        assert!(rt; request.fits());
-        assert!(rt; client.submit(request).ok() == Some(number));
+        let version = version_of(number);
+        assert!(rt; request.fits(version));
+        assert!(rt; client.submit(version, request).ok() == Some(number));
     }
 }
 

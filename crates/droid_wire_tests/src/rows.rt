@@ -1,6 +1,8 @@
 //! Streams of frames over memory, and what is written for them.
 
-use crate::vectors::{CREATE, FOLDER, MADE, NODE, NUMBER_REUSED, OTHER_FOLDER, joined, service};
+use crate::vectors::{
+    CREATE, FOLDER, MADE, NODE, NUMBER_REUSED, OTHER_FOLDER, joined, refused, service,
+};
 use droid_frame::{FrameFault, Unsteady};
 use droid_wire::{Ended, ServeFault, serve};
 use std::alloc::Global;
@@ -21,6 +23,27 @@ const A_BYTE_MORE: [u8; 24] = [
 ];
 
 const NO_PROFILE: [u8; 19] = [1, 136, 0, 0, 0, 1, 0, 0, 0, 0, 0, 0, 0, 1, 0, 0, 0, 1, 1];
+
+/// In version 2 a profile with SHA-256 is asked for, and made.
+const CREATE_2: [u8; 24] = [
+    2, 1, 0, 0, 0, 1, 0, 0, 0, 0, 0, 0, 0, 1, 0, 0, 0, 6, 0, 1, 0, 0, 0, 2,
+];
+
+const MADE_2: [u8; 22] = [
+    2, 129, 0, 0, 0, 1, 0, 0, 0, 0, 0, 0, 0, 1, 0, 0, 0, 4, 0, 0, 0, 1,
+];
+
+/// A hash that there isn't, and its reply.
+const NO_HASH: [u8; 24] = [
+    2, 1, 0, 0, 0, 1, 0, 0, 0, 0, 0, 0, 0, 1, 0, 0, 0, 6, 0, 1, 0, 0, 0, 3,
+];
+
+const NO_PROFILE_2: [u8; 19] = [2, 136, 0, 0, 0, 1, 0, 0, 0, 0, 0, 0, 0, 1, 0, 0, 0, 1, 1];
+
+/// A header of version 2 whose body would be a byte too long, and one of version 3.
+const TOO_LONG_2: [u8; 18] = [2, 4, 0, 0, 0, 1, 0, 0, 0, 0, 0, 0, 0, 3, 0, 0x40, 0, 0x41];
+
+const VERSION_3: [u8; 18] = [3, 1, 0, 0, 0, 1, 0, 0, 0, 0, 0, 0, 0, 3, 0, 0, 0, 0];
 
 /// How a service that is empty ends over these bytes, what it writes, and how many of them it leaves unread.
 fn served(
@@ -66,5 +89,25 @@ fn hostile_frames(rt: HostRuntime) -> Result<(), Fail> {
     assert!(rt; ended == Err(ServeFault::Frame(FrameFault::TooLong)));
     assert!(rt; written.as_slice() == wanted.as_slice());
     assert!(rt; left == 2);
+    Ok(())
+}
+
+/// Each frame is answered in its own version. One number in both is two requests, of which the second is refused.
+#[test]
+fn two_versions(rt: HostRuntime) -> Result<(), Fail> {
+    let alloc = rt.alloc();
+    let input = joined(
+        alloc,
+        &[&NO_HASH, &CREATE_2, &CREATE_2, &CREATE, &FOLDER, &VERSION_3],
+    )?;
+    let reused = refused(1, 2);
+    let wanted = joined(alloc, &[&NO_PROFILE_2, &MADE_2, &MADE_2, &reused, &NODE])?;
+    let (ended, written, left) = served(alloc, input.as_slice(), 9)?;
+    assert!(rt; ended == Err(ServeFault::Frame(FrameFault::BadVersion)));
+    assert!(rt; written.as_slice() == wanted.as_slice(), "{written:?}");
+    assert!(rt; left == 0);
+    let (ended, written, _) = served(alloc, &TOO_LONG_2, 9)?;
+    assert!(rt; ended == Err(ServeFault::Frame(FrameFault::TooLong)));
+    assert!(rt; written.is_empty());
     Ok(())
 }

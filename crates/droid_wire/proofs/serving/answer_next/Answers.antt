@@ -5,7 +5,7 @@ use Rattle.droid_wire.proofs.serving.answer_next.Goals as goal
 
 pub overflow_add-result : goal.overflow_add-result
 overflow_add-result g c =
-    let size = frame_size c.in-Frame.frame.client c.in-Frame.frame.number c.handle-reply.result in
+    let size = frame_size c.in-Frame.frame.version c.in-Frame.frame.client c.in-Frame.frame.number c.handle-reply.result in
     omega (arith, c.requires, c.in-Err.ensures.err.some_left, size, c.reply_body_len.ensures.length, c.reply_body_len.ensures.bound)
 
 pub returns-in-Ok-clause-gives : goal.returns-in-Ok-clause-gives

@@ -29,9 +29,9 @@ returns-in-Answered-clause-places c are =
     let slots = c.args.slots.now in
     let old = c.index_mut.result.now in
     let there = slice_get_read slots.items _ c.args.place old slots.ok.0 c.requires c.index_mut.ensures.value in
-    let answered : heard_at old c.args.reply ≡ heard.Answered = sym c.hear-heard.ensures.heard ∙ c.in-Answered.is in
-    c.settle.ensures slots.items c.hear-heard.new.self are (old, there, was_pending old c.args.reply answered)
-    (ap (λ (s : Slot). pending_in s.state) c.hear-heard.ensures.after ∙ is_settled old c.args.reply answered)
+    let answered : heard_at old c.args.version c.args.reply ≡ heard.Answered = sym c.hear-heard.ensures.heard ∙ c.in-Answered.is in
+    c.settle.ensures slots.items c.hear-heard.new.self are (old, there, was_pending old c.args.version c.args.reply answered)
+    (ap (λ (s : Slot). pending_in s.state) c.hear-heard.ensures.after ∙ is_settled old c.args.version c.args.reply answered)
 
 pub returns-in_default-clause-heard : goal.returns-in_default-clause-heard
 returns-in_default-clause-heard c slot is =
@@ -50,5 +50,5 @@ returns-in_default-clause-places c are =
     let slots = c.args.slots.now in
     let old = c.index_mut.result.now in
     let there = slice_get_read slots.items _ c.args.place old slots.ok.0 c.requires c.index_mut.ensures.value in
-    let kept = stays old c.args.reply (λ answered. c.in_default.not-Answered (c.hear-heard.ensures.heard ∙ answered)) in
+    let kept = stays old c.args.version c.args.reply (λ answered. c.in_default.not-Answered (c.hear-heard.ensures.heard ∙ answered)) in
     are ∙ sym (same_places 0 slots.items c.args.place old c.hear-heard.new.self there (ap (λ (s : Slot). pending_in s.state) c.hear-heard.ensures.after ∙ kept))
