@@ -1,9 +1,9 @@
 -- What the getters of a command's matches read, by the rows of its options.
-use Rattle.std.proofs.Common.{◌≡◌, ◌∙◌, ap, sym, subst, refl, inl, inr, ℕ, List, Option, Some, None, Ok, Err, Result, option_map, unwrap_or}
+use Rattle.std.proofs.Common.{◌≡◌, ◌∙◌, ap, sym, subst, refl, inl, inr, ℕ, Bool, true, false, List, Option, Some, None, Ok, Err, Result, codes, option_map, unwrap_or}
 use Rattle.clap.specs.Words.{ReadsOne, Text, one_of, one_text, rows_of}
 use Rattle.clap.specs.declared.parser.matches.Found.{Found}
 use Rattle.clap.proofs.WalkLemmas.{one_text-rows}
-use Rattle.droid_desk_arguments.specs.Asking.{IsNumber, IsNumberOr, number_of}
+use Rattle.droid_desk_arguments.specs.Asking.{IsFlag, IsNumber, IsNumberOr, number_of}
 
 given : {E : Type 0} (gives : List ℕ → Result ℕ E → Type 0) → ((text : Text) (x : ℕ) → gives text (Ok x) → x ≡ number_of text)
     → (o : Option Text) (n : ℕ) → (o ≡ None → Some n ≡ None) → ((text : Text) → o ≡ Some text → ReadsOne gives text (Some n))
@@ -35,3 +35,12 @@ pub number_or : {E : Type 0} (gives : List ℕ → Result ℕ E → Type 0) (bit
     → n ≡ unwrap_or r otherwise → IsNumberOr bits otherwise (one_of id (rows_of f)) n
 number_or gives bits otherwise told refused f id r n none value is =
     subst (λ (o : Option Text). IsNumberOr bits otherwise o n) (one_text-rows f id) (given_or gives bits otherwise told refused (one_text f id) r n none value is)
+
+set_or_not : (o : Option Text) (flag : Bool) → (o ≡ None → flag ≡ false) → (o ≡ Some (codes "true") → flag ≡ true) → (o ≡ Some (codes "false") → flag ≡ false) → IsFlag o flag
+set_or_not None flag none on off = none refl
+set_or_not (Some text) flag none on off = (λ is. on (ap (λ (t : Text). Some t) is), λ is. off (ap (λ (t : Text). Some t) is))
+
+-- a flag
+pub flag_given : (f : Found) (id : Text) (flag : Bool) → (one_text f id ≡ None → flag ≡ false) → (one_text f id ≡ Some (codes "true") → flag ≡ true) → (one_text f id ≡ Some (codes "false") → flag ≡ false)
+    → IsFlag (one_of id (rows_of f)) flag
+flag_given f id flag none on off = subst (λ (o : Option Text). IsFlag o flag) (one_text-rows f id) (set_or_not (one_text f id) flag none on off)

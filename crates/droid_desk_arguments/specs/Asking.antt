@@ -1,10 +1,12 @@
 -- What the command line asks for (this project's own).
-use Rattle.std.specs.Prelude.{◌≡◌, ◌<◌, ◌^◌, ◌⊎◌, ℕ, List, Option, Some, None, codes, option_map}
+use Rattle.std.specs.Prelude.{◌≡◌, ◌<◌, ◌^◌, ◌⊎◌, ℕ, Bool, true, false, List, Option, Some, None, codes, option_map}
 use Rattle.std.specs.Str.Parse.{IsNumeral, digits_value, without_leading_plus}
 use Rattle.clap.specs.Words.{Row, Text, first_of, one_of, subcommand_of}
+use Rattle.droid_frame.specs.types.hash_kind.HashKind.{HashKind}
+use Rattle.droid_frame.specs.types.hash_kind.HashKind.TheVariants as hashes
 use Rattle.droid_desk_arguments.specs.Commands.{program}
 use Rattle.droid_desk_arguments.specs.declared.arguments.Asked.{Asked}
-use Rattle.droid_desk_arguments.specs.declared.arguments.Asked.TheVariants.{Script, Run, Serve, Send}
+use Rattle.droid_desk_arguments.specs.declared.arguments.Asked.TheVariants.{Profile, Script, Run, Serve, Send}
 
 -- the number that a text's digits write; a plus may stand first
 abbrev pub number_of : Text → ℕ
@@ -19,8 +21,28 @@ abbrev pub IsNumberOr : ℕ → ℕ → Option Text → ℕ → Type 0
 IsNumberOr bits otherwise None n = n ≡ otherwise
 IsNumberOr bits otherwise (Some text) n = (n ≡ number_of text) ⊎ ((n ≡ otherwise) × (IsNumber bits text → ⊥))
 
+-- a flag is set where the parse gives it the text `true`, and isn't where it gives it none or `false`
+abbrev pub IsFlag : Option Text → Bool → Type 0
+IsFlag None flag = flag ≡ false
+IsFlag (Some text) flag = (text ≡ codes "true" → flag ≡ true) × (text ≡ codes "false" → flag ≡ false)
+
+-- the hash that a word names: MD5 without one
+abbrev pub IsHash : Option Text → HashKind → Type 0
+IsHash None hash = hash ≡ hashes.Md5
+IsHash (Some text) hashes.Nothing = text ≡ codes "none"
+IsHash (Some text) hashes.Md5 = text ≡ codes "md5"
+IsHash (Some text) hashes.Sha256 = text ≡ codes "sha256"
+
 -- what the options of the command with this name ask for
 abbrev pub IsAskedBy : Text → List Row → Asked → Type 0
+IsAskedBy name rows (Profile folder registry limit match_all hash output quiet) =
+    (name ≡ codes "profile") × (Some folder.now ≡ first_of (codes "folder") rows)
+    × (option_map (λ path. path.now) registry ≡ first_of (codes "registry") rows)
+    × IsNumberOr 32 65536 (one_of (codes "limit") rows) limit
+    × IsFlag (one_of (codes "match-all") rows) match_all
+    × IsHash (first_of (codes "hash") rows) hash
+    × (option_map (λ path. path.now) output ≡ first_of (codes "output") rows)
+    × IsFlag (one_of (codes "quiet") rows) quiet
 IsAskedBy name rows (Script registry) =
     (name ≡ codes "script") × (option_map (λ path. path.now) registry ≡ first_of (codes "registry") rows)
 IsAskedBy name rows (Run registry) =

@@ -1,7 +1,7 @@
 -- The program's commands and their options, as a parse reads them (this project's own).
 use Rattle.std.specs.Prelude.{ℕ, true, Some, codes}
 use Rattle.clap.specs.Words.{App, Rule, Text, new_app, new_rule, with_rule, with_subcommand}
-use Rattle.clap.specs.declared.builder.action.ArgAction.TheVariants.{Set}
+use Rattle.clap.specs.declared.builder.action.ArgAction.TheVariants.{Set, SetTrue}
 use Rattle.clap.specs.declared.builder.value_parser.ValueParser.TheVariants.{Unsigned}
 
 -- an option with one value: `--NAME VALUE`
@@ -31,6 +31,34 @@ client_option = wanted (number_named (codes "client") 0 4294967295)
 abbrev pub first_option : Rule
 first_option = number_named (codes "first") 0 9223372036854775807
 
+-- a word that stands by itself, and must be there
+abbrev pub word_named : Text → Rule
+word_named name = record (new_rule name) { value_names = 1; action = Some Set; required = true }
+
+-- an option without a value: `--NAME`
+abbrev pub flag_named : Text → Rule
+flag_named name = record (new_rule name) { long = Some name; action = Some SetTrue }
+
+abbrev pub folder_word : Rule
+folder_word = word_named (codes "folder")
+
+abbrev pub limit_option : Rule
+limit_option = number_named (codes "limit") 1 65536
+
+abbrev pub hash_option : Rule
+hash_option = option_named (codes "hash")
+
+abbrev pub output_option : Rule
+output_option = option_named (codes "output")
+
+-- what is profiled, and by what
+abbrev pub profile_input : App
+profile_input = with_rule (with_rule (with_rule (new_app (codes "profile")) folder_word) registry_option) limit_option
+
+abbrev pub profile_command : App
+profile_command =
+    with_rule (with_rule (with_rule (with_rule profile_input (flag_named (codes "match-all"))) hash_option) output_option) (flag_named (codes "quiet"))
+
 abbrev pub script_command : App
 script_command = with_rule (new_app (codes "script")) registry_option
 
@@ -48,13 +76,15 @@ send_command = with_rule (with_rule (with_rule (new_app (codes "send")) port_opt
 abbrev pub wanting_command : App → App
 wanting_command a = record a { top = record a.top { subcommand_required = true } }
 
--- the program with its four commands
+-- the program with its five commands
 abbrev pub program : App
 program =
     with_subcommand
     (with_subcommand
     (with_subcommand
-    (with_subcommand (wanting_command (new_app (codes "droid_desk"))) script_command.top)
+    (with_subcommand
+    (with_subcommand (wanting_command (new_app (codes "droid_desk"))) profile_command.top)
+    script_command.top)
     run_command.top)
     serve_command.top)
     send_command.top

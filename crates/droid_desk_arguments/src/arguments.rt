@@ -4,10 +4,11 @@ ghost use Rattle.std.specs.Prelude.{◌≡◌, [], IfOk, IfSome, codes, false, m
 ghost use Rattle.clap.specs.Words.{app_of, fault_of, found_of, is_simple, is_simple_and_free, new_app, rows_of, rule_of, subcommand_of, subcommand_rows_of};
 ghost use Rattle.clap.specs.declared.builder.command.Command.TheViews.{out-Command};
 ghost use Rattle.droid_desk_arguments.specs.Asking.{IsAsked, IsAskedBy, WordsAsk};
-ghost use Rattle.droid_desk_arguments.specs.Commands.{client_option, connections_option, first_option, number_named, port_option, program, registry_option, run_command, script_command, send_command, serve_command, wanting_command};
+ghost use Rattle.droid_desk_arguments.specs.Commands.{client_option, connections_option, first_option, number_named, port_option, profile_command, program, registry_option, run_command, script_command, send_command, serve_command, wanting_command};
 
 use crate::help::{ABOUT, HELP, REGISTRY_HELP, SCRIPT_ABOUT, SCRIPT_HELP};
 use crate::no_command::{NoCommand, unused_words};
+use crate::profile::{PROFILE, profile, profile_asked};
 use crate::stream_help::{
     CLIENT_HELP, CONNECTIONS_HELP, FIRST_HELP, RUN_ABOUT, RUN_HELP, SEND_ABOUT, SEND_HELP,
     SEND_PORT_HELP, SERVE_ABOUT, SERVE_HELP, SERVE_PORT_HELP,
@@ -15,6 +16,7 @@ use crate::stream_help::{
 use clap::builder::ValueParser;
 use clap::error::ErrorKind;
 use clap::{Arg, ArgAction, ArgMatches, Command, Error};
+use droid_frame::HashKind;
 use std::alloc::{AllocError, Global};
 
 // The names of the commands and of their options.
@@ -26,7 +28,7 @@ const SERVE: &str = "serve";
 
 const SEND: &str = "send";
 
-const REGISTRY: &str = "registry";
+pub(crate) const REGISTRY: &str = "registry";
 
 const PORT: &str = "port";
 
@@ -42,10 +44,24 @@ const DEFAULT_CONNECTIONS: u32 = 1;
 /// The number of the first request that is sent where the command line names none.
 const DEFAULT_FIRST: u64 = 1;
 
+/// What is said of a hash that isn't one of the three.
+const NO_SUCH_HASH: &str = "the value of '--hash <HASH>' is none of md5, sha256 and none";
+
 /// What the command line asks for. A registry is the path of a registry file; without it the sample registry
 /// is used.
 #[derive(Clone, Copy)]
 pub enum Asked<'a> {
+    /// The profile of a folder of this machine is written. Without a registry the program's own of everyday formats is
+    /// used.
+    Profile {
+        folder: &'a str,
+        registry: Option<&'a str>,
+        limit: u32,
+        match_all: bool,
+        hash: HashKind,
+        output: Option<&'a str>,
+        quiet: bool,
+    },
     /// A script is run.
     Script {
         registry: Option<&'a str>,
@@ -96,14 +112,17 @@ fn asked_of<'a>(command: &mut Command<'a>, words: &'a [String]) -> Result<Asked<
     let matches = command.try_get_matches_from_mut(words)?;
     match asked_by(&matches) {
         Some(asked) => Ok(asked),
-        None => Err(command.error(ErrorKind::MissingSubcommand, "a command is missing")?),
+        None => Err(command.error(ErrorKind::InvalidValue, NO_SUCH_HASH)?),
     }
 }
 
-/// What the matched words ask for; where the words matched, they ask for something.
+/// What the matched words ask for; where the words matched, they ask for something, unless they name an unknown hash.
 fn asked_by<'a>(matches: &ArgMatches<'a>) -> Option<Asked<'a>>
     ensures { IfSome result (λ asked. IsAsked (subcommand_rows_of matches.now) asked) }
 {
+    if let Some(profile) = matches.subcommand_matches(PROFILE) {
+        return profile_asked(profile);
+    }
     if let Some(script) = matches.subcommand_matches(SCRIPT) {
         return Some(script_asked(script));
     }
@@ -162,6 +181,7 @@ fn command<'a>(alloc: Global) -> Result<Command<'a>, AllocError>
     ensures shape { IfOk result (λ c. app_of c ≡ program) }
 {
     top(alloc)
+        .subcommand(profile(alloc)?)?
         .subcommand(script(alloc)?)?
         .subcommand(run(alloc)?)?
         .subcommand(serve(alloc)?)?
@@ -185,7 +205,7 @@ fn script<'a>(alloc: Global) -> Result<Command<'a>, AllocError>
     Command::new(alloc, SCRIPT)
         .about(SCRIPT_ABOUT)
         .after_help(SCRIPT_HELP)
-        .arg(registry(alloc))
+        .arg(registry(alloc, REGISTRY_HELP))
 }
 
 fn run<'a>(alloc: Global) -> Result<Command<'a>, AllocError>
@@ -195,7 +215,7 @@ fn run<'a>(alloc: Global) -> Result<Command<'a>, AllocError>
     Command::new(alloc, RUN)
         .about(RUN_ABOUT)
         .after_help(RUN_HELP)
-        .arg(registry(alloc))
+        .arg(registry(alloc, REGISTRY_HELP))
 }
 
 fn serve<'a>(alloc: Global) -> Result<Command<'a>, AllocError>
@@ -207,7 +227,7 @@ fn serve<'a>(alloc: Global) -> Result<Command<'a>, AllocError>
         .after_help(SERVE_HELP)
         .arg(port(alloc, SERVE_PORT_HELP))?
         .arg(connections(alloc))?
-        .arg(registry(alloc))
+        .arg(registry(alloc, REGISTRY_HELP))
 }
 
 fn send<'a>(alloc: Global) -> Result<Command<'a>, AllocError>
@@ -222,14 +242,14 @@ fn send<'a>(alloc: Global) -> Result<Command<'a>, AllocError>
         .arg(first(alloc))
 }
 
-fn registry<'a>(alloc: Global) -> Arg<'a>
+pub(crate) fn registry<'a>(alloc: Global, help: &'a str) -> Arg<'a>
     ensures rule { rule_of result ≡ registry_option }
     ensures local { result.global ≡ false }
 {
     Arg::new(alloc, REGISTRY)
         .long(REGISTRY)
         .value_name("FILE")
-        .help(REGISTRY_HELP)
+        .help(help)
         .action(ArgAction::Set)
 }
 
@@ -262,7 +282,7 @@ fn first<'a>(alloc: Global) -> Arg<'a>
 }
 
 /// An option with a number from `least` to `most`.
-fn number<'a>(
+pub(crate) fn number<'a>(
     alloc: Global,
     name: &'a str,
     value: &'a str,

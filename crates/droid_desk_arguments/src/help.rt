@@ -20,20 +20,24 @@ Each line is one request to a service that starts empty:
 
   CLIENT NUMBER create LIMIT ALL
       make a profile: LIMIT bytes at each end of a file are looked at (1 to 65536),
-      ALL is 1 where a format with signatures may be found by its extension too, else 0
+      ALL is 1 where a format with signatures may be found by its extension too, else 0;
+      its files get MD5s
+  v2 CLIENT NUMBER create LIMIT ALL HASH
+      make a profile whose files get the hash HASH: none, md5 or sha256
   CLIENT NUMBER folder PROFILE PARENT MODIFIED NAME
       add a folder to a profile: PARENT is the number of the folder that it lies in,
       or 0 at the top, MODIFIED is in seconds since 1970-01-01T00:00:00 in UTC,
       and NAME is the rest of the line
   CLIENT NUMBER file PROFILE PARENT MODIFIED SIZE PIECESIZE NAME
-      add a file of SIZE bytes, which comes in pieces of PIECESIZE bytes (1 to 1048576);
-      the last piece has the rest, and an empty file has no piece
+      add a file of SIZE bytes, which comes in pieces of PIECESIZE bytes (1 to 1048576,
+      after `v2 ` 1 to 4194304); the last piece has the rest, and an empty file has no piece
   CLIENT NUMBER piece PROFILE FILE INDEX HEX
       send a piece of a file: INDEX counts from 0, and HEX is its bytes, two hexadecimal
       digits for each, or - for no bytes; pieces may come in any order, each less than
       16 places past the first missing one
   CLIENT NUMBER finish PROFILE FILE
-      finish a file that has every piece: it is identified, and its MD5 is told
+      finish a file that has every piece: it is identified, and its hash is told; without
+      `v2 ` that of an MD5 alone can be, and other profiles refuse it (10)
   CLIENT NUMBER abandon PROFILE FILE
       give up an unfinished file; its number is not used again
   CLIENT NUMBER status PROFILE FILE
@@ -47,15 +51,19 @@ Each line is one request to a service that starts empty:
 Criteria: method=Signature, method=Extension, method=none, puid=A,B, ext=A,B,
 mismatch=true, mismatch=false, atleast=SIZE, atmost=SIZE, type=File, type=Folder.
 
+Every line may stand after `v2 `: its request is then sent in version 2, and otherwise in
+version 1. The same request in the other version is another request, and needs its own NUMBER.
+
 Words stand apart by one space, and a line ends in a line feed alone. CLIENT is who asks,
 NUMBER the client's own number for the request. The replies come once the input has ended:
 
   made PROFILE                           a profile was made
   node ID                                a folder or a file was added
   taken HELD                             a piece was taken; so many are held now
-  finished METHOD MISMATCH MD5 PUIDS     a file was finished; METHOD is Signature,
+  finished METHOD MISMATCH HASH PUIDS    a file was finished; METHOD is Signature,
                                          Extension or none, MISMATCH whether its extension
-                                         is none of its formats', and - stands for no PUID
+                                         is none of its formats', HASH the digits of its
+                                         hash, and - stands for no hash and for no PUID
   abandoned                              a file was given up
   progress HELD MISSING                  pieces held, and the first missing one; of a
                                          whole file both are the number of its pieces

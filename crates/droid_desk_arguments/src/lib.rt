@@ -4,6 +4,8 @@
 mod arguments;
 mod help;
 mod no_command;
+mod profile;
+mod profile_help;
 mod stream_help;
 
 pub use arguments::{Asked, what_is_asked};

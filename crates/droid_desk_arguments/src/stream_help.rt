@@ -6,10 +6,11 @@ pub const RUN_ABOUT: &str =
 pub const RUN_HELP: &str = "\
 Each frame is one request to a service that starts empty; numbers are big-endian:
 
-  version 1, 1 byte | kind, 1 byte | client, 4 bytes | number, 8 bytes |
-  length of the body, 4 bytes, at most 1048640 | body
+  version 1 or 2, 1 byte | kind, 1 byte | client, 4 bytes | number, 8 bytes |
+  length of the body, 4 bytes, at most 1048640 in version 1 and 4194368 in version 2 | body
 
-Its reply frame has the same client and number, and is written before the next frame is read.
+Version 2 names the hash of a profile's files, and takes larger pieces. A reply frame has the
+version, the client and the number of its request, and is written before the next frame is read.
 A frame whose body is no request is answered `Malformed`, and the stream goes on. After 1,000,000
 frames no more is read.
 
@@ -64,10 +65,10 @@ pub const FIRST_HELP: &str =
     "Number the requests from this number on (0 to 9223372036854775807); without it, from 1 on";
 
 pub const SEND_HELP: &str = "\
-The lines are those of `droid_desk script --help` without the client and the number at their
-front, and so are the reply lines. Each request is sent under the next number once the one before
-was answered; a bad line takes no number. The same lines sent again are the same requests: each
-is answered as before, and done once.
+The lines are those of `droid_desk script --help` without the client and the number, which there
+stand at their front or after their `v2 `, and so are the reply lines. Each request is sent under
+the next number once the one before was answered; a bad line takes no number. The same lines sent
+again are the same requests: each is answered as before, and done once.
 
 Exit status:
 

@@ -22,6 +22,7 @@ mod requests;
 mod service;
 mod store;
 mod streams;
+mod tables;
 
 ghost use Rattle.std.specs.Prelude.{◌≤◌, length};
 
@@ -39,7 +40,7 @@ const ROUNDS: u32 = 20;
 
 fn main(rt: HostRuntime) -> Result<(), Error> {
     if wants(&rt, "store")? {
-        return measure_store(&rt);
+        return tables::measure(&rt);
     }
     if wants(&rt, "assembly")? {
         return files::measure(&rt);
@@ -126,23 +127,6 @@ fn measure_export<R: Print + Clock + AllocGlobal>(
     println!(rt; "export: {} records, {} bytes", records.len(), text.len())?;
     if with_times {
         println!(rt; "  written in {} microseconds", took.as_micros())?;
-    }
-    Ok(())
-}
-
-/// Prints how long one folder more takes where a profile has many nodes.
-fn measure_store<R: Print + Clock + AllocGlobal>(rt: &R) -> Result<(), Error> {
-    let alloc = rt.alloc();
-    let mut store = store::with_profile(alloc).context("the store")?;
-    for count in store::COUNTS {
-        store::fill(alloc, &mut store, count - store::MEASURED)?;
-        let start = Instant::now(rt)?;
-        for _ in 0..store::MEASURED {
-            store::add_folder(alloc, &mut store)?;
-        }
-        let took = start.elapsed(rt)?;
-        let each = took.as_nanos() / store::MEASURED as u128;
-        println!(rt; "store: a folder at {count} nodes in {each} nanoseconds")?;
     }
     Ok(())
 }

@@ -48,7 +48,7 @@ pub fn measure<R: Files + Print + AllocGlobal>(
 }
 
 /// How many bytes of the program are in memory, as Linux tells it.
-fn resident<R: Files + AllocGlobal>(rt: &R) -> Result<usize, Error> {
+pub fn resident<R: Files + AllocGlobal>(rt: &R) -> Result<usize, Error> {
     let told = fs::read_to_string(rt, "/proc/self/statm")?;
     let (_, rest) = told.split_once(' ').context("no size is told")?;
     let (pages, _) = rest.split_once(' ').context("no pages are told")?;

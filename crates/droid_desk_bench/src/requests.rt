@@ -5,11 +5,42 @@ use anyhow::{Context, Error};
 use droid_frame::{Blob, Frame, HashKind, Request, Text, request_frame};
 use std::alloc::Global;
 
-/// How many bytes each piece of a file has.
-pub const PIECE: u32 = 1 << 20;
+/// How a file of 256 MiB is sent.
+#[derive(Clone, Copy, Debug, PartialEq, Eq)]
+pub struct Sending {
+    /// The version of its frames.
+    pub version: u8,
+    /// Which hash it gets.
+    pub hash: HashKind,
+    /// How many bytes each piece has.
+    pub piece: u32,
+    /// How many pieces there are.
+    pub pieces: u32,
+}
 
-/// How many pieces the file has.
-pub const PIECES: u32 = 256;
+/// In the largest pieces of version 1.
+pub const IN_VERSION_1: Sending = Sending {
+    version: 1,
+    hash: HashKind::Md5,
+    piece: 1 << 20,
+    pieces: 256,
+};
+
+/// In the largest pieces of version 2.
+pub const IN_VERSION_2: Sending = Sending {
+    version: 2,
+    hash: HashKind::Md5,
+    piece: 1 << 22,
+    pieces: 64,
+};
+
+/// The same without a hash.
+pub const WITHOUT_HASH: Sending = Sending {
+    version: 2,
+    hash: HashKind::Nothing,
+    piece: 1 << 22,
+    pieces: 64,
+};
 
 /// How many repeats there are.
 pub const REPEATS: u32 = 10_000;
@@ -19,36 +50,45 @@ pub const REPEATS: u32 = 10_000;
 const STEP: u32 = 61_803;
 
 /// The frames that make a profile and a file, send all pieces of it, and finish it.
-pub fn of_file(alloc: Global) -> Result<Vec<Frame>, Error> {
+pub fn of_file(alloc: Global, sending: Sending) -> Result<Vec<Frame>, Error> {
+    let Sending {
+        version,
+        hash,
+        piece,
+        pieces,
+    } = sending;
     let mut frames = Vec::new(alloc);
-    frames.push(of_profile(alloc)?)?;
-    frames.push(frame(alloc, 1, &file(alloc)?)?)?;
-    let bytes = content(alloc, PIECE)?;
-    for index in 0..PIECES {
+    frames.push(frame(alloc, version, 0, &profile(hash))?)?;
+    frames.push(frame(alloc, version, 1, &file(alloc, piece, pieces)?)?)?;
+    let bytes = content(alloc, piece)?;
+    for index in 0..pieces {
         let request = Request::Piece {
             profile: 1,
             file: 1,
             index,
             bytes: Blob::copy_of(alloc, bytes.as_slice())?,
         };
-        frames.push(frame(alloc, 2 + u64::from(index), &request)?)?;
+        frames.push(frame(alloc, version, 2 + u64::from(index), &request)?)?;
     }
     let finish = Request::Finish {
         profile: 1,
         file: 1,
     };
-    frames.push(frame(alloc, 2 + u64::from(PIECES), &finish)?)?;
+    frames.push(frame(alloc, version, 2 + u64::from(pieces), &finish)?)?;
     Ok(frames)
 }
 
 /// The frame that makes a profile, under the number 0.
 pub fn of_profile(alloc: Global) -> Result<Frame, Error> {
-    let request = Request::CreateProfile {
+    frame(alloc, 1, 0, &profile(HashKind::Md5))
+}
+
+fn profile(hash: HashKind) -> Request {
+    Request::CreateProfile {
         scan_limit: 65_536,
         match_all: false,
-        hash: HashKind::Md5,
-    };
-    frame(alloc, 0, &request)
+        hash,
+    }
 }
 
 /// The frames that add folders to the first profile, at its top, under the numbers from one to before another.
@@ -77,7 +117,7 @@ fn of_folder(alloc: Global, number: u32) -> Result<Frame, Error> {
         modified: i64::from(number),
         name: Text::from(format!(in alloc; "folder {number}")?),
     };
-    frame(alloc, u64::from(number), &request)
+    frame(alloc, 1, u64::from(number), &request)
 }
 
 /// The frames that ask for the state of the first profile's file, under the numbers from one to before another.
@@ -88,7 +128,7 @@ pub fn of_status(alloc: Global, from: u32, to: u32) -> Result<Vec<Frame>, Error>
             profile: 1,
             file: 1,
         };
-        frames.push(frame(alloc, u64::from(number), &request)?)?;
+        frames.push(frame(alloc, 1, u64::from(number), &request)?)?;
     }
     Ok(frames)
 }
@@ -97,25 +137,26 @@ pub fn of_status(alloc: Global, from: u32, to: u32) -> Result<Vec<Frame>, Error>
 pub fn of_empty_file(alloc: Global) -> Result<Vec<Frame>, Error> {
     let mut frames = Vec::new(alloc);
     frames.push(of_profile(alloc)?)?;
-    frames.push(frame(alloc, 1, &file(alloc)?)?)?;
+    let file = file(alloc, IN_VERSION_1.piece, IN_VERSION_1.pieces)?;
+    frames.push(frame(alloc, 1, 1, &file)?)?;
     Ok(frames)
 }
 
-fn file(alloc: Global) -> Result<Request, Error> {
+fn file(alloc: Global, piece: u32, pieces: u32) -> Result<Request, Error> {
     Ok(Request::AddFile {
         profile: 1,
         parent: 0,
         modified: 0,
-        size: u64::from(PIECE) * u64::from(PIECES),
-        piece_size: PIECE,
+        size: u64::from(piece).saturating_mul(u64::from(pieces)),
+        piece_size: piece,
         name: Text::from(format!(in alloc; "large.bin")?),
     })
 }
 
 /// A request of the one client as a frame.
-fn frame(alloc: Global, number: u64, request: &Request) -> Result<Frame, Error> {
-    if !request.fits() {
+fn frame(alloc: Global, version: u8, number: u64, request: &Request) -> Result<Frame, Error> {
+    if !request.fits(version) {
         return None.context("a request with no spelling");
     }
-    Ok(request_frame(alloc, 1, number, request)?)
+    Ok(request_frame(alloc, version, 1, number, request)?)
 }

@@ -1,12 +1,13 @@
 //! What requests cost a service: a large file piece by piece, and many folders in one profile.
 
 use crate::files::percent;
-use crate::requests;
+use crate::requests::{self, Sending};
 use anyhow::{Context, Error};
 use droid_core::{Limits, Service};
-use droid_frame::{Frame, HashValue, Reply};
+use droid_frame::{Frame, HashKind, HashValue, Reply};
 use droid_pronom::Registry;
-use md5::{Digest, Md5};
+use md5::{Digest as Md5Digest, Md5};
+use sha2::{Digest as Sha2Digest, Sha256};
 use std::alloc::Global;
 use std::rt::Clock;
 use std::time::{Duration, Instant};
@@ -41,57 +42,112 @@ pub fn empty(alloc: Global) -> Result<Service, Error> {
 
 /// Prints what a file in pieces and many folders cost.
 pub fn measure<R: Print + Clock + AllocGlobal>(rt: &R) -> Result<(), Error> {
-    measure_file(rt)?;
+    measure_files(rt)?;
     measure_folders(rt)
 }
 
-/// Sends a file in pieces, and prints how long that took beside two passes of the hash over the same bytes: no
-/// service can do without the mark of each request and the digest of the file.
-fn measure_file<R: Print + Clock + AllocGlobal>(rt: &R) -> Result<(), Error> {
-    let mut own = u128::MAX;
-    let mut alone = u128::MAX;
-    for _ in 0..ROUNDS {
-        let frames = requests::of_file(rt.alloc())?;
-        let start = Instant::now(rt)?;
-        let (digest, _) = two_passes(frames.as_slice());
-        alone = alone.min(start.elapsed(rt)?.as_micros());
-        let took = send_file(rt, frames, digest)?;
-        own = own.min(took.as_micros());
-    }
+/// Prints what a file costs in each version, and without a hash.
+fn measure_files<R: Print + Clock + AllocGlobal>(rt: &R) -> Result<(), Error> {
+    let first = measure_file(rt, requests::IN_VERSION_1)?;
+    let second = measure_file(rt, requests::IN_VERSION_2)?;
+    let without = measure_file(rt, requests::WITHOUT_HASH)?;
     println!(rt;
-        "service: 256 MiB in pieces of 1 MiB in {own} microseconds, two passes of the hash in {alone}; {} percent of them",
-        percent(own, alone)
+        "  in version 2 {} percent of the time in version 1; without a hash {} percent of that with MD5",
+        percent(second, first),
+        percent(without, second)
     )?;
     Ok(())
 }
 
-/// How long the service takes for these frames, the last of which finishes a file of this digest.
+/// Sends a file in pieces, and prints how long that took beside passes of hashes over the same bytes: no service can do
+/// without the mark of each request and the hash of the file. The answer is how many microseconds it took.
+fn measure_file<R: Print + Clock + AllocGlobal>(rt: &R, sending: Sending) -> Result<u128, Error> {
+    let mut own = u128::MAX;
+    let mut alone = u128::MAX;
+    for _ in 0..ROUNDS {
+        let frames = requests::of_file(rt.alloc(), sending)?;
+        let start = Instant::now(rt)?;
+        let (hash, _) = passes(frames.as_slice(), sending.hash);
+        alone = alone.min(start.elapsed(rt)?.as_micros());
+        let took = send_file(rt, frames, hash)?;
+        own = own.min(took.as_micros());
+    }
+    println!(rt;
+        "service: 256 MiB in {} pieces of {} bytes of version {}, {}, in {own} microseconds, the hashes alone in {alone}; {} percent of them",
+        sending.pieces,
+        sending.piece,
+        sending.version,
+        name_of(sending.hash),
+        percent(own, alone)
+    )?;
+    Ok(own)
+}
+
+fn name_of(hash: HashKind) -> &'static str {
+    match hash {
+        HashKind::Nothing => "no hash",
+        HashKind::Md5 => "MD5",
+        HashKind::Sha256 => "SHA-256",
+    }
+}
+
+/// How long the service takes for these frames, the last of which finishes a file with this hash.
 fn send_file<R: Clock + AllocGlobal>(
     rt: &R,
     frames: Vec<Frame>,
-    digest: [u8; 16],
+    wanted: HashValue,
 ) -> Result<Duration, Error> {
     let mut service = empty(rt.alloc())?;
     let start = Instant::now(rt)?;
     let replies = service.run(frames)?;
     let took = start.elapsed(rt)?;
     match replies.as_slice().last() {
-        Some(Reply::Finished { hash, .. }) if *hash == HashValue::Md5(digest) => Ok(took),
+        Some(Reply::Finished { hash, .. }) if *hash == wanted => Ok(took),
         _ => None.context("the file was not finished"),
     }
 }
 
-/// The digest of all pieces after the mark of each, both by the hash alone.
-fn two_passes(frames: &[Frame]) -> ([u8; 16], [u8; 16]) {
+/// The hash of all pieces, and the mark of the last frame after those of the others, by the hashes alone.
+fn passes(frames: &[Frame], kind: HashKind) -> (HashValue, [u8; 16]) {
+    match kind {
+        HashKind::Nothing => (HashValue::Nothing, marks(frames)),
+        HashKind::Md5 => (HashValue::Md5(md5_of(frames)), marks(frames)),
+        HashKind::Sha256 => (HashValue::Sha256(sha256_of(frames)), marks(frames)),
+    }
+}
+
+fn md5_of(frames: &[Frame]) -> [u8; 16] {
     let mut content = Md5::new();
+    for frame in frames {
+        content.update(piece_of(frame));
+    }
+    content.finalize()
+}
+
+fn sha256_of(frames: &[Frame]) -> [u8; 32] {
+    let mut content = Sha256::new();
+    for frame in frames {
+        content.update(piece_of(frame));
+    }
+    content.finalize()
+}
+
+/// The bytes of the piece that the frame brings, if it brings one.
+fn piece_of(frame: &Frame) -> &[u8] {
+    let fields = match frame.kind {
+        PIECE_KIND => PIECE_FIELDS.min(frame.body.len()),
+        _ => frame.body.len(),
+    };
+    &frame.body.as_slice()[fields..]
+}
+
+/// The mark of each frame, the last of which is the answer.
+fn marks(frames: &[Frame]) -> [u8; 16] {
     let mut last = [0; 16];
     for frame in frames {
         last = mark(frame);
-        if frame.kind == PIECE_KIND {
-            content.update(&frame.body.as_slice()[PIECE_FIELDS.min(frame.body.len())..]);
-        }
     }
-    (content.finalize(), last)
+    last
 }
 
 fn mark(frame: &Frame) -> [u8; 16] {

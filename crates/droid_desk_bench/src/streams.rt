@@ -26,7 +26,7 @@ pub enum Load {
 pub fn write<R: Print + AllocGlobal>(rt: &R, load: Load) -> Result<(), Error> {
     let mut output = Unsteady::new(io::writer(rt));
     for frame in frames(rt.alloc(), load)? {
-        if frame.body.len() > droid_frame::BODY_LIMIT {
+        if frame.body.len() > droid_frame::body_limit(frame.version) {
             return None.context("a body is too long");
         }
         write_frame(&frame, &mut output).context("a frame")?;
@@ -36,7 +36,7 @@ pub fn write<R: Print + AllocGlobal>(rt: &R, load: Load) -> Result<(), Error> {
 
 fn frames(alloc: Global, load: Load) -> Result<Vec<Frame>, Error> {
     match load {
-        Load::Pieces => requests::of_file(alloc),
+        Load::Pieces => requests::of_file(alloc, requests::IN_VERSION_1),
         Load::Folders => {
             let mut frames = Vec::new(alloc);
             frames.push(requests::of_profile(alloc)?)?;

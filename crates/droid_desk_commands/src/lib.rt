@@ -6,6 +6,7 @@ mod connections;
 mod ending;
 mod fresh;
 mod port;
+mod profiles;
 mod program;
 mod sample;
 mod scripts;

@@ -6,42 +6,45 @@ use crate::connections::serve_connections;
 use crate::ending::Ending;
 use crate::fresh::fresh_service;
 use crate::port::Port;
+use crate::profiles::profile_with;
 use crate::sample::sample_registry;
 use crate::scripts::{script_by_registry, script_by_sample};
 use crate::sending::send_lines;
 use crate::stream::answer_stream;
 use droid_core::Service;
 use droid_desk_arguments::{Asked, NoCommand, unread_words, what_is_asked};
+use droid_desk_profiling::{Profiled, Telling, Wanted};
 use droid_desk_sender::SendFault;
 use droid_frame::{FrameFault, NUMBER_LIMIT, Unsteady};
 use droid_pronom::RegistryFault;
 use droid_wire::ServeFault;
-use std::fs::{self, Files};
+use std::fs::{self, File, Files};
 use std::io::BufReader;
 use std::net::{Ipv4Addr, Net, TcpListener, TcpStream};
 use std::process::ExitCode;
 use std::rt::Env;
+use std::time::Clock;
 use std::{env, io};
 
-/// Runs the program, and gives its exit status.
-pub fn run<R>(rt: &R) -> ExitCode
+/// Runs the program, and gives its exit status. It has to be told whether standard error is a terminal.
+pub fn run<R>(rt: &R, on_terminal: bool) -> ExitCode
 where
-    R: Env + Files + Input + Print + Eprint + AllocGlobal,
+    R: Env + Files<File = File> + Clock + Input + Print + Eprint + AllocGlobal,
     R: Net<Listener = TcpListener, Stream = TcpStream>,
 {
     match words(rt) {
-        Ok(words) => with_words(rt, words.as_slice()),
+        Ok(words) => with_words(rt, words.as_slice(), on_terminal),
         Err(error) => tell_why(rt, &unread_words(&error)),
     }
 }
 
-fn with_words<R>(rt: &R, words: &[String]) -> ExitCode
+fn with_words<R>(rt: &R, words: &[String], on_terminal: bool) -> ExitCode
 where
-    R: Files + Input + Print + Eprint + AllocGlobal,
+    R: Files<File = File> + Clock + Input + Print + Eprint + AllocGlobal,
     R: Net<Listener = TcpListener, Stream = TcpStream>,
 {
     match what_is_asked(rt.alloc(), words) {
-        Ok(asked) => end(rt, &fulfil(rt, asked)),
+        Ok(asked) => fulfil(rt, asked, on_terminal),
         Err(why) => tell_why(rt, &why),
     }
 }
@@ -56,24 +59,63 @@ fn end<R: Eprint>(rt: &R, ending: &Ending) -> ExitCode {
     ExitCode::from(ending.status())
 }
 
-fn fulfil<R>(rt: &R, asked: Asked<'_>) -> Ending
+fn fulfil<R>(rt: &R, asked: Asked<'_>, on_terminal: bool) -> ExitCode
 where
-    R: Files + Input + Print + AllocGlobal,
+    R: Files<File = File> + Clock + Input + Print + Eprint + AllocGlobal,
     R: Net<Listener = TcpListener, Stream = TcpStream>,
 {
     match asked {
-        Asked::Script { registry } => script_with(rt, registry),
-        Asked::Run { registry } => answer_with(rt, registry, None),
+        Asked::Profile {
+            folder,
+            registry,
+            limit,
+            match_all,
+            hash,
+            output,
+            quiet,
+        } => {
+            let wanted = Wanted {
+                folder,
+                limit,
+                match_all,
+                hash,
+                output,
+                telling: telling_for(quiet, on_terminal),
+            };
+            end_profile(rt, profile_with(rt, registry, wanted))
+        }
+        Asked::Script { registry } => end(rt, &script_with(rt, registry)),
+        Asked::Run { registry } => end(rt, &answer_with(rt, registry, None)),
         Asked::Serve {
             registry,
             port,
             connections,
-        } => answer_with(rt, registry, Some((port, connections))),
+        } => end(rt, &answer_with(rt, registry, Some((port, connections)))),
         Asked::Send {
             port,
             client,
             first,
-        } => send_to(rt, port, client, first),
+        } => end(rt, &send_to(rt, port, client, first)),
+    }
+}
+
+/// How much is told while a folder is profiled.
+fn telling_for(quiet: bool, on_terminal: bool) -> Telling {
+    match (quiet, on_terminal) {
+        (true, _) => Telling::Quiet,
+        (false, true) => Telling::Terminal,
+        (false, false) => Telling::Lines,
+    }
+}
+
+/// Tells how the profile of a folder ended.
+fn end_profile<R: Eprint>(rt: &R, ended: Result<Profiled, Ending>) -> ExitCode {
+    match ended {
+        Ok(profiled) => {
+            let _ = profiled.print(rt);
+            ExitCode::from(profiled.status())
+        }
+        Err(ending) => end(rt, &ending),
     }
 }
 

@@ -1,6 +1,6 @@
 -- The test of what fits into a frame passes exactly what fits.
-use Rattle.std.proofs.Common.{◌≡◌, ℕ, ◌≤◌, Bool, true, false, ◌&&◌, List, [], ◌∷◌, length, refl, inl, inr, arith}
-use Rattle.std.specs.Prelude.{nat_le}
+use Rattle.std.proofs.Common.{◌≡◌, ℕ, ◌≤◌, Bool, true, false, cond, eqb, ◌&&◌, List, [], ◌∷◌, length, refl, inl, inr, arith}
+use Rattle.std.specs.Prelude.{nat_le, MatchBool}
 use Rattle.std.specs.List.{list_all, AllByRecursion}
 use Rattle.std.proofs.lemmas.Bool.Decides.{leb_tells}
 use Rattle.droid_frame.specs.types.criterion.Criterion.{Criterion}
@@ -11,7 +11,9 @@ use Rattle.droid_frame.specs.types.request.Request.{Request}
 use Rattle.droid_frame.specs.types.request.Request.TheVariants.{CreateProfile, AddFolder, AddFile, Piece, Finish, Abandon, Status, Export}
 use Rattle.droid_frame.specs.Bodies.{request_body, ListsFit, HashFits, Fits}
 use Rattle.droid_frame.specs.Filters.{ListFits, CriterionFits}
-use Rattle.droid_desk_lines.specs.Lines.{list_fits, criterion_fits, lists_fit, is_md5, hash_fits, request_fits}
+use Rattle.droid_frame.specs.Limits.{body_limit}
+use Rattle.droid_frame.specs.Versions.{is_version}
+use Rattle.droid_desk_lines.specs.Lines.{list_fits, criterion_fits, lists_fit, is_md5, hash_fits, body_fits, request_fits}
 
 -- ---- tests
 
@@ -119,40 +121,57 @@ md5_is kinds.Nothing e = absurd cc
 md5_is kinds.Md5 e = refl
 md5_is kinds.Sha256 e = absurd cc
 
-hash_passes : (request : Request) → HashFits request → hash_fits request ≡ true
-hash_passes (CreateProfile scan_limit match_all hash) fit = md5_passes hash fit
-hash_passes (AddFolder profile parent modified name) fit = refl
-hash_passes (AddFile profile parent modified size piece_size name) fit = refl
-hash_passes (Piece profile file index bytes) fit = refl
-hash_passes (Finish profile file) fit = refl
-hash_passes (Abandon profile file) fit = refl
-hash_passes (Status profile file) fit = refl
-hash_passes (Export profile from max filter) fit = refl
+tells_passes : (first : Bool) (hash : HashKind) → MatchBool first (hash ≡ kinds.Md5) (Unit {0}) → cond first (is_md5 hash) true ≡ true
+tells_passes true hash tells = md5_passes hash tells
+tells_passes false hash tells = refl
 
-hash_is : (request : Request) → hash_fits request ≡ true → HashFits request
-hash_is (CreateProfile scan_limit match_all hash) e = md5_is hash e
-hash_is (AddFolder profile parent modified name) e = tt
-hash_is (AddFile profile parent modified size piece_size name) e = tt
-hash_is (Piece profile file index bytes) e = tt
-hash_is (Finish profile file) e = tt
-hash_is (Abandon profile file) e = tt
-hash_is (Status profile file) e = tt
-hash_is (Export profile from max filter) e = tt
+tells_is : (first : Bool) (hash : HashKind) → cond first (is_md5 hash) true ≡ true → MatchBool first (hash ≡ kinds.Md5) (Unit {0})
+tells_is true hash e = md5_is hash e
+tells_is false hash e = tt
+
+hash_passes : (version : ℕ) (request : Request) → HashFits version request → hash_fits version request ≡ true
+hash_passes version (CreateProfile scan_limit match_all hash) fit = tells_passes (eqb version 1) hash fit
+hash_passes version (AddFolder profile parent modified name) fit = refl
+hash_passes version (AddFile profile parent modified size piece_size name) fit = refl
+hash_passes version (Piece profile file index bytes) fit = refl
+hash_passes version (Finish profile file) fit = refl
+hash_passes version (Abandon profile file) fit = refl
+hash_passes version (Status profile file) fit = refl
+hash_passes version (Export profile from max filter) fit = refl
+
+hash_is : (version : ℕ) (request : Request) → hash_fits version request ≡ true → HashFits version request
+hash_is version (CreateProfile scan_limit match_all hash) e = tells_is (eqb version 1) hash e
+hash_is version (AddFolder profile parent modified name) e = tt
+hash_is version (AddFile profile parent modified size piece_size name) e = tt
+hash_is version (Piece profile file index bytes) e = tt
+hash_is version (Finish profile file) e = tt
+hash_is version (Abandon profile file) e = tt
+hash_is version (Status profile file) e = tt
+hash_is version (Export profile from max filter) e = tt
 
 -- ---- requests
 
-passes : (request : Request) → Fits request → request_fits request ≡ true
+passes : (version : ℕ) (request : Request) → Fits version request → request_fits version request ≡ true
 unfolding request_fits
-passes request fit =
-    both (nat_le (length (request_body request)) 1048640) (lists_fit request && hash_fits request) (at_most (length (request_body request)) 1048640 fit.body)
-    (both (lists_fit request) (hash_fits request) (lists_pass request fit.lists) (hash_passes request fit.hash))
+passes version request fit =
+    let body = request_body version request in
+    both (is_version version) (body_fits version body && (lists_fit request && hash_fits version request)) fit.version_is
+    (both (body_fits version body) (lists_fit request && hash_fits version request) (at_most (length body) (body_limit version) fit.body)
+    (both (lists_fit request) (hash_fits version request) (lists_pass request fit.lists) (hash_passes version request fit.hash)))
 
-fits : (request : Request) → request_fits request ≡ true → Fits request
+fits : (version : ℕ) (request : Request) → request_fits version request ≡ true → Fits version request
 unfolding request_fits
-fits request e =
-    let parts = both_are (nat_le (length (request_body request)) 1048640) (lists_fit request && hash_fits request) e in
-    let more = both_are (lists_fit request) (hash_fits request) parts.1 in
-    record { body = is_at_most (length (request_body request)) 1048640 parts.0; lists = lists_are request more.0; hash = hash_is request more.1 }
+fits version request e =
+    let body = request_body version request in
+    let parts = both_are (is_version version) (body_fits version body && (lists_fit request && hash_fits version request)) e in
+    let more = both_are (body_fits version body) (lists_fit request && hash_fits version request) parts.1 in
+    let last = both_are (lists_fit request) (hash_fits version request) more.1 in
+    record {
+      version_is = parts.0;
+      body = is_at_most (length body) (body_limit version) more.0;
+      lists = lists_are request last.0;
+      hash = hash_is version request last.1;
+    }
 
 same : (a b : Bool) → (a ≡ true → b ≡ true) → (b ≡ true → a ≡ true) → a ≡ b
 same true b to from = let e : b ≡ true = to refl in rw e refl
@@ -160,5 +179,5 @@ same false true to from = from refl
 same false false to from = refl
 
 -- what tells whether a request fits is the test
-pub test_is : (told : Bool) (request : Request) → (told ≡ true → Fits request) → (Fits request → told ≡ true) → told ≡ request_fits request
-test_is told request to from = same told (request_fits request) (λ e. passes request (to e)) (λ e. from (fits request e))
+pub test_is : (told : Bool) (version : ℕ) (request : Request) → (told ≡ true → Fits version request) → (Fits version request → told ≡ true) → told ≡ request_fits version request
+test_is told version request to from = same told (request_fits version request) (λ e. passes version request (to e)) (λ e. from (fits version request e))

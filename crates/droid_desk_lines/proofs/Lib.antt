@@ -1,5 +1,6 @@
 pub mod Criteria
 pub mod Fitting
+pub mod FrontWords
 pub mod InFront
 pub mod LineCuts
 pub mod LineNumbers

@@ -3,19 +3,41 @@ use Rattle.std.specs.Prelude.{ℕ, ℤ, ◌^◌, ◌==◌, if◌then◌else◌, 
 use Rattle.std.specs.Result.{result_ok}
 use Rattle.std.specs.Str.{bytes_eq}
 use Rattle.hex.specs.Hex.{decode_of}
+use Rattle.droid_frame.specs.types.hash_kind.HashKind.{HashKind}
 use Rattle.droid_frame.specs.types.hash_kind.HashKind.TheVariants as kinds
 use Rattle.droid_frame.specs.types.request.Request.{Request}
 use Rattle.droid_frame.specs.types.request.Request.TheVariants.{CreateProfile, AddFolder, AddFile, Piece, Finish, Abandon, Status}
 use Rattle.droid_frame.specs.Reading.{◌>>=◌}
 use Rattle.droid_desk_lines.specs.Exports.{export_words}
-use Rattle.droid_desk_lines.specs.Words.{number_below, number_word, signed_word, truth_word}
+use Rattle.droid_desk_lines.specs.Words.{number_below, number_word, signed_word, truth_word, word_at}
+
+-- the hash that a profile's files get: `none`, `md5` or `sha256`
+unfoldable pub hash_word : List ℕ → Option HashKind
+hash_word word =
+    if bytes_eq word (codes "none") then Some kinds.Nothing
+    else if bytes_eq word (codes "md5") then Some kinds.Md5
+    else if bytes_eq word (codes "sha256") then Some kinds.Sha256
+    else None
 
 -- `LIMIT ALL`: the profile gets MD5
-unfoldable pub create_words : List ℕ → Option Request
-create_words text = do
+unfoldable pub plain_create_words : List ℕ → Option Request
+plain_create_words text = do
   limit ← number_word (2 ^ 32) text
   match_all ← truth_word limit.1
   Some (CreateProfile limit.0 match_all kinds.Md5)
+
+-- `LIMIT ALL HASH`
+unfoldable pub hashed_create_words : List ℕ → Option Request
+hashed_create_words text = do
+  limit ← number_word (2 ^ 32) text
+  all ← word_at limit.1
+  match_all ← truth_word all.0
+  hash ← hash_word all.1
+  Some (CreateProfile limit.0 match_all hash)
+
+-- a line of version 1 names no hash, and one of version 2 does
+unfoldable pub create_words : ℕ → List ℕ → Option Request
+create_words version text = if version == 1 then plain_create_words text else hashed_create_words text
 
 -- `PROFILE PARENT MODIFIED`, and what stands after the space
 unfoldable pub node_place : List ℕ → Option (ℕ × ℕ × ℤ × List ℕ)
@@ -89,10 +111,10 @@ status_words text = do
   place ← file_place text
   Some (Status place.0 place.1)
 
--- what stands after the word of a kind of request
-unfoldable pub request_words : List ℕ → List ℕ → Option Request
-request_words kind text =
-    if bytes_eq kind (codes "create") then create_words text
+-- what stands after the word of a kind of request, in a line of this version
+unfoldable pub request_words : ℕ → List ℕ → List ℕ → Option Request
+request_words version kind text =
+    if bytes_eq kind (codes "create") then create_words version text
     else if bytes_eq kind (codes "folder") then folder_words text
     else if bytes_eq kind (codes "file") then file_words text
     else if bytes_eq kind (codes "piece") then piece_words text

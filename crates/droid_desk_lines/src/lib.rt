@@ -14,6 +14,6 @@ mod tally;
 mod words;
 
 pub use cut::{line_end, next_line};
-pub use parse::{Line, parse_line, parse_request_line};
+pub use parse::{Line, VersionedRequest, parse_line, parse_request_line};
 pub use print::{print_answer, print_reply};
 pub use tally::Tally;

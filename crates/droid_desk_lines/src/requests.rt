@@ -4,21 +4,27 @@ ghost use Rattle.std.specs.Prelude.{◌≡◌, IfOk, codes};
 ghost use Rattle.std.specs.Option.{option_map};
 ghost use Rattle.std.specs.Result.{result_ok};
 ghost use Rattle.hex.specs.Hex.{decode_of};
-ghost use Rattle.droid_desk_lines.specs.Requests.{create_words, folder_words, file_words, piece_words, finish_words, abandon_words, status_words, request_words, node_place, file_sizes, piece_place, file_place, bytes_word};
+ghost use Rattle.droid_desk_lines.specs.Requests.{create_words, plain_create_words, hashed_create_words, hash_word, folder_words, file_words, piece_words, finish_words, abandon_words, status_words, request_words, node_place, file_sizes, piece_place, file_place, bytes_word};
 
 use crate::exports::parse_export;
-use crate::words::{i64_word, truth_in, u32_in, u32_word, u64_word};
+use crate::words::{i64_word, truth_in, u32_in, u32_word, u64_word, word};
 use droid_frame::{Blob, HashKind, Request, Text};
 use hex::FromHexError;
 use std::alloc::{AllocError, Global};
 
-/// The request of the kind that this word names, or `None` where the text is no such request.
+/// The request of the kind that this word names in a line of this version, or `None` where the text is no such
+/// request.
 #[tactic(auto, unfolding(crate::specs::Requests::request_words))]
-pub fn parse_request(alloc: Global, kind: &str, text: &str) -> Result<Option<Request>, AllocError>
-    ensures { IfOk result (λ request. request ≡ request_words kind.now text.now) }
+pub fn parse_request(
+    alloc: Global,
+    version: u8,
+    kind: &str,
+    text: &str,
+) -> Result<Option<Request>, AllocError>
+    ensures { IfOk result (λ request. request ≡ request_words version kind.now text.now) }
 {
     if kind == "create" {
-        Ok(parse_create(text))
+        Ok(parse_create(version, text))
     } else if kind == "folder" {
         parse_folder(alloc, text)
     } else if kind == "file" {
@@ -38,10 +44,54 @@ pub fn parse_request(alloc: Global, kind: &str, text: &str) -> Result<Option<Req
     }
 }
 
-/// `LIMIT ALL`: the profile gets MD5.
+/// `LIMIT ALL` in version 1, and `LIMIT ALL HASH` in version 2.
 #[tactic(auto, unfolding(crate::specs::Requests::create_words))]
-fn parse_create(text: &str) -> Option<Request>
-    ensures { result ≡ create_words text.now }
+fn parse_create(version: u8, text: &str) -> Option<Request>
+    ensures { result ≡ create_words version text.now }
+{
+    if version == 1 {
+        parse_plain_create(text)
+    } else {
+        parse_hashed_create(text)
+    }
+}
+
+/// `LIMIT ALL HASH`.
+#[tactic(auto, unfolding(crate::specs::Requests::hashed_create_words))]
+fn parse_hashed_create(text: &str) -> Option<Request>
+    ensures { result ≡ hashed_create_words text.now }
+{
+    let (scan_limit, rest) = u32_word(text)?;
+    let (all, rest) = word(rest)?;
+    let match_all = truth_in(all)?;
+    let hash = hash_in(rest)?;
+    Some(Request::CreateProfile {
+        scan_limit,
+        match_all,
+        hash,
+    })
+}
+
+/// The hash that a profile's files get: `none`, `md5` or `sha256`.
+#[tactic(auto, unfolding(crate::specs::Requests::hash_word))]
+fn hash_in(word: &str) -> Option<HashKind>
+    ensures { result ≡ hash_word word.now }
+{
+    if word == "none" {
+        Some(HashKind::Nothing)
+    } else if word == "md5" {
+        Some(HashKind::Md5)
+    } else if word == "sha256" {
+        Some(HashKind::Sha256)
+    } else {
+        None
+    }
+}
+
+/// `LIMIT ALL`: the profile gets MD5.
+#[tactic(auto, unfolding(crate::specs::Requests::plain_create_words))]
+fn parse_plain_create(text: &str) -> Option<Request>
+    ensures { result ≡ plain_create_words text.now }
 {
     let (scan_limit, rest) = u32_word(text)?;
     let match_all = truth_in(rest)?;

@@ -24,20 +24,20 @@ use Rattle.droid_desk_profile.specs.Answering.{At, Answers}
 use Rattle.droid_desk_profile.specs.declared.own.Own.{Own}
 
 -- what is spelled under a number below 2^63 is asked
-asked : (frame : Frame) (request : Request) → frame.number < 2 ^ 63 → SpellsRequest frame.kind frame.body request → command frame ≡ Some request
+asked : (frame : Frame) (request : Request) → frame.number < 2 ^ 63 → SpellsRequest frame.version frame.kind frame.body request → command frame ≡ Some request
 unfolding command request_in
-asked frame request small spelled = rw (lt-ltb frame.number (2 ^ 63) small) (spelled_is_value frame.kind frame.body request spelled)
+asked frame request small spelled = rw (lt-ltb frame.number (2 ^ 63) small) (spelled_is_value frame.version frame.kind frame.body request spelled)
 
 -- ---- the world after it
 
-world_push : (setting : Setting) (history : History) (entry : Entry) → world_of setting (history ++ entry ∷ []) ≡ world_asked setting (world_of setting history) (command entry.frame)
+world_push : (setting : Setting) (history : History) (entry : Entry) → world_of setting (history ++ entry ∷ []) ≡ world_asked setting (world_of setting history) entry.frame.version (command entry.frame)
 unfolding world_of
-world_push setting history entry = fold-append (λ (world : World) entry. world_asked setting world (command entry.frame)) _ history (entry ∷ [])
+world_push setting history entry = fold-append (λ (world : World) entry. world_asked setting world entry.frame.version (command entry.frame)) _ history (entry ∷ [])
 
-world_with : (setting : Setting) (history : History) (frame : Frame) (request : Request) (verdict : Verdict) → command frame ≡ Some request → judge setting (world_of setting history) request ≡ verdict
+world_with : (setting : Setting) (history : History) (frame : Frame) (request : Request) (verdict : Verdict) → command frame ≡ Some request → judge setting (world_of setting history) frame.version request ≡ verdict
     → world_of setting (history_with history frame (New verdict)) ≡ world_after (world_of setting history) verdict
 world_with setting history frame request (Accepted reply after) is judged =
-    world_push setting history (entry_of frame reply) ∙ (ap (world_asked setting (world_of setting history)) is ∙ ap (world_after (world_of setting history)) judged)
+    world_push setting history (entry_of frame reply) ∙ (ap (world_asked setting (world_of setting history) frame.version) is ∙ ap (world_after (world_of setting history)) judged)
 world_with setting history frame request (Answered reply) is judged = refl
 world_with setting history frame request (Refuses refusal) is judged = refl
 
@@ -71,23 +71,26 @@ by_wanting true P Q R S T U came wanting answered = wanting came.1
 by_wanting false P Q R S T U came wanting answered = answered came.0 came.1
 
 pub request_answered : (old new : Own) (frame : Frame) (request : Request) (reply : Reply)
-    → frame.client ≡ 1 → frame.number ≡ old.number → old.number < 2 ^ 63 → new.number ≡ old.number + 1 → SpellsRequest frame.kind frame.body request
+    → frame.version ≡ 2 → frame.client ≡ 1 → frame.number ≡ old.number → old.number < 2 ^ 63 → new.number ≡ old.number + 1 → SpellsRequest frame.version frame.kind frame.body request
     → ((setting : Setting) (history : History) → StandsFor setting old.service history → Handles setting history frame reply (StandsFor setting new.service))
     → Answers old (request, reply) new
-request_answered old new frame request reply client number small next_number spelled handles setting world here =
+request_answered old new frame request reply version client number small next_number spelled handles setting world here =
     let is : command frame ≡ Some request = asked frame request (omega (arith, number, small)) spelled in
     let is_new : kept here.history frame.client frame.number ≡ None =
     ap (λ c. kept here.history c frame.number) client ∙ here.are_new frame.number (omega (arith, number)) in
-    let verdict = judge setting (world_of setting here.history) request in
+    let verdict = judge setting (world_of setting here.history) frame.version request in
     let came = handles setting here.history here.stands in
     by_wanting (is_want reply) _ _ _ _ _ _ came
     (λ stands. record { history = here.history; stands = stands; world_is = here.world_is; are_new = λ n above. here.are_new n (omega (arith, above, next_number)) })
     (λ answered stands. (
-      answered ∙ (answer_new setting here.history frame request is is_new ∙ ap (λ (w : World). verdict_reply (judge setting w request)) here.world_is),
+      answered ∙ (answer_new setting here.history frame request is is_new
+          ∙ (ap (λ (v : ℕ). verdict_reply (judge setting (world_of setting here.history) v request)) version ∙ ap (λ (w : World). verdict_reply (judge setting w 2 request)) here.world_is)),
       record {
         history = history_with here.history frame (New verdict);
         stands = subst (StandsFor setting new.service) (next_new setting here.history frame request is is_new) stands;
-        world_is = world_with setting here.history frame request verdict is refl ∙ ap (λ (w : World). world_after w (judge setting w request)) here.world_is;
+        world_is = world_with setting here.history frame request verdict is refl
+            ∙ (ap (λ (v : ℕ). world_after (world_of setting here.history) (judge setting (world_of setting here.history) v request)) version
+            ∙ ap (λ (w : World). world_after w (judge setting w 2 request)) here.world_is);
         are_new = λ n above. still_new_with here.history frame verdict n (here.are_new n (omega (arith, above, next_number))) (omega (arith, above, next_number, number));
       },
     ))

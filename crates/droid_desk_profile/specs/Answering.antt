@@ -8,7 +8,6 @@ use Rattle.droid_core.specs.Standing.{StandsFor}
 use Rattle.droid_core.specs.Wants.{is_want}
 use Rattle.droid_core.specs.World.{Node, Profile, World}
 use Rattle.droid_frame.specs.types.filter.Filter.{Filter}
-use Rattle.droid_frame.specs.types.hash_kind.HashKind.TheVariants as hash_kinds
 use Rattle.droid_desk_tree.specs.Asked.{Asked}
 use Rattle.droid_desk_tree.specs.declared.walking.Options.{Options}
 use Rattle.droid_desk_profile.specs.declared.own.Own.{Own}
@@ -20,16 +19,16 @@ pub record At (setting : Setting) (world : World) (own : Own) : Type 0 where
   pub world_is : world_of setting history ≡ world
   pub are_new : (number : ℕ) → own.number ≤ number → kept history 1 number ≡ None
 
--- in every world where the service is, a request is answered as it is judged there, and the service is then where that leads;
+-- in every world where the service is, a request of version 2 is answered as it is judged there, and the service is then where that leads;
 -- or memory was wanting, and it is where it was
 abbrev pub Answers : Own → Asked → Own → Type 0
 Answers old asked new = (setting : Setting) (world : World) → At setting world old →
     MatchBool (is_want asked.1) (At setting world new)
-    ((asked.1 ≡ verdict_reply (judge setting world asked.0)) × At setting (world_after world (judge setting world asked.0)) new)
+    ((asked.1 ≡ verdict_reply (judge setting world 2 asked.0)) × At setting (world_after world (judge setting world 2 asked.0)) new)
 
--- a profile with these nodes, whose files get MD5s
+-- a profile with these nodes
 abbrev pub profile_with : Options → List Node → Profile
-profile_with options nodes = record { scan_limit = options.scan_limit; match_all = options.match_all; hash = hash_kinds.Md5; nodes = nodes }
+profile_with options nodes = record { scan_limit = options.scan_limit; match_all = options.match_all; hash = options.hash; nodes = nodes }
 
 -- the service is where there is one profile, and it has these nodes
 pub record Holds (setting : Setting) (options : Options) (nodes : List Node) (own : Own) : Type 0 where
@@ -43,4 +42,4 @@ everything = record { all = true; criteria = [] }
 
 -- the export of all records
 abbrev pub text_of : Setting → Options → List Node → List ℕ
-text_of setting options nodes = setting.export_text (records setting (profile_with options nodes)) everything hash_kinds.Md5
+text_of setting options nodes = setting.export_text (records setting (profile_with options nodes)) everything options.hash

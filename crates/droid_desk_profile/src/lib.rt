@@ -8,5 +8,6 @@ pub mod laws;
 mod own;
 mod profiling;
 
+pub use droid_core::Service;
 pub use fault::ProfileFault;
 pub use profiling::profile;

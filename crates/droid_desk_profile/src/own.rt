@@ -5,7 +5,7 @@ ghost use Rattle.droid_desk_profile.specs.Answering.{Answers};
 
 use droid_core::Service;
 use droid_desk_tree::{Exchange, ExchangeFault};
-use droid_frame::{Blob, Frame, NUMBER_LIMIT, Reply, VERSION};
+use droid_frame::{Blob, Frame, NUMBER_LIMIT, Reply};
 
 /// The one client of the service.
 const CLIENT: u32 = 1;
@@ -38,7 +38,7 @@ impl Exchange for Own {
             return Err(ExchangeFault);
         }
         let frame = Frame {
-            version: VERSION,
+            version: 2,
             kind,
             client: CLIENT,
             number,

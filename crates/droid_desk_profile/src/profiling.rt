@@ -3,7 +3,7 @@
 ghost use Rattle.std.specs.Prelude.{◌≡◌, [], IfOk, IsTrue};
 ghost use Rattle.droid_core.specs.Setting.{Setting};
 ghost use Rattle.droid_core.specs.Standing.{StandsFor};
-ghost use Rattle.droid_desk_profile.specs.Profiled.{WritesProfile};
+ghost use Rattle.droid_desk_profile.specs.Profiled.{WritesProfile, WritesTree};
 
 use crate::exporting::export;
 use crate::fault::ProfileFault;
@@ -25,6 +25,10 @@ pub fn profile<T: Tree, W: Watcher, O: SteadyWrite>(
     options: Options,
     writer: &mut O,
 ) -> Result<bool, ProfileFault>
+    // The text is the definition's export of a profile that has exactly the tree's folders and files that were not left out,
+    // each file with its bytes as they were read; and what was left out is what the watcher was told of, with its reason.
+    ensures all { (setting : Setting) → StandsFor setting service [] → IfOk result (λ whole.
+        WritesTree T.tells W.hears setting options whole tree.old tree.new watcher.old watcher.new (O.contents writer.old) (O.contents writer.new)) }
     // Where nothing was left out, the text is the definition's export of a profile that has exactly the tree's folders and
     // files, each file with its bytes as they were read.
     ensures whole { (setting : Setting) → StandsFor setting service [] → IfOk result (λ whole. IsTrue whole →

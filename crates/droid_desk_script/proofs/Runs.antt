@@ -231,11 +231,11 @@ frame_same v k c n b v' k' c' n' b' ev ek ec en eb = rw (ev, ek, ec, en, eb) ref
 first_same : (x y : ℕ) (xs ys : List ℕ) → x ∷ xs ≡ y ∷ ys → x ≡ y
 first_same x y xs ys e = cc
 
-pub frame_is : (line : Line) (frame : Frame) → frame_bytes frame ≡ spelling 1 (request_kind line.request) line.client line.number (request_body line.request)
-    → SpellsRequest frame.kind frame.body line.request → (frame.client ≡ line.client) × (frame.number ≡ line.number) → frame ≡ frame_of line
+pub frame_is : (line : Line) (frame : Frame) → frame_bytes frame ≡ spelling line.version (request_kind line.request) line.client line.number (request_body line.version line.request)
+    → SpellsRequest line.version frame.kind frame.body line.request → (frame.client ≡ line.client) × (frame.number ≡ line.number) → frame ≡ frame_of line
 frame_is line frame bytes spells sender =
-    frame_same frame.version frame.kind frame.client frame.number frame.body 1 (request_kind line.request) line.client line.number (request_body line.request)
-    (first_same frame.version 1 _ _ bytes) spells.kind_is sender.0 sender.1 spells.body_is
+    frame_same frame.version frame.kind frame.client frame.number frame.body line.version (request_kind line.request) line.client line.number (request_body line.version line.request)
+    (first_same frame.version line.version _ _ bytes) spells.kind_is sender.0 sender.1 spells.body_is
 
 -- ---- after the script
 

@@ -1,5 +1,5 @@
 -- Runs of a script: which lines were handled, what they printed, and the history that they left.
-use Rattle.std.specs.Prelude.{◌≡◌, ℕ, ◌+◌, ◌*◌, ◌<◌, ◌≤◌, Bool, List, [], ◌∷◌, ◌++◌, codes, length, Option, Some, None, is_none}
+use Rattle.std.specs.Prelude.{◌≡◌, ℕ, ◌<◌, Bool, List, [], ◌∷◌, ◌++◌, codes, length, Option, Some, None, is_none}
 use Rattle.std.specs.List.{flat_map}
 use Rattle.std.specs.Io.KnownBytes.{Appends}
 use Rattle.droid_frame.specs.types.frame.Frame.{Frame}
@@ -17,14 +17,14 @@ use Rattle.droid_desk_lines.specs.Lines.{line_value}
 use Rattle.droid_desk_lines.specs.Printed.{answer_line}
 use Rattle.droid_core.specs.Standing.{StandsFor}
 
--- the frame of version 1 that a line sends
+-- the frame that a line sends, in its version
 abbrev pub frame_of : Line → Frame
 frame_of line = record {
-  version = 1;
+  version = line.version;
   kind = request_kind line.request;
   client = line.client;
   number = line.number;
-  body = request_body line.request;
+  body = request_body line.version line.request;
 }
 
 -- A line's request is handled, and the history goes on to this one. A bad line sends nothing, and has no

@@ -86,6 +86,6 @@ fn handle_line(
     let Some(line) = parse_line(alloc, line)? else {
         return Ok(None);
     };
-    let frame = request_frame(alloc, line.client, line.number, &line.request)?;
+    let frame = request_frame(alloc, line.version, line.client, line.number, &line.request)?;
     Ok(Some(service.handle(frame)))
 }

@@ -10,13 +10,13 @@ use Rattle.droid_frame.specs.types.frame.Frame.{Frame}
 use Rattle.droid_frame.specs.types.refusal.Refusal.{Refusal}
 use Rattle.droid_frame.specs.types.reply.Reply.{Reply}
 use Rattle.droid_frame.specs.types.reply.Reply.TheVariants.{Made, Node, Taken, Finished, Abandoned, Progress, Part, Refused}
-use Rattle.droid_frame.specs.types.request.Request.{Request}
+use Rattle.droid_desk_lines.specs.declared.parse.VersionedRequest.{VersionedRequest}
 use Rattle.droid_wire_client.specs.declared.heard.Heard.{Heard}
 use Rattle.droid_wire_client.specs.declared.heard.Heard.TheVariants as heard
 use Rattle.droid_wire_client.specs.declared.slot.Slot.{Slot}
 use Rattle.droid_wire_client.specs.declared.slot.State.{State}
 use Rattle.droid_wire_client.specs.declared.slot.State.TheVariants.{Pending, Answered}
-use Rattle.droid_wire_client.specs.Cores.{Core, answer_in, answer_of, belongs, core_hearing, core_submitting, heard_by, heard_in, heard_of, heard_pending, new_slot, next_frame, pending_in, pending_of, refusal_in, refusal_of, slot_after, slot_answer, slot_at, slot_hearing, slot_refusal, slots_hearing}
+use Rattle.droid_wire_client.specs.Cores.{Core, answer_in, answer_of, belongs_at, core_hearing, core_submitting, heard_by, heard_in, heard_of, heard_pending, new_slot, next_frame, pending_in, pending_of, refusal_in, refusal_of, slot_after, slot_answer, slot_at, slot_hearing, slot_refusal, slots_hearing}
 use Rattle.droid_frame.specs.Replies.{SpellsReply}
 use Rattle.droid_desk_lines.specs.Printed.{answer_line}
 use Rattle.droid_desk_sender.specs.Exchanges.{IsTaken}
@@ -30,21 +30,21 @@ last_got : {X : Type 0} (xs : List X) (x : X) → slice_get (xs ++ x ∷ []) (le
 last_got [] x = refl
 last_got (y ∷ xs) x = last_got xs x
 
-pub pending_now : (core : Core) (request : Request) → pending_of (core_submitting core request) ≡ pending_of core ++ next_frame core request ∷ []
-pending_now core request = filter_map-append (λ slot. pending_in slot.state) core.slots (new_slot (next_frame core request) ∷ [])
+pub pending_now : (core : Core) (asked : VersionedRequest) → pending_of (core_submitting core asked.version asked.request) ≡ pending_of core ++ next_frame core asked.version asked.request ∷ []
+pending_now core asked = filter_map-append (λ slot. pending_in slot.state) core.slots (new_slot (next_frame core asked.version asked.request) ∷ [])
 
 -- at least one is pending, and it is the last
-pub some_pending : (now core : Core) (request : Request) → now ≡ core_submitting core request → length (pending_of now) ≡ length (pending_of core) + 1
-some_pending now core request is =
-    ap (λ (c : Core). length (pending_of c)) is ∙ (ap (λ (fs : List Frame). length fs) (pending_now core request) ∙ length-append (pending_of core) (next_frame core request ∷ []))
+pub some_pending : (now core : Core) (asked : VersionedRequest) → now ≡ core_submitting core asked.version asked.request → length (pending_of now) ≡ length (pending_of core) + 1
+some_pending now core asked is =
+    ap (λ (c : Core). length (pending_of c)) is ∙ (ap (λ (fs : List Frame). length fs) (pending_now core asked) ∙ length-append (pending_of core) (next_frame core asked.version asked.request ∷ []))
 
-pub newest_is : (now core : Core) (request : Request) (place : ℕ) → now ≡ core_submitting core request → place ≡ length (pending_of now) - 1 → slice_get (pending_of now) place ≡ Some (next_frame core request)
-newest_is now core request place is at =
-    let long = some_pending now core request is in
+pub newest_is : (now core : Core) (asked : VersionedRequest) (place : ℕ) → now ≡ core_submitting core asked.version asked.request → place ≡ length (pending_of now) - 1 → slice_get (pending_of now) place ≡ Some (next_frame core asked.version asked.request)
+newest_is now core asked place is at =
+    let long = some_pending now core asked is in
     let here : place ≡ length (pending_of core) = omega (arith, at, long) in
     ap (λ (c : Core). slice_get (pending_of c) place) is
-    ∙ (ap (λ (fs : List Frame). slice_get fs place) (pending_now core request)
-    ∙ (ap (λ (n : ℕ). slice_get (pending_of core ++ next_frame core request ∷ []) n) here ∙ last_got (pending_of core) (next_frame core request)))
+    ∙ (ap (λ (fs : List Frame). slice_get fs place) (pending_now core asked)
+    ∙ (ap (λ (n : ℕ). slice_get (pending_of core ++ next_frame core asked.version asked.request ∷ []) n) here ∙ last_got (pending_of core) (next_frame core asked.version asked.request)))
 
 -- ---- the reply that was taken last
 
@@ -57,36 +57,36 @@ slot_there : (core : Core) (number : ℕ) (slot : Slot) → core.first ≤ numbe
 slot_there core number slot from there = slot_there_by (ltb number core.first) core number slot refl from there
 
 -- the slot after a reply to it
-slot_now : (core : Core) (number : ℕ) (reply : Reply) (slot : Slot) → slot_at core number ≡ Some slot
-    → slot_at (record core { slots = set core.slots (number - core.first) (slot_hearing slot reply) }) number ≡ Some (slot_hearing slot reply)
-slot_now core number reply slot there =
+slot_now : (core : Core) (version number : ℕ) (reply : Reply) (slot : Slot) → slot_at core number ≡ Some slot
+    → slot_at (record core { slots = set core.slots (number - core.first) (slot_hearing slot version reply) }) number ≡ Some (slot_hearing slot version reply)
+slot_now core version number reply slot there =
     let found = slot_found core number slot there in
-    let after = slot_hearing slot reply in
+    let after = slot_hearing slot version reply in
     slot_there (record core { slots = set core.slots (number - core.first) after }) number after found.0 (set_here core.slots (number - core.first) after slot found.1)
 
-held_in : (core : Core) (number : ℕ) (reply : Reply) (o : Option Slot) → slot_at core number ≡ o → heard_by o reply ≡ heard.Answered → answer_of (record core { slots = slots_hearing core number reply o }) number ≡ Some reply
-held_in core number reply None there is = absurd cc
-held_in core number reply (Some slot) there is =
-    ap slot_answer (slot_now core number reply slot there) ∙ ap (λ (h : Heard). answer_in (slot_after slot reply h).state) is
+held_in : (core : Core) (version number : ℕ) (reply : Reply) (o : Option Slot) → slot_at core number ≡ o → heard_by o version reply ≡ heard.Answered → answer_of (record core { slots = slots_hearing core version number reply o }) number ≡ Some reply
+held_in core version number reply None there is = absurd cc
+held_in core version number reply (Some slot) there is =
+    ap slot_answer (slot_now core version number reply slot there) ∙ ap (λ (h : Heard). answer_in (slot_after slot reply h).state) is
 
 -- what is heard as the answer is the answer that is held
-pub held : (core : Core) (client number : ℕ) (reply : Reply) → heard_of core client number reply ≡ heard.Answered → answer_of (core_hearing core client number reply) number ≡ Some reply
-held core client number reply is =
+pub held : (core : Core) (version client number : ℕ) (reply : Reply) → heard_of core version client number reply ≡ heard.Answered → answer_of (core_hearing core version client number reply) number ≡ Some reply
+held core version client number reply is =
     elim (eqb_tells client core.client) [
-      | inl t ↦ rw t.0 (held_in core number reply (slot_at core number) refl (rw t.0 at is))
+      | inl t ↦ rw t.0 (held_in core version number reply (slot_at core number) refl (rw t.0 at is))
       | inr t ↦ absurd (let no = rw t.0 at is in cc)
     ]
 
-refused_in : (core : Core) (number : ℕ) (reply : Reply) (o : Option Slot) → slot_at core number ≡ o → heard_by o reply ≡ heard.Refused → refusal_of (record core { slots = slots_hearing core number reply o }) number ≡ refusal_in reply
-refused_in core number reply None there is = absurd cc
-refused_in core number reply (Some slot) there is =
-    ap slot_refusal (slot_now core number reply slot there) ∙ ap (λ (h : Heard). (slot_after slot reply h).refusal) is
+refused_in : (core : Core) (version number : ℕ) (reply : Reply) (o : Option Slot) → slot_at core number ≡ o → heard_by o version reply ≡ heard.Refused → refusal_of (record core { slots = slots_hearing core version number reply o }) number ≡ refusal_in reply
+refused_in core version number reply None there is = absurd cc
+refused_in core version number reply (Some slot) there is =
+    ap slot_refusal (slot_now core version number reply slot there) ∙ ap (λ (h : Heard). (slot_after slot reply h).refusal) is
 
 -- what is heard as a refusal is the last refusal
-pub refused : (core : Core) (client number : ℕ) (reply : Reply) → heard_of core client number reply ≡ heard.Refused → refusal_of (core_hearing core client number reply) number ≡ refusal_in reply
-refused core client number reply is =
+pub refused : (core : Core) (version client number : ℕ) (reply : Reply) → heard_of core version client number reply ≡ heard.Refused → refusal_of (core_hearing core version client number reply) number ≡ refusal_in reply
+refused core version client number reply is =
     elim (eqb_tells client core.client) [
-      | inl t ↦ rw t.0 (refused_in core number reply (slot_at core number) refl (rw t.0 at is))
+      | inl t ↦ rw t.0 (refused_in core version number reply (slot_at core number) refl (rw t.0 at is))
       | inr t ↦ absurd (let no = rw t.0 at is in cc)
     ]
 
@@ -110,31 +110,31 @@ refusal_state true (Pending frame) reply is = refusal_pending reply is
 refusal_state true (Answered answer) reply is = absurd cc
 refusal_state false state reply is = absurd cc
 
-refusal_slot : (o : Option Slot) (reply : Reply) → heard_by o reply ≡ heard.Refused → IsRefusal reply
-refusal_slot None reply is = absurd cc
-refusal_slot (Some slot) reply is = refusal_state (belongs slot.kind reply) slot.state reply is
+refusal_slot : (o : Option Slot) (version : ℕ) (reply : Reply) → heard_by o version reply ≡ heard.Refused → IsRefusal reply
+refusal_slot None version reply is = absurd cc
+refusal_slot (Some slot) version reply is = refusal_state (belongs_at slot version reply) slot.state reply is
 
-pub is_refusal : (core : Core) (client number : ℕ) (reply : Reply) → heard_of core client number reply ≡ heard.Refused → IsRefusal reply
-is_refusal core client number reply is =
+pub is_refusal : (core : Core) (version client number : ℕ) (reply : Reply) → heard_of core version client number reply ≡ heard.Refused → IsRefusal reply
+is_refusal core version client number reply is =
     elim (eqb_tells client core.client) [
-      | inl t ↦ refusal_slot (slot_at core number) reply (rw t.0 at is)
+      | inl t ↦ refusal_slot (slot_at core number) version reply (rw t.0 at is)
       | inr t ↦ absurd (let no = rw t.0 at is in cc)
     ]
 
 pub some_of : {A : Type 0} (o : Option A) (x : A) → o ≡ Some x → IsSome o
 some_of o x is = subst (λ (p : Option _). IsSome p) (sym is) refl
 
-pub answer_now : (core after : Core) (client number : ℕ) (reply : Reply) → heard_of core client number reply ≡ heard.Answered → after ≡ core_hearing core client number reply → answer_of after number ≡ Some reply
-answer_now core after client number reply is same = ap (λ (c : Core). answer_of c number) same ∙ held core client number reply is
+pub answer_now : (core after : Core) (version client number : ℕ) (reply : Reply) → heard_of core version client number reply ≡ heard.Answered → after ≡ core_hearing core version client number reply → answer_of after number ≡ Some reply
+answer_now core after version client number reply is same = ap (λ (c : Core). answer_of c number) same ∙ held core version client number reply is
 
-pub refusal_now : (core after : Core) (client number : ℕ) (reply : Reply) → heard_of core client number reply ≡ heard.Refused → after ≡ core_hearing core client number reply
+pub refusal_now : (core after : Core) (version client number : ℕ) (reply : Reply) → heard_of core version client number reply ≡ heard.Refused → after ≡ core_hearing core version client number reply
     → (refusal : Refusal) × (reply ≡ Refused refusal) × (refusal_of after number ≡ Some refusal)
-refusal_now core after client number reply is same =
-    let one = is_refusal core client number reply is in
-    (one.0, one.1, ap (λ (c : Core). refusal_of c number) same ∙ (refused core client number reply is ∙ ap refusal_in one.1))
+refusal_now core after version client number reply is same =
+    let one = is_refusal core version client number reply is in
+    (one.0, one.1, ap (λ (c : Core). refusal_of c number) same ∙ (refused core version client number reply is ∙ ap refusal_in one.1))
 
-pub took : (core : Core) (frame : Frame) (after : Core) (reply : Reply) (is : Heard) (text : List ℕ) → SpellsReply frame.kind frame.body reply → heard_of core frame.client frame.number reply ≡ is → IsTaken is
-    → after ≡ core_hearing core frame.client frame.number reply → text ≡ answer_line (Some reply) → Takes core frame after text
+pub took : (core : Core) (frame : Frame) (after : Core) (reply : Reply) (is : Heard) (text : List ℕ) → SpellsReply frame.version frame.kind frame.body reply → heard_of core frame.version frame.client frame.number reply ≡ is → IsTaken is
+    → after ≡ core_hearing core frame.version frame.client frame.number reply → text ≡ answer_line (Some reply) → Takes core frame after text
 took core frame after reply is text spelled heard_is taken after_is prints =
     record { reply = reply; heard = is; taken = taken; hears = record { spelled = spelled; heard_is = heard_is; after_is = after_is }; prints = prints }
 

@@ -5,7 +5,7 @@ use Rattle.droid_frame.specs.Replies.{SpellsReply}
 use Rattle.droid_frame.specs.Streams.{IsReadable}
 use Rattle.droid_frame.specs.types.frame.Frame.{Frame}
 use Rattle.droid_frame.specs.types.reply.Reply.{Reply}
-use Rattle.droid_frame.specs.types.request.Request.{Request}
+use Rattle.droid_desk_lines.specs.declared.parse.VersionedRequest.{VersionedRequest}
 use Rattle.droid_wire_client.specs.Cores.{Core, core_hearing, core_submitting, heard_of, next_frame, next_number}
 use Rattle.droid_wire_client.specs.declared.heard.Heard.{Heard}
 use Rattle.droid_wire_client.specs.declared.heard.Heard.TheVariants as heard
@@ -27,27 +27,27 @@ IsTaken heard.Stranger = ⊥
 
 -- the frame holds this reply, the core hears it as this, and is left so
 pub record Hears (core : Core) (frame : Frame) (reply : Reply) (heard : Heard) (after : Core) : Type 0 where
-  pub spelled : SpellsReply frame.kind frame.body reply
-  pub heard_is : heard_of core frame.client frame.number reply ≡ heard
-  pub after_is : after ≡ core_hearing core frame.client frame.number reply
+  pub spelled : SpellsReply frame.version frame.kind frame.body reply
+  pub heard_is : heard_of core frame.version frame.client frame.number reply ≡ heard
+  pub after_is : after ≡ core_hearing core frame.version frame.client frame.number reply
 
--- The core submits the request, whose frame is sent under the next number; a frame comes, and the core hears the
--- reply that it holds as this.
-pub record Exchanges (core : Core) (request : Request) (exchange : Exchange) (heard : Heard) (after : Core) : Type 0 where
+-- The core submits the request, whose frame is sent in its version and under the next number; a frame comes, and the
+-- core hears the reply that it holds as this.
+pub record Exchanges (core : Core) (asked : VersionedRequest) (exchange : Exchange) (heard : Heard) (after : Core) : Type 0 where
   pub number_left : next_number core ≢ 2 ^ 63
-  pub sent_is : exchange.sent ≡ next_frame core request
+  pub sent_is : exchange.sent ≡ next_frame core asked.version asked.request
   pub readable : IsReadable exchange.came
-  pub hears : Hears (core_submitting core request) exchange.came exchange.reply heard after
+  pub hears : Hears (core_submitting core asked.version asked.request) exchange.came exchange.reply heard after
 
 -- ---- lines
 
 -- a good line's request is sent, and the core takes the reply
 pub record GoodLine (core : Core) (line : List ℕ) (exchange : Exchange) (after : Core) : Type 0 where
-  pub request : Request
-  pub asks : request_value line ≡ Some request
+  pub asked : VersionedRequest
+  pub asks : request_value line ≡ Some asked
   pub heard : Heard
   pub taken : IsTaken heard
-  pub exchanges : Exchanges core request exchange heard after
+  pub exchanges : Exchanges core asked exchange heard after
 
 -- a bad line asks for nothing, sends nothing and leaves the core as it was
 pub record BadLine (core : Core) (line : List ℕ) (after : Core) : Type 0 where

@@ -4,19 +4,19 @@ use Rattle.std.specs.Io.KnownBytes.{Appends}
 use Rattle.std.specs.List.{filter_map, flat_map}
 use Rattle.droid_frame.specs.Frames.{frame_bytes}
 use Rattle.droid_frame.specs.types.frame.Frame.{Frame}
-use Rattle.droid_frame.specs.types.request.Request.{Request}
+use Rattle.droid_desk_lines.specs.declared.parse.VersionedRequest.{VersionedRequest}
 use Rattle.droid_wire_client.specs.Cores.{Core, frame_of, next_number}
 use Rattle.droid_desk_lines.specs.Lines.{request_value}
 use Rattle.droid_desk_sender.specs.Sending.{Sends}
 
--- the requests of the good lines, in their order
-abbrev pub requests_of : List (List ℕ) → List Request
+-- the requests of the good lines with their versions, in their order
+abbrev pub requests_of : List (List ℕ) → List VersionedRequest
 requests_of lines = filter_map request_value lines
 
 -- a client's frames of requests, under numbers that follow one another from this one on
-abbrev pub numbered_frames : ℕ → ℕ → List Request → List Frame
+abbrev pub numbered_frames : ℕ → ℕ → List VersionedRequest → List Frame
 numbered_frames client number [] = []
-numbered_frames client number (request ∷ requests) = frame_of client number request ∷ numbered_frames client (number + 1) requests
+numbered_frames client number (asked ∷ requests) = frame_of asked.version client number asked.request ∷ numbered_frames client (number + 1) requests
 
 -- Where lines were sent, the frames of the good lines' requests were written, numbered from the core's next number on,
 -- and nothing else; and the core's next number is the one after the last of them.

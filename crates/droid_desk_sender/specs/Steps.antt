@@ -6,7 +6,7 @@ use Rattle.droid_frame.specs.Replies.{SpellsReply}
 use Rattle.droid_frame.specs.StreamReads.{ReadsNoFrame, Tells}
 use Rattle.droid_frame.specs.types.frame.Frame.{Frame}
 use Rattle.droid_frame.specs.types.reply.Reply.{Reply}
-use Rattle.droid_frame.specs.types.request.Request.{Request}
+use Rattle.droid_desk_lines.specs.declared.parse.VersionedRequest.{VersionedRequest}
 use Rattle.droid_wire_client.specs.Cores.{Core, core_submitting, next_frame, next_number}
 use Rattle.droid_wire_client.specs.declared.heard.Heard.{Heard}
 use Rattle.droid_wire_client.specs.declared.heard.Heard.TheVariants as heard
@@ -17,14 +17,14 @@ use Rattle.droid_desk_sender.specs.Exchanges.{Exchange, Hears, IsTaken, LineSent
 use Rattle.droid_desk_sender.specs.Stopping.{ReadsOne, WritesFront}
 
 -- a request is submitted and its frame sent
-abbrev pub RequestGoes : {T : Type 0} → Core → Request → Option (List ℕ) → Option (List ℕ) → Core → Result T SendFault → Type 0
-RequestGoes core request old new after (Ok done) =
-    (next_number core ≢ 2 ^ 63) × (after ≡ core_submitting core request) × Appends old new (frame_bytes (next_frame core request))
-RequestGoes core request old new after (Err NumbersUsedUp) = (next_number core ≡ 2 ^ 63) × (after ≡ core) × Keeps old new
-RequestGoes core request old new after (Err Memory) = (after ≡ core) × Keeps old new
-RequestGoes core request old new after (Err Frames) =
-    (next_number core ≢ 2 ^ 63) × (after ≡ core_submitting core request) × WritesFront old new (frame_bytes (next_frame core request))
-RequestGoes core request old new after (Err _) = ⊥
+abbrev pub RequestGoes : {T : Type 0} → Core → VersionedRequest → Option (List ℕ) → Option (List ℕ) → Core → Result T SendFault → Type 0
+RequestGoes core asked old new after (Ok done) =
+    (next_number core ≢ 2 ^ 63) × (after ≡ core_submitting core asked.version asked.request) × Appends old new (frame_bytes (next_frame core asked.version asked.request))
+RequestGoes core asked old new after (Err NumbersUsedUp) = (next_number core ≡ 2 ^ 63) × (after ≡ core) × Keeps old new
+RequestGoes core asked old new after (Err Memory) = (after ≡ core) × Keeps old new
+RequestGoes core asked old new after (Err Frames) =
+    (next_number core ≢ 2 ^ 63) × (after ≡ core_submitting core asked.version asked.request) × WritesFront old new (frame_bytes (next_frame core asked.version asked.request))
+RequestGoes core asked old new after (Err _) = ⊥
 
 -- the frame of a reply is read
 abbrev pub ReplyComes : Option (List ℕ) → Option (List ℕ) → Result Frame SendFault → Type 0
@@ -43,7 +43,7 @@ pub record Takes (core : Core) (frame : Frame) (after : Core) (text : List ℕ) 
 
 -- it takes none
 abbrev pub TakesNone : SendFault → Core → Frame → Core → Type 0
-TakesNone Malformed core frame after = (after ≡ core) × ((reply : Reply) → ¬ SpellsReply frame.kind frame.body reply)
+TakesNone Malformed core frame after = (after ≡ core) × ((reply : Reply) → ¬ SpellsReply frame.version frame.kind frame.body reply)
 TakesNone Memory core frame after = ((after ≡ core) × (frame.kind ≡ 132)) ⊎ ((text : List ℕ) × Takes core frame after text)
 TakesNone Stranger core frame after = (reply : Reply) × Hears core frame reply heard.Stranger after
 TakesNone Repeated core frame after = (reply : Reply) × Hears core frame reply heard.Repeated after

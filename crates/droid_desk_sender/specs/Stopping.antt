@@ -7,7 +7,7 @@ use Rattle.droid_frame.specs.StreamReads.{ReadsNoFrame, Tells}
 use Rattle.droid_frame.specs.Streams.{IsReadable}
 use Rattle.droid_frame.specs.types.frame.Frame.{Frame}
 use Rattle.droid_frame.specs.types.reply.Reply.{Reply}
-use Rattle.droid_frame.specs.types.request.Request.{Request}
+use Rattle.droid_desk_lines.specs.declared.parse.VersionedRequest.{VersionedRequest}
 use Rattle.droid_wire_client.specs.Cores.{Core, core_submitting, next_frame, next_number}
 use Rattle.droid_wire_client.specs.declared.heard.Heard.{Heard}
 use Rattle.droid_wire_client.specs.declared.heard.Heard.TheVariants as heard
@@ -30,17 +30,17 @@ pub record Unsent (core : Core) (input left old new : Option (List ℕ)) (after 
   pub written : Keeps old new
 
 -- the request was submitted, and only a front of its frame was written
-pub record Unwritten (core : Core) (request : Request) (input left old new : Option (List ℕ)) (after : Core) : Type 0 where
+pub record Unwritten (core : Core) (asked : VersionedRequest) (input left old new : Option (List ℕ)) (after : Core) : Type 0 where
   pub number_left : next_number core ≢ 2 ^ 63
-  pub submitted : after ≡ core_submitting core request
+  pub submitted : after ≡ core_submitting core asked.version asked.request
   pub read : Consumes input left []
-  pub written : WritesFront old new (frame_bytes (next_frame core request))
+  pub written : WritesFront old new (frame_bytes (next_frame core asked.version asked.request))
 
 -- the request was submitted and its frame was written; no reply was heard
-pub record Unheard (core : Core) (request : Request) (old new : Option (List ℕ)) (after : Core) : Type 0 where
+pub record Unheard (core : Core) (asked : VersionedRequest) (old new : Option (List ℕ)) (after : Core) : Type 0 where
   pub number_left : next_number core ≢ 2 ^ 63
-  pub submitted : after ≡ core_submitting core request
-  pub written : Appends old new (frame_bytes (next_frame core request))
+  pub submitted : after ≡ core_submitting core asked.version asked.request
+  pub written : Appends old new (frame_bytes (next_frame core asked.version asked.request))
 
 -- a frame was read
 pub record ReadsOne (input left : Option (List ℕ)) (frame : Frame) : Type 0 where
@@ -48,54 +48,54 @@ pub record ReadsOne (input left : Option (List ℕ)) (frame : Frame) : Type 0 wh
   pub read : Consumes input left (frame_bytes frame)
 
 -- the request was sent, and the reply that came is heard as this
-pub record IsHeardAs (core : Core) (request : Request) (input left old new : Option (List ℕ)) (after : Core) (exchange : Exchange) (heard : Heard) : Type 0 where
-  pub exchanges : Exchanges core request exchange heard after
+pub record IsHeardAs (core : Core) (asked : VersionedRequest) (input left old new : Option (List ℕ)) (after : Core) (exchange : Exchange) (heard : Heard) : Type 0 where
+  pub exchanges : Exchanges core asked exchange heard after
   pub read : Consumes input left (frame_bytes exchange.came)
   pub written : Appends old new (frame_bytes exchange.sent)
 
 -- the same of some exchange
-abbrev pub HeardAs : Core → Request → Option (List ℕ) → Option (List ℕ) → Option (List ℕ) → Option (List ℕ) → Core → Heard → Type 0
-HeardAs core request input left old new after heard = (exchange : Exchange) × IsHeardAs core request input left old new after exchange heard
+abbrev pub HeardAs : Core → VersionedRequest → Option (List ℕ) → Option (List ℕ) → Option (List ℕ) → Option (List ℕ) → Core → Heard → Type 0
+HeardAs core asked input left old new after heard = (exchange : Exchange) × IsHeardAs core asked input left old new after exchange heard
 
 -- the core took the reply, and this is what it prints
-pub record Exchanged (core : Core) (request : Request) (input left old new : Option (List ℕ)) (after : Core) (text : List ℕ) : Type 0 where
+pub record Exchanged (core : Core) (asked : VersionedRequest) (input left old new : Option (List ℕ)) (after : Core) (text : List ℕ) : Type 0 where
   pub exchange : Exchange
   pub heard : Heard
   pub taken : IsTaken heard
-  pub is_heard : IsHeardAs core request input left old new after exchange heard
+  pub is_heard : IsHeardAs core asked input left old new after exchange heard
   pub prints : text ≡ answer_line (Some exchange.reply)
 
 -- What each fault says of a request:
-abbrev pub RequestStops : SendFault → Core → Request → Option (List ℕ) → Option (List ℕ) → Option (List ℕ) → Option (List ℕ) → Core → Type 0
+abbrev pub RequestStops : SendFault → Core → VersionedRequest → Option (List ℕ) → Option (List ℕ) → Option (List ℕ) → Option (List ℕ) → Core → Type 0
 -- there was no number left
-RequestStops NumbersUsedUp core request input left old new after = (next_number core ≡ 2 ^ 63) × Unsent core input left old new after
+RequestStops NumbersUsedUp core asked input left old new after = (next_number core ≡ 2 ^ 63) × Unsent core input left old new after
 -- the frame could not be written
-RequestStops Frames core request input left old new after = Unwritten core request input left old new after
+RequestStops Frames core asked input left old new after = Unwritten core asked input left old new after
 -- nothing was left where a reply was due
-RequestStops Closed core request input left old new after = Unheard core request old new after × IsAtEnd input × Consumes input left []
+RequestStops Closed core asked input left old new after = Unheard core asked old new after × IsAtEnd input × Consumes input left []
 -- what was left begins with no frame, for this reason
-RequestStops (Replies fault) core request input left old new after = Unheard core request old new after × IfSome input (Tells fault) × ReadsNoFrame input left
+RequestStops (Replies fault) core asked input left old new after = Unheard core asked old new after × IfSome input (Tells fault) × ReadsNoFrame input left
 -- a frame came that holds no reply
-RequestStops Malformed core request input left old new after =
-    Unheard core request old new after × (frame : Frame) × ReadsOne input left frame × ((reply : Reply) → ¬ SpellsReply frame.kind frame.body reply)
+RequestStops Malformed core asked input left old new after =
+    Unheard core asked old new after × (frame : Frame) × ReadsOne input left frame × ((reply : Reply) → ¬ SpellsReply frame.version frame.kind frame.body reply)
 -- a reply came that the core doesn't take
-RequestStops Stranger core request input left old new after = HeardAs core request input left old new after heard.Stranger
-RequestStops Repeated core request input left old new after = HeardAs core request input left old new after heard.Repeated
+RequestStops Stranger core asked input left old new after = HeardAs core asked input left old new after heard.Stranger
+RequestStops Repeated core asked input left old new after = HeardAs core asked input left old new after heard.Repeated
 -- memory was refused: before anything was sent; or to hear the reply, which is a Finished; or to print it
-RequestStops Memory core request input left old new after =
+RequestStops Memory core asked input left old new after =
     Unsent core input left old new after
-    ⊎ ((Unheard core request old new after × (frame : Frame) × ReadsOne input left frame × (frame.kind ≡ 132))
-    ⊎ ((text : List ℕ) × Exchanged core request input left old new after text))
+    ⊎ ((Unheard core asked old new after × (frame : Frame) × ReadsOne input left frame × (frame.kind ≡ 132))
+    ⊎ ((text : List ℕ) × Exchanged core asked input left old new after text))
 -- these are of no request
-RequestStops Lines core request input left old new after = ⊥
-RequestStops Text core request input left old new after = ⊥
+RequestStops Lines core asked input left old new after = ⊥
+RequestStops Text core asked input left old new after = ⊥
 
 -- what a line prints could not be written: its reply, or that it is bad
 pub record Unprinted (core : Core) (line : List ℕ) (input left old_frames new_frames old_text new_text : Option (List ℕ)) (after : Core) : Type 0 where
-  pub request : Request
-  pub asks : request_value line ≡ Some request
+  pub asked : VersionedRequest
+  pub asks : request_value line ≡ Some asked
   pub text : List ℕ
-  pub exchanged : Exchanged core request input left old_frames new_frames after text
+  pub exchanged : Exchanged core asked input left old_frames new_frames after text
   pub written : WritesFront old_text new_text text
 
 pub record UnprintedBad (core : Core) (line : List ℕ) (input left old_frames new_frames old_text new_text : Option (List ℕ)) (after : Core) : Type 0 where
@@ -105,9 +105,9 @@ pub record UnprintedBad (core : Core) (line : List ℕ) (input left old_frames n
 
 -- the line's request ended so, and nothing was printed
 pub record StopsAt (fault : SendFault) (core : Core) (line : List ℕ) (input left old_frames new_frames old_text new_text : Option (List ℕ)) (after : Core) : Type 0 where
-  pub request : Request
-  pub asks : request_value line ≡ Some request
-  pub stops : RequestStops fault core request input left old_frames new_frames after
+  pub asked : VersionedRequest
+  pub asks : request_value line ≡ Some asked
+  pub stops : RequestStops fault core asked input left old_frames new_frames after
   pub unprinted : Keeps old_text new_text
 
 -- nothing was done for a line

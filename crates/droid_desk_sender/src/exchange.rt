@@ -5,31 +5,31 @@ ghost use Rattle.std.specs.Io.KnownBytes.{Appends};
 ghost use Rattle.droid_frame.specs.Seen.{IsSound, TellsFault};
 ghost use Rattle.droid_frame.specs.Bodies.{Fits};
 ghost use Rattle.droid_frame.specs.Frames.{frame_bytes};
-ghost use Rattle.droid_frame.specs.types.request.Request.{Request};
 ghost use Rattle.droid_wire_client.specs.Cores.{Core, core_submitting, next_frame, next_number};
+ghost use Rattle.droid_desk_lines.specs.declared.parse.VersionedRequest.{VersionedRequest};
 ghost use Rattle.droid_desk_sender.specs.Steps.{ReplyComes, RequestGoes};
 ghost use Rattle.droid_desk_sender.specs.Stopping.{WritesFront};
 
 use crate::fault::SendFault;
+use droid_desk_lines::VersionedRequest;
 use droid_frame::{
-    Arrival, Frame, FrameFault, Request, SteadyRead, SteadyWrite, WriteFault, read_frame,
-    write_frame,
+    Arrival, Frame, FrameFault, SteadyRead, SteadyWrite, WriteFault, read_frame, write_frame,
 };
 use droid_wire_client::Client;
 use std::alloc::Global;
 
-/// Submits a request, and sends its frame.
+/// Submits a request in its version, and sends its frame.
 pub(crate) fn send_request<F: SteadyWrite>(
     client: &mut Client,
-    request: Request,
+    asked: VersionedRequest,
     frames: &mut F,
 ) -> Result<(), SendFault>
-    requires { Fits request }
-    ensures goes { RequestGoes client.old request (F.contents frames.old) (F.contents frames.new) client.new result }
+    requires { Fits asked.version asked.request }
+    ensures goes { RequestGoes client.old asked (F.contents frames.old) (F.contents frames.new) client.new result }
     ensures told { IsSound (F.seen frames.old) → F.room frames.old ≡ None →
         TellsFault (F.seen frames.old).interruptions (F.seen frames.new) (IsErrOf result SendFault.Frames) × (F.room frames.new ≡ None) }
 {
-    client.submit(request)?;
+    client.submit(asked.version, asked.request)?;
     match write_newest(client, frames) {
         Ok(()) => Ok(()),
         Err(_) => Err(SendFault::Frames),
@@ -38,11 +38,11 @@ pub(crate) fn send_request<F: SteadyWrite>(
 
 /// Writes the frame of the request that was submitted last.
 fn write_newest<F: SteadyWrite>(client: &Client, frames: &mut F) -> Result<(), WriteFault>
-    requires { (core : Core) × (request : Request) × Fits request × (client.now ≡ core_submitting core request) }
-    ensures ok { (core : Core) (request : Request) → client.now ≡ core_submitting core request →
-        OnOk result (Appends (F.contents frames.old) (F.contents frames.new) (frame_bytes (next_frame core request))) }
-    ensures err { (core : Core) (request : Request) → client.now ≡ core_submitting core request →
-        OnErr result (WritesFront (F.contents frames.old) (F.contents frames.new) (frame_bytes (next_frame core request))) }
+    requires { (core : Core) × (asked : VersionedRequest) × Fits asked.version asked.request × (client.now ≡ core_submitting core asked.version asked.request) }
+    ensures ok { (core : Core) (asked : VersionedRequest) → client.now ≡ core_submitting core asked.version asked.request →
+        OnOk result (Appends (F.contents frames.old) (F.contents frames.new) (frame_bytes (next_frame core asked.version asked.request))) }
+    ensures err { (core : Core) (asked : VersionedRequest) → client.now ≡ core_submitting core asked.version asked.request →
+        OnErr result (WritesFront (F.contents frames.old) (F.contents frames.new) (frame_bytes (next_frame core asked.version asked.request))) }
     ensures told { IsSound (F.seen frames.old) → F.room frames.old ≡ None →
         TellsFault (F.seen frames.old).interruptions (F.seen frames.new) (IsErr result) × (F.room frames.new ≡ None) }
 {

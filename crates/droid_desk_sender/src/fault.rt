@@ -26,8 +26,8 @@ pub enum SendFault {
     Replies(FrameFault),
     /// A frame came that holds no reply.
     Malformed,
-    /// A reply came to another client, to a number that was never submitted, or of a kind that doesn't belong to
-    /// the request.
+    /// A reply came to another client, to a number that was never submitted, in another version than its request, or of
+    /// a kind that doesn't belong to it.
     Stranger,
     /// A reply came to a request that has its answer already.
     Repeated,

@@ -14,8 +14,8 @@ use crate::exchange::{read_reply, send_request};
 use crate::fault::SendFault;
 use crate::line_reader::LineReader;
 use crate::printing::{hear, print_bad, write_text};
-use droid_desk_lines::{Tally, parse_request_line};
-use droid_frame::{FrameFault, Request, Retries, SteadyRead, SteadyWrite};
+use droid_desk_lines::{Tally, VersionedRequest, parse_request_line};
+use droid_frame::{FrameFault, Retries, SteadyRead, SteadyWrite};
 use droid_wire_client::Client;
 use std::alloc::Global;
 
@@ -81,36 +81,36 @@ fn send_line<R: SteadyRead, F: SteadyWrite, T: SteadyWrite>(
     ensures text_fault { IsSound (T.seen text.old) → T.room text.old ≡ None →
         TellsFault (T.seen text.old).interruptions (T.seen text.new) (IsErrOf result SendFault.Text) × (T.room text.new ≡ None) }
 {
-    let Some(request) = parse_request_line(alloc, line)? else {
+    let Some(asked) = parse_request_line(alloc, line)? else {
         let printed = print_bad(alloc)?;
         write_text(text, printed.as_slice())?;
         return Ok(true);
     };
-    let printed = exchange(alloc, client, request, replies, frames)?;
+    let printed = exchange(alloc, client, asked, replies, frames)?;
     write_text(text, printed.as_slice())?;
     Ok(false)
 }
 
-/// Submits a request, sends its frame, and lets the client hear the reply that comes next. The answer is what
+/// Submits a request in its version, sends its frame, and lets the client hear the reply that comes next. The answer is what
 /// is printed of it.
 fn exchange<R: SteadyRead, F: SteadyWrite>(
     alloc: Global,
     client: &mut Client,
-    request: Request,
+    asked: VersionedRequest,
     replies: &mut R,
     frames: &mut F,
 ) -> Result<Vec<u8>, SendFault>
-    requires { Fits request }
-    ensures exchanged { IfOk result (λ printed. Exchanged client.old request (R.remaining replies.old) (R.remaining replies.new)
+    requires { Fits asked.version asked.request }
+    ensures exchanged { IfOk result (λ printed. Exchanged client.old asked (R.remaining replies.old) (R.remaining replies.new)
         (F.contents frames.old) (F.contents frames.new) client.new printed.items) }
-    ensures stops { IfErr result (λ fault. RequestStops fault client.old request (R.remaining replies.old) (R.remaining replies.new)
+    ensures stops { IfErr result (λ fault. RequestStops fault client.old asked (R.remaining replies.old) (R.remaining replies.new)
         (F.contents frames.old) (F.contents frames.new) client.new) }
     ensures replies_fault { IsSound (R.seen replies.old) →
         TellsFault (R.seen replies.old).interruptions (R.seen replies.new) (IsErrOf result (SendFault.Replies FrameFault.Read)) }
     ensures frames_fault { IsSound (F.seen frames.old) → F.room frames.old ≡ None →
         TellsFault (F.seen frames.old).interruptions (F.seen frames.new) (IsErrOf result SendFault.Frames) × (F.room frames.new ≡ None) }
 {
-    send_request(client, request, frames)?;
+    send_request(client, asked, frames)?;
     let frame = read_reply(alloc, replies)?;
     let printed = hear(alloc, client, frame)?;
     Ok(printed)

@@ -1,8 +1,11 @@
 //! Scripts, the frames of replies, and what comes of them.
 
-use crate::frames::{CREATE, FOLDER, MADE, NODE, REFUSED, joined};
+use crate::frames::{
+    CREATE, CREATE_2, FINISH_2, FINISHED_2, FOLDER, MADE, MADE_2, NODE, REFUSED, joined,
+};
 use crate::sending::{LINES, Outcome, Streams, sent, steady};
 use droid_desk_lines::Tally;
+use droid_desk_sender::SendFault;
 use droid_frame_shaky::{STEADY, ShakyReader, Stop};
 use std::alloc::Global;
 use std::test::Fail;
@@ -43,6 +46,32 @@ fn scripts(rt: HostRuntime) -> Result<(), Fail> {
             outcome.frames.taken() == requests.as_slice(),
             "{printed:?}"
         );
+    }
+    Ok(())
+}
+
+/// A line after `v2 ` is sent in version 2, and its reply has to come in it.
+#[test]
+fn two_versions(rt: HostRuntime) -> Result<(), Fail> {
+    let alloc = rt.alloc();
+    let script =
+        b"v2 create 65536 0\nv2 create 65536 0 sha256\nv2 v2 status 1 1\nv2 finish 1 1\ncreate 65536 0 md5";
+    let outcome = sent_lines(alloc, script, &[MADE_2, FINISHED_2])?;
+    assert!(rt; outcome.ended == Ok(Tally { lines: 5, bad: 3 }));
+    let printed: &[u8] =
+        b"bad line\nmade 1\nbad line\nfinished Extension false - dev/4\nbad line\n";
+    assert!(rt; outcome.text.taken() == printed);
+    let frames = joined(alloc, &[CREATE_2, FINISH_2])?;
+    assert!(rt; outcome.frames.taken() == frames.as_slice());
+    let rows: [(&[u8], &[u8], &[u8]); 2] = [
+        (b"create 65536 0\n", CREATE, MADE_2),
+        (b"v2 create 65536 0 sha256\n", CREATE_2, MADE),
+    ];
+    for (line, request, reply) in rows {
+        let outcome = sent_lines(alloc, line, &[reply])?;
+        assert!(rt; outcome.ended == Err(SendFault::Stranger), "{line:?}");
+        assert!(rt; outcome.frames.taken() == request, "{line:?}");
+        assert!(rt; outcome.text.taken().is_empty(), "{line:?}");
     }
     Ok(())
 }

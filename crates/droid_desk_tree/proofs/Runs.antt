@@ -1,5 +1,5 @@
 -- Steps after steps.
-use Rattle.std.proofs.Common.{◌≡◌, List, [], ◌∷◌, ◌++◌, refl, subst}
+use Rattle.std.proofs.Common.{List, [], ◌∷◌, ◌++◌, refl, subst}
 use Rattle.std.specs.List.{AllByRecursion}
 use Rattle.droid_desk_tree.specs.Told.{GoesOver}
 

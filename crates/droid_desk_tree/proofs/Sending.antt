@@ -1,17 +1,19 @@
 -- The pieces of a file, one after the other.
-use Rattle.std.proofs.Common.{◌≡◌, ℕ, zero, suc, ◌+◌, ◌-◌, ◌*◌, ◌<◌, ◌≤◌, ◌^◌, min, List, [], ◌∷◌, ◌++◌, length, refl, sym, ap, subst, ◌∙◌, arith, length-append, append_assoc, append-nil}
-use Rattle.std.specs.Prelude.{slice_index}
-use Rattle.std.specs.List.{flat_map}
-use Rattle.std.proofs.lemmas.List.{get_or-append-add}
+use Rattle.std.proofs.Common.{◌≡◌, ◌≢◌, ℕ, suc, ◌+◌, ◌-◌, ◌<◌, inl, inr, min, List, [], ◌∷◌, ◌++◌, length, Result, Ok, Err, refl, sym, ap, subst, ◌∙◌, arith, length-append, append_assoc, append-nil}
+use Rattle.std.specs.Prelude.{MatchResult}
+use Rattle.std.proofs.lemmas.List.{get_or-append-add, map-append}
 use Rattle.std.proofs.lemmas.Grind.{flat_map-append}
 use Rattle.droid_frame.specs.Bodies.{SpellsRequest}
 use Rattle.droid_frame.specs.Fields.{IsBytes, IsU32, u32_bytes}
 use Rattle.droid_frame.specs.types.reply.Reply.TheVariants as replies
 use Rattle.droid_frame.specs.types.request.Request.TheVariants.{Piece}
 use Rattle.droid_desk_tree.specs.Asked.{Asked}
-use Rattle.droid_desk_tree.specs.Steps.{SendsPiece, SendsFront, SendsAll}
+use Rattle.droid_desk_tree.specs.Heard.{Heard, TookBytes}
+use Rattle.droid_desk_tree.specs.Steps.{IsPastEnd, IsShort, ReadsPiece, SendsPiece, SendsFront, SendsAll, SendsPart, StopsAt}
 use Rattle.droid_desk_tree.specs.Told.{Told, Read, GoesOver, BytesCame}
-use Rattle.droid_desk_tree.specs.Visits.{Sent, AreCut, bytes_of, reads_from, whole_read, pieces_from}
+use Rattle.droid_desk_tree.specs.Visits.{Sent, Stop, NoneCame, FewerCame, MoreCame, AreCut, IsStop, bytes_of, reads_from, told_of_stop, pieces_from, pieces_heard}
+use Rattle.droid_desk_tree.specs.declared.left_out.LeftOut.{LeftOut}
+use Rattle.droid_desk_tree.specs.declared.left_out.LeftOut.TheVariants as reasons
 use Rattle.droid_desk_tree.proofs.Runs.{over_one, over_more}
 
 -- ---- the body of one piece
@@ -20,15 +22,44 @@ bytes_behind : (before bytes : List ℕ) → IsBytes (before ++ bytes) → IsByt
 bytes_behind before bytes all i = subst (λ n. n < 256) (get_or-append-add before bytes i 0) (all (length before + i))
 
 pub spells_piece : (profile file index : ℕ) (begun bytes body : List ℕ) → begun ≡ u32_bytes profile ++ (u32_bytes file ++ u32_bytes index) → body ≡ begun ++ bytes
-    → IsU32 profile × IsU32 file × IsU32 index → IsBytes body → SpellsRequest 4 body (Piece profile file index bytes)
+    → IsU32 profile × IsU32 file × IsU32 index → IsBytes body → SpellsRequest 2 4 body (Piece profile file index bytes)
 spells_piece profile file index begun bytes body header is ranges all =
     let joined : (u32_bytes profile ++ (u32_bytes file ++ u32_bytes index)) ++ bytes ≡ u32_bytes profile ++ (u32_bytes file ++ (u32_bytes index ++ bytes)) =
     append_assoc (u32_bytes profile) (u32_bytes file ++ u32_bytes index) bytes ∙ ap (λ (l : List ℕ). u32_bytes profile ++ l) (append_assoc (u32_bytes file) (u32_bytes index) bytes) in
     record {
+      version_is = refl;
       kind_is = refl;
       body_is = is ∙ (ap (λ (l : List ℕ). l ++ bytes) header ∙ joined);
       has_spelling = (ranges.0, ranges.1, ranges.2, bytes_behind begun bytes (subst IsBytes is all));
     }
+
+-- ---- what was read of a file, or why nothing was
+
+-- all came, or fewer
+pub came_all : {T A : Type 0} (tells : T → Told → T → Type 0) (path : List ℕ) (from wanted count : ℕ) (before after : List ℕ) (tree tree_after : T) (read : Result A LeftOut)
+    → BytesCame tells tree path from wanted before after tree_after → count ≡ length after - length before
+    → MatchResult read (λ _. count ≡ wanted) (λ why. (why ≡ reasons.Changed) × (count ≢ wanted))
+    → MatchResult read (λ _. ReadsPiece tells path from wanted before after tree tree_after) (λ why. StopsAt tells (IsShort wanted) path from why tree tree_after)
+came_all tells path from wanted count before after tree tree_after (Ok u) came counted is =
+    record { bytes = came.bytes; counted = omega (arith, ap length came.added, length-append before came.bytes, counted, is); added = came.added; told = came.told }
+came_all tells path from wanted count before after tree tree_after (Err why) came counted is = record {
+  stop = FewerCame wanted came.bytes;
+  such = (refl, omega (arith, ap length came.added, length-append before came.bytes, counted, is.1, came.within));
+  reason = is.0;
+  told = came.told;
+}
+
+-- none came, or more
+pub came_more : {T A : Type 0} (tells : T → Told → T → Type 0) (path : List ℕ) (from : ℕ) (more : List ℕ) (tree tree_after : T) (read : Result A LeftOut)
+    → BytesCame tells tree path from 1 [] more tree_after → MatchResult read (λ _. more ≡ []) (λ why. (why ≡ reasons.Changed) × (0 < length more))
+    → MatchResult read (λ _. tells tree (Read path from 1 []) tree_after) (λ why. StopsAt tells IsPastEnd path from why tree tree_after)
+came_more tells path from more tree tree_after (Ok u) came is = subst (λ (l : List ℕ). tells tree (Read path from 1 l) tree_after) (sym came.added ∙ is) came.told
+came_more tells path from more tree tree_after (Err why) came is = record {
+  stop = MoreCame came.bytes;
+  such = subst (λ (l : List ℕ). 0 < length l) came.added is.1;
+  reason = is.0;
+  told = came.told;
+}
 
 -- ---- pieces after pieces
 
@@ -58,41 +89,88 @@ cut_more piece_size size from total (first ∷ sent) piece e within long cut =
 bytes_more : (sent : List Sent) (piece : Sent) → bytes_of (sent ++ piece ∷ []) ≡ bytes_of sent ++ piece.0
 bytes_more sent piece = flat_map-append (λ (p : Sent). p.0) sent (piece ∷ []) ∙ ap (λ (l : List ℕ). bytes_of sent ++ l) (append-nil piece.0)
 
-module _ {T X : Type 0} (tells : T → Told → T → Type 0) (asks : X → Asked → X → Type 0) (profile file piece_size size : ℕ) (path : List ℕ) where
-  pub none_sent : (tree : T) (exchange : X) → SendsFront tells asks profile file piece_size size path 0 0 tree tree exchange exchange
-  none_sent tree exchange = record { sent = []; counted = refl; joined = refl; cut = tt; told = refl; asked = refl }
+module _ {T X W : Type 0} (tells : T → Told → T → Type 0) (asks : X → Asked → X → Type 0) (hears : W → Heard → W → Type 0) (profile file piece_size size : ℕ) (path : List ℕ) where
+  pub none_sent : (tree : T) (exchange : X) (watcher : W) → SendsFront tells asks hears profile file piece_size size path 0 0 tree tree exchange exchange watcher watcher
+  none_sent tree exchange watcher = record { sent = []; counted = refl; joined = refl; within = omega arith; cut = tt; told = refl; asked = refl; heard = refl }
 
-  pub one_more_sent : (count from wanted added held : ℕ) (tree tree_now tree_after : T) (exchange exchange_now exchange_after : X)
-      → SendsFront tells asks profile file piece_size size path count from tree tree_now exchange exchange_now
+  pub one_more_sent : (count from wanted added held : ℕ) (tree tree_now tree_after : T) (exchange exchange_now exchange_after : X) (watcher watcher_now watcher_after : W)
+      → SendsFront tells asks hears profile file piece_size size path count from tree tree_now exchange exchange_now watcher watcher_now
       → SendsPiece tells asks profile file count path from wanted held tree_now tree_after exchange_now exchange_after
+      → hears watcher_now (TookBytes path wanted) watcher_after
       → wanted ≡ min piece_size (size - from) → (wanted ≡ 0 → ⊥) → added ≡ wanted
-      → SendsFront tells asks profile file piece_size size path (count + 1) (from + added) tree tree_after exchange exchange_after
-  one_more_sent count from wanted added held tree tree_now tree_after exchange exchange_now exchange_after front next due some same =
+      → SendsFront tells asks hears profile file piece_size size path (count + 1) (from + added) tree tree_after exchange exchange_after watcher watcher_after
+  one_more_sent count from wanted added held tree tree_now tree_after exchange exchange_now exchange_after watcher watcher_now watcher_after front next heard due some same =
       let piece : Sent = (next.bytes, held) in
       let behind : from ≡ 0 + length (bytes_of front.sent) = omega (arith, front.joined) in
       let place : count ≡ 0 + length front.sent = omega (arith, front.counted) in
       let within : from < size = omega (arith, due, some) in
       let read : tells tree_now (Read path from (length next.bytes) next.bytes) tree_after = subst (λ n. tells tree_now (Read path from n next.bytes) tree_after) (sym next.counted) next.told in
+      let noted : hears watcher_now (TookBytes path (length next.bytes)) watcher_after = subst (λ n. hears watcher_now (TookBytes path n) watcher_after) (sym next.counted) heard in
       record {
         sent = front.sent ++ piece ∷ [];
         counted = omega (arith, length-append front.sent (piece ∷ []), front.counted);
         joined = ap length (bytes_more front.sent piece) ∙ omega (arith, length-append (bytes_of front.sent) next.bytes, front.joined, next.counted, same);
+        within = omega (arith, due, same);
         cut = cut_more piece_size size 0 from front.sent piece behind within (next.counted ∙ due) front.cut;
         told = subst (λ (l : List Told). GoesOver tells tree l tree_after) (sym (reads_more path 0 from front.sent piece behind))
             (over_more tells tree tree_now tree_after (reads_from path 0 front.sent) (Read path from (length next.bytes) next.bytes ∷ []) front.told (over_one tells tree_now tree_after _ read));
         asked = subst (λ (l : List Asked). GoesOver asks exchange l exchange_after) (sym (pieces_more profile file 0 count front.sent piece place))
             (over_more asks exchange exchange_now exchange_after (pieces_from profile file 0 front.sent) ((Piece profile file count next.bytes, replies.Taken held) ∷ []) front.asked (over_one asks exchange_now exchange_after _ next.asked));
+        heard = subst (λ (l : List Heard). GoesOver hears watcher l watcher_after) (sym (map-append (λ (p : Sent). TookBytes path (length p.0)) front.sent (piece ∷ [])))
+            (over_more hears watcher watcher_now watcher_after (pieces_heard path front.sent) (TookBytes path (length next.bytes) ∷ []) front.heard (over_one hears watcher_now watcher_after _ noted));
       }
 
-  pub all_sent : (count from : ℕ) (tree tree_now tree_after : T) (exchange exchange_now : X)
-      → SendsFront tells asks profile file piece_size size path count from tree tree_now exchange exchange_now
-      → tells tree_now (Read path from 1 []) tree_after → from ≡ size
-      → SendsAll tells asks profile file piece_size size path tree tree_after exchange exchange_now
-  all_sent count from tree tree_now tree_after exchange exchange_now front ended all = record {
-    sent = front.sent;
-    joined = front.joined ∙ all;
-    cut = front.cut;
-    told = over_more tells tree tree_now tree_after (reads_from path 0 front.sent) (Read path (length (bytes_of front.sent)) 1 [] ∷ []) front.told
-        (over_one tells tree_now tree_after _ (subst (λ n. tells tree_now (Read path n 1 []) tree_after) (sym front.joined) ended));
-    asked = front.asked;
-  }
+  module _ (count from : ℕ) (tree tree_now tree_after : T) (exchange exchange_now : X) (watcher watcher_now : W)
+      (front : SendsFront tells asks hears profile file piece_size size path count from tree tree_now exchange exchange_now watcher watcher_now) where
+    pub all_sent : tells tree_now (Read path from 1 []) tree_after → from ≡ size
+        → SendsAll tells asks hears profile file piece_size size path tree tree_after exchange exchange_now watcher watcher_now
+    all_sent ended all = record {
+      sent = front.sent;
+      joined = front.joined ∙ all;
+      cut = front.cut;
+      told = over_more tells tree tree_now tree_after (reads_from path 0 front.sent) (Read path (length (bytes_of front.sent)) 1 [] ∷ []) front.told
+          (over_one tells tree_now tree_after _ (subst (λ n. tells tree_now (Read path n 1 []) tree_after) (sym front.joined) ended));
+      asked = front.asked;
+      heard = front.heard;
+    }
+
+    part_sent : (IsSuch : Stop → Type 0) (why : LeftOut) → StopsAt tells IsSuch path from why tree_now tree_after → ((stop : Stop) → IsSuch stop → IsStop piece_size size from stop)
+        → SendsPart tells asks hears profile file piece_size size path why tree tree_after exchange exchange_now watcher watcher_now
+    part_sent IsSuch why stops is_stop = record {
+      sent = front.sent;
+      stop = stops.stop;
+      cut = front.cut;
+      stopped = subst (λ n. IsStop piece_size size n stops.stop) (sym front.joined) (is_stop stops.stop stops.such);
+      reason = stops.reason;
+      told = over_more tells tree tree_now tree_after (reads_from path 0 front.sent) (told_of_stop path (length (bytes_of front.sent)) stops.stop ∷ []) front.told
+          (over_one tells tree_now tree_after _ (subst (λ n. tells tree_now (told_of_stop path n stops.stop) tree_after) (sym front.joined) stops.told));
+      asked = front.asked;
+      heard = front.heard;
+    }
+
+    short_stop : (wanted : ℕ) → wanted ≡ min piece_size (size - from) → (wanted ≡ 0 → ⊥) → (stop : Stop) → IsShort wanted stop → IsStop piece_size size from stop
+    short_stop wanted due some (NoneCame n) is = inl (omega (arith, due, some), is ∙ due)
+    short_stop wanted due some (FewerCame n bytes) is = (omega (arith, due, some), is.0 ∙ due, omega (arith, is.0, is.1))
+    short_stop wanted due some (MoreCame bytes) is = absurd is
+
+    pub short_sent : (wanted : ℕ) (why : LeftOut) (exchange_after : X) → StopsAt tells (IsShort wanted) path from why tree_now tree_after × (exchange_after ≡ exchange_now) → wanted ≡ min piece_size (size - from) → (wanted ≡ 0 → ⊥)
+        → SendsPart tells asks hears profile file piece_size size path why tree tree_after exchange exchange_after watcher watcher_now
+    short_sent wanted why exchange_after stops due some =
+        subst (λ (x : X). SendsPart tells asks hears profile file piece_size size path why tree tree_after exchange x watcher watcher_now) (sym stops.1) (part_sent (IsShort wanted) why stops.0 (short_stop wanted due some))
+
+    end_stop : from ≡ size → (stop : Stop) → IsPastEnd stop → IsStop piece_size size from stop
+    end_stop all (NoneCame n) is = inr (all, is)
+    end_stop all (FewerCame n bytes) is = absurd is
+    end_stop all (MoreCame bytes) is = (all, is)
+
+    pub past_end_sent : (why : LeftOut) → from ≡ size → StopsAt tells IsPastEnd path from why tree_now tree_after
+        → SendsPart tells asks hears profile file piece_size size path why tree tree_after exchange exchange_now watcher watcher_now
+    past_end_sent why all stops = part_sent IsPastEnd why stops (end_stop all)
+
+    -- at its end a file is whole, or not
+    pub ends_sent : {A : Type 0} (read : Result A LeftOut) → from ≡ size
+        → MatchResult read (λ _. tells tree_now (Read path from 1 []) tree_after) (λ why. StopsAt tells IsPastEnd path from why tree_now tree_after)
+        → MatchResult read (λ _. SendsAll tells asks hears profile file piece_size size path tree tree_after exchange exchange_now watcher watcher_now)
+        (λ why. SendsPart tells asks hears profile file piece_size size path why tree tree_after exchange exchange_now watcher watcher_now)
+    ends_sent (Ok u) all ended = all_sent ended all
+    ends_sent (Err why) all stops = past_end_sent why all stops

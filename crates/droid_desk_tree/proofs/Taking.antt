@@ -1,100 +1,160 @@
--- An entry of a folder, and one after the other.
-use Rattle.std.proofs.Common.{◌≡◌, ℕ, ◌+◌, ◌<◌, ◌≤◌, List, [], ◌∷◌, ◌++◌, length, map, take, Result, Ok, Err, OnOk, refl, sym, ap, subst, ◌∙◌, arith, get_or, append_assoc, append-nil}
-use Rattle.std.specs.List.{flat_map, AllByRecursion}
-use Rattle.std.proofs.lemmas.List.{map-append, take_more, take_all}
-use Rattle.std.proofs.lemmas.Grind.{flat_map-append}
+-- An entry of a folder: a file, a folder, or what is neither.
+use Rattle.std.proofs.Common.{◌≡◌, ℕ, Bool, true, false, List, [], ◌∷◌, ◌++◌, Some, None, refl, sym, ap, subst, ◌∙◌, append-nil}
+use Rattle.std.specs.Prelude.{IsUtf8}
+use Rattle.droid_frame.specs.types.reply.Reply.{Reply}
 use Rattle.droid_frame.specs.types.reply.Reply.TheVariants as replies
-use Rattle.droid_frame.specs.types.request.Request.TheVariants.{AddFolder, AddFile, Finish}
+use Rattle.droid_frame.specs.types.request.Request.{Request}
+use Rattle.droid_frame.specs.types.request.Request.TheVariants.{AddFolder, AddFile, Finish, Abandon}
 use Rattle.droid_desk_tree.specs.Asked.{Asked}
-use Rattle.droid_desk_tree.specs.Steps.{SendsAll, Finishes, TakesFile, TakesKid, TakesKids, AddsFolder}
+use Rattle.droid_desk_tree.specs.Heard.{Heard, Left, TookFolder, TookFile}
+use Rattle.droid_desk_tree.specs.Steps.{AddsNode, AddsFolder, Finishes, SendsAll, SendsPart, TakesKid}
 use Rattle.droid_desk_tree.specs.Told.{Told, GoesOver}
-use Rattle.droid_desk_tree.specs.Visits.{Kid, Subfolder, WholeFile, IsKid, below, entry_of, whole_read, pieces_from, told_of_kid, asked_of_kid, places_of_kid}
+use Rattle.droid_desk_tree.specs.Visits.{Subfolder, WholeFile, OtherKind, NoText, RefusedFolder, RefusedFile, DroppedFile, Sent, below, whole_read, part_read, pieces_from, pieces_heard, reason_of}
 use Rattle.droid_desk_tree.specs.declared.entry.Entry.{Entry}
 use Rattle.droid_desk_tree.specs.declared.entry.EntryKind.TheVariants as kinds
+use Rattle.droid_desk_tree.specs.declared.left_out.LeftOut.{LeftOut}
+use Rattle.droid_desk_tree.specs.declared.left_out.LeftOut.TheVariants as reasons
 use Rattle.droid_desk_tree.specs.declared.place.Place.{Place}
-use Rattle.droid_desk_tree.proofs.Runs.{over_one, over_more, all_more}
+use Rattle.droid_desk_tree.proofs.Runs.{over_one, over_more}
 
--- two facts of one variant
-pub on_ok_both : {A E : Type 0} (r : Result A E) (P Q R : Type 0) → OnOk r P → OnOk r Q → (P → Q → R) → OnOk r R
-on_ok_both (Ok x) P Q R p q f = f p q
-on_ok_both (Err e) P Q R p q f = tt
+module _ {X W : Type 0} (asks : X → Asked → X → Type 0) (hears : W → Heard → W → Type 0) (profile piece_size : ℕ) where
+  module _ (place : Place) (entry : Entry) (folder : ℕ) (path name : List ℕ) (here : path ≡ below place.path entry.name) (in_folder : folder ≡ place.number) (named : name ≡ entry.name) where
+    -- what was asked by the path at hand, is asked of the entry
+    folder_asked : AddFolder profile folder entry.modified name ≡ AddFolder profile place.number entry.modified entry.name
+    folder_asked = ap (λ n. AddFolder profile n entry.modified name) in_folder ∙ ap (λ (l : List ℕ). AddFolder profile place.number entry.modified l) named
 
--- one item more of what each item gives
-pub given_more : {A B : Type 0} (f : A → List B) (xs : List A) (x : A) → flat_map f (xs ++ x ∷ []) ≡ flat_map f xs ++ f x
-given_more f xs x = flat_map-append f xs (x ∷ []) ∙ ap (λ (l : List _). flat_map f xs ++ l) (append-nil (f x))
+    file_asked : AddFile profile folder entry.modified entry.len piece_size name ≡ AddFile profile place.number entry.modified entry.len piece_size entry.name
+    file_asked = ap (λ n. AddFile profile n entry.modified entry.len piece_size name) in_folder ∙ ap (λ (l : List ℕ). AddFile profile place.number entry.modified entry.len piece_size l) named
 
-module _ {T X : Type 0} (tells : T → Told → T → Type 0) (asks : X → Asked → X → Type 0) (profile piece_size : ℕ) where
-  pub file_taken : (folder : ℕ) (path : List ℕ) (entry : Entry) (name : List ℕ) (number : ℕ) (tree tree_after : T) (exchange told sent done : X)
-      → name ≡ entry.name → asks exchange (AddFile profile folder entry.modified entry.len piece_size name, replies.Node number) told
-      → SendsAll tells asks profile number piece_size entry.len path tree tree_after told sent → Finishes asks profile number sent done
-      → TakesFile tells asks profile piece_size folder path entry tree tree_after exchange done
-  file_taken folder path entry name number tree tree_after exchange told sent done same announced all finished =
-      let first : asks exchange (AddFile profile folder entry.modified entry.len piece_size entry.name, replies.Node number) told =
-      subst (λ (n : List ℕ). asks exchange (AddFile profile folder entry.modified entry.len piece_size n, replies.Node number) told) same announced in
-      record {
-        number = number;
-        sent = all.sent;
-        found = finished.found;
-        whole = record { size = all.joined; cut = all.cut };
-        is_finished = finished.is_finished;
-        told = all.told;
-        asked = (told, first, over_more asks told sent done (pieces_from profile number 0 all.sent) ((Finish profile number, finished.found) ∷ []) all.asked (over_one asks sent done _ finished.asked));
-      }
+    told_here : (watcher watcher_after : W) (heard : List ℕ → Heard) → hears watcher (heard path) watcher_after → hears watcher (heard (below place.path entry.name)) watcher_after
+    told_here watcher watcher_after heard does = subst (λ (p : List ℕ). hears watcher (heard p) watcher_after) here does
 
-  pub kid_of_file : (folder : ℕ) (path : List ℕ) (place : Place) (entry : Entry) (tree tree_after : T) (exchange exchange_after : X) (waiting : List Place)
-      → path ≡ below place.path entry.name → folder ≡ place.number → entry.kind ≡ kinds.File
-      → TakesFile tells asks profile piece_size folder path entry tree tree_after exchange exchange_after
-      → TakesKid tells asks profile piece_size place entry tree tree_after exchange exchange_after waiting waiting
-  kid_of_file folder path place entry tree tree_after exchange exchange_after waiting at in_folder is_file taken = record {
-    kid = WholeFile entry taken.number taken.sent taken.found;
-    its = refl;
-    is_kid = (is_file, taken.whole, taken.is_finished);
-    told = subst (λ (p : List ℕ). GoesOver tells tree (whole_read p taken.sent) tree_after) at taken.told;
-    asked = subst (λ n. GoesOver asks exchange (asked_of_kid profile piece_size n (WholeFile entry taken.number taken.sent taken.found)) exchange_after) in_folder taken.asked;
-    pending = sym (append-nil waiting);
-  }
-
-  pub kid_of_folder : (folder : ℕ) (path : List ℕ) (place : Place) (entry : Entry) (tree : T) (exchange exchange_after : X) (waiting waiting_after : List Place)
-      → path ≡ below place.path entry.name → folder ≡ place.number → entry.kind ≡ kinds.Folder
-      → AddsFolder asks profile folder path entry exchange exchange_after waiting waiting_after
-      → TakesKid tells asks profile piece_size place entry tree tree exchange exchange_after waiting waiting_after
-  kid_of_folder folder path place entry tree exchange exchange_after waiting waiting_after at in_folder is_folder added =
-      let here : asks exchange (AddFolder profile place.number entry.modified entry.name, replies.Node added.number) exchange_after =
-      subst (λ n. asks exchange (AddFolder profile n entry.modified entry.name, replies.Node added.number) exchange_after) in_folder added.asked in
-      let place_at : List ℕ → List Place = λ p. waiting ++ record { path = p; number = added.number } ∷ [] in
-      record {
-        kid = Subfolder entry added.number;
+    module _ (exchange exchange_after : X) (watcher watcher_now watcher_after : W) (waiting : List Place) (is_folder : entry.kind ≡ kinds.Folder) where
+      pub folder_refused : AddsNode asks hears path (AddFolder profile folder entry.modified name) None exchange exchange_after watcher watcher_after
+          → AddsFolder asks hears profile piece_size place entry false exchange exchange_after watcher watcher_after waiting waiting
+      folder_refused refused = record {
+        kid = RefusedFolder entry refused.0;
         its = refl;
-        is_kid = is_folder;
+        is_outcome = (is_folder, refused.1);
+        taken_is = refl;
+        untold = refl;
+        asked = over_one asks exchange exchange_after _ (subst (λ (r : Request). asks exchange (r, replies.Refused refused.0) exchange_after) folder_asked refused.2);
+        heard = over_one hears watcher watcher_after _ (told_here watcher watcher_after (λ p. Left p (reasons.Refused refused.0)) refused.3);
+        pending = sym (append-nil waiting);
+      }
+
+      pub folder_added : (number : ℕ) (waiting_after : List Place) → AddsNode asks hears path (AddFolder profile folder entry.modified name) (Some number) exchange exchange_after watcher watcher_now
+          → hears watcher_now (TookFolder path) watcher_after → waiting_after ≡ waiting ++ record { path = path; number = number } ∷ []
+          → AddsFolder asks hears profile piece_size place entry true exchange exchange_after watcher watcher_after waiting waiting_after
+      folder_added number waiting_after added took pushed =
+          let place_at : List ℕ → List Place = λ p. waiting ++ record { path = p; number = number } ∷ [] in
+          record {
+            kid = Subfolder entry number;
+            its = refl;
+            is_outcome = is_folder;
+            taken_is = refl;
+            untold = refl;
+            asked = over_one asks exchange exchange_after _ (subst (λ (r : Request). asks exchange (r, replies.Node number) exchange_after) folder_asked added.0);
+            heard = over_one hears watcher watcher_after _ (told_here watcher watcher_after TookFolder (subst (λ (w : W). hears w (TookFolder path) watcher_after) added.1 took));
+            pending = pushed ∙ ap place_at here;
+          }
+
+    module _ {T : Type 0} (tells : T → Told → T → Type 0) (tree tree_after : T) (waiting : List Place) (is_file : entry.kind ≡ kinds.File) where
+      pub file_refused : (exchange exchange_after : X) (watcher watcher_after : W) → AddsNode asks hears path (AddFile profile folder entry.modified entry.len piece_size name) None exchange exchange_after watcher watcher_after
+          → TakesKid tells asks hears profile piece_size place entry false tree tree exchange exchange_after watcher watcher_after waiting waiting
+      file_refused exchange exchange_after watcher watcher_after refused = record {
+        kid = RefusedFile entry refused.0;
+        its = refl;
+        is_outcome = (is_file, refused.1);
+        taken_is = refl;
         told = refl;
-        asked = over_one asks exchange exchange_after _ here;
-        pending = added.pending ∙ ap place_at at;
+        asked = over_one asks exchange exchange_after _ (subst (λ (r : Request). asks exchange (r, replies.Refused refused.0) exchange_after) file_asked refused.2);
+        heard = over_one hears watcher watcher_after _ (told_here watcher watcher_after (λ p. Left p (reasons.Refused refused.0)) refused.3);
+        pending = sym (append-nil waiting);
       }
 
-  pub no_kids : (place : Place) (tree : T) (exchange : X) (waiting : List Place) → TakesKids tells asks profile piece_size place [] tree tree exchange exchange waiting waiting
-  no_kids place tree exchange waiting = record { kids = []; its = refl; are_kids = tt; told = refl; asked = refl; pending = sym (append-nil waiting) }
+      module _ (number : ℕ) (exchange announced sent done : X) (watcher watcher_now watcher_sent watcher_after : W)
+          (added : AddsNode asks hears path (AddFile profile folder entry.modified entry.len piece_size name) (Some number) exchange announced watcher watcher_now) where
+        first : asks exchange (AddFile profile place.number entry.modified entry.len piece_size entry.name, replies.Node number) announced
+        first = subst (λ (r : Request). asks exchange (r, replies.Node number) announced) file_asked added.0
 
-  pub kids_more : (place : Place) (entries : List Entry) (at : ℕ) (entry : Entry) (tree tree_now tree_after : T) (exchange exchange_now exchange_after : X) (waiting waiting_now waiting_after : List Place)
-      → TakesKids tells asks profile piece_size place (take at entries) tree tree_now exchange exchange_now waiting waiting_now
-      → TakesKid tells asks profile piece_size place entry tree_now tree_after exchange_now exchange_after waiting_now waiting_after
-      → at < length entries → entry ≡ get_or entries at entry
-      → TakesKids tells asks profile piece_size place (take (at + 1) entries) tree tree_after exchange exchange_after waiting waiting_after
-  kids_more place entries at entry tree tree_now tree_after exchange exchange_now exchange_after waiting waiting_now waiting_after front next within there =
-      let one_more : take (at + 1) entries ≡ take at entries ++ entry ∷ [] = take_more entries at entry within ∙ ap (λ (e : Entry). take at entries ++ e ∷ []) (sym there) in
-      record {
-        kids = front.kids ++ next.kid ∷ [];
-        its = map-append entry_of front.kids (next.kid ∷ []) ∙ (ap (λ (l : List Entry). l ++ entry_of next.kid ∷ []) front.its ∙ (ap (λ (e : Entry). take at entries ++ e ∷ []) next.its ∙ sym one_more));
-        are_kids = all_more (IsKid piece_size) front.kids next.kid front.are_kids next.is_kid;
-        told = subst (λ (l : List Told). GoesOver tells tree l tree_after) (sym (given_more (told_of_kid place.path) front.kids next.kid))
-            (over_more tells tree tree_now tree_after (flat_map (told_of_kid place.path) front.kids) (told_of_kid place.path next.kid) front.told next.told);
-        asked = subst (λ (l : List Asked). GoesOver asks exchange l exchange_after) (sym (given_more (asked_of_kid profile piece_size place.number) front.kids next.kid))
-            (over_more asks exchange exchange_now exchange_after (flat_map (asked_of_kid profile piece_size place.number) front.kids) (asked_of_kid profile piece_size place.number next.kid) front.asked next.asked);
-        pending = next.pending ∙ (ap (λ (l : List Place). l ++ places_of_kid place.path next.kid) front.pending
-            ∙ (append_assoc waiting (flat_map (places_of_kid place.path) front.kids) (places_of_kid place.path next.kid) ∙ ap (λ (l : List Place). waiting ++ l) (sym (given_more (places_of_kid place.path) front.kids next.kid))));
+        -- what was told of its pieces, was told of the entry's
+        pieces_here : (pieces : List Sent) (w : W) → GoesOver hears watcher_now (pieces_heard path pieces) w → GoesOver hears watcher (pieces_heard (below place.path entry.name) pieces) w
+        pieces_here pieces w heard = subst (λ (p : List ℕ). GoesOver hears watcher (pieces_heard p pieces) w) here (subst (λ (v : W). GoesOver hears v (pieces_heard path pieces) w) added.1 heard)
+
+        pub file_whole : SendsAll tells asks hears profile number piece_size entry.len path tree tree_after announced sent watcher_now watcher_sent → (found : Reply) → Finishes asks profile number found sent done
+            → hears watcher_sent (TookFile path found) watcher_after
+            → TakesKid tells asks hears profile piece_size place entry true tree tree_after exchange done watcher watcher_after waiting waiting
+        file_whole all found finished took =
+            let heard = pieces_here all.sent watcher_sent all.heard in
+            record {
+              kid = WholeFile entry number all.sent found;
+              its = refl;
+              is_outcome = (is_file, record { size = all.joined; cut = all.cut }, finished.is_finished);
+              taken_is = refl;
+              told = subst (λ (p : List ℕ). GoesOver tells tree (whole_read p all.sent) tree_after) here all.told;
+              asked = (announced, first, over_more asks announced sent done (pieces_from profile number 0 all.sent) ((Finish profile number, found) ∷ []) all.asked (over_one asks sent done _ finished.asked));
+              heard = over_more hears watcher watcher_sent watcher_after (pieces_heard (below place.path entry.name) all.sent) (TookFile (below place.path entry.name) found ∷ []) heard
+                  (over_one hears watcher_sent watcher_after _ (told_here watcher_sent watcher_after (λ p. TookFile p found) took));
+              pending = sym (append-nil waiting);
+            }
+
+        pub file_dropped : (why : LeftOut) → SendsPart tells asks hears profile number piece_size entry.len path why tree tree_after announced sent watcher_now watcher_sent
+            → asks sent (Abandon profile number, replies.Abandoned) done → hears watcher_sent (Left path why) watcher_after
+            → TakesKid tells asks hears profile piece_size place entry false tree tree_after exchange done watcher watcher_after waiting waiting
+        file_dropped why part given_up left =
+            let heard = pieces_here part.sent watcher_sent part.heard in
+            let told_why : hears watcher_sent (Left path (reason_of part.stop)) watcher_after = subst (λ (r : LeftOut). hears watcher_sent (Left path r) watcher_after) part.reason left in
+            record {
+              kid = DroppedFile entry number part.sent part.stop;
+              its = refl;
+              is_outcome = (is_file, record { cut = part.cut; stopped = part.stopped });
+              taken_is = refl;
+              told = subst (λ (p : List ℕ). GoesOver tells tree (part_read p part.sent part.stop) tree_after) here part.told;
+              asked = (announced, first, over_more asks announced sent done (pieces_from profile number 0 part.sent) ((Abandon profile number, replies.Abandoned) ∷ []) part.asked (over_one asks sent done _ given_up));
+              heard = over_more hears watcher watcher_sent watcher_after (pieces_heard (below place.path entry.name) part.sent) (Left (below place.path entry.name) (reason_of part.stop) ∷ []) heard
+                  (over_one hears watcher_sent watcher_after _ (told_here watcher_sent watcher_after (λ p. Left p (reason_of part.stop)) told_why));
+              pending = sym (append-nil waiting);
+            }
+
+  module _ {T : Type 0} (tells : T → Told → T → Type 0) (place : Place) (entry : Entry) (tree : T) where
+    pub kid_of_folder : (taken : Bool) (exchange exchange_after : X) (watcher watcher_after : W) (waiting waiting_after : List Place)
+        → AddsFolder asks hears profile piece_size place entry taken exchange exchange_after watcher watcher_after waiting waiting_after
+        → TakesKid tells asks hears profile piece_size place entry taken tree tree exchange exchange_after watcher watcher_after waiting waiting_after
+    kid_of_folder taken exchange exchange_after watcher watcher_after waiting waiting_after added = record {
+      kid = added.kid;
+      its = added.its;
+      is_outcome = added.is_outcome;
+      taken_is = added.taken_is;
+      told = subst (λ (l : List Told). GoesOver tells tree l tree) (sym added.untold) refl;
+      asked = added.asked;
+      heard = added.heard;
+      pending = added.pending;
+    }
+
+    module _ (exchange : X) (watcher watcher_after : W) (waiting : List Place) where
+      pub kid_of_no_text : ¬ (IsUtf8 entry.name) → hears watcher (Left (below place.path entry.name) reasons.Name) watcher_after
+          → TakesKid tells asks hears profile piece_size place entry false tree tree exchange exchange watcher watcher_after waiting waiting
+      kid_of_no_text isnt left = record {
+        kid = NoText entry;
+        its = refl;
+        is_outcome = isnt;
+        taken_is = refl;
+        told = refl;
+        asked = refl;
+        heard = over_one hears watcher watcher_after _ left;
+        pending = sym (append-nil waiting);
       }
 
-  pub all_kids : (place : Place) (entries : List Entry) (at : ℕ) (tree tree_now : T) (exchange exchange_now : X) (waiting waiting_now : List Place)
-      → TakesKids tells asks profile piece_size place (take at entries) tree tree_now exchange exchange_now waiting waiting_now → length entries ≤ at
-      → TakesKids tells asks profile piece_size place entries tree tree_now exchange exchange_now waiting waiting_now
-  all_kids place entries at tree tree_now exchange exchange_now waiting waiting_now front all =
-      subst (λ (l : List Entry). TakesKids tells asks profile piece_size place l tree tree_now exchange exchange_now waiting waiting_now) (take_all at entries all) front
+      pub kid_of_other : (path : List ℕ) → path ≡ below place.path entry.name → entry.kind ≡ kinds.Other → hears watcher (Left path reasons.Kind) watcher_after
+          → TakesKid tells asks hears profile piece_size place entry false tree tree exchange exchange watcher watcher_after waiting waiting
+      kid_of_other path here is_other left = record {
+        kid = OtherKind entry;
+        its = refl;
+        is_outcome = is_other;
+        taken_is = refl;
+        told = refl;
+        asked = refl;
+        heard = over_one hears watcher watcher_after _ (subst (λ (p : List ℕ). hears watcher (Left p reasons.Kind) watcher_after) here left);
+        pending = sym (append-nil waiting);
+      }

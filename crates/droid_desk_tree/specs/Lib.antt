@@ -1,4 +1,6 @@
 pub mod Asked
+pub mod Counts
+pub mod Heard
 pub mod Order
 pub mod Steps
 pub mod Told

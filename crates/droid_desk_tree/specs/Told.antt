@@ -7,6 +7,10 @@ pub data Told : Type 0 where
   Listed : (path : List ℕ) (entries : List Entry) → Told
   -- of the file so many bytes were wanted, from this one on, and these came
   Read : (path : List ℕ) (from wanted : ℕ) (bytes : List ℕ) → Told
+  -- the folder could not be read
+  Unlisted : (path : List ℕ) → Told
+  -- of the file so many bytes were wanted, from this one on, and could not be read
+  Unread : (path : List ℕ) (from wanted : ℕ) → Told
 
 -- the tree told bytes of a file, and they stand behind what stood there
 pub record BytesCame {T : Type 0} (tells : T → Told → T → Type 0) (tree : T) (path : List ℕ) (from wanted : ℕ) (before after : List ℕ) (tree_after : T) : Type 0 where

@@ -1,14 +1,19 @@
 -- What is told and asked of the entries of a folder, which are visited together (this project's own).
-use Rattle.std.specs.Prelude.{◌≡◌, ℕ, suc, ◌+◌, ◌-◌, ◌<◌, min, List, [], ◌∷◌, ◌++◌, length, map, Option, Some, IsPermutation}
-use Rattle.std.specs.List.{flat_map, slice_get, AllByRecursion}
+use Rattle.std.specs.Prelude.{◌≡◌, ◌≢◌, ◌⊎◌, ℕ, suc, ◌+◌, ◌-◌, ◌<◌, ◌&&◌, min, Bool, true, false, List, [], ◌∷◌, ◌++◌, length, map, Option, Some, None, is_some, IsPermutation, IsUtf8}
+use Rattle.std.specs.List.{flat_map, slice_get, list_all, AllByRecursion}
+use Rattle.droid_frame.specs.types.refusal.Refusal.{Refusal}
+use Rattle.droid_frame.specs.types.refusal.Refusal.TheVariants as refusals
 use Rattle.droid_frame.specs.types.reply.Reply.{Reply}
 use Rattle.droid_frame.specs.types.reply.Reply.TheVariants as replies
-use Rattle.droid_frame.specs.types.request.Request.TheVariants.{AddFolder, AddFile, Piece, Finish}
+use Rattle.droid_frame.specs.types.request.Request.TheVariants.{AddFolder, AddFile, Piece, Finish, Abandon}
 use Rattle.droid_desk_tree.specs.Asked.{Asked}
+use Rattle.droid_desk_tree.specs.Heard.{Heard, Left, TookBytes, TookFolder, TookFile}
 use Rattle.droid_desk_tree.specs.Order.{IsBefore}
-use Rattle.droid_desk_tree.specs.Told.{Told, Listed, Read}
+use Rattle.droid_desk_tree.specs.Told.{Told, Listed, Read, Unlisted, Unread}
 use Rattle.droid_desk_tree.specs.declared.entry.Entry.{Entry}
 use Rattle.droid_desk_tree.specs.declared.entry.EntryKind.TheVariants as kinds
+use Rattle.droid_desk_tree.specs.declared.left_out.LeftOut.{LeftOut}
+use Rattle.droid_desk_tree.specs.declared.left_out.LeftOut.TheVariants as reasons
 use Rattle.droid_desk_tree.specs.declared.place.Place.{Place}
 
 -- a piece that was sent: its bytes, and how many pieces were then said to be taken
@@ -19,14 +24,43 @@ Sent = List ℕ × ℕ
 abbrev pub bytes_of : List Sent → List ℕ
 bytes_of sent = flat_map (λ piece. piece.0) sent
 
--- an entry that is in the profile: a folder with its number; or a file with its number, all its pieces, and what was found
+-- why the reading of a file ended early: so many bytes were wanted and could not be read, or fewer came; or the file has
+-- more bytes than it was said to have
+pub data Stop : Type 0 where
+  NoneCame : (wanted : ℕ) → Stop
+  FewerCame : (wanted : ℕ) (bytes : List ℕ) → Stop
+  MoreCame : (bytes : List ℕ) → Stop
+
+-- what came of an entry. It is in the profile: a folder with its number; or a file with its number, all its pieces, and
+-- what was found. Or it was left out: as of another kind; as of a name that is no text; refused; or, a file with its
+-- number, abandoned after so many pieces.
 pub data Kid : Type 0 where
   Subfolder : (entry : Entry) (number : ℕ) → Kid
   WholeFile : (entry : Entry) (number : ℕ) (sent : List Sent) (found : Reply) → Kid
+  OtherKind : (entry : Entry) → Kid
+  NoText : (entry : Entry) → Kid
+  RefusedFolder : (entry : Entry) (refusal : Refusal) → Kid
+  RefusedFile : (entry : Entry) (refusal : Refusal) → Kid
+  DroppedFile : (entry : Entry) (number : ℕ) (sent : List Sent) (stop : Stop) → Kid
 
 abbrev pub entry_of : Kid → Entry
 entry_of (Subfolder entry number) = entry
 entry_of (WholeFile entry number sent found) = entry
+entry_of (OtherKind entry) = entry
+entry_of (NoText entry) = entry
+entry_of (RefusedFolder entry refusal) = entry
+entry_of (RefusedFile entry refusal) = entry
+entry_of (DroppedFile entry number sent stop) = entry
+
+-- it is in the profile
+abbrev pub is_taken : Kid → Bool
+is_taken (Subfolder entry number) = true
+is_taken (WholeFile entry number sent found) = true
+is_taken (OtherKind entry) = false
+is_taken (NoText entry) = false
+is_taken (RefusedFolder entry refusal) = false
+is_taken (RefusedFile entry refusal) = false
+is_taken (DroppedFile entry number sent stop) = false
 
 -- the path of an entry: its folder's, `/` and its name
 abbrev pub below : List ℕ → List ℕ → List ℕ
@@ -43,10 +77,23 @@ reads_from path from (piece ∷ pieces) = Read path from (length piece.0) piece.
 abbrev pub whole_read : List ℕ → List Sent → List Told
 whole_read path sent = reads_from path 0 sent ++ Read path (length (bytes_of sent)) 1 [] ∷ []
 
+-- or what is wanted next, from this byte on, doesn't come; or something comes where nothing should
+abbrev pub told_of_stop : List ℕ → ℕ → Stop → Told
+told_of_stop path from (NoneCame wanted) = Unread path from wanted
+told_of_stop path from (FewerCame wanted bytes) = Read path from wanted bytes
+told_of_stop path from (MoreCame bytes) = Read path from 1 bytes
+
+abbrev pub part_read : List ℕ → List Sent → Stop → List Told
+part_read path sent stop = reads_from path 0 sent ++ told_of_stop path (length (bytes_of sent)) stop ∷ []
+
 -- the pieces are sent one after the other, from this index on
 abbrev pub pieces_from : ℕ → ℕ → ℕ → List Sent → List Asked
 pieces_from profile file index [] = []
 pieces_from profile file index (piece ∷ pieces) = (Piece profile file index piece.0, replies.Taken piece.1) ∷ pieces_from profile file (suc index) pieces
+
+-- each piece is told by the file's path and its own length
+abbrev pub pieces_heard : List ℕ → List Sent → List Heard
+pieces_heard path sent = map (λ piece. TookBytes path (length piece.0)) sent
 
 -- the file is cut into pieces: from this byte on each is as long as pieces are, or as what is left
 abbrev pub AreCut : ℕ → ℕ → ℕ → List Sent → Type 0
@@ -62,51 +109,134 @@ pub record IsWhole (piece_size : ℕ) (entry : Entry) (sent : List Sent) : Type 
   pub size : length (bytes_of sent) ≡ entry.len
   pub cut : AreCut piece_size entry.len 0 sent
 
+-- so many bytes are wanted next, from this one on: those of a piece; or one, to see that there is none
+abbrev pub IsWanted : ℕ → ℕ → ℕ → ℕ → Type 0
+IsWanted piece_size size from wanted = ((from < size) × (wanted ≡ min piece_size (size - from))) ⊎ ((from ≡ size) × (wanted ≡ 1))
+
+-- the reading may end here, from this byte on
+abbrev pub IsStop : ℕ → ℕ → ℕ → Stop → Type 0
+IsStop piece_size size from (NoneCame wanted) = IsWanted piece_size size from wanted
+IsStop piece_size size from (FewerCame wanted bytes) = (from < size) × (wanted ≡ min piece_size (size - from)) × (length bytes < wanted)
+IsStop piece_size size from (MoreCame bytes) = (from ≡ size) × (0 < length bytes)
+
+-- the reason that is told of it
+abbrev pub reason_of : Stop → LeftOut
+reason_of (NoneCame wanted) = reasons.Unreadable
+reason_of (FewerCame wanted bytes) = reasons.Changed
+reason_of (MoreCame bytes) = reasons.Changed
+
+-- the pieces are the first ones of the file, and the next bytes weren't as they should be
+pub record IsPart (piece_size : ℕ) (entry : Entry) (sent : List Sent) (stop : Stop) : Type 0 where
+  pub cut : AreCut piece_size entry.len 0 sent
+  pub stopped : IsStop piece_size entry.len (length (bytes_of sent)) stop
+
 -- ---- an entry
 
 -- what the tree tells of it
 abbrev pub told_of_kid : List ℕ → Kid → List Told
 told_of_kid path (Subfolder entry number) = []
 told_of_kid path (WholeFile entry number sent found) = whole_read (below path entry.name) sent
+told_of_kid path (OtherKind entry) = []
+told_of_kid path (NoText entry) = []
+told_of_kid path (RefusedFolder entry refusal) = []
+told_of_kid path (RefusedFile entry refusal) = []
+told_of_kid path (DroppedFile entry number sent stop) = part_read (below path entry.name) sent stop
 
 -- what is asked for it, with the replies
 abbrev pub asked_of_kid : ℕ → ℕ → ℕ → Kid → List Asked
 asked_of_kid profile piece_size folder (Subfolder entry number) = (AddFolder profile folder entry.modified entry.name, replies.Node number) ∷ []
 asked_of_kid profile piece_size folder (WholeFile entry number sent found) =
     (AddFile profile folder entry.modified entry.len piece_size entry.name, replies.Node number) ∷ (pieces_from profile number 0 sent ++ (Finish profile number, found) ∷ [])
+asked_of_kid profile piece_size folder (OtherKind entry) = []
+asked_of_kid profile piece_size folder (NoText entry) = []
+asked_of_kid profile piece_size folder (RefusedFolder entry refusal) = (AddFolder profile folder entry.modified entry.name, replies.Refused refusal) ∷ []
+asked_of_kid profile piece_size folder (RefusedFile entry refusal) = (AddFile profile folder entry.modified entry.len piece_size entry.name, replies.Refused refusal) ∷ []
+asked_of_kid profile piece_size folder (DroppedFile entry number sent stop) =
+    (AddFile profile folder entry.modified entry.len piece_size entry.name, replies.Node number) ∷ (pieces_from profile number 0 sent ++ (Abandon profile number, replies.Abandoned) ∷ [])
+
+-- what the watcher is told of it: that it is there, and what was found in it, or that it was left out, and why
+abbrev pub heard_of_kid : List ℕ → Kid → List Heard
+heard_of_kid path (Subfolder entry number) = TookFolder (below path entry.name) ∷ []
+heard_of_kid path (WholeFile entry number sent found) = pieces_heard (below path entry.name) sent ++ TookFile (below path entry.name) found ∷ []
+heard_of_kid path (OtherKind entry) = Left (below path entry.name) reasons.Kind ∷ []
+heard_of_kid path (NoText entry) = Left (below path entry.name) reasons.Name ∷ []
+heard_of_kid path (RefusedFolder entry refusal) = Left (below path entry.name) (reasons.Refused refusal) ∷ []
+heard_of_kid path (RefusedFile entry refusal) = Left (below path entry.name) (reasons.Refused refusal) ∷ []
+heard_of_kid path (DroppedFile entry number sent stop) = pieces_heard (below path entry.name) sent ++ Left (below path entry.name) (reason_of stop) ∷ []
 
 -- the folder that it is, which is to be visited too
 abbrev pub places_of_kid : List ℕ → Kid → List Place
 places_of_kid path (Subfolder entry number) = record { path = below path entry.name; number = number } ∷ []
-places_of_kid path (WholeFile entry number sent found) = []
+places_of_kid path _ = []
 
+-- an entry that is in the profile is a folder, or a file of which all was read and sent
 abbrev pub IsKid : ℕ → Kid → Type 0
 IsKid piece_size (Subfolder entry number) = entry.kind ≡ kinds.Folder
 IsKid piece_size (WholeFile entry number sent found) = (entry.kind ≡ kinds.File) × IsWhole piece_size entry sent × IsFinished found
+IsKid piece_size _ = ⊥
+
+-- this may come of an entry. (A want of memory is no refusal of an entry: it ends the walk.)
+abbrev pub IsOutcome : ℕ → Kid → Type 0
+IsOutcome piece_size (Subfolder entry number) = IsKid piece_size (Subfolder entry number)
+IsOutcome piece_size (WholeFile entry number sent found) = IsKid piece_size (WholeFile entry number sent found)
+IsOutcome piece_size (OtherKind entry) = entry.kind ≡ kinds.Other
+IsOutcome piece_size (NoText entry) = ¬ (IsUtf8 entry.name)
+IsOutcome piece_size (RefusedFolder entry refusal) = (entry.kind ≡ kinds.Folder) × (refusal ≢ refusals.Memory)
+IsOutcome piece_size (RefusedFile entry refusal) = (entry.kind ≡ kinds.File) × (refusal ≢ refusals.Memory)
+IsOutcome piece_size (DroppedFile entry number sent stop) = (entry.kind ≡ kinds.File) × IsPart piece_size entry sent stop
 
 -- ---- a folder
 
--- a folder, what the tree told of its entries, and all of them
+-- a folder, what the tree told of its entries, where it could be read, and what came of each of them
 pub record Visit : Type 0 where
   pub place : Place
-  pub told : List Entry
+  pub told : Option (List Entry)
   pub kids : List Kid
 
 -- the names come one after the other, in the order of their bytes, and no name twice
 abbrev pub AreInOrder : List Entry → Type 0
 AreInOrder entries = (k : ℕ) (first second : Entry) → slice_get entries k ≡ Some first → slice_get entries (k + 1) ≡ Some second → IsBefore first.name second.name
 
+-- the entries are those that the tree told; of a folder that could not be read, none
+abbrev pub AreThose : Option (List Entry) → List Entry → Type 0
+AreThose None entries = entries ≡ []
+AreThose (Some told) entries = IsPermutation told entries
+
+-- the entries that the tree told are met in the order of their names
+pub record IsVisit (piece_size : ℕ) (visit : Visit) : Type 0 where
+  pub same : AreThose visit.told (map entry_of visit.kids)
+  pub in_order : AreInOrder (map entry_of visit.kids)
+  pub kids : AllByRecursion (IsOutcome piece_size) visit.kids
+
+-- nothing of it was left out
+abbrev pub is_full : Visit → Bool
+is_full visit = is_some visit.told && list_all is_taken visit.kids
+
 -- the entries that are in the profile are those that the tree told, in the order of their names
 pub record IsVisited (piece_size : ℕ) (visit : Visit) : Type 0 where
-  pub same : IsPermutation visit.told (map entry_of visit.kids)
+  pub told : List Entry
+  pub listed : visit.told ≡ Some told
+  pub same : IsPermutation told (map entry_of visit.kids)
   pub in_order : AreInOrder (map entry_of visit.kids)
   pub kids : AllByRecursion (IsKid piece_size) visit.kids
 
+abbrev pub told_of_folder : List ℕ → Option (List Entry) → Told
+told_of_folder path None = Unlisted path
+told_of_folder path (Some told) = Listed path told
+
 abbrev pub told_of_visit : Visit → List Told
-told_of_visit visit = Listed visit.place.path visit.told ∷ flat_map (told_of_kid visit.place.path) visit.kids
+told_of_visit visit = told_of_folder visit.place.path visit.told ∷ flat_map (told_of_kid visit.place.path) visit.kids
 
 abbrev pub asked_of_visit : ℕ → ℕ → Visit → List Asked
 asked_of_visit profile piece_size visit = flat_map (asked_of_kid profile piece_size visit.place.number) visit.kids
+
+-- that it can't be read is told of a folder too
+abbrev pub heard_of_folder : List ℕ → Option (List Entry) → List Heard
+heard_of_folder path None = Left path reasons.Unreadable ∷ []
+heard_of_folder path (Some told) = []
+
+abbrev pub heard_of_visit : Visit → List Heard
+heard_of_visit visit = heard_of_folder visit.place.path visit.told ++ flat_map (heard_of_kid visit.place.path) visit.kids
 
 abbrev pub places_of_visit : Visit → List Place
 places_of_visit visit = flat_map (places_of_kid visit.place.path) visit.kids

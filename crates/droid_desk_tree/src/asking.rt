@@ -1,16 +1,22 @@
 //! Asking a request, and what a reply to a new node says.
 
-ghost use Rattle.std.specs.Prelude.{IfOk, IfSome};
-ghost use Rattle.droid_frame.specs.types.hash_kind.HashKind.TheVariants as hash_kinds;
+ghost use Rattle.std.specs.Prelude.{◌≢◌, IfOk, OnOk};
 ghost use Rattle.droid_frame.specs.types.reply.Reply.TheVariants as replies;
 ghost use Rattle.droid_frame.specs.types.request.Request.TheVariants as requests;
-ghost use Rattle.droid_desk_tree.specs.Steps.{Finishes};
+ghost use Rattle.droid_frame.specs.types.refusal.Refusal.TheVariants as refusals;
+ghost use Rattle.droid_desk_tree.specs.Heard.{Left};
+ghost use Rattle.droid_desk_tree.specs.Steps.{AddsNode, Finishes};
+ghost use Rattle.droid_desk_tree.specs.declared.left_out.LeftOut.TheVariants as reasons;
 
 use crate::exchange::Exchange;
 use crate::fault::WalkFault;
-use crate::watcher::{LeftOut, Watcher};
+use crate::left_out::LeftOut;
+use crate::watcher::Watcher;
 use droid_frame::{Frame, HashKind, Refusal, Reply, Request, request_frame};
 use std::alloc::Global;
+
+/// The version of the requests' frames: the one that has every hash.
+const VERSION: u8 = 2;
 
 /// Asks a request.
 pub fn ask<X: Exchange>(
@@ -20,10 +26,10 @@ pub fn ask<X: Exchange>(
 ) -> Result<Reply, WalkFault>
     ensures { IfOk result (λ reply. X.asks exchange.old (request.now, reply) exchange.new) }
 {
-    if !request.fits() {
+    if !request.fits(VERSION) {
         return Err(WalkFault::TooLong);
     }
-    let frame = request_frame(alloc, 0, 0, request)?;
+    let frame = request_frame(alloc, VERSION, 0, 0, request)?;
     let Frame { kind, body, .. } = frame;
     let reply = exchange.ask(kind, body)?;
     Ok(reply)
@@ -37,7 +43,7 @@ pub(crate) fn add_node<X: Exchange, W: Watcher>(
     path: &str,
     request: &Request,
 ) -> Result<Option<u32>, WalkFault>
-    ensures { IfOk result (λ number. IfSome number (λ id. X.asks exchange.old (request.now, replies.Node id) exchange.new)) }
+    ensures { IfOk result (λ number. AddsNode X.asks W.hears path.now request.now number exchange.old exchange.new watcher.old watcher.new) }
 {
     match ask(alloc, exchange, request)? {
         Reply::Node { id } => Ok(Some(id)),
@@ -50,11 +56,10 @@ pub(crate) fn add_node<X: Exchange, W: Watcher>(
 }
 
 /// Tells that a node was refused; want of memory is none of its refusals.
-fn tell_refused<W: Watcher>(
-    watcher: &mut W,
-    path: &str,
-    refusal: Refusal,
-) -> Result<(), WalkFault> {
+fn tell_refused<W: Watcher>(watcher: &mut W, path: &str, refusal: Refusal) -> Result<(), WalkFault>
+    ensures refused { OnOk result (refusal ≢ refusals.Memory) }
+    ensures told { OnOk result (W.hears watcher.old (Left path.now (reasons.Refused refusal)) watcher.new) }
+{
     if refusal == Refusal::Memory {
         return Err(WalkFault::Memory);
     }
@@ -62,19 +67,20 @@ fn tell_refused<W: Watcher>(
     Ok(())
 }
 
-/// Makes a profile whose files get MD5s, which is the one hash that a frame can ask for, and gives its number.
+/// Makes a profile, and gives its number.
 pub(crate) fn make_profile<X: Exchange>(
     alloc: Global,
     exchange: &mut X,
     scan_limit: u32,
     match_all: bool,
+    hash: HashKind,
 ) -> Result<u32, WalkFault>
-    ensures { IfOk result (λ profile. X.asks exchange.old (requests.CreateProfile scan_limit match_all hash_kinds.Md5, replies.Made profile) exchange.new) }
+    ensures { IfOk result (λ profile. X.asks exchange.old (requests.CreateProfile scan_limit match_all hash, replies.Made profile) exchange.new) }
 {
     let request = Request::CreateProfile {
         scan_limit,
         match_all,
-        hash: HashKind::Md5,
+        hash,
     };
     match ask(alloc, exchange, &request)? {
         Reply::Made { profile } => Ok(profile),
@@ -83,18 +89,19 @@ pub(crate) fn make_profile<X: Exchange>(
     }
 }
 
-/// Finishes a file.
+/// Finishes a file, and gives the reply, which says what was found in it.
 pub(crate) fn finish<X: Exchange>(
     alloc: Global,
     exchange: &mut X,
     profile: u32,
     file: u32,
-) -> Result<(), WalkFault>
-    ensures { IfOk result (λ _. Finishes X.asks profile file exchange.old exchange.new) }
+) -> Result<Reply, WalkFault>
+    ensures { IfOk result (λ found. Finishes X.asks profile file found exchange.old exchange.new) }
 {
     let request = Request::Finish { profile, file };
-    match ask(alloc, exchange, &request)? {
-        Reply::Finished { .. } => Ok(()),
+    let reply = ask(alloc, exchange, &request)?;
+    match reply {
+        Reply::Finished { .. } => Ok(reply),
         Reply::Refused(Refusal::Memory) => Err(WalkFault::Memory),
         _ => Err(WalkFault::Reply),
     }

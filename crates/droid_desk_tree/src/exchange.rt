@@ -18,7 +18,7 @@ pub trait Exchange {
     /// In the first state the request may be asked and get this reply, and the second is what comes then.
     ghost asks: { Self → Asked → Self → Type 0 };
 
-    /// Asks the request that this kind and this body spell.
+    /// Asks the request that this kind and this body spell in a frame of version 2.
     fn ask(&mut self, kind: u8, body: Blob) -> Result<Reply, ExchangeFault>
-        ensures { IfOk result (λ reply. (request : Request) → SpellsRequest kind body request → asks self.old (request, reply) self.new) };
+        ensures { IfOk result (λ reply. (request : Request) → SpellsRequest 2 kind body request → asks self.old (request, reply) self.new) };
 }

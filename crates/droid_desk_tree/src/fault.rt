@@ -38,6 +38,12 @@ pub enum WalkFault {
     /// There are more folders than a profile can have.
     #[error("there are too many folders")]
     Folders,
+    /// There are more folders and files than a profile can have.
+    #[error("there are too many folders and files")]
+    Entries,
+    /// The files have more bytes together than can be counted.
+    #[error("the files are too long together")]
+    Bytes,
 }
 
 impl From<AllocError> for WalkFault {

@@ -1,9 +1,11 @@
 //! One file: announced, sent and finished, or left out.
 
-ghost use Rattle.std.specs.Prelude.{◌≡◌, IfOk, IfSome, IsTrue};
-ghost use Rattle.droid_frame.specs.types.reply.Reply.TheVariants as replies;
+ghost use Rattle.std.specs.Prelude.{◌≡◌, List, IfOk};
 ghost use Rattle.droid_frame.specs.types.request.Request.TheVariants as requests;
-ghost use Rattle.droid_desk_tree.specs.Steps.{TakesFile};
+ghost use Rattle.droid_desk_tree.specs.Steps.{AddsNode, TakesKid};
+ghost use Rattle.droid_desk_tree.specs.Visits.{below};
+ghost use Rattle.droid_desk_tree.specs.declared.entry.EntryKind.TheVariants as kinds;
+ghost use Rattle.droid_desk_tree.specs.declared.place.Place.{Place};
 
 use crate::asking::{add_node, finish, give_up};
 use crate::entry::Entry;
@@ -33,14 +35,13 @@ pub(crate) fn take_file<T: Tree, X: Exchange, W: Watcher>(
     exchange: &mut X,
     watcher: &mut W,
     into: Into,
-    path: &Text,
+    path: &str,
     name: &str,
     entry: &Entry,
 ) -> Result<bool, WalkFault>
-    ensures { IfOk result (λ whole. IsTrue whole → name.now ≡ entry.now.name →
-        TakesFile T.tells X.asks into.profile into.piece_size into.folder path.now entry.now tree.old tree.new exchange.old exchange.new) }
+    ensures { IfOk result (λ taken. (place : Place) (waiting : List Place) → path.now ≡ below place.path entry.now.name → into.folder ≡ place.number → name.now ≡ entry.now.name → entry.now.kind ≡ kinds.File →
+        TakesKid T.tells X.asks W.hears into.profile into.piece_size place entry.now taken tree.old tree.new exchange.old exchange.new watcher.old watcher.new waiting waiting) }
 {
-    let path = path.as_str();
     let Some(file) = announce(alloc, exchange, watcher, into, path, name, entry)? else {
         return Ok(false);
     };
@@ -52,8 +53,8 @@ pub(crate) fn take_file<T: Tree, X: Exchange, W: Watcher>(
     };
     match send_pieces(alloc, tree, exchange, watcher, to, path)? {
         Ok(()) => {
-            finish(alloc, exchange, into.profile, file)?;
-            watcher.took(path);
+            let found = finish(alloc, exchange, into.profile, file)?;
+            watcher.took_file(path, &found);
             Ok(true)
         }
         Err(why) => {
@@ -64,7 +65,7 @@ pub(crate) fn take_file<T: Tree, X: Exchange, W: Watcher>(
     }
 }
 
-/// Announces a file, and gives its number.
+/// Announces a file, and gives its number. Where it is refused, that is told, and there is none.
 fn announce<X: Exchange, W: Watcher>(
     alloc: Global,
     exchange: &mut X,
@@ -74,8 +75,8 @@ fn announce<X: Exchange, W: Watcher>(
     name: &str,
     entry: &Entry,
 ) -> Result<Option<u32>, WalkFault>
-    ensures { IfOk result (λ number. IfSome number (λ id.
-        X.asks exchange.old (requests.AddFile into.profile into.folder entry.now.modified entry.now.len into.piece_size name.now, replies.Node id) exchange.new)) }
+    ensures { IfOk result (λ number. AddsNode X.asks W.hears path.now
+        (requests.AddFile into.profile into.folder entry.now.modified entry.now.len into.piece_size name.now) number exchange.old exchange.new watcher.old watcher.new) }
 {
     let request = Request::AddFile {
         profile: into.profile,

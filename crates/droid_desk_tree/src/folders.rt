@@ -1,17 +1,23 @@
 //! One folder: its entries, one after the other.
 
-ghost use Rattle.std.specs.Prelude.{◌≡◌, IfOk, IfSome, IsTrue};
-ghost use Rattle.droid_desk_tree.specs.Steps.{AddsFolder, ListsInOrder, TakesKid, TakesKids, TakesVisit};
+ghost use Rattle.std.specs.Prelude.{◌≡◌, ◌&&◌, IfOk, OnOk};
+ghost use Rattle.droid_frame.specs.types.request.Request.TheVariants as requests;
+ghost use Rattle.droid_desk_tree.specs.Heard.{Left};
+ghost use Rattle.droid_desk_tree.specs.Steps.{AddsFolder, AddsNode, TakesKid, TakesKids, TakesVisit};
+ghost use Rattle.droid_desk_tree.specs.Visits.{below};
+ghost use Rattle.droid_desk_tree.specs.declared.entry.EntryKind.TheVariants as kinds;
+ghost use Rattle.droid_desk_tree.specs.declared.place.Place.{Place};
 
 use crate::asking::add_node;
 use crate::entry::{Entry, EntryKind};
 use crate::exchange::Exchange;
-use crate::fault::{TreeFault, WalkFault};
+use crate::fault::WalkFault;
 use crate::files::{Into, take_file};
-use crate::order::in_order;
+use crate::left_out::LeftOut;
+use crate::listing::{name_of, read_folder};
 use crate::place::{Place, add_place, path_below};
 use crate::tree::Tree;
-use crate::watcher::{LeftOut, Watcher};
+use crate::watcher::Watcher;
 use droid_frame::{Request, Text};
 use std::alloc::Global;
 use std::collections::VecDeque;
@@ -26,44 +32,20 @@ pub(crate) fn take_folder<T: Tree, X: Exchange, W: Watcher>(
     place: &Place,
     pending: &mut VecDeque<Place>,
 ) -> Result<bool, WalkFault>
-    ensures { IfOk result (λ whole. IsTrue whole → into.folder ≡ place.now.number →
-        TakesVisit T.tells X.asks into.profile into.piece_size place.now tree.old tree.new exchange.old exchange.new pending.old.items pending.new.items) }
+    ensures { IfOk result (λ whole. into.folder ≡ place.now.number →
+        TakesVisit T.tells X.asks W.hears into.profile into.piece_size place.now whole tree.old tree.new exchange.old exchange.new watcher.old watcher.new pending.old.items pending.new.items) }
 {
-    let Some(entries) = entries_of(alloc, tree, watcher, place)? else {
-        return Ok(false);
-    };
-    let whole = take_entries(
-        alloc,
-        tree,
-        exchange,
-        watcher,
-        into,
-        place,
-        entries.as_slice(),
-        pending,
-    )?;
-    Ok(whole)
-}
-
-/// The entries of a folder in the order of their names. Where it can't be read, that is told, and there are none.
-fn entries_of<T: Tree, W: Watcher>(
-    alloc: Global,
-    tree: &mut T,
-    watcher: &mut W,
-    place: &Place,
-) -> Result<Option<Vec<Entry>>, WalkFault>
-    ensures { IfOk result (λ read. IfSome read (λ entries. ListsInOrder T.tells place.now.path entries.items tree.old tree.new)) }
-{
-    let path = place.path.as_str();
-    match tree.entries(alloc, path) {
+    match read_folder(alloc, tree, place.path.as_str())? {
         Ok(entries) => {
-            let sorted = in_order(entries)?;
-            Ok(Some(sorted))
+            let entries = entries.as_slice();
+            let whole = take_entries(
+                alloc, tree, exchange, watcher, into, place, entries, pending,
+            )?;
+            Ok(whole)
         }
-        Err(TreeFault::Memory) => Err(WalkFault::Memory),
-        Err(TreeFault::Unreadable) => {
-            watcher.left_out(path.as_bytes(), LeftOut::Unreadable);
-            Ok(None)
+        Err(why) => {
+            watcher.left_out(place.path.as_str().as_bytes(), why);
+            Ok(false)
         }
     }
 }
@@ -79,8 +61,8 @@ fn take_entries<T: Tree, X: Exchange, W: Watcher>(
     entries: &[Entry],
     pending: &mut VecDeque<Place>,
 ) -> Result<bool, WalkFault>
-    ensures { IfOk result (λ whole. IsTrue whole → into.folder ≡ place.now.number →
-        TakesKids T.tells X.asks into.profile into.piece_size place.now entries.now tree.old tree.new exchange.old exchange.new pending.old.items pending.new.items) }
+    ensures { IfOk result (λ whole. into.folder ≡ place.now.number →
+        TakesKids T.tells X.asks W.hears into.profile into.piece_size place.now entries.now whole tree.old tree.new exchange.old exchange.new watcher.old watcher.new pending.old.items pending.new.items) }
 {
     let mut whole = true;
     for entry in entries {
@@ -92,8 +74,7 @@ fn take_entries<T: Tree, X: Exchange, W: Watcher>(
 
 /// Whether both hold.
 pub(crate) fn both(first: bool, second: bool) -> bool
-    ensures first { IsTrue result → IsTrue first }
-    ensures second { IsTrue result → IsTrue second }
+    ensures { result ≡ (first && second) }
 {
     first && second
 }
@@ -109,8 +90,8 @@ fn take_entry<T: Tree, X: Exchange, W: Watcher>(
     entry: &Entry,
     pending: &mut VecDeque<Place>,
 ) -> Result<bool, WalkFault>
-    ensures { IfOk result (λ whole. IsTrue whole → into.folder ≡ place.now.number →
-        TakesKid T.tells X.asks into.profile into.piece_size place.now entry.now tree.old tree.new exchange.old exchange.new pending.old.items pending.new.items) }
+    ensures { IfOk result (λ taken. into.folder ≡ place.now.number →
+        TakesKid T.tells X.asks W.hears into.profile into.piece_size place.now entry.now taken tree.old tree.new exchange.old exchange.new watcher.old watcher.new pending.old.items pending.new.items) }
 {
     let Some(name) = name_of(entry) else {
         tell_below(alloc, watcher, place, entry, LeftOut::Name)?;
@@ -119,27 +100,18 @@ fn take_entry<T: Tree, X: Exchange, W: Watcher>(
     let path = path_below(alloc, place.path.as_str(), name)?;
     match entry.kind {
         EntryKind::Folder => {
-            let whole = add_folder(alloc, exchange, watcher, into, path, name, entry, pending)?;
-            Ok(whole)
+            let taken = add_folder(alloc, exchange, watcher, into, path, name, entry, pending)?;
+            Ok(taken)
         }
         EntryKind::File => {
-            let whole = take_file(alloc, tree, exchange, watcher, into, &path, name, entry)?;
-            Ok(whole)
+            let path = path.as_str();
+            let taken = take_file(alloc, tree, exchange, watcher, into, path, name, entry)?;
+            Ok(taken)
         }
         EntryKind::Other => {
             watcher.left_out(path.as_str().as_bytes(), LeftOut::Kind);
             Ok(false)
         }
-    }
-}
-
-/// The name as text, where it is UTF-8.
-fn name_of(entry: &Entry) -> Option<&str>
-    ensures { IfSome result (λ text. text.now ≡ entry.now.name) }
-{
-    match std::str::from_utf8(entry.name.as_slice()) {
-        Ok(text) => Some(text),
-        Err(_) => None,
     }
 }
 
@@ -150,7 +122,9 @@ fn tell_below<W: Watcher>(
     place: &Place,
     entry: &Entry,
     why: LeftOut,
-) -> Result<(), WalkFault> {
+) -> Result<(), WalkFault>
+    ensures { OnOk result (W.hears watcher.old (Left (below place.now.path entry.now.name) why) watcher.new) }
+{
     let mut path = Vec::from_slice(alloc, place.path.as_str().as_bytes())?;
     path.extend_from_slice(b"/")?;
     path.extend_from_slice(entry.name.as_slice())?;
@@ -169,8 +143,31 @@ fn add_folder<X: Exchange, W: Watcher>(
     entry: &Entry,
     pending: &mut VecDeque<Place>,
 ) -> Result<bool, WalkFault>
-    ensures { IfOk result (λ whole. IsTrue whole → name.now ≡ entry.now.name →
-        AddsFolder X.asks into.profile into.folder path entry.now exchange.old exchange.new pending.old.items pending.new.items) }
+    ensures { IfOk result (λ taken. (place : Place) → path ≡ below place.path entry.now.name → into.folder ≡ place.number → name.now ≡ entry.now.name → entry.now.kind ≡ kinds.Folder →
+        AddsFolder X.asks W.hears into.profile into.piece_size place entry.now taken exchange.old exchange.new watcher.old watcher.new pending.old.items pending.new.items) }
+{
+    match announce(alloc, exchange, watcher, into, path.as_str(), name, entry)? {
+        Some(number) => {
+            watcher.took_folder(path.as_str());
+            add_place(pending, path, number)?;
+            Ok(true)
+        }
+        None => Ok(false),
+    }
+}
+
+/// Announces a folder, and gives its number. Where it is refused, that is told, and there is none.
+fn announce<X: Exchange, W: Watcher>(
+    alloc: Global,
+    exchange: &mut X,
+    watcher: &mut W,
+    into: Into,
+    path: &str,
+    name: &str,
+    entry: &Entry,
+) -> Result<Option<u32>, WalkFault>
+    ensures { IfOk result (λ number. AddsNode X.asks W.hears path.now
+        (requests.AddFolder into.profile into.folder entry.now.modified name.now) number exchange.old exchange.new watcher.old watcher.new) }
 {
     let request = Request::AddFolder {
         profile: into.profile,
@@ -178,12 +175,6 @@ fn add_folder<X: Exchange, W: Watcher>(
         modified: entry.modified,
         name: Text::copy_of(alloc, name)?,
     };
-    match add_node(alloc, exchange, watcher, path.as_str(), &request)? {
-        Some(number) => {
-            watcher.took(path.as_str());
-            add_place(pending, path, number)?;
-            Ok(true)
-        }
-        None => Ok(false),
-    }
+    let number = add_node(alloc, exchange, watcher, path, &request)?;
+    Ok(number)
 }

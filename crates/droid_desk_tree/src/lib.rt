@@ -5,11 +5,14 @@
 #![tactic(auto)]
 
 mod asking;
+mod counting;
 mod entry;
 mod exchange;
 mod fault;
 mod files;
 mod folders;
+mod left_out;
+mod listing;
 mod order;
 mod pieces;
 mod place;
@@ -18,9 +21,11 @@ mod walking;
 mod watcher;
 
 pub use asking::ask;
+pub use counting::{Counted, count};
 pub use entry::{Entry, EntryKind};
 pub use exchange::{Exchange, ExchangeFault};
 pub use fault::{TreeFault, WalkFault};
+pub use left_out::LeftOut;
 pub use tree::Tree;
 pub use walking::{Options, Walked, walk};
-pub use watcher::{LeftOut, Watcher};
+pub use watcher::Watcher;

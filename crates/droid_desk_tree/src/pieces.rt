@@ -1,15 +1,17 @@
 //! The pieces of a file: read, and sent.
 
-ghost use Rattle.std.specs.Prelude.{◌≡◌, ◌++◌, ◌-◌, [], min, IfOk, OnOk};
+ghost use Rattle.std.specs.Prelude.{◌≡◌, ◌≢◌, ◌++◌, ◌-◌, ◌<◌, [], length, min, IfOk, MatchResult, OnOk};
 ghost use Rattle.droid_frame.specs.Fields.{IsBytes, IsU32, u32_bytes};
 ghost use Rattle.droid_frame.specs.types.reply.Reply.TheVariants as replies;
-ghost use Rattle.droid_desk_tree.specs.Steps.{SendsPiece, SendsAll};
+ghost use Rattle.droid_desk_tree.specs.Steps.{IsPastEnd, IsShort, ReadsPiece, SendsAll, SendsPart, SendsPiece, StopsAt};
 ghost use Rattle.droid_desk_tree.specs.Told.{Read};
+ghost use Rattle.droid_desk_tree.specs.declared.left_out.LeftOut.TheVariants as reasons;
 
 use crate::exchange::Exchange;
-use crate::fault::{TreeFault, WalkFault};
+use crate::fault::WalkFault;
+use crate::left_out::{LeftOut, unread};
 use crate::tree::Tree;
-use crate::watcher::{LeftOut, Watcher};
+use crate::watcher::Watcher;
 use droid_frame::{Blob, Refusal, Reply};
 use std::alloc::{AllocError, Global};
 
@@ -42,7 +44,9 @@ pub(crate) fn send_pieces<T: Tree, X: Exchange, W: Watcher>(
     to: Target,
     path: &str,
 ) -> Result<Result<(), LeftOut>, WalkFault>
-    ensures { IfOk result (λ read. OnOk read (SendsAll T.tells X.asks to.profile to.file to.piece_size to.size path.now tree.old tree.new exchange.old exchange.new)) }
+    ensures { IfOk result (λ read. MatchResult read
+        (λ _. SendsAll T.tells X.asks W.hears to.profile to.file to.piece_size to.size path.now tree.old tree.new exchange.old exchange.new watcher.old watcher.new)
+        (λ why. SendsPart T.tells X.asks W.hears to.profile to.file to.piece_size to.size path.now why tree.old tree.new exchange.old exchange.new watcher.old watcher.new)) }
 {
     let mut from = 0;
     for index in 0..u32::MAX {
@@ -55,9 +59,9 @@ pub(crate) fn send_pieces<T: Tree, X: Exchange, W: Watcher>(
             Ok(_held) => from += u64::from(wanted),
             Err(why) => return Ok(Err(why)),
         }
-        watcher.took_bytes(wanted);
+        watcher.took_bytes(path, wanted);
     }
-    Ok(Err(LeftOut::Changed))
+    Err(WalkFault::Reply)
 }
 
 /// How many bytes the next piece has: as many as pieces have, or what is left.
@@ -71,7 +75,8 @@ fn next_len(size: u64, from: u64, piece_size: u32) -> u32
     }
 }
 
-/// Sees that a file of this size ends where all its pieces were read.
+/// Sees that a file of this size ends where all its pieces were read. Where they end before, who took it took pieces of no
+/// byte, and that is a fault of the reply.
 fn ends_here<T: Tree>(
     alloc: Global,
     tree: &mut T,
@@ -79,23 +84,27 @@ fn ends_here<T: Tree>(
     from: u64,
     size: u64,
 ) -> Result<Result<(), LeftOut>, WalkFault>
-    ensures told { IfOk result (λ read. OnOk read (T.tells tree.old (Read path.now from 1 []) tree.new)) }
-    ensures all { IfOk result (λ read. OnOk read (from ≡ size)) }
+    ensures all { OnOk result (from ≡ size) }
+    ensures told { IfOk result (λ read. MatchResult read
+        (λ _. T.tells tree.old (Read path.now from 1 []) tree.new)
+        (λ why. StopsAt T.tells IsPastEnd path.now from why tree.old tree.new)) }
 {
     if from != size {
-        return Ok(Err(LeftOut::Changed));
+        return Err(WalkFault::Reply);
     }
     let mut more = Vec::new(alloc);
     match tree.read(path, from, 1, &mut more) {
         Ok(()) => Ok(none_more(more.as_slice())),
-        Err(TreeFault::Memory) => Err(WalkFault::Memory),
-        Err(TreeFault::Unreadable) => Ok(Err(LeftOut::Unreadable)),
+        Err(fault) => {
+            let why = unread(fault)?;
+            Ok(Err(why))
+        }
     }
 }
 
 /// Nothing more came.
 fn none_more(more: &[u8]) -> Result<(), LeftOut>
-    ensures { OnOk result (more.now ≡ []) }
+    ensures { MatchResult result (λ _. more.now ≡ []) (λ why. (why ≡ reasons.Changed) × (0 < length more.now)) }
 {
     if more.is_empty() {
         Ok(())
@@ -116,20 +125,53 @@ fn send_piece<T: Tree, X: Exchange>(
     from: u64,
     wanted: u32,
 ) -> Result<Result<u32, LeftOut>, WalkFault>
-    ensures { IfOk result (λ sent. IfOk sent (λ held. SendsPiece T.tells X.asks to.profile to.file index path.now from wanted held tree.old tree.new exchange.old exchange.new)) }
+    ensures { IfOk result (λ sent. MatchResult sent
+        (λ held. SendsPiece T.tells X.asks to.profile to.file index path.now from wanted held tree.old tree.new exchange.old exchange.new)
+        (λ why. StopsAt T.tells (IsShort wanted) path.now from why tree.old tree.new × (exchange.new ≡ exchange.old))) }
 {
     let mut body = begun_body(alloc, to.profile, to.file, index, wanted)?;
+    match read_piece(tree, path, from, wanted, &mut body)? {
+        Ok(()) => {
+            let body = whole_body(body);
+            let reply = exchange.ask(PIECE, body)?;
+            let held = taken(reply)?;
+            Ok(Ok(held))
+        }
+        Err(why) => Ok(Err(why)),
+    }
+}
+
+/// Adds so many bytes of a file, from this one on. That they can't be read, or are fewer, is the inner error.
+fn read_piece<T: Tree>(
+    tree: &mut T,
+    path: &str,
+    from: u64,
+    wanted: u32,
+    body: &mut Vec<u8>,
+) -> Result<Result<(), LeftOut>, WalkFault>
+    ensures { IfOk result (λ read. MatchResult read
+        (λ _. ReadsPiece T.tells path.now from wanted body.old.items body.new.items tree.old tree.new)
+        (λ why. StopsAt T.tells (IsShort wanted) path.now from why tree.old tree.new)) }
+{
     let before = body.len();
-    if let Err(fault) = tree.read(path, from, wanted, &mut body) {
-        return unread(fault);
+    match tree.read(path, from, wanted, body) {
+        Ok(()) => Ok(all_came(body.len().saturating_sub(before), wanted as usize)),
+        Err(fault) => {
+            let why = unread(fault)?;
+            Ok(Err(why))
+        }
     }
-    if body.len().saturating_sub(before) != wanted as usize {
-        return Ok(Err(LeftOut::Changed));
+}
+
+/// As many bytes came as were wanted.
+fn all_came(count: usize, wanted: usize) -> Result<(), LeftOut>
+    ensures { MatchResult result (λ _. count ≡ wanted) (λ why. (why ≡ reasons.Changed) × (count ≢ wanted)) }
+{
+    if count == wanted {
+        Ok(())
+    } else {
+        Err(LeftOut::Changed)
     }
-    let body = whole_body(body);
-    let reply = exchange.ask(PIECE, body)?;
-    let held = taken(reply)?;
-    Ok(Ok(held))
 }
 
 /// The body of a request, which is all there.
@@ -150,16 +192,6 @@ fn taken(reply: Reply) -> Result<u32, WalkFault>
         Reply::Taken { held } => Ok(held),
         Reply::Refused(Refusal::Memory) => Err(WalkFault::Memory),
         _ => Err(WalkFault::Reply),
-    }
-}
-
-/// What comes of a piece that wasn't read.
-fn unread(fault: TreeFault) -> Result<Result<u32, LeftOut>, WalkFault>
-    ensures { IfOk result (λ sent. OnOk sent ⊥) }
-{
-    match fault {
-        TreeFault::Memory => Err(WalkFault::Memory),
-        TreeFault::Unreadable => Ok(Err(LeftOut::Unreadable)),
     }
 }
 

@@ -1,7 +1,8 @@
 //! How a tree is read.
 
-ghost use Rattle.std.specs.Prelude.{IfOk, OnOk};
-ghost use Rattle.droid_desk_tree.specs.Told.{Told, Listed, BytesCame};
+ghost use Rattle.std.specs.Prelude.{◌≡◌, IfErr, IfOk, OnOk};
+ghost use Rattle.droid_desk_tree.specs.Told.{Told, Listed, Unlisted, Unread, BytesCame};
+ghost use Rattle.droid_desk_tree.specs.declared.fault.TreeFault.TheVariants.{Unreadable};
 
 use crate::entry::Entry;
 use crate::fault::TreeFault;
@@ -15,7 +16,8 @@ pub trait Tree {
 
     /// The entries of a folder, in any order.
     fn entries(&mut self, alloc: Global, path: &str) -> Result<Vec<Entry>, TreeFault>
-        ensures { IfOk result (λ entries. tells self.old (Listed path.now entries.items) self.new) };
+        ensures listed { IfOk result (λ entries. tells self.old (Listed path.now entries.items) self.new) }
+        ensures unlisted { IfErr result (λ fault. fault ≡ Unreadable → tells self.old (Unlisted path.now) self.new) };
 
     /// Adds bytes of a file at the end: those from this one on, as many as are wanted, or fewer where the file ends
     /// before.
@@ -26,5 +28,6 @@ pub trait Tree {
         wanted: u32,
         bytes: &mut Vec<u8>,
     ) -> Result<(), TreeFault>
-        ensures { OnOk result (BytesCame tells self.old path.now from wanted bytes.old.items bytes.new.items self.new) };
+        ensures came { OnOk result (BytesCame tells self.old path.now from wanted bytes.old.items bytes.new.items self.new) }
+        ensures unread { IfErr result (λ fault. fault ≡ Unreadable → tells self.old (Unread path.now from wanted) self.new) };
 }

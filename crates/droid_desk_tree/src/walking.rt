@@ -1,7 +1,7 @@
 //! The walk over a whole tree.
 
 ghost use Rattle.std.specs.Prelude.{◌≡◌, [], ◌∷◌, IfOk, IsTrue};
-ghost use Rattle.droid_desk_tree.specs.Walks.{WalksWhole, top};
+ghost use Rattle.droid_desk_tree.specs.Walks.{Walks, WalksWhole, top};
 
 use crate::asking::make_profile;
 use crate::exchange::Exchange;
@@ -11,12 +11,12 @@ use crate::folders::{both, take_folder};
 use crate::place::{Place, add_place};
 use crate::tree::Tree;
 use crate::watcher::Watcher;
-use droid_frame::Text;
+use droid_frame::{HashKind, Text};
 use std::alloc::{AllocError, Global};
 use std::collections::VecDeque;
 
 /// How many folders a profile has at most, with the top, and one turn more to see that none is left.
-const TURNS: u32 = 100_002;
+pub(crate) const TURNS: u32 = 100_002;
 
 /// How a tree is submitted.
 #[derive(Clone, Copy, Debug)]
@@ -25,7 +25,9 @@ pub struct Options {
     pub scan_limit: u32,
     /// Whether a format with signatures may be found by its extension too.
     pub match_all: bool,
-    /// How many bytes each piece of a file has but the last: 1 to 1,048,576.
+    /// Which hash the files get.
+    pub hash: HashKind,
+    /// How many bytes each piece of a file has but the last: 1 to 4,194,304.
     pub piece_size: u32,
 }
 
@@ -47,11 +49,20 @@ pub fn walk<T: Tree, X: Exchange, W: Watcher>(
     watcher: &mut W,
     options: Options,
 ) -> Result<Walked, WalkFault>
+    // The requests are those of the tree as it was read, without what was left out; and that is what the watcher was told of.
+    ensures all { IfOk result (λ walked.
+        Walks T.tells X.asks W.hears options walked.profile walked.whole tree.old tree.new exchange.old exchange.new watcher.old watcher.new) }
     // Where nothing was left out, the requests are those of the tree as it was read.
-    ensures { IfOk result (λ walked. IsTrue walked.whole →
+    ensures whole { IfOk result (λ walked. IsTrue walked.whole →
         WalksWhole T.tells X.asks options walked.profile tree.old tree.new exchange.old exchange.new) }
 {
-    let profile = make_profile(alloc, exchange, options.scan_limit, options.match_all)?;
+    let profile = make_profile(
+        alloc,
+        exchange,
+        options.scan_limit,
+        options.match_all,
+        options.hash,
+    )?;
     let mut pending = only_the_top(alloc)?;
     let mut whole = true;
     for _ in 0..TURNS {
@@ -70,7 +81,7 @@ pub fn walk<T: Tree, X: Exchange, W: Watcher>(
 }
 
 /// The top, which is to be visited first.
-fn only_the_top(alloc: Global) -> Result<VecDeque<Place>, AllocError>
+pub(crate) fn only_the_top(alloc: Global) -> Result<VecDeque<Place>, AllocError>
     ensures { IfOk result (λ pending. pending.items ≡ top ∷ []) }
 {
     let mut pending = VecDeque::new(alloc);

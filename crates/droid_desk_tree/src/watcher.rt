@@ -1,30 +1,29 @@
 //! What is told while a tree is walked.
 
-use droid_frame::Refusal;
+ghost use Rattle.droid_desk_tree.specs.Heard.{Heard, Left, TookBytes, TookFolder, TookFile};
 
-/// Why something of a tree isn't in its profile.
-#[derive(Clone, Copy, Debug, PartialEq, Eq)]
-pub enum LeftOut {
-    /// It is neither a folder nor a regular file.
-    Kind,
-    /// Its name is no UTF-8 text.
-    Name,
-    /// The service refuses it, for its name, its path, its moment or its length.
-    Refused(Refusal),
-    /// It could not be opened or read. A folder is in the profile all the same, with nothing in it.
-    Unreadable,
-    /// Its length changed while it was read.
-    Changed,
-}
+use crate::left_out::LeftOut;
+use droid_frame::Reply;
 
 /// Who is told what a walk does.
 pub trait Watcher {
+    /// In the first state the watcher may be told this, and is then in the second. Of a watcher that says nothing of
+    /// it nothing is known.
+    ghost hears: { Self → Heard → Self → Type 0 } = { λ old heard new. Unit {0} };
+
     /// This was left out; the path may be no text.
-    fn left_out(&mut self, path: &[u8], why: LeftOut);
+    fn left_out(&mut self, path: &[u8], why: LeftOut)
+        ensures { hears self.old (Left path.now why) self.new };
 
-    /// So many bytes of files more were taken.
-    fn took_bytes(&mut self, count: u32);
+    /// So many bytes more of the file at this path were taken.
+    fn took_bytes(&mut self, path: &str, count: u32)
+        ensures { hears self.old (TookBytes path.now count) self.new };
 
-    /// This is in the profile now.
-    fn took(&mut self, path: &str);
+    /// The folder at this path is in the profile now.
+    fn took_folder(&mut self, path: &str)
+        ensures { hears self.old (TookFolder path.now) self.new };
+
+    /// The file at this path is in the profile now, and this was replied at its end.
+    fn took_file(&mut self, path: &str, found: &Reply)
+        ensures { hears self.old (TookFile path.now found.now) self.new };
 }

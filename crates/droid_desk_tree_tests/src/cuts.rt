@@ -1,23 +1,17 @@
 //! Files of no byte, of one, of a piece, and of one byte more.
 
 use crate::memory_tree::{MemoryTree, Row};
-use crate::notes::{Noting, Watching};
-use droid_desk_tree::{EntryKind, Options, walk};
+use crate::notes::{Noting, OPTIONS, Watching};
+use droid_desk_tree::{EntryKind, walk};
 use std::test::Fail;
 
-const OPTIONS: Options = Options {
-    scan_limit: 4,
-    match_all: false,
-    piece_size: 4,
-};
-
-/// The bytes of one file, and what is asked: CreateProfile has 5 bytes, AddFile 28 and the name, a piece 12 and its own,
+/// The bytes of one file, and what is asked: CreateProfile has 6 bytes, AddFile 28 and the name, a piece 12 and its own,
 /// Finish 8.
 const ROWS: [(&[u8], &str); 4] = [
-    (b"", "1:5 3:29 5:8 "),
-    (b"a", "1:5 3:29 4:13 5:8 "),
-    (b"abcd", "1:5 3:29 4:16 5:8 "),
-    (b"abcde", "1:5 3:29 4:16 4:13 5:8 "),
+    (b"", "1:6 3:29 5:8 "),
+    (b"a", "1:6 3:29 4:13 5:8 "),
+    (b"abcd", "1:6 3:29 4:16 5:8 "),
+    (b"abcde", "1:6 3:29 4:16 4:13 5:8 "),
 ];
 
 #[test]

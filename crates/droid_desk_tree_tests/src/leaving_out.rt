@@ -1,17 +1,11 @@
 //! What can't be taken is told, and the walk goes on.
 
 use crate::memory_tree::{MemoryTree, Row};
-use crate::notes::{Noting, Watching};
-use droid_desk_tree::{EntryKind, Options, walk};
+use crate::notes::{Noting, OPTIONS, Watching};
+use droid_desk_tree::{EntryKind, walk};
 use std::test::Fail;
 
-const OPTIONS: Options = Options {
-    scan_limit: 4,
-    match_all: false,
-    piece_size: 4,
-};
-
-const ROWS: [Row; 8] = [
+pub const ROWS: [Row; 8] = [
     ("", b"grows", EntryKind::File, 3, Some(b"abcd")),
     ("", b"shrinks", EntryKind::File, 6, Some(b"abcde")),
     ("", b"gone", EntryKind::File, 2, None),
@@ -34,7 +28,7 @@ fn left_out(rt: HostRuntime) -> Result<(), Fail> {
     let walked = walk(alloc, &mut tree, &mut service, &mut watcher, OPTIONS)?;
     assert!(rt; !walked.whole);
     assert!(rt; watcher.left_out.as_slice() == LEFT);
-    let asked = b"1:5 3:32 6:8 3:33 4:15 6:8 2:20 2:22 3:35 4:16 6:8 3:32 4:13 5:8 ".as_slice();
+    let asked = b"1:6 3:32 6:8 3:33 4:15 6:8 2:20 2:22 3:35 4:16 6:8 3:32 4:13 5:8 ".as_slice();
     assert!(rt; service.notes.as_slice() == asked);
     Ok(())
 }

@@ -1,7 +1,7 @@
 //! More entries than a profile has nodes.
 
-use crate::notes::{Noting, Watching};
-use droid_desk_tree::{Entry, EntryKind, Options, Tree, TreeFault, walk};
+use crate::notes::{Noting, OPTIONS, Watching};
+use droid_desk_tree::{Entry, EntryKind, Tree, TreeFault, WalkFault, count, walk};
 use droid_frame::Blob;
 use std::alloc::{AllocError, Global};
 use std::test::Fail;
@@ -49,6 +49,18 @@ fn folders(alloc: Global, count: u32) -> Result<Vec<Entry>, AllocError> {
 }
 
 #[test]
+fn as_many_as_a_profile_has_and_one_more(rt: HostRuntime) -> Result<(), Fail> {
+    let alloc = rt.alloc();
+    let mut full = ManyFolders { count: 100_000 };
+    let counted = count(alloc, &mut full, 100_000)?;
+    assert!(rt; counted.folders == 100_000 && counted.files == 0 && counted.left_out == 0);
+    let mut over = ManyFolders { count: 100_001 };
+    let refused = count(alloc, &mut over, 100_000);
+    assert!(rt; matches!(&refused, Err(WalkFault::Entries)));
+    Ok(())
+}
+
+#[test]
 fn one_too_many(rt: HostRuntime) -> Result<(), Fail> {
     let alloc = rt.alloc();
     let mut tree = ManyFolders { count: 1_001 };
@@ -56,12 +68,7 @@ fn one_too_many(rt: HostRuntime) -> Result<(), Fail> {
     service.quiet = true;
     service.limit = 1_000;
     let mut watcher = Watching::new(alloc);
-    let options = Options {
-        scan_limit: 4,
-        match_all: false,
-        piece_size: 4,
-    };
-    let walked = walk(alloc, &mut tree, &mut service, &mut watcher, options)?;
+    let walked = walk(alloc, &mut tree, &mut service, &mut watcher, OPTIONS)?;
     assert!(rt; !walked.whole && watcher.left_out.as_slice() == b"/001000 refused\n".as_slice());
     Ok(())
 }

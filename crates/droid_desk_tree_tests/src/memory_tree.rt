@@ -1,7 +1,8 @@
 //! Trees in memory.
 
-ghost use Rattle.std.specs.Prelude.{◌≤◌, OnOk, length};
+ghost use Rattle.std.specs.Prelude.{◌≡◌, ◌≤◌, IfErr, OnOk, length};
 ghost use Rattle.droid_desk_tree.specs.Told.{BytesCame};
+ghost use Rattle.droid_desk_tree.specs.declared.fault.TreeFault.TheVariants as faults;
 
 use droid_desk_tree::{Entry, EntryKind, Tree, TreeFault};
 use droid_frame::Blob;
@@ -37,7 +38,8 @@ impl Tree for MemoryTree<'_> {
         wanted: u32,
         bytes: &mut Vec<u8>,
     ) -> Result<(), TreeFault>
-        ensures { OnOk result (BytesCame (λ old told new. Unit {0}) self.old path.now from wanted bytes.old.items bytes.new.items self.new) }
+        ensures came { OnOk result (BytesCame (λ old told new. Unit {0}) self.old path.now from wanted bytes.old.items bytes.new.items self.new) }
+        ensures unread { IfErr result (λ fault. fault ≡ faults.Unreadable → Unit {0}) }
     {
         let Some(all) = bytes_of(self.rows, path) else {
             return Err(TreeFault::Unreadable);

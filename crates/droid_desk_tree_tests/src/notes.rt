@@ -1,8 +1,16 @@
 //! A service that notes what it is asked, and a watcher that notes what it is told.
 
-use droid_desk_tree::{Exchange, ExchangeFault, LeftOut, Watcher};
-use droid_frame::{Blob, HashValue, Limit, Method, Refusal, Reply, Texts};
+use droid_desk_tree::{Exchange, ExchangeFault, LeftOut, Options, Watcher};
+use droid_frame::{Blob, HashKind, HashValue, Limit, Method, Refusal, Reply, Texts};
 use std::alloc::{AllocError, Global};
+
+/// A walk in pieces of four bytes.
+pub const OPTIONS: Options = Options {
+    scan_limit: 4,
+    match_all: false,
+    hash: HashKind::Md5,
+    piece_size: 4,
+};
 
 /// It answers every request as a service without a name does, and refuses nodes past its limit.
 #[derive(Drop)]
@@ -63,13 +71,15 @@ fn note(alloc: Global, notes: &mut Vec<u8>, kind: u8, body: &[u8]) -> Result<(),
     Ok(())
 }
 
-/// It notes what was left out, and why.
+/// It notes what was left out, and why, and counts what was taken.
 #[derive(Drop)]
 pub struct Watching {
     pub alloc: Global,
     pub left_out: Vec<u8>,
     pub count: u64,
     pub bytes: u64,
+    pub folders: u64,
+    pub files: u64,
 }
 
 impl Watching {
@@ -79,6 +89,8 @@ impl Watching {
             left_out: Vec::new(alloc),
             count: 0,
             bytes: 0,
+            folders: 0,
+            files: 0,
         }
     }
 }
@@ -97,9 +109,17 @@ impl Watcher for Watching {
         let _ = self.left_out.extend_from_slice(word);
     }
 
-    fn took_bytes(&mut self, count: u32) {
+    fn took_bytes(&mut self, _path: &str, count: u32) {
         self.bytes = self.bytes.wrapping_add(u64::from(count));
     }
 
-    fn took(&mut self, _path: &str) {}
+    fn took_folder(&mut self, _path: &str) {
+        self.folders = self.folders.wrapping_add(1);
+    }
+
+    fn took_file(&mut self, _path: &str, found: &Reply) {
+        if matches!(found, Reply::Finished { .. }) {
+            self.files = self.files.wrapping_add(1);
+        }
+    }
 }

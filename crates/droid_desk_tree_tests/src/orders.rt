@@ -1,15 +1,9 @@
 //! What lies in a folder comes after it, and siblings come in the order of their names' bytes.
 
 use crate::memory_tree::{MemoryTree, Row};
-use crate::notes::{Noting, Watching};
-use droid_desk_tree::{EntryKind, Options, WalkFault, walk};
+use crate::notes::{Noting, OPTIONS, Watching};
+use droid_desk_tree::{EntryKind, WalkFault, walk};
 use std::test::Fail;
-
-const OPTIONS: Options = Options {
-    scan_limit: 4,
-    match_all: false,
-    piece_size: 4,
-};
 
 /// Names of different lengths, so that what is asked shows their order.
 const ROWS: [Row; 6] = [
@@ -34,7 +28,8 @@ fn orders(rt: HostRuntime) -> Result<(), Fail> {
     let mut watcher = Watching::new(alloc);
     let walked = walk(alloc, &mut tree, &mut service, &mut watcher, OPTIONS)?;
     assert!(rt; walked.whole && walked.profile == 1);
-    let asked = b"1:5 2:18 3:32 5:8 2:17 2:22 3:29 5:8 3:33 5:8 ".as_slice();
+    assert!(rt; watcher.folders == 3 && watcher.files == 3);
+    let asked = b"1:6 2:18 3:32 5:8 2:17 2:22 3:29 5:8 3:33 5:8 ".as_slice();
     assert!(rt; service.notes.as_slice() == asked);
     Ok(())
 }

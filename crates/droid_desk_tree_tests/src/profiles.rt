@@ -5,7 +5,7 @@ use crate::notes::Watching;
 use droid_core::{Limits, Service};
 use droid_desk_profile::profile;
 use droid_desk_tree::{EntryKind, Options};
-use droid_frame::Unsteady;
+use droid_frame::{HashKind, Unsteady};
 use droid_pronom::Registry;
 use droid_pronom_sample::SAMPLE;
 use std::alloc::Global;
@@ -20,6 +20,7 @@ const LIMITS: Limits = Limits {
 const OPTIONS: Options = Options {
     scan_limit: 65_536,
     match_all: false,
+    hash: HashKind::Md5,
     piece_size: 4,
 };
 
@@ -90,5 +91,50 @@ fn names_of_255_and_256_bytes(rt: HostRuntime) -> Result<(), Fail> {
         &mut output,
     )?;
     assert!(rt; !whole && watcher.count == 1 && watcher.left_out.len() == 266);
+    Ok(())
+}
+
+/// Each hash, the name of its column, and what is there for the bytes `abc`. (The digests are those of RFC 1321's test suite
+/// and of FIPS 180-4's example.)
+const HASHES: [(HashKind, &str, &str); 3] = [
+    (HashKind::Nothing, ",\"HASH\",", ",\"\","),
+    (
+        HashKind::Md5,
+        ",\"MD5_HASH\",",
+        ",\"900150983cd24fb0d6963f7d28e17f72\",",
+    ),
+    (
+        HashKind::Sha256,
+        ",\"SHA256_HASH\",",
+        ",\"ba7816bf8f01cfea414140de5dae2223b00361a396177a9cb410ff61f20015ad\",",
+    ),
+];
+
+#[test]
+fn hashes(rt: HostRuntime) -> Result<(), Fail> {
+    let alloc = rt.alloc();
+    let rows: [Row; 1] = [("", b"abc", EntryKind::File, 3, Some(b"abc"))];
+    for (hash, column, digest) in &HASHES {
+        let mut tree = MemoryTree { rows: &rows };
+        let mut watcher = Watching::new(alloc);
+        let mut output = Unsteady::new(Vec::new(alloc));
+        let options = Options {
+            hash: *hash,
+            ..OPTIONS
+        };
+        let whole = profile(
+            alloc,
+            service(alloc)?,
+            &mut tree,
+            &mut watcher,
+            options,
+            &mut output,
+        )?;
+        let text = std::str::from_utf8(output.stream.as_slice())?;
+        assert!(rt;
+            whole && text.contains(column) && text.contains(digest),
+            "{column}"
+        );
+    }
     Ok(())
 }

@@ -22,7 +22,7 @@ print_refusal-requires c =
     let e = c.in_ok-on_reply.ensures in
     let reply = e.spelled.0 in
     let is = sym (e.heard reply e.spelled.1) ∙ c.in-Refused.is in
-    let now = refusal_now c.args.client.now c.on_reply.new.self c.args.frame.client c.args.frame.number reply is (e.after reply e.spelled.1) in
+    let now = refusal_now c.args.client.now c.on_reply.new.self c.args.frame.version c.args.frame.client c.args.frame.number reply is (e.after reply e.spelled.1) in
     some_of _ now.0 now.2
 
 pub returns-in_err-print_refusal-in-Refused-clause-none : goal.returns-in_err-print_refusal-in-Refused-clause-none
@@ -38,7 +38,7 @@ returns-in_ok-print_held-in-Answered-clause-takes c =
     let e = c.in_ok-on_reply.ensures in
     let reply = e.spelled.0 in
     let is = sym (e.heard reply e.spelled.1) ∙ c.in-Answered.is in
-    let now = answer_now c.args.client.now c.on_reply.new.self c.args.frame.client c.args.frame.number reply is (e.after reply e.spelled.1) in
+    let now = answer_now c.args.client.now c.on_reply.new.self c.args.frame.version c.args.frame.client c.args.frame.number reply is (e.after reply e.spelled.1) in
     took c.args.client.now c.args.frame _ reply heard.Answered _ e.spelled.1 is tt (e.after reply e.spelled.1) (c.in_ok-print_held-in-Answered.ensures reply now)
 
 pub returns-in_ok-print_refusal-in-Refused-clause-takes : goal.returns-in_ok-print_refusal-in-Refused-clause-takes
@@ -46,6 +46,6 @@ returns-in_ok-print_refusal-in-Refused-clause-takes c =
     let e = c.in_ok-on_reply.ensures in
     let reply = e.spelled.0 in
     let is = sym (e.heard reply e.spelled.1) ∙ c.in-Refused.is in
-    let now = refusal_now c.args.client.now c.on_reply.new.self c.args.frame.client c.args.frame.number reply is (e.after reply e.spelled.1) in
+    let now = refusal_now c.args.client.now c.on_reply.new.self c.args.frame.version c.args.frame.client c.args.frame.number reply is (e.after reply e.spelled.1) in
     took c.args.client.now c.args.frame _ reply heard.Refused _ e.spelled.1 is tt (e.after reply e.spelled.1)
     (c.in_ok-print_refusal-in-Refused.ensures now.0 now.2 ∙ ap (λ (r : Reply). answer_line (Some r)) (sym now.1))

@@ -1,18 +1,18 @@
-use Rattle.std.proofs.Common.{◌≡◌, length, arith, length-append, ap, subst, ◌∙◌}
+use Rattle.std.proofs.Common.{subst, ◌∙◌}
 use Rattle.droid_frame.specs.types.reply.Reply.{Reply}
 use Rattle.droid_frame.specs.types.request.Request.TheVariants.{Piece}
+use Rattle.droid_desk_tree.specs.Steps.{ReadsPiece}
 use Rattle.droid_desk_tree.proofs.Sending.{spells_piece}
 use Rattle.droid_desk_tree.proofs.pieces.send_piece.Goals as goal
 
-pub returns : goal.returns
-returns g c =
-    let came = c.in_default.ensures in
-    let counted : length came.bytes ≡ c.args.wanted = omega (arith, ap length came.added, length-append c.in_ok-body.body.items came.bytes, c.len-before.ensures, c.len.ensures, c.saturating_sub.ensures, c.if-saturating_sub-wanted.false) in
-    let spells = spells_piece c.args.to.profile c.args.to.file c.args.index c.in_ok-body.body.items came.bytes c.whole_body-body.result c.in_ok-body.ensures.begun
-    (c.whole_body-body.ensures.same ∙ came.added) c.in_ok-body.ensures.spelled c.whole_body-body.ensures.bytes in
+pub returns-in_ok-held-in-Ok : goal.returns-in_ok-held-in-Ok
+returns-in_ok-held-in-Ok g c =
+    let read : ReadsPiece g.T.Tree.tells c.args.path.now c.args.from c.args.wanted c.in_ok-body.body.items c.read_piece.new.body.items c.args.tree.now c.read_piece.new.tree = rw c.in-Ok.is at c.in_ok-read_piece.ensures in
+    let spells = spells_piece c.args.to.profile c.args.to.file c.args.index c.in_ok-body.body.items read.bytes c.whole_body-body.result c.in_ok-body.ensures.begun
+    (c.whole_body-body.ensures.same ∙ read.added) c.in_ok-body.ensures.spelled c.whole_body-body.ensures.bytes in
     record {
-      bytes = came.bytes;
-      counted = counted;
-      told = came.told;
-      asked = subst (λ (reply : Reply). g.X.Exchange.asks c.args.exchange.now (Piece c.args.to.profile c.args.to.file c.args.index came.bytes, reply) c.ask.new.self) c.in_ok-held.ensures (c.in_ok-reply.ensures _ spells);
+      bytes = read.bytes;
+      counted = read.counted;
+      told = read.told;
+      asked = subst (λ (reply : Reply). g.X.Exchange.asks c.args.exchange.now (Piece c.args.to.profile c.args.to.file c.args.index read.bytes, reply) c.ask.new.self) c.in_ok-held-in-Ok.ensures (c.in_ok-reply-in-Ok.ensures _ spells);
     }

@@ -2,4 +2,4 @@ use Rattle.droid_desk_tree.specs.Steps.{SendsFront}
 use Rattle.droid_desk_tree.proofs.pieces.send_pieces.Given as goal
 
 abbrev pub invariant-loop-index : goal.invariant-loop-index
-invariant-loop-index g l = SendsFront g.T.Tree.tells g.X.Exchange.asks l.to.profile l.to.file l.to.piece_size l.to.size l.path l.index l.from l.fn.tree l.tree l.fn.exchange l.exchange
+invariant-loop-index g l = SendsFront g.T.Tree.tells g.X.Exchange.asks g.W.Watcher.hears l.to.profile l.to.file l.to.piece_size l.to.size l.path l.index l.from l.fn.tree l.tree l.fn.exchange l.exchange l.fn.watcher l.watcher

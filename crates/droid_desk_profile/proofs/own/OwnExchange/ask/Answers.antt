@@ -7,4 +7,4 @@ pub returns : goal.returns
 returns c = λ request spelled.
     let small : c.args.self.now.number < 2 ^ 63 = omega (arith, c.if-number-ge-NUMBER_LIMIT.false) in
     let new : Own = record { service = c.handle-reply.new.self; number = c.args.self.now.number + 1 } in
-    request_answered c.args.self.now new (record { version = 1; kind = c.args.kind; client = 1; number = c.args.self.now.number; body = c.args.body }) request c.handle-reply.result refl refl small refl spelled c.handle-reply.ensures.handles
+    request_answered c.args.self.now new (record { version = 2; kind = c.args.kind; client = 1; number = c.args.self.now.number; body = c.args.body }) request c.handle-reply.result refl refl refl small refl spelled c.handle-reply.ensures.handles

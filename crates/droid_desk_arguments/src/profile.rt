@@ -1,0 +1,147 @@
+//! The command that profiles a folder: its words, and what they ask for.
+
+ghost use Rattle.std.specs.Prelude.{◌≡◌, IfOk, IfSome, codes, false, option_map};
+ghost use Rattle.clap.specs.Words.{app_of, found_of, one_of, rows_of, rule_of};
+ghost use Rattle.clap.specs.declared.builder.command.Command.TheViews.{out-Command};
+ghost use Rattle.droid_desk_arguments.specs.Asking.{IsAskedBy, IsFlag, IsHash};
+ghost use Rattle.droid_desk_arguments.specs.Commands.{flag_named, folder_word, limit_option, option_named, profile_command, profile_input};
+
+use crate::arguments::{Asked, REGISTRY, number, registry};
+use crate::profile_help::{
+    FOLDER_HELP, HASH_HELP, LIMIT_HELP, MATCH_ALL_HELP, OUTPUT_HELP, OWN_REGISTRY_HELP,
+    PROFILE_ABOUT, PROFILE_HELP, QUIET_HELP,
+};
+use clap::{Arg, ArgAction, ArgMatches, Command};
+use droid_frame::HashKind;
+use std::alloc::{AllocError, Global};
+
+// The names of the command, of its word and of its options.
+pub(crate) const PROFILE: &str = "profile";
+
+const FOLDER: &str = "folder";
+
+const LIMIT: &str = "limit";
+
+const MATCH_ALL: &str = "match-all";
+
+const HASH: &str = "hash";
+
+const OUTPUT: &str = "output";
+
+const QUIET: &str = "quiet";
+
+/// How many bytes at each end of a file are looked at where the command line names no number.
+const DEFAULT_LIMIT: u32 = 65_536;
+
+pub(crate) fn profile_asked<'a>(profile: &ArgMatches<'a>) -> Option<Asked<'a>>
+    ensures { IfSome result (λ asked. IsAskedBy (codes "profile") (rows_of (found_of profile.now)) asked) }
+{
+    let folder = profile.get_str(FOLDER)?;
+    let registry = profile.get_str(REGISTRY);
+    let limit = profile.get_one(LIMIT).unwrap_or(DEFAULT_LIMIT);
+    let match_all = flag_of(profile, MATCH_ALL);
+    let hash_word = profile.get_str(HASH);
+    let hash = hash_of(hash_word)?;
+    let output = profile.get_str(OUTPUT);
+    let quiet = flag_of(profile, QUIET);
+    Some(Asked::Profile {
+        folder,
+        registry,
+        limit,
+        match_all,
+        hash,
+        output,
+        quiet,
+    })
+}
+
+/// The hash that this word names: MD5 without one. Of another word than `md5`, `sha256` and `none` there is none.
+fn hash_of(word: Option<&str>) -> Option<HashKind>
+    ensures { IfSome result (λ hash. IsHash (option_map (λ text. text.now) word.entry) hash) }
+{
+    let Some(word) = word else {
+        return Some(HashKind::Md5);
+    };
+    if word == "md5" {
+        return Some(HashKind::Md5);
+    }
+    if word == "sha256" {
+        return Some(HashKind::Sha256);
+    }
+    if word == "none" {
+        return Some(HashKind::Nothing);
+    }
+    None
+}
+
+/// Whether a flag is set.
+fn flag_of(matches: &ArgMatches<'_>, name: &str) -> bool
+    ensures { IsFlag (one_of name.now (rows_of (found_of matches.now))) result }
+{
+    matches.get_flag(name)
+}
+
+pub(crate) fn profile<'a>(alloc: Global) -> Result<Command<'a>, AllocError>
+    ensures shape { IfOk result (λ c. app_of c ≡ profile_command) }
+    ensures local { IfOk result (λ c. (out-Command c).has_globals ≡ false) }
+{
+    input(alloc)?
+        .arg(flag(alloc, MATCH_ALL, MATCH_ALL_HELP))?
+        .arg(named(alloc, HASH, "HASH", HASH_HELP))?
+        .arg(named(alloc, OUTPUT, "FILE", OUTPUT_HELP))?
+        .arg(flag(alloc, QUIET, QUIET_HELP))
+}
+
+/// The command with what is profiled, and by what.
+fn input<'a>(alloc: Global) -> Result<Command<'a>, AllocError>
+    ensures shape { IfOk result (λ c. app_of c ≡ profile_input) }
+    ensures local { IfOk result (λ c. (out-Command c).has_globals ≡ false) }
+{
+    Command::new(alloc, PROFILE)
+        .about(PROFILE_ABOUT)
+        .after_help(PROFILE_HELP)
+        .arg(folder(alloc))?
+        .arg(registry(alloc, OWN_REGISTRY_HELP))?
+        .arg(limit(alloc))
+}
+
+fn folder<'a>(alloc: Global) -> Arg<'a>
+    ensures rule { rule_of result ≡ folder_word }
+    ensures local { result.global ≡ false }
+{
+    Arg::new(alloc, FOLDER)
+        .value_name("DIR")
+        .help(FOLDER_HELP)
+        .action(ArgAction::Set)
+        .required(true)
+}
+
+fn limit<'a>(alloc: Global) -> Arg<'a>
+    ensures rule { rule_of result ≡ limit_option }
+    ensures local { result.global ≡ false }
+{
+    number(alloc, LIMIT, "BYTES", LIMIT_HELP, 1, 65_536)
+}
+
+/// An option with one value.
+fn named<'a>(alloc: Global, name: &'a str, value: &'a str, help: &'a str) -> Arg<'a>
+    ensures rule { rule_of result ≡ option_named name.entry.now }
+    ensures local { result.global ≡ false }
+{
+    Arg::new(alloc, name)
+        .long(name)
+        .value_name(value)
+        .help(help)
+        .action(ArgAction::Set)
+}
+
+/// An option without a value.
+fn flag<'a>(alloc: Global, name: &'a str, help: &'a str) -> Arg<'a>
+    ensures rule { rule_of result ≡ flag_named name.entry.now }
+    ensures local { result.global ≡ false }
+{
+    Arg::new(alloc, name)
+        .long(name)
+        .help(help)
+        .action(ArgAction::SetTrue)
+}

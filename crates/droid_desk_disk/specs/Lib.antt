@@ -1,0 +1,4 @@
+pub mod Given
+pub mod Machine
+pub mod Said
+pub mod Told

@@ -1,0 +1,134 @@
+//! The profile of a folder, written to standard output or to a file.
+
+ghost use Rattle.std.specs.Prelude.{◌≡◌, []};
+ghost use Rattle.droid_desk_profile.specs.Setting.{Setting};
+ghost use Rattle.droid_desk_profile.specs.Standing.{StandsFor};
+ghost use Rattle.droid_desk_profile.specs.Profiled.{WritesProfile};
+
+use crate::ending::Profiled;
+use droid_desk_disk::{Folder, Output, System};
+use droid_desk_profile::{ProfileFault, Service, profile};
+use droid_desk_telling::{Teller, Telling};
+use droid_desk_tree::{Options, Tree, WalkFault, Watcher, count};
+use droid_frame::{HashKind, SteadyWrite, Unsteady};
+use std::alloc::Global;
+use std::fs::{self, File, Files};
+use std::io;
+use std::time::Clock;
+
+/// How many bytes of a file are held at a time.
+const PIECE_SIZE: u32 = 1_048_576;
+
+/// How many folders and files a profile has at most.
+const NODE_LIMIT: u64 = 100_000;
+
+/// What is to be profiled, and how.
+#[derive(Clone, Copy)]
+pub struct Wanted<'a> {
+    /// The path of the folder.
+    pub folder: &'a str,
+    /// How many bytes at each end of a file are looked at: 1 to 65,536.
+    pub limit: u32,
+    /// Whether a format with signatures may be found by its extension too.
+    pub match_all: bool,
+    /// Which hash the files get.
+    pub hash: HashKind,
+    /// The file that is written, or `None` for standard output.
+    pub output: Option<&'a str>,
+    /// How much is told on standard error, beside what is left out.
+    pub telling: Telling,
+}
+
+/// Profiles a folder of this machine by a new service, and tells on standard error what is left out. A file is complete at
+/// the end, or not there.
+pub fn profile_folder<R>(rt: &R, service: Service, wanted: Wanted<'_>) -> Profiled
+where
+    R: Files<File = File> + Clock + Print + Eprint + AllocGlobal,
+{
+    if !is_folder(rt, wanted.folder) {
+        return Profiled::NoFolder;
+    }
+    match wanted.output {
+        Some(path) => profile_to_file(rt, service, wanted, path),
+        None => profile_to(rt, service, wanted, &mut Unsteady::new(io::writer(rt))),
+    }
+}
+
+/// Whether there is such a folder.
+fn is_folder<R: Files>(rt: &R, path: &str) -> bool {
+    match fs::metadata(rt, path) {
+        Ok(metadata) => metadata.is_dir(),
+        Err(_) => false,
+    }
+}
+
+/// Writes the profile to a file, which is there once it is complete.
+fn profile_to_file<R>(rt: &R, service: Service, wanted: Wanted<'_>, path: &str) -> Profiled
+where
+    R: Files<File = File> + Clock + Eprint + AllocGlobal,
+{
+    let mut output = match Output::create(rt.alloc(), rt, path) {
+        Ok(output) => output,
+        Err(fault) => return Profiled::NoOutput(fault),
+    };
+    let profiled = profile_to(rt, service, wanted, &mut output);
+    if !profiled.is_written() {
+        output.give_up();
+        return profiled;
+    }
+    match output.complete() {
+        Ok(()) => profiled,
+        Err(fault) => Profiled::NoOutput(fault),
+    }
+}
+
+/// Writes the profile of a folder in which there aren't too many folders and files.
+fn profile_to<R, O: SteadyWrite>(
+    rt: &R,
+    service: Service,
+    wanted: Wanted<'_>,
+    writer: &mut O,
+) -> Profiled
+where
+    R: Files<File = File> + Clock + Eprint + AllocGlobal,
+{
+    let alloc = rt.alloc();
+    let Ok(mut tree) = Folder::new(alloc, System::new(rt), wanted.folder) else {
+        return Profiled::Fault(ProfileFault::Walk(WalkFault::Memory));
+    };
+    let mut teller = Teller::new(rt, alloc, wanted.telling);
+    match count(alloc, &mut tree, NODE_LIMIT) {
+        Ok(counted) => teller.expect(counted),
+        Err(fault) => return Profiled::Fault(ProfileFault::Walk(fault)),
+    }
+    let options = Options {
+        scan_limit: wanted.limit,
+        match_all: wanted.match_all,
+        hash: wanted.hash,
+        piece_size: PIECE_SIZE,
+    };
+    let profiled = profile_of(alloc, service, &mut tree, &mut teller, options, writer);
+    teller.end();
+    profiled
+}
+
+/// Profiles a tree by a new service.
+pub fn profile_of<T: Tree, W: Watcher, O: SteadyWrite>(
+    alloc: Global,
+    service: Service,
+    tree: &mut T,
+    watcher: &mut W,
+    options: Options,
+    writer: &mut O,
+) -> Profiled
+    // Where all is there, the text is the definition's export of a profile that has exactly the tree's folders and files,
+    // each file with its bytes as they were read.
+    ensures whole { (setting : Setting) → StandsFor setting service [] → result ≡ Profiled.Whole →
+        WritesProfile T.tells setting options tree.old tree.new (O.contents writer.old) (O.contents writer.new) }
+{
+    match profile(alloc, service, tree, watcher, options, writer) {
+        Ok(true) => Profiled::Whole,
+        Ok(false) => Profiled::Partly,
+        Err(fault) => Profiled::Fault(fault),
+    }
+}

@@ -1,0 +1,56 @@
+-- A walk that left nothing out.
+use Rattle.std.proofs.Common.{◌≡◌, ℕ, Bool, true, List, [], ◌∷◌, map, Option, Some, None, refl, sym, ◌∙◌}
+use Rattle.std.specs.Prelude.{IsPermutation, is_some}
+use Rattle.std.specs.List.{list_all, AllByRecursion}
+use Rattle.std.proofs.lemmas.Bool.{and_parts}
+use Rattle.droid_desk_tree.specs.Asked.{Asked}
+use Rattle.droid_desk_tree.specs.Heard.{Heard}
+use Rattle.droid_desk_tree.specs.Told.{Told}
+use Rattle.droid_desk_tree.specs.Visits.{Kid, Subfolder, WholeFile, OtherKind, NoText, RefusedFolder, RefusedFile, DroppedFile, Visit, AreThose, IsKid, IsOutcome, IsVisit, IsVisited, entry_of, is_full, is_taken}
+use Rattle.droid_desk_tree.specs.Walks.{Walks, WalksWhole}
+use Rattle.droid_desk_tree.specs.declared.entry.Entry.{Entry}
+use Rattle.droid_desk_tree.specs.declared.walking.Options.{Options}
+
+module _ (piece_size : ℕ) where
+  kid_taken : (kid : Kid) → is_taken kid ≡ true → IsOutcome piece_size kid → IsKid piece_size kid
+  kid_taken (Subfolder entry number) taken is = is
+  kid_taken (WholeFile entry number sent found) taken is = is
+  kid_taken (OtherKind entry) taken is = absurd cc
+  kid_taken (NoText entry) taken is = absurd cc
+  kid_taken (RefusedFolder entry refusal) taken is = absurd cc
+  kid_taken (RefusedFile entry refusal) taken is = absurd cc
+  kid_taken (DroppedFile entry number sent stop) taken is = absurd cc
+
+  kids_taken : (kids : List Kid) → list_all is_taken kids ≡ true → AllByRecursion (IsOutcome piece_size) kids → AllByRecursion (IsKid piece_size) kids
+  kids_taken [] taken are = tt
+  kids_taken (kid ∷ kids) taken are = let both = and_parts (is_taken kid) (list_all is_taken kids) taken in (kid_taken kid both.0 are.0, kids_taken kids both.1 are.1)
+
+  record Listed (told : Option (List Entry)) (entries : List Entry) : Type 0 where
+    listed : List Entry
+    its : told ≡ Some listed
+    same : IsPermutation listed entries
+
+  was_listed : (told : Option (List Entry)) (entries : List Entry) → is_some told ≡ true → AreThose told entries → Listed told entries
+  was_listed None entries is same = absurd cc
+  was_listed (Some listed) entries is same = record { listed = listed; its = refl; same = same }
+
+  visit_full : (visit : Visit) → is_full visit ≡ true → IsVisit piece_size visit → IsVisited piece_size visit
+  visit_full visit full is =
+      let both = and_parts (is_some visit.told) (list_all is_taken visit.kids) full in
+      let all = was_listed visit.told (map entry_of visit.kids) both.0 is.same in
+      record { told = all.listed; listed = all.its; same = all.same; in_order = is.in_order; kids = kids_taken visit.kids both.1 is.kids }
+
+  visits_full : (visits : List Visit) → list_all is_full visits ≡ true → AllByRecursion (IsVisit piece_size) visits → AllByRecursion (IsVisited piece_size) visits
+  visits_full [] full are = tt
+  visits_full (visit ∷ visits) full are = let both = and_parts (is_full visit) (list_all is_full visits) full in (visit_full visit both.0 are.0, visits_full visits both.1 are.1)
+
+pub walks_whole : {T X W : Type 0} (tells : T → Told → T → Type 0) (asks : X → Asked → X → Type 0) (hears : W → Heard → W → Type 0) (options : Options) (profile : ℕ) (whole : Bool)
+    (tree tree_after : T) (exchange exchange_after : X) (watcher watcher_after : W) → Walks tells asks hears options profile whole tree tree_after exchange exchange_after watcher watcher_after → whole ≡ true
+    → WalksWhole tells asks options profile tree tree_after exchange exchange_after
+walks_whole tells asks hears options profile whole tree tree_after exchange exchange_after watcher watcher_after walks is = record {
+  visits = walks.visits;
+  each_folder = walks.each_folder;
+  visited = visits_full options.piece_size walks.visits (sym walks.whole_is ∙ is) walks.visited;
+  told = walks.told;
+  asked = walks.asked;
+}

@@ -1,0 +1,193 @@
+//! A first pass that only counts.
+
+ghost use Rattle.std.specs.Prelude.{◌≡◌, ◌+◌, ◌<◌, ◌≤◌, IfOk, OnOk};
+ghost use Rattle.droid_desk_tree.specs.Counts.{CountsItem, CountsItems, CountsFolder, CountsTree};
+
+use crate::entry::{Entry, EntryKind};
+use crate::fault::WalkFault;
+use crate::listing::{name_of, read_folder};
+use crate::place::{Place, add_place, path_below};
+use crate::tree::Tree;
+use crate::walking::{TURNS, only_the_top};
+use std::alloc::Global;
+use std::collections::VecDeque;
+
+/// How much there is in a tree, without its top.
+#[derive(Clone, Copy, Debug)]
+pub struct Counted {
+    /// How many folders.
+    pub folders: u64,
+    /// How many files.
+    pub files: u64,
+    /// How many bytes the files are said to have together.
+    pub bytes: u64,
+    /// How many things a walk leaves out by what they are: entries of other kinds, entries whose names are no text, and
+    /// what is in a folder that can't be read.
+    pub left_out: u64,
+}
+
+/// Counts what is in a tree, of at most so many folders and files together. It lists each folder once, in the order of a
+/// walk, reads no file, and tells nobody.
+pub fn count<T: Tree>(alloc: Global, tree: &mut T, limit: u64) -> Result<Counted, WalkFault>
+    // The numbers are those of the tree as it was listed.
+    ensures counted { IfOk result (λ counted. CountsTree T.tells counted tree.old tree.new) }
+    ensures within { IfOk result (λ counted. counted.folders + counted.files ≤ limit) }
+{
+    let mut pending = only_the_top(alloc)?;
+    let mut counted = Counted {
+        folders: 0,
+        files: 0,
+        bytes: 0,
+        left_out: 0,
+    };
+    for _ in 0..TURNS {
+        let Some(place) = pending.pop_front() else {
+            return Ok(counted);
+        };
+        counted = count_folder(alloc, tree, &place, counted, limit, &mut pending)?;
+    }
+    Err(WalkFault::Folders)
+}
+
+/// Counts what is in one folder, and keeps the folders in it as pending.
+fn count_folder<T: Tree>(
+    alloc: Global,
+    tree: &mut T,
+    place: &Place,
+    before: Counted,
+    limit: u64,
+    pending: &mut VecDeque<Place>,
+) -> Result<Counted, WalkFault>
+    requires { before.folders + before.files ≤ limit }
+    ensures counted { IfOk result (λ after. CountsFolder T.tells place.now.path before after tree.old tree.new pending.old.items pending.new.items) }
+    ensures within { IfOk result (λ after. after.folders + after.files ≤ limit) }
+{
+    match read_folder(alloc, tree, place.path.as_str())? {
+        Ok(entries) => {
+            let entries = entries.as_slice();
+            let after = count_entries(alloc, place, entries, before, limit, pending)?;
+            Ok(after)
+        }
+        Err(_) => {
+            let after = one_left_out(before)?;
+            Ok(after)
+        }
+    }
+}
+
+/// Counts entries of one folder.
+fn count_entries(
+    alloc: Global,
+    place: &Place,
+    entries: &[Entry],
+    before: Counted,
+    limit: u64,
+    pending: &mut VecDeque<Place>,
+) -> Result<Counted, WalkFault>
+    requires { before.folders + before.files ≤ limit }
+    ensures counted { IfOk result (λ after. CountsItems place.now.path entries.now before after pending.old.items pending.new.items) }
+    ensures within { IfOk result (λ after. after.folders + after.files ≤ limit) }
+{
+    let mut counted = before;
+    for entry in entries {
+        counted = count_entry(alloc, place, entry, counted, limit, pending)?;
+    }
+    Ok(counted)
+}
+
+/// Counts one entry, and keeps a folder as pending.
+fn count_entry(
+    alloc: Global,
+    place: &Place,
+    entry: &Entry,
+    before: Counted,
+    limit: u64,
+    pending: &mut VecDeque<Place>,
+) -> Result<Counted, WalkFault>
+    requires { before.folders + before.files ≤ limit }
+    ensures counted { IfOk result (λ after. CountsItem place.now.path entry.now before after pending.old.items pending.new.items) }
+    ensures within { IfOk result (λ after. after.folders + after.files ≤ limit) }
+{
+    let Some(name) = name_of(entry) else {
+        let after = one_left_out(before)?;
+        return Ok(after);
+    };
+    match entry.kind {
+        EntryKind::Folder => {
+            let after = one_folder(before, limit)?;
+            let path = path_below(alloc, place.path.as_str(), name)?;
+            add_place(pending, path, 0)?;
+            Ok(after)
+        }
+        EntryKind::File => {
+            let after = one_file(before, entry.len, limit)?;
+            Ok(after)
+        }
+        EntryKind::Other => {
+            let after = one_left_out(before)?;
+            Ok(after)
+        }
+    }
+}
+
+/// One folder more, within the limit.
+fn one_folder(before: Counted, limit: u64) -> Result<Counted, WalkFault>
+    ensures counted { IfOk result (λ after. after ≡ record before { folders = before.folders + 1 }) }
+    ensures within { IfOk result (λ after. after.folders + after.files ≤ limit) }
+{
+    see_room(before, limit)?;
+    Ok(Counted {
+        folders: before.folders + 1,
+        files: before.files,
+        bytes: before.bytes,
+        left_out: before.left_out,
+    })
+}
+
+/// One file more of so many bytes, within the limit.
+fn one_file(before: Counted, len: u64, limit: u64) -> Result<Counted, WalkFault>
+    ensures counted { IfOk result (λ after. after ≡ record before { files = before.files + 1; bytes = before.bytes + len }) }
+    ensures within { IfOk result (λ after. after.folders + after.files ≤ limit) }
+{
+    see_room(before, limit)?;
+    Ok(Counted {
+        folders: before.folders,
+        files: before.files + 1,
+        bytes: sum_of(before.bytes, len)?,
+        left_out: before.left_out,
+    })
+}
+
+/// One more that is left out.
+fn one_left_out(before: Counted) -> Result<Counted, WalkFault>
+    ensures { IfOk result (λ after. after ≡ record before { left_out = before.left_out + 1 }) }
+{
+    Ok(Counted {
+        folders: before.folders,
+        files: before.files,
+        bytes: before.bytes,
+        left_out: sum_of(before.left_out, 1)?,
+    })
+}
+
+/// Sees that one folder or file more is within the limit.
+fn see_room(counted: Counted, limit: u64) -> Result<(), WalkFault>
+    ensures { OnOk result (counted.folders + counted.files < limit) }
+{
+    let nodes = sum_of(counted.folders, counted.files)?;
+    if nodes < limit {
+        Ok(())
+    } else {
+        Err(WalkFault::Entries)
+    }
+}
+
+/// The sum of two numbers.
+fn sum_of(first: u64, second: u64) -> Result<u64, WalkFault>
+    ensures { IfOk result (λ sum. sum ≡ first + second) }
+{
+    match first.checked_add(second) {
+        Some(sum) => Ok(sum),
+        None => Err(WalkFault::Bytes),
+    }
+}
