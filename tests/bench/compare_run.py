@@ -76,4 +76,5 @@ def main():
             compare(program, bench, folder, load, rounds, wanted)
 
 
-main()
+if __name__ == "__main__":
+    main()

@@ -8,7 +8,7 @@ import struct
 import subprocess
 from typing import NamedTuple
 
-from harness import HEADER, PROGRAM, SECONDS, frame
+from harness import HEADER, PROGRAM, SECONDS, frame, in_version
 
 REFUSING = os.environ["REFUSING"]
 COUNTS_FILE = os.path.join(os.path.dirname(REFUSING), "counts")
@@ -31,24 +31,26 @@ class Counts(NamedTuple):
         return Counts(*(late - early for late, early in zip(self, before)))
 
 
-def create(number, limit=65_536):
-    return frame(1, CLIENT, number, struct.pack(">IB", limit, 0))
+def create(number, limit=65_536, version=1, hash=1):
+    """In version 2 with the hash of this number, as in version 1 each has that of number 1."""
+    named = bytes([hash]) if version == 2 else b""
+    return frame(1, CLIENT, number, struct.pack(">IB", limit, 0) + named, version)
 
 
 def folder(number, name, parent=0):
     return frame(2, CLIENT, number, struct.pack(">IIq", 1, parent, 0) + name)
 
 
-def file(number, name, size, piece_size, parent=0):
-    return frame(3, CLIENT, number, struct.pack(">IIqQI", 1, parent, 0, size, piece_size) + name)
+def file(number, name, size, piece_size, parent=0, profile=1):
+    return frame(3, CLIENT, number, struct.pack(">IIqQI", profile, parent, 0, size, piece_size) + name)
 
 
 def piece(number, node, index, content):
     return frame(4, CLIENT, number, struct.pack(">III", 1, node, index) + content)
 
 
-def finish(number, node):
-    return frame(5, CLIENT, number, struct.pack(">II", 1, node))
+def finish(number, node, profile=1):
+    return frame(5, CLIENT, number, struct.pack(">II", profile, node))
 
 
 def abandon(number, node):
@@ -70,6 +72,11 @@ def reply(kind, number, *values):
 
 def refusal(number, cause, *missing):
     return frame(REFUSED, CLIENT, number, bytes([cause]) + struct.pack(f">{len(missing)}I", *missing))
+
+
+def rows_in_version(version, rows):
+    """These requests of version 1 with their replies, and what else a row has, in a version."""
+    return [(in_version(version, request), in_version(version, answer), *rest) for request, answer, *rest in rows]
 
 
 def last_frame(written):

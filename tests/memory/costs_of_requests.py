@@ -27,6 +27,7 @@ from asking import (
     piece,
     status,
 )
+from harness import LIMITS, in_version
 from session import ALL, KEPT, NOT_KEPT, requests_of
 
 TABLE = os.path.join(os.path.dirname(os.path.abspath(__file__)), "costs_of_requests")
@@ -35,14 +36,17 @@ TABLE = os.path.join(os.path.dirname(os.path.abspath(__file__)), "costs_of_reque
 # then.
 BEFORE = requests_of(ALL + KEPT + NOT_KEPT)
 
-# the first number and node after that, and the number of what is measured
-NUMBER, NEXT_NODE = 100, 8
+# the first number, node and profile after that, and the number of what is measured
+NUMBER, NEXT_NODE, NEXT_PROFILE = 100, 8, 6
 LAST = 10_000
 
 LONG = b"n" * 255
 ESCAPED = b"%" * 255
 MIDDLE = b"m" * LARGEST
 MEBIBYTES = file(NUMBER, b"f", 1 << 40, LARGEST)
+LARGEST_OF_2 = LIMITS[2].piece
+LARGE_PIECES = in_version(2, file(NUMBER, b"f", 1 << 40, LARGEST_OF_2))
+LARGE_MIDDLE = b"m" * LARGEST_OF_2
 FORMATS = 4_096
 
 
@@ -56,6 +60,15 @@ def whole_file(content, count, name=b"f"):
 def waiting(count):
     """A file with so many pieces that wait."""
     return MEBIBYTES + b"".join(piece(NUMBER + index, NEXT_NODE, index, MIDDLE) for index in range(1, 1 + count))
+
+
+def empty_file(hash):
+    """A profile of version 2 with the hash of this number, and in it a file of no piece."""
+    return create(NUMBER, version=2, hash=hash) + file(NUMBER + 1, b"f", 0, 1, profile=NEXT_PROFILE)
+
+
+def large_piece(number, index):
+    return in_version(2, piece(number, NEXT_NODE, index, LARGE_MIDDLE))
 
 
 def deep(depth):
@@ -80,22 +93,29 @@ LONGEST = bytes([0, 255]) + lists(255, 255, 15)
 # what goes before the request, the request, and the kind of its reply
 CASES = {
     "create": (b"", create(LAST), MADE),
+    "create_in_version_2": (b"", create(LAST, version=2, hash=2), MADE),
     "folder_of_1_byte": (b"", folder(LAST, b"n"), NODE),
     "folder_of_255_bytes": (b"", folder(LAST, LONG), NODE),
     "folder_of_a_path_of_4096": (deep(15), folder(LAST, LONG, parent=NEXT_NODE + 14), NODE),
     "file_of_no_byte": (b"", file(LAST, b"n", 0, 1), NODE),
     "file_of_2_to_the_40": (b"", file(LAST, b"n", 1 << 40, LARGEST), NODE),
+    "file_of_2_to_the_40_in_version_2": (b"", in_version(2, file(LAST, b"n", 1 << 40, LARGEST_OF_2)), NODE),
     "file_of_a_million_pieces": (b"", file(LAST, b"n", LARGEST, 1), NODE),
     "file_with_a_name_of_255": (b"", file(LAST, LONG, 0, 1), NODE),
     "piece_of_1": (file(NUMBER, b"f", 2, 1), piece(LAST, NEXT_NODE, 0, b"a"), TAKEN),
     "piece_of_1048576": (MEBIBYTES, piece(LAST, NEXT_NODE, 0, MIDDLE), TAKEN),
     "piece_that_waits": (MEBIBYTES, piece(LAST, NEXT_NODE, 15, MIDDLE), TAKEN),
     "piece_for_which_15_wait": (waiting(15), piece(LAST, NEXT_NODE, 0, MIDDLE), TAKEN),
+    "piece_of_4194304": (LARGE_PIECES, large_piece(LAST, 0), TAKEN),
+    "piece_of_4194304_that_waits": (LARGE_PIECES, large_piece(LAST, 15), TAKEN),
     "finish_of_no_piece": (whole_file(b"", 0), finish(LAST, NEXT_NODE), FINISHED),
     "finish_of_1_piece": (whole_file(b"a", 1), finish(LAST, NEXT_NODE), FINISHED),
     "finish_of_300_pieces": (whole_file(b"a", 300), finish(LAST, NEXT_NODE), FINISHED),
     "finish_of_4_mebibytes": (whole_file(MIDDLE, 4), finish(LAST, NEXT_NODE), FINISHED),
     "finish_of_4096_formats": (whole_file(b"", 0, b"f.x"), finish(LAST, NEXT_NODE), FINISHED),
+    "finish_without_a_hash": (empty_file(0), in_version(2, finish(LAST, 1, NEXT_PROFILE)), FINISHED),
+    "finish_with_md5_in_version_2": (empty_file(1), in_version(2, finish(LAST, 1, NEXT_PROFILE)), FINISHED),
+    "finish_with_sha_256": (empty_file(2), in_version(2, finish(LAST, 1, NEXT_PROFILE)), FINISHED),
     "abandon": (MEBIBYTES, abandon(LAST, NEXT_NODE), ABANDONED),
     "abandon_of_15_pieces": (waiting(15), abandon(LAST, NEXT_NODE), ABANDONED),
     "status_of_an_unfinished": (MEBIBYTES, status(LAST, NEXT_NODE), PROGRESS),
@@ -119,6 +139,9 @@ CASES = {
         FINISHED,
     ),
     "repeat_of_abandon": (b"", abandon(9, 3), ABANDONED),
+    "repeat_of_piece_of_4194304": (LARGE_PIECES + large_piece(NUMBER + 1, 1), large_piece(NUMBER + 1, 1), TAKEN),
+    "number_used_again_in_version_2": (b"", in_version(2, folder(2, b"in")), REFUSED),
+    "finish_of_sha_256_in_version_1": (empty_file(2), finish(LAST, 1, NEXT_PROFILE), REFUSED),
     "folder_whose_name_is_taken": (b"", folder(LAST, b"in"), REFUSED),
     "number_used_again": (b"", folder(2, b"out"), REFUSED),
     "request_with_a_byte_too_few": (b"", finish(LAST, 2)[:14] + struct.pack(">I", 7) + bytes(7), REFUSED),

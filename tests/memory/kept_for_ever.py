@@ -16,15 +16,20 @@ from asking import (
     create,
     file,
     finish,
+    folder,
     frame,
     piece,
+    refusal,
     reply,
+    rows_in_version,
 )
+from harness import LIMITS, in_version
 from session import KEPT, NOT_KEPT, replies_of, requests_of
 
 FEW, MANY = 1_000, 100_000
 PIECES = 1_000_000
-NOTHING_FOUND = b"\0\0" + hashlib.md5().digest() + b"\0\0"
+# each version with the hashes that a profile can have in it: their numbers, and what they are of no byte
+HASHES = [(1, 1, hashlib.md5().digest()), (2, 0, b""), (2, 1, hashlib.md5().digest()), (2, 2, hashlib.sha256().digest())]
 
 
 class Repeats(unittest.TestCase):
@@ -51,25 +56,44 @@ class Repeats(unittest.TestCase):
         self.leave_nothing(KEPT, FEW // 10, MANY // 10)
 
     def test_nothing_is_left_of_what_is_not_kept(self):
-        for row in NOT_KEPT:
+        kept_in_version_1 = rows_in_version(2, [(folder(2, b"in"), refusal(2, 2))])
+        for row in NOT_KEPT + kept_in_version_1:
             self.leave_nothing([row], many=MANY // 10)
 
 
 # An entry of a table or of an index is a node of its tree and a row, which the trees before and after a change share. Each
-# is a block, and a row has its cells and its texts and bytes in two more.
-ENTRY = 64 + 64
+# is a block, and the row's bytes are one more: a record of SQLite's.
+ENTRY = 64 + 40
+PROFILE = 1
+AT_THE_TOP = 0
+FINISHED_STATE = 2
 
 
-def reply_row(body):
-    """What the database keeps of a reply with a body of so many bytes: a row of seven cells of 16 bytes, with 16 bytes of
-    its mark and its body, and in the index by client and number an entry of three cells with room for a fourth."""
-    return ENTRY + 7 * 16 + 16 + body + ENTRY + 4 * 16
+def width(number):
+    """How many bytes a record has of an integer beside its type, which tells 0 and 1 by itself. A NULL has as many as 0."""
+    if number in (0, 1):
+        return 0
+    return next(size for size in (1, 2, 3, 4, 6, 8) if -(1 << 8 * size - 1) <= number < 1 << 8 * size - 1)
 
 
-def node_row(name):
-    """The same of a node at the top with a name of so many bytes, 8 or more, and no format: a row of 14 cells, with name,
-    path and digest, and an entry in the index by number and in that by name."""
-    return ENTRY + 14 * 16 + name + 1 + name + 16 + ENTRY + 4 * 16 + ENTRY + 4 * 16 + name
+def entry(numbers, lengths=()):
+    """What is kept of a row of these integers, and of texts and bytes so long, 57 at most: a byte for the length of its
+    types, a type of each value, and the values."""
+    return ENTRY + 1 + len(numbers) + sum(map(width, numbers)) + len(lengths) + sum(lengths)
+
+
+def reply_row(place, number, kind, body, version=1):
+    """What the database keeps of the reply in this place, with a body of so many bytes: a row with its rowid and a NULL
+    in the place of its key, its mark of 16 bytes and its body, and an entry in the index by client and number."""
+    return entry((place, 0, CLIENT, number, version, kind), (16, body)) + entry((CLIENT, number, place))
+
+
+def file_row(rowid, node, state, piece_size, name, digest):
+    """The same of a file of no byte at the top with a name and a digest of so many bytes and no format: a row with its
+    rowid, and an entry in the index by number and in that by name."""
+    numbers = (rowid, PROFILE, node, AT_THE_TOP, 0, state, 0, piece_size, 0, 0)
+    row = entry(numbers, (name, name + 1, 0, digest))
+    return row + entry((PROFILE, node, rowid)) + entry((PROFILE, AT_THE_TOP, rowid), (name,))
 
 
 def sent(order):
@@ -84,8 +108,8 @@ def answered(count):
 
 
 class Pieces(unittest.TestCase):
-    """Of a piece that isn't needed further the reply alone is kept: 452 bytes a piece. Not a byte more may be held, so one
-    more number of eight bytes for each is seen, in whatever list."""
+    """Of a piece that isn't needed further the reply alone is kept: 255 bytes a piece at most. Not a byte more may be held,
+    so one more number of eight bytes for each is seen, in whatever list."""
 
     def held_after(self, order):
         written, counts = counted(sent(order))
@@ -96,7 +120,8 @@ class Pieces(unittest.TestCase):
         few = self.held_after(range(FEW))
         for count in (10_000, 50_000, MANY):
             with self.subTest(count=count):
-                self.assertEqual(self.held_after(range(count)) - few, reply_row(4) * (count - FEW))
+                replies = sum(reply_row(number, number, TAKEN, 4) for number in range(3 + FEW, 3 + count))
+                self.assertEqual(self.held_after(range(count)) - few, replies)
 
     def test_so_it_does_where_each_waits_for_the_next(self):
         """Pieces of which fifteen wait at a time, the first of sixteen coming last."""
@@ -115,13 +140,17 @@ def abandoned(node):
     ]
 
 
-def finished(node):
-    """A file of no byte, in which nothing is found."""
+def found(version, hash, digest):
+    """The body of a reply that tells of nothing but this hash."""
+    return b"\0\0" + (bytes([hash]) if version == 2 else b"") + digest + b"\0\0"
+
+
+def finished(node, version, told):
+    """A file of no byte, of which this is told."""
     number = 2 * node
-    return [
-        (file(number, b"%08d" % node, 0, 1), reply(NODE, number, node)),
-        (finish(number + 1, node), frame(FINISHED, CLIENT, number + 1, NOTHING_FOUND)),
-    ]
+    added = file(number, b"%08d" % node, 0, 1), reply(NODE, number, node)
+    ended = in_version(version, finish(number + 1, node)), frame(FINISHED, CLIENT, number + 1, told, version)
+    return [*rows_in_version(version, [added]), ended]
 
 
 class Files(unittest.TestCase):
@@ -129,26 +158,42 @@ class Files(unittest.TestCase):
 
     COUNT = 10_000
 
-    def held_after(self, kind, count):
-        rows = [(create(1), reply(MADE, 1, 1))]
+    def held_after(self, rows_of, count, version=1, hash=1):
+        rows = [(create(1, version=version, hash=hash), in_version(version, reply(MADE, 1, 1)))]
         for node in range(1, 1 + count):
-            rows += kind(node)
+            rows += rows_of(node)
         written, counts = counted(requests_of(rows))
         self.assertTrue(written == replies_of(rows))
         return counts.held
 
-    def grow_by(self, kind, each):
-        """Each file leaves so many bytes."""
-        few, many = (self.held_after(kind, count) for count in (FEW, self.COUNT))
-        self.assertEqual(many - few, each * (self.COUNT - FEW))
+    def grow_by(self, rows_of, kept, *profile):
+        """Each file leaves as many bytes as `kept` tells of it."""
+        few, many = (self.held_after(rows_of, count, *profile) for count in (FEW, self.COUNT))
+        self.assertEqual(many - few, sum(kept(node) for node in range(1 + FEW, 1 + self.COUNT)))
 
     def test_abandoned_files_leave_their_replies(self):
-        each = reply_row(4) + reply_row(4) + reply_row(0)
-        self.grow_by(abandoned, each)
+        for version in LIMITS:
+
+            def kept(node):
+                number = 3 * node
+                taken = reply_row(number - 1, number, NODE, 4, version) + reply_row(number, number + 1, TAKEN, 4, version)
+                return taken + reply_row(number + 1, number + 2, ABANDONED, 0, version)
+
+            with self.subTest(version=version):
+                self.grow_by(lambda node: rows_in_version(version, abandoned(node)), kept, version)
 
     def test_finished_files_leave_their_rows(self):
-        each = node_row(8) + reply_row(4) + reply_row(20)
-        self.grow_by(finished, each)
+        for version, hash, digest in HASHES:
+            told = found(version, hash, digest)
+
+            def kept(node):
+                number = 2 * node
+                replies = reply_row(number, number, NODE, 4, version)
+                replies += reply_row(number + 1, number + 1, FINISHED, len(told), version)
+                return replies + file_row(node, node, FINISHED_STATE, 1, 8, len(digest))
+
+            with self.subTest(version=version, hash=hash):
+                self.grow_by(lambda node: finished(node, version, told), kept, version, hash)
 
 
 if __name__ == "__main__":

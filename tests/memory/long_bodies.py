@@ -4,14 +4,14 @@ ends a byte before, whose length nobody knows. For the longest body that may com
 import unittest
 
 from asking import COUNTS_FILE, HEADER, MADE, Counts, create, reply, run_over
+from harness import LIMITS
 
-LONGEST_BODY = 1_048_640
 # what the fault's name may make of a difference
 ROOM = 64
 
 
-def header(length):
-    return HEADER.pack(1, 4, 1, 2, length)
+def header(version, length):
+    return HEADER.pack(version, 4, 1, 2, length)
 
 
 def asked_over(rest):
@@ -24,23 +24,27 @@ def asked_over(rest):
 
 class LongBodies(unittest.TestCase):
     def setUp(self):
-        said, self.without = asked_over(header(0xFFFFFFFF)[:-1])
+        said, self.without = asked_over(header(1, 0xFFFFFFFF)[:-1])
         self.assertEqual(said, "fault: Truncated\n")
 
     def test_none_past_the_limit(self):
-        for length in (LONGEST_BODY + 1, 1 << 21, 1 << 31, 0xFFFFFFFF):
-            for rest in (b"", bytes(1_000)):
-                with self.subTest(length=length, rest=len(rest)):
-                    said, asked = asked_over(header(length) + rest)
-                    self.assertEqual(said, "fault: TooLong\n")
-                    self.assertEqual(asked.asked, self.without.asked)
-                    self.assertLess(abs(asked.less(self.without).bytes), ROOM)
+        for version, limits in LIMITS.items():
+            for length in (limits.body + 1, 2 * limits.body, 1 << 31, 0xFFFFFFFF):
+                for rest in (b"", bytes(1_000)):
+                    with self.subTest(version=version, length=length, rest=len(rest)):
+                        said, asked = asked_over(header(version, length) + rest)
+                        self.assertEqual(said, "fault: TooLong\n")
+                        self.assertEqual(asked.asked, self.without.asked)
+                        self.assertLess(abs(asked.less(self.without).bytes), ROOM)
 
     def test_the_longest(self):
-        said, asked = asked_over(header(LONGEST_BODY))
-        self.assertEqual(said, "fault: Truncated\n")
-        self.assertEqual(asked.less(self.without).bytes, LONGEST_BODY)
-        self.assertEqual(asked.less(self.without).asked, 1)
+        """By one allocation."""
+        for version, limits in LIMITS.items():
+            with self.subTest(version=version):
+                said, asked = asked_over(header(version, limits.body))
+                self.assertEqual(said, "fault: Truncated\n")
+                self.assertEqual(asked.less(self.without).bytes, limits.body)
+                self.assertEqual(asked.less(self.without).asked, 1)
 
 
 if __name__ == "__main__":

@@ -40,10 +40,12 @@ from asking import (
     piece,
     refusal,
     reply,
+    rows_in_version,
     run_over,
     status,
 )
-from out_of_order import EXPORTED, FILE_ADDED, FILE_FINISHED, PIECES, PROFILE_MADE
+from harness import LIMITS, in_version
+from out_of_order import HASHES, out_of_order
 from session import ALL, ALL_TEXT, CONTENT, FOUND, LETTERS, folder_row, part, replies_of, requests_of
 
 GATHERED = 1
@@ -70,17 +72,8 @@ REQUESTS = [
     (export(50), part(50, 25, TEXT), 0, 0),
 ]
 
-# requests to a service that had none before, in the same way
-OUT_OF_ORDER = [
-    (*PROFILE_MADE, BODY + PLACE, BODY),
-    (*FILE_ADDED, BODY + PLACE, BODY),
-    (*PIECES[0], BODY + PLACE, BODY),
-    (*PIECES[1], BODY + PLACE, BODY),
-    (*PIECES[2], BODY + PLACE, BODY),
-    (*PIECES[3], BODY + PLACE, BODY),
-    (*FILE_FINISHED, BODY + PLACE, BODY),
-    (*EXPORTED, 0, 0),
-]
+# how many of a command's allocations may be refused, of the first and of its repeat, to a service that had no request before
+OF_A_COMMAND = BODY + PLACE, BODY
 
 
 class Step(NamedTuple):
@@ -93,6 +86,9 @@ class Step(NamedTuple):
     last: int
     copied: int
     spared: int
+
+    def version(self):
+        return HEADER.unpack_from(self.request)[0]
 
     def number(self):
         return HEADER.unpack_from(self.request)[3]
@@ -124,7 +120,7 @@ class Stream:
         if allocation == step.first:
             return 4, self.replies + b"".join(answers[:place]), "fault: Memory\n"
         if step.first + step.copied < allocation <= step.last - step.spared:
-            answers[place] = refusal(step.number(), MEMORY)
+            answers[place] = in_version(step.version(), refusal(step.number(), MEMORY))
         return 0, self.replies + b"".join(answers), ""
 
 
@@ -145,10 +141,16 @@ class RefusedOnce(unittest.TestCase):
         self.assertEqual(len(unseen), spared)
 
     def test_after_a_session(self):
-        self.each_in_turn(Stream(ALL, REQUESTS))
+        for version in LIMITS:
+            with self.subTest(version=version):
+                self.each_in_turn(Stream(rows_in_version(version, ALL), rows_in_version(version, REQUESTS)))
 
     def test_in_an_empty_service(self):
-        self.each_in_turn(Stream([], OUT_OF_ORDER), KEPT_FOR_THE_NEXT)
+        for version, of in HASHES:
+            *commands, exported = out_of_order(version, of)
+            requests = [(*row, *OF_A_COMMAND) for row in commands] + [(*exported, 0, 0)]
+            with self.subTest(version=version, of=of):
+                self.each_in_turn(Stream([], requests), KEPT_FOR_THE_NEXT)
 
 
 if __name__ == "__main__":

@@ -1,7 +1,7 @@
 #!/bin/sh
 # Runs the program and the model (model/main.py) on random scripts with fixed seeds, and compares what they write
 # byte for byte, and how they end: random.sh PROGRAM. In each script every reply and every refusal from 1 to 17
-# comes somewhere.
+# comes somewhere; in those of both versions, files with each hash and with none.
 set -u
 program=$1
 tests=$(cd "$(dirname "$0")" && pwd)
@@ -9,8 +9,8 @@ model=$tests/model
 work=$(mktemp -d) || exit 1
 trap 'rm -rf "$work"' EXIT
 
-# the beginnings of lines that have to come
-cat >"$work/kinds" <<'END_OF_KINDS'
+# the beginnings of lines that have to come in scripts of the first version, and in those of both
+cat >"$work/kinds.first" <<'END_OF_KINDS'
 made
 node
 taken
@@ -25,11 +25,17 @@ bad line
 refused 17 profiles
 refused 17 unfinished
 END_OF_KINDS
-seq 1 17 | sed 's/^/refused /' >>"$work/kinds"
+seq 1 17 | sed 's/^/refused /' >>"$work/kinds.first"
+{
+    cat "$work/kinds.first"
+    echo 'finished [A-Za-z]* [a-z]* -'
+    echo 'finished [A-Za-z]* [a-z]* [0-9a-f]{32}'
+    echo 'finished [A-Za-z]* [a-z]* [0-9a-f]{64}'
+} >"$work/kinds.both"
 
 passed=0
 failed=0
-# SEED COUNT REGISTRY ORDER
+# SEED COUNT REGISTRY VERSIONS ORDER
 compare() {
     "$model/random_script.py" "$@" >"$work/in"
     "$model/main.py" script --registry "$3" <"$work/in" >"$work/wanted"
@@ -39,7 +45,7 @@ compare() {
     problem=
     while read -r kind; do
         grep -qaE "^$kind( |\$)" "$work/wanted" || problem="$problem no reply says $kind;"
-    done <"$work/kinds"
+    done <"$work/kinds.$4"
     [ "$status" = "$wanted" ] || problem="$problem ended with status $status;"
     cmp -s "$work/wanted" "$work/out" || problem="$problem other replies;"
     if [ -z "$problem" ]; then
@@ -52,7 +58,9 @@ compare() {
 }
 
 "$model/random_registry.py" 3 12 >"$work/registry.csv"
-compare 1 5000 "$tests/sample_registry.csv" steady
-compare 2 5000 "$work/registry.csv" jumbled
+compare 1 5000 "$tests/sample_registry.csv" first steady
+compare 2 5000 "$work/registry.csv" first jumbled
+compare 4 5000 "$tests/sample_registry.csv" both steady
+compare 3 5000 "$work/registry.csv" both jumbled
 echo "random scripts: $passed passed, $failed failed"
 [ "$failed" -eq 0 ]

@@ -9,6 +9,7 @@
 #   random.sh     the program and the model on random scripts
 #   sizes.sh      and on scripts that go past usual sizes
 #   wire/run.sh   frames on standard streams and on connections, in Python
+#   folders/run.sh   profiles of folders of this machine, in Python
 set -u
 top=$(cd "$(dirname "$0")/../.." && pwd)
 tests=$top/tests/program
@@ -46,5 +47,6 @@ part sh "$tests/model.sh"
 part sh "$tests/random.sh" "$program"
 part sh "$tests/sizes.sh" "$program"
 part sh "$tests/wire/run.sh" "$program"
+part sh "$tests/folders/run.sh" "$program"
 echo "$passed passed, $failed failed"
 [ "$failed" -eq 0 ]

@@ -6,16 +6,17 @@ from found import extension
 
 COLUMNS = (
     b"ID PARENT_ID URI FILE_PATH NAME METHOD STATUS SIZE TYPE EXT LAST_MODIFIED EXTENSION_MISMATCH "
-    b"MD5_HASH FORMAT_COUNT PUID MIME_TYPE FORMAT_NAME FORMAT_VERSION"
-).split()
+    b"%s FORMAT_COUNT PUID MIME_TYPE FORMAT_NAME FORMAT_VERSION"
+)
+HASH_COLUMNS = {"none": b"HASH", "md5": b"MD5_HASH", "sha256": b"SHA256_HASH"}
 PLAIN = b"ABCDEFGHIJKLMNOPQRSTUVWXYZabcdefghijklmnopqrstuvwxyz0123456789-._~/"
 DAY = 86_400
 FIRST_DAY = date(1970, 1, 1).toordinal()
 
 
-def export_text(nodes, every, criteria):
-    """The header, and the rows of the nodes that the filter shows."""
-    rows = [COLUMNS]
+def export_text(nodes, every, criteria, hash):
+    """The header, which names the hash, and the rows of the nodes that the filter shows."""
+    rows = [(COLUMNS % HASH_COLUMNS[hash]).split()]
     for node in nodes:
         if is_shown(node, every, criteria):
             rows += rows_of(node)

@@ -1,6 +1,6 @@
 """The lines of a script: what each asks for, and the body of its request.
 
-A request is a dictionary with its kind, its fields by name, and its client and number.
+A request is a dictionary with its version, its kind, its fields by name, and its client and number.
 """
 
 import re
@@ -12,7 +12,9 @@ TRUTHS = {b"false": False, b"true": True}
 TYPES = {b"File": "File", b"Folder": "Folder"}
 METHOD_NUMBERS = {"": 0, "Signature": 1, "Extension": 2}
 TYPE_NUMBERS = {"File": 0, "Folder": 1}
-LONGEST_BODY = 1_048_640
+HASHES = {b"none": "none", b"md5": "md5", b"sha256": "sha256"}
+HASH_NUMBERS = {"none": 0, "md5": 1, "sha256": 2}
+LONGEST_BODIES = {1: 1_048_640, 2: 4_194_368}
 
 
 class BadLine(Exception):
@@ -31,10 +33,13 @@ def request_of(line):
         line.decode("utf-8")
     except UnicodeDecodeError:
         raise BadLine from None
+    version = 1
+    if line.startswith(b"v2 "):
+        version, line = 2, line[3:]
     client, number, kind, rest = words(line, 4)
-    request = {"client": whole(client, 32), "number": whole(number, 64)}
+    request = {"version": version, "client": whole(client, 32), "number": whole(number, 64)}
     if kind == b"create":
-        request |= create(rest)
+        request |= create(rest) if version == 1 else create_with_hash(rest)
     elif kind == b"folder":
         request |= folder(rest)
     elif kind == b"file":
@@ -48,7 +53,7 @@ def request_of(line):
     else:
         raise BadLine
     request["body"] = body_of(request)
-    if len(request["body"]) > LONGEST_BODY:
+    if len(request["body"]) > LONGEST_BODIES[version]:
         raise BadLine
     return request
 
@@ -90,7 +95,13 @@ def named(word, names):
 
 def create(rest):
     limit, match_all = words(rest, 2)
-    return {"kind": "create", "limit": whole(limit, 32), "match_all": named(match_all, {b"0": False, b"1": True})}
+    match_all = named(match_all, {b"0": False, b"1": True})
+    return {"kind": "create", "limit": whole(limit, 32), "match_all": match_all, "hash": "md5"}
+
+
+def create_with_hash(rest):
+    options, _, hash = rest.rpartition(b" ")
+    return create(options) | {"hash": named(hash, HASHES)}
 
 
 def folder(rest):
@@ -179,10 +190,11 @@ def texts(value):
 
 
 def body_of(request):
-    """The bytes of the request's body."""
+    """The bytes of the request's body in its version."""
     kind = request["kind"]
     if kind == "create":
-        return pack(">IB", request["limit"], request["match_all"])
+        hash = bytes([HASH_NUMBERS[request["hash"]]]) if request["version"] == 2 else b""
+        return pack(">IB", request["limit"], request["match_all"]) + hash
     if kind == "folder":
         return place_of(request) + request["name"]
     if kind == "file":

@@ -1,9 +1,10 @@
 #!/usr/bin/env -S python3 -S -B
-"""Writes a script of requests of all kinds: `random_script.py SEED COUNT REGISTRY [jumbled]`.
+"""Writes a script of requests of all kinds: `random_script.py SEED COUNT REGISTRY VERSIONS ORDER`, where VERSIONS is
+`first` or `both`, and ORDER is `steady` or `jumbled`.
 
 Each line is chosen by chance, with the model's service at hand, so that most requests are accepted and
-each refusal comes somewhere. Lines are repeated, and numbers come with other requests. In a jumbled script
-requests overtake one another on their way, and arrive more than once.
+each refusal comes somewhere. Lines are repeated, also in the other version, and numbers come with other requests. In
+a jumbled script requests overtake one another on their way, and arrive more than once.
 """
 
 import sys
@@ -18,10 +19,16 @@ WEIGHTS = {
     "create": 2, "folder": 6, "deeper": 1, "file": 14, "piece": 42, "finish": 10, "abandon": 2,
     "status": 4, "export": 2, "repeat": 13, "reused": 4, "malformed": 0.5, "bad": 0.7,
 }
+# of scripts in both versions
+ONE_MORE = {"in_the_other_version": 3}
+SECOND = b"v2 "
+HASHES = ["none", "md5", "md5", "sha256"]
 
 
 class Story:
-    def __init__(self, seed, registry, most_waiting):
+    def __init__(self, seed, registry, is_first_alone, most_waiting):
+        self.is_first_alone = is_first_alone
+        self.weights = WEIGHTS if is_first_alone else WEIGHTS | ONE_MORE
         self.most_waiting = most_waiting
         self.waiting = []
         self.random = Random(seed)
@@ -33,7 +40,7 @@ class Story:
 
     def add(self):
         """Adds some request to those on their way, and lets the ones arrive that are too many."""
-        action = self.random.choices(list(WEIGHTS), list(WEIGHTS.values()))[0]
+        action = self.random.choices(list(self.weights), list(self.weights.values()))[0]
         self.waiting.append(getattr(self, action)())
         while len(self.waiting) > self.most_waiting:
             line = self.waiting.pop(self.random.randrange(len(self.waiting)))
@@ -52,12 +59,16 @@ class Story:
             place = request["profile"], int(reply.split()[1])
             self.contents.setdefault(place, self.words.content(request["size"]))
 
-    def asked(self, *words):
-        """The line of a request, under the next number of some client."""
+    def asked(self, *words, version=None):
+        """The line of a request, under the next number of some client, in either version unless one is named."""
         client = self.random.choice(list(self.numbers))
         self.numbers[client] += 1
-        head = f"{client} {self.numbers[client]} ".encode("ascii")
+        mark = SECOND if (version or self.version()) == 2 else b""
+        head = mark + f"{client} {self.numbers[client]} ".encode("ascii")
         return head + b" ".join(word if isinstance(word, bytes) else str(word).encode("ascii") for word in words)
+
+    def version(self):
+        return 1 if self.is_first_alone else self.random.choice([1, 1, 2])
 
     def profile(self):
         made = len(self.service.profiles)
@@ -86,7 +97,10 @@ class Story:
         return self.random.choice(folders if chance < 0.96 else nodes).number
 
     def create(self):
-        return self.asked("create", self.words.limit(), self.random.randint(0, 1))
+        options = "create", self.words.limit(), self.random.randint(0, 1)
+        if self.is_first_alone or self.random.random() < 0.4:
+            return self.asked(*options, version=1)
+        return self.asked(*options, self.random.choice(HASHES), version=2)
 
     def folder(self):
         profile = self.profile()
@@ -173,20 +187,44 @@ class Story:
         """Another request under the number of an earlier one."""
         line = self.repeat()
         other = self.random.choice([self.create, self.folder, self.piece, self.finish, self.status, self.export])()
-        return b" ".join(line.split(b" ")[:2] + other.split(b" ")[2:])
+        return with_ends(other, *ends_of(line))
+
+    def in_the_other_version(self):
+        """An earlier request, under its number, in the version that it didn't come in."""
+        mark, words = cut(self.repeat())
+        if words[2:3] == [b"create"]:
+            words = words[:5] + ([] if mark else [self.random.choice(HASHES).encode("ascii")])
+        return (b"" if mark else SECOND) + b" ".join(words)
 
     def malformed(self):
-        words = self.create().split(b" ")
-        words[1] = str(self.random.choice([1 << 63, (1 << 64) - 1])).encode("ascii")
-        return b" ".join(words)
+        line = self.create()
+        number = self.random.choice([1 << 63, (1 << 64) - 1])
+        return with_ends(line, ends_of(line)[0], str(number).encode("ascii"))
 
     def bad(self):
         return self.words.bad_line()
 
 
-def main(seed, count, registry, order="steady"):
+def cut(line):
+    """What marks the version in front of a line, and its words."""
+    mark = SECOND if line.startswith(SECOND) else b""
+    return mark, line[len(mark):].split(b" ")
+
+
+def ends_of(line):
+    """The client and the number of a line."""
+    return cut(line)[1][:2]
+
+
+def with_ends(line, *ends):
+    """The line under another client and number."""
+    mark, words = cut(line)
+    return mark + b" ".join([*ends, *words[2:]])
+
+
+def main(seed, count, registry, versions, order):
     with open(registry, "rb") as file:
-        story = Story(int(seed), Registry(file.read()), 8 if order == "jumbled" else 0)
+        story = Story(int(seed), Registry(file.read()), versions == "first", 8 if order == "jumbled" else 0)
     while len(story.lines) < int(count):
         story.add()
     sys.stdout.buffer.write(b"".join(line + b"\n" for line in story.lines))

@@ -12,6 +12,8 @@ BAD_LINES = [
     b"1 1 piece 1 1 0 6", b"1 1 piece 1 1 0 zz", b"1 1 piece 1 1 0 ", b"1 1 finish 1", b"1 1 finish 1 1 1",
     b"1 1 status 1 1\r", b"1 1 export 1 0", b"1 1 export 1 0 1 some", b"1 1 export 1 0 1 all type=file",
     b"1 1 export 1 0 1 all  type=File", b"1 1 export 1 0 1 any atleast=",
+    b"v2", b"v2 ", b"v2 1 1", b"v2  1 1 finish 1 1", b"v2 v2 1 1 finish 1 1", b"V2 1 1 finish 1 1", b"v1 1 1 finish 1 1",
+    b"1 v2 1 finish 1 1", b"v2 1 1 create 1 0", b"v2 1 1 create 1 0 sha1", b"v2 1 1 create 1 0 ", b"1 1 create 1 0 md5",
 ]
 
 
@@ -47,7 +49,7 @@ class Words:
         if chance < 0.04:
             return self.random.choice(
                 [
-                    (5, 0), (5, (1 << 20) + 1), (5, (1 << 32) - 1),
+                    (5, 0), (5, (1 << 20) + 1), (5, 1 << 22), (5, (1 << 22) + 1), (5, (1 << 32) - 1),
                     ((1 << 40) + 1, 1 << 20), ((1 << 20) + 1, 1), ((1 << 64) - 1, 1 << 20),
                 ]
             )

@@ -87,7 +87,8 @@ class Story:
     def under_next_number(self, kind, **fields):
         client = self.random.choice(list(self.numbers))
         self.numbers[client] += 1
-        return {"client": client, "number": self.numbers[client], "kind": kind} | fields
+        ends = {"version": 1, "client": client, "number": self.numbers[client]}
+        return ends | {"kind": kind, "hash": "md5"} | fields
 
     def profile(self):
         made = len(self.service.profiles)

@@ -1,16 +1,21 @@
 """The service: what was accepted, and what each request is answered."""
 
-from hashlib import md5
+from hashlib import md5, sha256
 
 from export import export_text
 from found import find
 from lines import KINDS
 
 MOST_PROFILES, MOST_NODES, MOST_UNFINISHED = 64, 100_000, 64
-LARGEST_PIECE = 1 << 20
+LARGEST_PIECES = {1: 1 << 20, 2: 1 << 22}
 MOST_PIECES = 1 << 20
 LARGEST_SIZE = 1 << 40
 AHEAD = 16
+DIGESTS = {
+    "none": lambda content: "",
+    "md5": lambda content: md5(content).hexdigest(),
+    "sha256": lambda content: sha256(content).hexdigest(),
+}
 EARLIEST, LATEST = -62135596800, 253402300799
 
 
@@ -52,9 +57,10 @@ class Node:
 
 
 class Profile:
-    def __init__(self, limit, match_all):
+    def __init__(self, limit, match_all, hash):
         self.limit = limit
         self.match_all = match_all
+        self.hash = hash
         self.accepted = 0
         self.nodes = {}
         self.names = {}
@@ -85,7 +91,7 @@ class Service:
         if request["number"] >= 1 << 63:
             return refusal(1)
         key = request["client"], request["number"]
-        mark = md5(bytes([KINDS[request["kind"]]]) + request["body"]).digest()
+        mark = request["version"], md5(bytes([KINDS[request["kind"]]]) + request["body"]).digest()
         if key in self.kept:
             return self.kept[key][1] if self.kept[key][0] == mark else refusal(2)
         try:
@@ -100,7 +106,7 @@ class Service:
         check(1 <= request["limit"] <= 65536, 10)
         check(len(self.profiles) < MOST_PROFILES, 17, "profiles")
         number = len(self.profiles) + 1
-        self.profiles[number] = Profile(request["limit"], request["match_all"])
+        self.profiles[number] = Profile(request["limit"], request["match_all"], request["hash"])
         return line("made", number)
 
     def folder(self, request):
@@ -111,7 +117,8 @@ class Service:
     def file(self, request):
         profile, path = self.place(request)
         size, piece_size = request["size"], request["piece_size"]
-        check(EARLIEST <= request["modified"] <= LATEST and 1 <= piece_size <= LARGEST_PIECE, 10)
+        check(EARLIEST <= request["modified"] <= LATEST, 10)
+        check(1 <= piece_size <= LARGEST_PIECES[request["version"]], 10)
         check(size <= LARGEST_SIZE and -(-size // piece_size) <= MOST_PIECES, 11)
         return self.add(profile, request, path)
 
@@ -169,16 +176,17 @@ class Service:
 
     def finish(self, request):
         node = self.unfinished_of(request)
-        check(len(node.pieces) == node.count(), 16, node.missing())
         profile = self.profile(request)
+        check(request["version"] == 2 or profile.hash == "md5", 10)
+        check(len(node.pieces) == node.count(), 16, node.missing())
         content = node.content()
         found = find(self.registry, node.name, content, profile.limit, profile.match_all)
         node.method, node.formats, node.mismatch = found
-        node.digest = md5(content).hexdigest()
+        node.digest = DIGESTS[profile.hash](content)
         node.is_done = True
         puids = b",".join(form.puid for form in node.formats).decode("ascii")
         mismatch = "true" if node.mismatch else "false"
-        return line("finished", node.method or "none", mismatch, node.digest, puids or "-")
+        return line("finished", node.method or "none", mismatch, node.digest or "-", puids or "-")
 
     def abandon(self, request):
         node = self.unfinished_of(request)
@@ -193,7 +201,7 @@ class Service:
         profile = self.profile(request)
         check(1 <= request["max"] <= 1 << 20, 10)
         nodes = [node for node in profile.nodes.values() if node.is_done]
-        text = export_text(nodes, request["all"], request["criteria"])
+        text = export_text(nodes, request["all"], request["criteria"], profile.hash)
         part = text[request["from"]:request["from"] + request["max"]]
         return line("part", len(self.kept), len(text), len(part)) + part
 

@@ -1,12 +1,15 @@
-"""The stored cases of `script` (../cases) once more as frames of version 1 through `run`: each reply is, byte for byte,
-the frame of the reply that is stored as a line. So neither a request nor a reply of version 1 changes its bytes."""
+"""The stored cases of `script` (../cases) once more as frames through `run`: each reply is, byte for byte, the frame of the
+reply that is stored as a line. So neither a request nor a reply of version 1 changes its bytes. And the cases of version
+1 as frames of version 2, of which the model says what is due."""
 
 import os
 import unittest
 
-from frames import reply_of
-from harness import frame, run
+from frames import SAMPLE, answer, reply_of
+from harness import frame, in_version, run
 from lines import KINDS, BadLine, lines_of, request_of
+from registry import Registry
+from service import Service
 
 CASES = os.path.join(os.path.dirname(os.path.abspath(__file__)), "..", "cases")
 
@@ -45,10 +48,10 @@ def frames_of(case):
         if request is None:
             assert printed == b"bad line\n", printed
             continue
-        ends = request["client"], request["number"]
-        asked += frame(KINDS[request["kind"]], *ends, request["body"])
-        kind, body = reply_of(printed)
-        due += frame(kind, *ends, body)
+        ends, version = (request["client"], request["number"]), request["version"]
+        asked += frame(KINDS[request["kind"]], *ends, request["body"], version)
+        kind, body = reply_of(printed, version)
+        due += frame(kind, *ends, body, version)
     return asked, due
 
 
@@ -60,14 +63,38 @@ def cases_of_scripts():
             yield case, [os.path.join(CASES, case, word) if word.endswith(".csv") else word for word in options]
 
 
+def is_in_version_1(case):
+    return not any(line.startswith(b"v2 ") for line in lines_of(stored(case, "in")))
+
+
+def service_of(options):
+    """A service of the model with the registry of a case."""
+    with open(options[1] if options else SAMPLE, "rb") as file:
+        return Service(Registry(file.read()))
+
+
 class CasesAsFrames(unittest.TestCase):
+    def setUp(self):
+        self.cases = list(cases_of_scripts())
+
     def test_each_reply_has_its_bytes(self):
-        cases = list(cases_of_scripts())
-        self.assertGreater(len(cases), 35)
-        for case, options in cases:
+        self.assertGreater(sum(is_in_version_1(case) for case, _ in self.cases), 35)
+        for case, options in self.cases:
             with self.subTest(case):
                 asked, due = frames_of(case)
                 self.assertEqual(run(["run", *options], asked), (0, due, ""))
+
+    def test_those_of_version_1_in_version_2(self):
+        """Most replies are the same: another limit of the size of pieces alone makes a difference."""
+        same = 0
+        for case, options in self.cases:
+            if is_in_version_1(case):
+                with self.subTest(case):
+                    asked, due = (in_version(2, frames) for frames in frames_of(case))
+                    written, _ = answer(service_of(options), asked)
+                    same += written == due
+                    self.assertEqual(run(["run", *options], asked), (0, written, ""))
+        self.assertGreater(same, 35)
 
 
 if __name__ == "__main__":

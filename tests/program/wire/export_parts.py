@@ -71,7 +71,7 @@ class Session:
 
     def send(self, request):
         self.requests.append(frame(*request))
-        self.replies.append(reply_to(self.service, *request))
+        self.replies.append(reply_to(self.service, 1, *request))
         return self.replies[-1][1], self.replies[-1][18:]
 
     def folder(self, profile, name):

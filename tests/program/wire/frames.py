@@ -4,15 +4,16 @@ import os
 from struct import pack
 
 from harness import HEADER, frame
-from lines import KINDS, METHOD_NUMBERS, TYPE_NUMBERS
+from lines import HASH_NUMBERS, KINDS, LONGEST_BODIES, METHOD_NUMBERS, TYPE_NUMBERS
 from registry import Registry
 from service import Service
 
-LONGEST_BODY = 1_048_640
 NAMES = {number: name for name, number in KINDS.items()}
 METHODS = {number: method for method, number in METHOD_NUMBERS.items()}
 TYPES = {number: kind for kind, number in TYPE_NUMBERS.items()}
 TRUTHS = {0: False, 1: True}
+HASHES = {number: name for name, number in HASH_NUMBERS.items()}
+HASHES_BY_LENGTH = {0: 0, 16: 1, 32: 2}
 
 REPLIES = {b"made": 129, b"node": 130, b"taken": 131, b"abandoned": 133, b"progress": 134}
 FINISHED, PART, REFUSED = 132, 135, 136
@@ -41,25 +42,25 @@ def frames_of(stream):
         if len(stream) < HEADER.size:
             return frames, "Truncated"
         version, kind, client, number, length = HEADER.unpack_from(stream)
-        if version != 1:
+        if version not in LONGEST_BODIES:
             return frames, "BadVersion"
-        if length > LONGEST_BODY:
+        if length > LONGEST_BODIES[version]:
             return frames, "TooLong"
         body = stream[HEADER.size : HEADER.size + length]
         if len(body) < length:
             return frames, "Truncated"
-        frames.append((kind, client, number, body))
+        frames.append((version, kind, client, number, body))
         stream = stream[HEADER.size + length :]
     return frames, None
 
 
-def reply_to(service, kind, client, number, body):
+def reply_to(service, version, kind, client, number, body):
     try:
-        request = request_of(kind, body) | {"client": client, "number": number, "body": body}
+        request = request_of(version, kind, body) | {"client": client, "number": number, "body": body}
     except Malformed:
-        return frame(REFUSED, client, number, b"\1")
-    reply_kind, reply_body = reply_of(service.reply(request))
-    return frame(reply_kind, client, number, reply_body)
+        return frame(REFUSED, client, number, b"\1", version)
+    reply_kind, reply_body = reply_of(service.reply(request), version)
+    return frame(reply_kind, client, number, reply_body, version)
 
 
 class Malformed(Exception):
@@ -111,20 +112,21 @@ class Body:
         raise Malformed
 
 
-def request_of(kind, body):
-    """What a body of this kind asks for: it has to be used up."""
+def request_of(version, kind, body):
+    """What a body of this version and kind asks for: it has to be used up."""
     if kind not in NAMES:
         raise Malformed
     left = Body(body)
-    request = {"kind": NAMES[kind]} | fields_of(NAMES[kind], left)
+    request = {"version": version, "kind": NAMES[kind]} | fields_of(version, NAMES[kind], left)
     if left.left:
         raise Malformed
     return request
 
 
-def fields_of(kind, left):
+def fields_of(version, kind, left):
     if kind == "create":
-        return {"limit": left.number(4), "match_all": left.one_of(TRUTHS)}
+        fields = {"limit": left.number(4), "match_all": left.one_of(TRUTHS)}
+        return fields | {"hash": left.one_of(HASHES) if version == 2 else "md5"}
     fields = {"profile": left.number(4)}
     if kind in ("folder", "file"):
         fields |= {"parent": left.number(4), "modified": left.number(8, signed=True)}
@@ -141,8 +143,8 @@ def fields_of(kind, left):
     return fields
 
 
-def reply_of(printed):
-    """The kind and the body of a reply, from how it is printed."""
+def reply_of(printed, version=1):
+    """The kind and the body of a reply in a version, from how it is printed."""
     line, _, rest = printed.partition(b"\n")
     word, *told = line.split(b" ")
     if word in REPLIES:
@@ -153,7 +155,9 @@ def reply_of(printed):
         return REFUSED, bytes([int(told[0])]) + b"".join(map(told_by_refusal, told[1:]))
     method, mismatch, digest, puids = told
     found = [] if puids == b"-" else puids.split(b",")
-    head = bytes([PRINTED_METHODS[method], mismatch == b"true"]) + bytes.fromhex(digest.decode("ascii"))
+    hash = b"" if digest == b"-" else bytes.fromhex(digest.decode("ascii"))
+    kind = bytes([HASHES_BY_LENGTH[len(hash)]]) if version == 2 else b""
+    head = bytes([PRINTED_METHODS[method], mismatch == b"true"]) + kind + hash
     return FINISHED, head + pack(">H", len(found)) + b"".join(bytes([len(puid)]) + puid for puid in found)
 
 

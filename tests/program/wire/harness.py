@@ -6,6 +6,7 @@ import os
 import socket
 import struct
 import subprocess
+from typing import NamedTuple
 
 PROGRAM = os.environ["DROID_DESK"]
 HOST = "127.0.0.1"
@@ -14,9 +15,46 @@ SECONDS = 30
 HEADER = struct.Struct(">BBIQI")
 
 
+class Limits(NamedTuple):
+    """How long a frame's body is in a version, and a piece of a file, at the most."""
+
+    body: int
+    piece: int
+
+
+LIMITS = {1: Limits(1_048_640, 1_048_576), 2: Limits(4_194_368, 4_194_304)}
+CREATE_PROFILE, FINISHED = 1, 132
+MD5 = b"\1"
+
+
 def frame(kind, client, number, body=b"", version=1):
     """A frame's bytes."""
     return HEADER.pack(version, kind, client, number, len(body)) + body
+
+
+def in_version(version, stream):
+    """What these frames of version 1 are in a version: in version 2 two bodies name the hash, which version 1 means."""
+    if version == 1:
+        return stream
+    frames, start = [], 0
+    while start < len(stream):
+        _, kind, client, number, length = HEADER.unpack_from(stream, start)
+        start += HEADER.size
+        body = stream[start : start + length]
+        start += length
+        place = {CREATE_PROFILE: length, FINISHED: 2}.get(kind)
+        named = body if place is None else body[:place] + MD5 + body[place:]
+        frames.append(frame(kind, client, number, named, version))
+    return b"".join(frames)
+
+
+def lines_in_version(version, lines):
+    """The same of lines of `send`."""
+    if version == 1:
+        return lines
+    return b"".join(
+        b"v2 " + (line[:-1] + b" md5\n" if line.startswith(b"create ") else line) for line in lines.splitlines(keepends=True)
+    )
 
 
 def read_exactly(stream, count):
@@ -42,13 +80,13 @@ def read_until_reset(stream, count):
     return read
 
 
-def read_frame(stream):
-    """The next frame of a socket as its kind, client, number and body, or None where the socket ends."""
+def read_frame(stream, version=1):
+    """The next frame of a socket, of this version, as its kind, client, number and body, or None where the socket ends."""
     header = read_exactly(stream, HEADER.size)
     if not header:
         return None
-    version, kind, client, number, length = HEADER.unpack(header)
-    assert version == 1, header
+    found, kind, client, number, length = HEADER.unpack(header)
+    assert found == version, header
     body = read_exactly(stream, length)
     assert len(body) == length, body
     return kind, client, number, body

@@ -2,6 +2,7 @@
 something, as the model says (frames.py)."""
 
 import fcntl
+import itertools
 import os
 import select
 import socket
@@ -13,7 +14,8 @@ import unittest
 from random import Random
 
 from frames import answer, frames_of, service_of_the_sample
-from harness import PROGRAM, SECONDS, Serve, connect, frame, free_port, read_exactly, read_until_reset, run
+from harness import LIMITS, PROGRAM, SECONDS, Serve, connect, frame, free_port, in_version
+from harness import read_exactly, read_until_reset, run
 from run_command import REQUESTS
 from serve_command import send_until_reset
 from two_senders import deposit_frames, numbers
@@ -26,19 +28,23 @@ ALL_OF_IT = 1 << 26
 STREAMS = 30
 
 
-def session(client=1, profile=1):
-    """A request of each kind, of each of which a reply comes."""
+def session(client=1, profile=1, version=1):
+    """A request of each kind, of each of which a reply comes, in a version."""
     more = [
         (3, numbers(profile, 0) + bytes(8) + (3).to_bytes(8, "big") + numbers(2) + b"b"),
         (6, numbers(profile, 3)),
         (7, numbers(profile, 2)),
         (8, numbers(profile) + bytes(8) + numbers(1 << 20) + b"\1\2\1\1\3\1\3abc"),
     ]
-    return deposit_frames(client, profile) + [frame(kind, client, 7 + at, body) for at, (kind, body) in enumerate(more)]
+    requests = deposit_frames(client, profile) + [frame(kind, client, 7 + at, body) for at, (kind, body) in enumerate(more)]
+    return [in_version(version, request) for request in requests]
 
 
-SESSION = session()
-WHOLE = b"".join(SESSION)
+def whole_session(*whose):
+    return b"".join(session(*whose))
+
+
+LENGTHS = {version: len(whole_session(1, 1, version)) for version in LIMITS}
 
 
 def in_parts(rows, size=STREAMS):
@@ -84,17 +90,17 @@ class ChangedBytes(unittest.TestCase):
         lambda front, byte, rest: front + bytes([byte ^ 1]) + rest,
         lambda front, byte, rest: front + bytes([byte ^ 128]) + rest,
     ]
-    ROWS = [(place, change) for place in range(len(WHOLE)) for change in range(4)]
+    ROWS = [(version, place, change) for version in LIMITS for place in range(LENGTHS[version]) for change in range(4)]
 
     def changed(self, row, *whose):
-        place, change = row
-        whole = b"".join(session(*whose))
+        version, place, change = row
+        whole = whole_session(*whose, version)
         return self.CHANGES[change](whole[:place], whole[place], whole[place + 1 :])
 
     def test_through_run(self):
         """The whole session follows in the same stream, where the changed one ends between frames."""
         for row in self.ROWS[::7]:
-            sent = self.changed(row) + WHOLE
+            sent = self.changed(row, 1, 1) + whole_session(1, 1, row[0])
             written, fault = answer(service_of_the_sample(), sent)
             ended = (4, written, f"fault: {fault}\n") if fault else (0, written, "")
             self.assertEqual(run(["run"], sent), ended, row)
@@ -105,8 +111,22 @@ class ChangedBytes(unittest.TestCase):
             with Serve(2 * len(rows)) as service:
                 for client, row in enumerate(rows):
                     whose = client, len(model.profiles) + 1
-                    for sent in (self.changed(row, *whose), b"".join(session(*whose))):
+                    for sent in (self.changed(row, *whose), whole_session(*whose, row[0])):
                         self.assertEqual(exchange(service.port, sent), answer(model, sent)[0], row)
+
+
+class OtherVersions(unittest.TestCase):
+    """A session with one frame's version turned into the other, and then as a whole in each version: the model says what is
+    answered. What was kept in one version is another request in the other."""
+
+    def test_each_frame(self):
+        for version in LIMITS:
+            whole = session(1, 1, version)
+            for at, request in enumerate(whole):
+                turned = [*whole[:at], bytes([3 - version]) + request[1:], *whole[at + 1 :]]
+                sent = b"".join(turned) + whole_session(1, 1, version) + whole_session(1, 1, 3 - version)
+                written, fault = answer(service_of_the_sample(), sent)
+                self.assertEqual((fault, run(["run"], sent)), (None, (0, written, "")), (version, at))
 
 
 class CutSessions(unittest.TestCase):
@@ -114,18 +134,22 @@ class CutSessions(unittest.TestCase):
     nobody can tell that it came before: its replies are those of a service that had it alone."""
 
     def each_cut(self, end):
-        for sizes in in_parts(range(len(WHOLE) + 1), 2 * STREAMS):
-            model = service_of_the_sample()
-            with Serve(2 * len(sizes)) as service:
-                for client, size in enumerate(sizes):
-                    requests = session(client, client + 1)
-                    replies = [answer(model, request)[0] for request in requests]
-                    whole = b"".join(requests)
-                    came = end(byte_by_byte(service.port, whole[:size]))
-                    if came is not None:
-                        count = len(frames_of(whole[:size])[0])
-                        self.assertEqual(came, b"".join(replies[:count]), size)
-                    self.assertEqual(exchange(service.port, whole), b"".join(replies), size)
+        for version in LIMITS:
+            for sizes in in_parts(range(LENGTHS[version] + 1), 2 * STREAMS):
+                self.each_of(end, version, sizes)
+
+    def each_of(self, end, version, sizes):
+        model = service_of_the_sample()
+        with Serve(2 * len(sizes)) as service:
+            for client, size in enumerate(sizes):
+                requests = session(client, client + 1, version)
+                replies = [answer(model, request)[0] for request in requests]
+                whole = b"".join(requests)
+                came = end(byte_by_byte(service.port, whole[:size]))
+                if came is not None:
+                    count = len(frames_of(whole[:size])[0])
+                    self.assertEqual(came, b"".join(replies[:count]), size)
+                self.assertEqual(exchange(service.port, whole), b"".join(replies), size)
 
     def test_no_more_is_sent(self):
         """The frames that came whole are answered."""
@@ -138,17 +162,19 @@ class CutSessions(unittest.TestCase):
 class SlowClients(unittest.TestCase):
     def test_byte_by_byte(self):
         """Each reply comes with the last byte of its frame, and not before."""
-        model = service_of_the_sample()
-        with Serve(2) as service:
-            with connect(service.port) as stream:
-                stream.setsockopt(socket.IPPROTO_TCP, socket.TCP_NODELAY, 1)
-                for request in SESSION:
-                    for at in range(len(request)):
-                        self.assertEqual(select.select([stream], [], [], 0.002)[0], [])
-                        stream.sendall(request[at : at + 1])
-                    reply = answer(model, request)[0]
-                    self.assertEqual(read_exactly(stream, len(reply)), reply)
-            self.assertEqual(exchange(service.port, WHOLE), answer(model, WHOLE)[0])
+        for version in LIMITS:
+            model = service_of_the_sample()
+            whole = whole_session(1, 1, version)
+            with Serve(2) as service:
+                with connect(service.port) as stream:
+                    stream.setsockopt(socket.IPPROTO_TCP, socket.TCP_NODELAY, 1)
+                    for request in session(1, 1, version):
+                        for at in range(len(request)):
+                            self.assertEqual(select.select([stream], [], [], 0.002)[0], [])
+                            stream.sendall(request[at : at + 1])
+                        reply = answer(model, request)[0]
+                        self.assertEqual(read_exactly(stream, len(reply)), reply)
+                self.assertEqual(exchange(service.port, whole), answer(model, whole)[0])
 
 
 class UnreadReplies(unittest.TestCase):
@@ -159,15 +185,15 @@ class UnreadReplies(unittest.TestCase):
     ASKED = 200
 
     def test_until_it_has_gone(self):
-        for end in (socket.socket.close, reset):
+        for version, end in itertools.product(LIMITS, (socket.socket.close, reset)):
             model = service_of_the_sample()
-            front = b"".join([frame(1, 9, 1, numbers(65_536) + b"\0"), *self.FOLDERS])
+            front = in_version(version, b"".join([frame(1, 9, 1, numbers(65_536) + b"\0"), *self.FOLDERS]))
             answer(model, front)
-            whole = b"".join(session(1, 2))
-            with self.subTest(end=end.__name__), Serve(2) as service:
+            whole = whole_session(1, 2, version)
+            with self.subTest(version=version, end=end.__name__), Serve(2) as service:
                 stream = connect(service.port)
                 self.addCleanup(stream.close)
-                stream.sendall(front + self.EXPORT * self.ASKED)
+                stream.sendall(front + in_version(version, self.EXPORT) * self.ASKED)
                 self.is_waited_for(service, stream)
                 with connect(service.port) as after:
                     after.sendall(whole)
@@ -196,19 +222,19 @@ def of_chance(seed):
     return Random(seed).randbytes(FLOOD)
 
 
-def frames_of_chance(seed):
-    """The frames of a session in any order, some with other kinds and bytes, of a few clients and numbers."""
+def frames_of_chance(seed, versions=(1,)):
+    """The frames of sessions in these versions in any order, some with other kinds and bytes, of a few clients and numbers."""
     random = Random(seed)
-    requests = frames_of(WHOLE)[0]
+    requests = frames_of(b"".join(whole_session(1, 1, version) for version in versions))[0]
     sent = []
     for _ in range(FRAMES):
-        kind, _, _, body = random.choice(requests)
+        version, kind, _, _, body = random.choice(requests)
         changed = bytearray(body)
         for _ in range(random.randrange(3)):
             changed[random.randrange(len(body))] = random.randrange(256)
         if random.randrange(10) == 0:
             kind = random.randrange(256)
-        sent.append(frame(kind, random.randrange(3), random.randrange(200), bytes(changed)))
+        sent.append(frame(kind, random.randrange(3), random.randrange(200), bytes(changed), version))
     return b"".join(sent)
 
 
@@ -216,10 +242,12 @@ class Floods(unittest.TestCase):
     """2^20 bytes of one kind, or of chance; or a thousand frames of chance. What lies in them is answered, and the next
     connection is served."""
 
-    STREAMS = [bytes(FLOOD), b"\xff" * FLOOD, b"\1" * FLOOD]
+    STREAMS = [bytes(FLOOD), b"\xff" * FLOOD]
+    STREAMS += [bytes([version]) * FLOOD for version in LIMITS]
     STREAMS += [of_chance(seed) for seed in range(3)]
-    STREAMS += [b"\1" + of_chance(seed) for seed in range(3)]
+    STREAMS += [bytes([version]) + of_chance(seed) for version in LIMITS for seed in range(3)]
     STREAMS += [frames_of_chance(seed) for seed in range(3)]
+    STREAMS += [frames_of_chance(seed, LIMITS) for seed in range(3, 6)]
 
     def test_through_run(self):
         for sent in self.STREAMS:
@@ -231,7 +259,7 @@ class Floods(unittest.TestCase):
         model = service_of_the_sample()
         with Serve(2 * len(self.STREAMS)) as service:
             for client, sent in enumerate(self.STREAMS, 100):
-                whole = b"".join(session(client, len(model.profiles) + 1))
+                whole = whole_session(client, len(model.profiles) + 1)
                 for part in (sent, whole):
                     self.assertEqual(exchange(service.port, part), answer(model, part)[0], sent[:20])
 

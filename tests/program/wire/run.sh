@@ -17,7 +17,7 @@ ${CC:-cc} -shared -fPIC -o "$PRELOAD_REFUSE" ../../memory/refuse.c -ldl || exit 
 PYTHONPATH=../model
 export DROID_DESK PRELOAD_STREAMS PRELOAD_REFUSE PYTHONPATH
 failed=0
-for tests in run_command cases_as_frames export_parts serve_command send_faults send_streams send_memory serve_memory send_sizes two_senders waiting steady_memory \
+for tests in run_command both_versions cases_as_frames export_parts serve_command send_faults send_streams send_memory serve_memory send_sizes two_senders waiting steady_memory \
     hostile_rows hostile_streams hostile_registries; do
     if python3 -S -B -m unittest -q "$tests" 2>"$work/err"; then
         echo "$tests: passed"

@@ -7,7 +7,7 @@ import subprocess
 import tempfile
 import unittest
 
-from harness import HEADER, PROGRAM, SECONDS, frame, free_port, run
+from harness import HEADER, LIMITS, PROGRAM, SECONDS, frame, free_port, in_version, run
 
 CREATE = frame(1, 1, 1, b"\0\1\0\0\0")
 FOLDER = frame(2, 1, 2, b"\0\0\0\1" + bytes(12) + b"in")
@@ -22,8 +22,16 @@ MALFORMED = frame(136, 1, 9, b"\1")
 SESSION = [(CREATE, MADE), (FOLDER, NODE), (FOLDER, NODE), (OTHER_FOLDER, NUMBER_REUSED)]
 REQUESTS = b"".join(request for request, _ in SESSION)
 REPLIES = b"".join(reply for _, reply in SESSION)
+# where the requests end in each version, and where the replies end in both
+ENDS = {1: [0, 23, 59, 95, 132], 2: [0, 24, 60, 96, 133]}
+REPLIED = [0, 22, 44, 66, 85]
 
 MOST_FRAMES = 1_000_000
+
+
+def session_in(version):
+    """The stored session's requests in a version, and its replies."""
+    return in_version(version, REQUESTS), in_version(version, REPLIES)
 
 
 def fault(name):
@@ -32,20 +40,22 @@ def fault(name):
 
 class Run(unittest.TestCase):
     def test_the_stored_session(self):
-        self.assertEqual((len(REQUESTS), len(REPLIES)), (132, 85))
-        self.assertEqual(run(["run"], REQUESTS), (0, REPLIES, ""))
+        for version in LIMITS:
+            requests, replies = session_in(version)
+            self.assertEqual((len(requests), len(replies)), (ENDS[version][-1], REPLIED[-1]))
+            self.assertEqual(run(["run"], requests), (0, replies, ""))
 
     def test_an_empty_stream(self):
         self.assertEqual(run(["run"]), (0, b"", ""))
 
     def test_a_stream_cut_after_each_byte(self):
-        ends = [0, 23, 59, 95, 132]
-        replied = [0, 22, 44, 66, 85]
-        for size in range(len(REQUESTS)):
-            with self.subTest(size=size):
-                whole = max(place for place, end in enumerate(ends) if end <= size)
-                status, said = (0, "") if size in ends else (4, fault("Truncated"))
-                self.assertEqual(run(["run"], REQUESTS[:size]), (status, REPLIES[: replied[whole]], said))
+        for version in LIMITS:
+            requests, replies = session_in(version)
+            for size in range(len(requests)):
+                with self.subTest(version=version, size=size):
+                    whole = max(place for place, end in enumerate(ENDS[version]) if end <= size)
+                    status, said = (0, "") if size in ENDS[version] else (4, fault("Truncated"))
+                    self.assertEqual(run(["run"], requests[:size]), (status, replies[: REPLIED[whole]], said))
 
     def test_what_is_no_frame(self):
         """With all frames before it answered."""
@@ -53,13 +63,13 @@ class Run(unittest.TestCase):
         rows = [
             (CREATE[:17], "Truncated"),
             (CREATE[:22], "Truncated"),
-            (b"\x09" + CREATE[1:], "BadVersion"),
+            *((bytes([version]) + CREATE[1:], "BadVersion") for version in (0, 3, 9, 255)),
             (b"\x09" + CREATE[1:17], "Truncated"),
-            (HEADER.pack(1, 1, 1, 1, 1_048_641), "TooLong"),
-            (HEADER.pack(1, 1, 1, 1, 0xFFFFFFFF), "TooLong"),
-            (HEADER.pack(1, 1, 1, 1, 1_048_640), "Truncated"),
-            (HEADER.pack(2, 1, 1, 1, 0xFFFFFFFF), "BadVersion"),
+            (HEADER.pack(3, 1, 1, 1, 0xFFFFFFFF), "BadVersion"),
         ]
+        for version, limits in LIMITS.items():
+            lengths = [(limits.body, "Truncated"), (limits.body + 1, "TooLong"), (0xFFFFFFFF, "TooLong")]
+            rows += [(HEADER.pack(version, 1, 1, 1, length), name) for length, name in lengths]
         for rest, name in rows:
             with self.subTest(name=name, rest=rest):
                 for front, replies in fronts:
@@ -67,13 +77,16 @@ class Run(unittest.TestCase):
                 self.assertEqual(run(["run"], rest + CREATE)[0], 4)
 
     def test_a_frame_that_is_no_request_is_answered_and_the_stream_goes_on(self):
-        self.assertEqual(run(["run"], SHORT_FINISH + CREATE), (0, MALFORMED + MADE, ""))
-        unknown = frame(200, 4_294_967_295, 2**64 - 1, b"abc")
-        self.assertEqual(run(["run"], unknown), (0, frame(136, 4_294_967_295, 2**64 - 1, b"\1"), ""))
+        for version in LIMITS:
+            requests, replies = (in_version(version, frames) for frames in (SHORT_FINISH + CREATE, MALFORMED + MADE))
+            self.assertEqual(run(["run"], requests), (0, replies, ""))
+            unknown = frame(200, 4_294_967_295, 2**64 - 1, b"abc", version)
+            self.assertEqual(run(["run"], unknown), (0, frame(136, 4_294_967_295, 2**64 - 1, b"\1", version), ""))
 
     def test_the_longest_body(self):
-        longest = frame(4, 1, 3, bytes(1_048_640))
-        self.assertEqual(run(["run"], longest), (0, frame(136, 1, 3, b"\3"), ""))
+        for version, limits in LIMITS.items():
+            longest = frame(4, 1, 3, bytes(limits.body), version)
+            self.assertEqual(run(["run"], longest), (0, frame(136, 1, 3, b"\3", version), ""))
 
     def test_an_input_that_can_not_be_read(self):
         folder = os.open("/", os.O_RDONLY)

@@ -5,7 +5,8 @@ import subprocess
 import threading
 import unittest
 
-from harness import HEADER, PROGRAM, SECONDS, Serve, frame, free_port, listen, read_frame, run, send
+from harness import HEADER, LIMITS, PROGRAM, SECONDS, Serve, frame, free_port, in_version, lines_in_version, listen
+from harness import read_frame, run, send
 
 CREATE = b"create 65536 0\n"
 FOLDER = b"folder 1 0 0 in\n"
@@ -17,15 +18,16 @@ ADDED = (2, 7, 2, b"\0\0\0\1" + bytes(12) + b"in")
 
 
 class FakeService(threading.Thread):
-    """Takes one connection, and answers each frame by what the next of `answers` makes of its client and number.
-    Then it closes, or waits until the other end has."""
+    """Takes one connection, and answers each frame, of this version, by what the next of `answers` makes of its client and
+    number. Then it closes, or waits until the other end has."""
 
-    def __init__(self, *answers, closes=False):
+    def __init__(self, *answers, closes=False, version=1):
         super().__init__(daemon=True)
         self.listener = listen()
         self.port = self.listener.getsockname()[1]
         self.answers = answers
         self.closes = closes
+        self.version = version
         self.heard = []
         self.start()
 
@@ -34,7 +36,7 @@ class FakeService(threading.Thread):
         with self.listener, stream:
             stream.settimeout(SECONDS)
             for answer in self.answers:
-                self.heard.append(read_frame(stream))
+                self.heard.append(read_frame(stream, self.version))
                 _, client, number, _ = self.heard[-1]
                 stream.sendall(answer(client, number))
             if not self.closes:
@@ -61,10 +63,69 @@ def nothing(client, number):
     return b""
 
 
+# in a version, ends of files that have a spelling in the other one alone; and a hash that there isn't, and one cut short
+NO_FINISHED = {
+    1: [b"\0\0\0\0\0", b"\0\0\1" + bytes(16) + b"\0\0"],
+    2: [b"\0\0" + bytes(16) + b"\0\0", b"\0\0\3\0\0", b"\0\0\2" + bytes(31) + b"\0\0"],
+}
+
+
+def sent_in(version, request):
+    """What is sent for the line of a version that asks for the same."""
+    kind, client, number, _ = request
+    return kind, client, number, in_version(version, frame(*request))[HEADER.size :]
+
+
+def told_in_the_other(version, reply):
+    """This reply in the version that its request didn't come in."""
+    return in_version(3 - version, reply)
+
+
+def rows_of_faults(version):
+    """What comes in the place of the replies to lines of a version, and the fault of the last of them."""
+
+    def reply(kind, client, number, body):
+        return frame(kind, client, number, body, version)
+
+    def told(answer, client, number):
+        return in_version(version, answer(client, number))
+
+    made_first = told(made, 7, 1)
+    return [
+        # the connection is closed where a reply is due, or within one
+        ([b""], "Closed"),
+        ([made_first, b""], "Closed"),
+        *(([made_first[:count]], "Truncated") for count in (1, 2, HEADER.size - 1, HEADER.size, HEADER.size + 3)),
+        # for another client, for a number never submitted, of another kind, and in the other version
+        ([told(made, 8, 1)], "Stranger"),
+        ([told(made, 7, 2)], "Stranger"),
+        ([told(node, 7, 2)], "Stranger"),
+        ([told(node, 7, 1)], "Stranger"),
+        ([made_first, told(node, 7, 1)], "Stranger"),
+        ([told_in_the_other(version, made(7, 1))], "Stranger"),
+        ([told_in_the_other(version, refused(7, 1))], "Stranger"),
+        ([made_first, told_in_the_other(version, made(7, 1))], "Stranger"),
+        # a number that was answered is answered, or refused, again
+        ([made_first, made_first], "Repeated"),
+        ([made_first, reply(136, 7, 1, b"\x0a")], "Repeated"),
+        # a request, and bodies outside the grammar: too short ones, and a refusal that there isn't
+        ([reply(1, 7, 1, b"\0\1\0\0\0")], "Malformed"),
+        ([reply(129, 7, 1, b"\0\0\1")], "Malformed"),
+        ([reply(136, 7, 1, b"\x14")], "Malformed"),
+        ([made_first, reply(130, 7, 2, b"\0\0\1")], "Malformed"),
+        *(([reply(132, 7, 1, body)], "Malformed") for body in NO_FINISHED[version]),
+        # no frames
+        ([b"HTTP/1.1 400 Bad Request\r\n\r\n"], "BadVersion"),
+        *(([HEADER.pack(other, 129, 7, 1, 4)], "BadVersion") for other in (0, 3, 255)),
+        ([HEADER.pack(version, 129, 7, 1, LIMITS[version].body + 1)], "TooLong"),
+        ([HEADER.pack(version, 129, 7, 1, 0xFF000004)], "TooLong"),
+    ]
+
+
 class Faults(unittest.TestCase):
-    def ends(self, lines, answers, out, fault, first=None, closes=False):
+    def ends(self, lines, answers, out, fault, first=None, closes=False, version=1):
         """`send` over these lines prints this and ends by this fault. The answer is the frames that it sent."""
-        service = FakeService(*answers, closes=closes)
+        service = FakeService(*answers, closes=closes, version=version)
         self.assertEqual(send(service.port, 7, lines, first), (4, out, f"fault: {fault}\n"))
         service.join(SECONDS)
         return service.heard
@@ -74,40 +135,16 @@ class Faults(unittest.TestCase):
 
     def test_replies(self):
         """One reply, which is the fault; or the one that is due, and then the fault in the place of the second."""
-        made_first = made(7, 1)
-        rows = [
-            # the connection is closed where a reply is due, or within one
-            ([b""], "Closed"),
-            ([made_first, b""], "Closed"),
-            *(([made_first[:count]], "Truncated") for count in (1, 2, HEADER.size - 1, HEADER.size, HEADER.size + 3)),
-            # for another client, for a number never submitted, and of another kind
-            ([made(8, 1)], "Stranger"),
-            ([made(7, 2)], "Stranger"),
-            ([node(7, 2)], "Stranger"),
-            ([node(7, 1)], "Stranger"),
-            ([made_first, node(7, 1)], "Stranger"),
-            # a number that was answered is answered, or refused, again
-            ([made_first, made_first], "Repeated"),
-            ([made_first, frame(136, 7, 1, b"\x0a")], "Repeated"),
-            # a request, and bodies outside the grammar: too short ones, and a refusal that there isn't
-            ([frame(1, 7, 1, b"\0\1\0\0\0")], "Malformed"),
-            ([frame(129, 7, 1, b"\0\0\1")], "Malformed"),
-            ([frame(136, 7, 1, b"\x14")], "Malformed"),
-            ([made_first, frame(130, 7, 2, b"\0\0\1")], "Malformed"),
-            # no frames
-            ([b"HTTP/1.1 400 Bad Request\r\n\r\n"], "BadVersion"),
-            ([HEADER.pack(2, 129, 7, 1, 4)], "BadVersion"),
-            ([HEADER.pack(1, 129, 7, 1, 1_048_641)], "TooLong"),
-            ([HEADER.pack(1, 129, 7, 1, 0xFF000004)], "TooLong"),
-        ]
-        for replies, fault in rows:
-            for line, second in ((CREATE, CREATED_AGAIN), (FOLDER, ADDED)):
-                with self.subTest(replies=replies, line=line):
-                    answers = [lambda *of, reply=reply: reply for reply in replies]
-                    printed = b"made 1\n" * (len(replies) - 1)
-                    closes = fault in ("Closed", "Truncated")
-                    heard = self.ends(CREATE + line, answers, printed, fault, closes=closes)
-                    self.assertEqual(heard, [CREATED, second][: len(replies)])
+        for version in LIMITS:
+            for replies, fault in rows_of_faults(version):
+                for line, second in ((CREATE, CREATED_AGAIN), (FOLDER, ADDED)):
+                    with self.subTest(version=version, replies=replies, line=line):
+                        answers = [lambda *of, reply=reply: reply for reply in replies]
+                        printed = b"made 1\n" * (len(replies) - 1)
+                        closes = fault in ("Closed", "Truncated")
+                        lines = lines_in_version(version, CREATE + line)
+                        heard = self.ends(lines, answers, printed, fault, closes=closes, version=version)
+                        self.assertEqual(heard, [sent_in(version, sent) for sent in (CREATED, second)][: len(replies)])
 
     def test_numbers_used_up(self):
         last = 2**63 - 1

@@ -5,7 +5,7 @@ import struct
 import tempfile
 import unittest
 
-from harness import Serve, connect, preloaded, read_frame, send
+from harness import LIMITS, Serve, connect, lines_in_version, preloaded, read_frame, send
 from serve_command import EXPORT
 from two_senders import HEADER
 
@@ -28,32 +28,36 @@ def commands_accepted(port):
 
 
 class SendMemory(unittest.TestCase):
-    def allocations(self):
-        """How many allocations a `send` of the lines asks for."""
+    def allocations(self, lines):
+        """How many allocations a `send` of these lines asks for."""
         with tempfile.TemporaryDirectory() as folder, Serve() as service:
             path = os.path.join(folder, "count")
             counting = preloaded("REFUSE", ALLOCATIONS=path)
-            self.assertEqual(send(service.port, 7, LINES, env=counting), (0, FRONTS[3], ""))
+            self.assertEqual(send(service.port, 7, lines, env=counting), (0, FRONTS[3], ""))
             with open(path, encoding="ascii") as file:
                 return int(file.read())
 
-    def with_refused(self, number):
+    def with_refused(self, lines, number):
         """How a `send` ends of which this allocation is refused, how many replies it printed, and how many commands
         were accepted then. The same lines sent again are answered as if nothing had been."""
         with Serve(3) as service:
-            status, out, said = send(service.port, 7, LINES, env=preloaded("REFUSE", REFUSE=number))
+            status, out, said = send(service.port, 7, lines, env=preloaded("REFUSE", REFUSE=number))
             self.assertIn(out, FRONTS)
             if status == 6:
                 connect(service.port).close()
             accepted = commands_accepted(service.port)
-            self.assertEqual(send(service.port, 7, LINES), (0, FRONTS[3], ""))
+            self.assertEqual(send(service.port, 7, lines), (0, FRONTS[3], ""))
         return (status, said), FRONTS.index(out), accepted
 
     def test_each_allocation_refused(self):
+        for version in LIMITS:
+            self.each_allocation_refused(lines_in_version(version, LINES))
+
+    def each_allocation_refused(self, lines):
         found = set()
-        for number in range(1, self.allocations() + 1):
-            with self.subTest(number=number):
-                ending, printed, accepted = self.with_refused(number)
+        for number in range(1, self.allocations(lines) + 1):
+            with self.subTest(lines=lines[:9], number=number):
+                ending, printed, accepted = self.with_refused(lines, number)
                 found.add((ending[0], printed, accepted))
                 if ending[0] == 0:
                     self.assertEqual((ending, printed), ((0, ""), 3))

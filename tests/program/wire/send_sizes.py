@@ -3,12 +3,13 @@
 import unittest
 from hashlib import md5
 
-from harness import Serve, send
+from harness import LIMITS, Serve, lines_in_version, send
 from two_senders import HEADER
 
-LARGEST_PIECE = 1_048_576
+# the largest part of an export, and how long a line is
+MEBIBYTE = 1_048_576
 # what a body has beside a piece's bytes
-LONGEST_PIECE_LINE = 1_048_640 - 12
+PIECE_FIELDS = 12
 LINES = 1_500
 
 
@@ -23,24 +24,27 @@ class SendSizes(unittest.TestCase):
 
     def test_the_largest_pieces(self):
         """The last two have as many bytes as a frame holds, and one more."""
-        content = bytes(range(256)) * (LARGEST_PIECE // 256)
-        lines = [b"create 65536 0", b"file 1 0 0 %d %d x.bin" % (2 * LARGEST_PIECE, LARGEST_PIECE)]
-        lines += [b"piece 1 1 %d " % index + content.hex().encode("ascii") for index in (1, 0)]
-        lines += [b"piece 1 1 0 " + b"61" * count for count in (LONGEST_PIECE_LINE, LONGEST_PIECE_LINE + 1)]
-        lines += [b"finish 1 1"]
-        digest = md5(content * 2).hexdigest().encode("ascii")
-        printed = b"made 1\nnode 1\ntaken 1\ntaken 2\nrefused 13\nbad line\nfinished none false %s -\n" % digest
-        with Serve() as service:
-            self.assertEqual(send(service.port, 7, b"\n".join(lines)), (5, printed, ""))
+        for version, limits in LIMITS.items():
+            content = bytes(range(256)) * (limits.piece // 256)
+            longest = limits.body - PIECE_FIELDS
+            lines = [b"create 65536 0", b"file 1 0 0 %d %d x.bin" % (2 * limits.piece, limits.piece)]
+            lines += [b"piece 1 1 %d " % index + content.hex().encode("ascii") for index in (1, 0)]
+            lines += [b"piece 1 1 0 " + b"61" * count for count in (longest, longest + 1)]
+            lines += [b"finish 1 1", b""]
+            digest = md5(content * 2).hexdigest().encode("ascii")
+            printed = b"made 1\nnode 1\ntaken 1\ntaken 2\nrefused 13\nbad line\nfinished none false %s -\n" % digest
+            with self.subTest(version=version), Serve() as service:
+                told = send(service.port, 7, lines_in_version(version, b"\n".join(lines)))
+                self.assertEqual(told, (5, printed, ""))
 
     def test_lines_of_a_mebibyte(self):
         """With a line feed behind the last one and without."""
-        name = b"n" * (LARGEST_PIECE - len(b"folder 1 0 0 "))
+        name = b"n" * (MEBIBYTE - len(b"folder 1 0 0 "))
         line = b"folder 1 0 0 " + name
         for lines, status, printed in (
             (line, 0, b"refused 3\n"),
             (line + b"\n" + line + b"\n", 0, b"refused 3\nrefused 3\n"),
-            (b"x" * LARGEST_PIECE + b"\n" + line, 5, b"bad line\nrefused 3\n"),
+            (b"x" * MEBIBYTE + b"\n" + line, 5, b"bad line\nrefused 3\n"),
         ):
             with self.subTest(size=len(lines)), Serve() as service:
                 self.assertEqual(send(service.port, 7, lines), (status, printed, ""))
@@ -51,10 +55,10 @@ class SendSizes(unittest.TestCase):
         folders = b"".join(b"folder 1 0 0 %s\n" % name for name in names)
         row = b'"%d","","file:/%s/","/%s","%s","","Done","","Folder","","1970-01-01T00:00:00","false","","","","","",""\n'
         text = HEADER + b"".join(row % (number, name, name, name) for number, name in enumerate(names, 1))
-        self.assertLess(LARGEST_PIECE, len(text))
+        self.assertLess(MEBIBYTE, len(text))
         shown = b"".join(
             b"part %d %d %d\n" % (LINES + 1, len(text), len(part)) + part
-            for part in (text[:LARGEST_PIECE], text[LARGEST_PIECE:])
+            for part in (text[:MEBIBYTE], text[MEBIBYTE:])
         )
         lines = b"create 65536 0\n" + folders + b"export 1 0 1048576\nexport 1 1048576 1048576\n"
         with Serve() as service:

@@ -8,9 +8,10 @@ import threading
 import unittest
 from hashlib import md5
 
-from harness import HEADER, SECONDS, Serve, connect, frame, listen, run, send
+from harness import HEADER, LIMITS, SECONDS, Serve, connect, frame, listen, run, send
 from harness import read_exactly, read_frame, read_until_reset
 from run_command import CREATE, FOLDER, MADE, MALFORMED, MOST_FRAMES, NODE, REPLIES, REQUESTS, SESSION, SHORT_FINISH
+from run_command import session_in
 
 EXPORT = frame(8, 1, 9, b"\0\0\0\1" + bytes(8) + b"\0\x10\0\0" + b"\1\0")
 HEADER_ROW = 193
@@ -55,14 +56,16 @@ class ServeCommand(unittest.TestCase):
 
     def test_the_next_connection_sees_the_same_service(self):
         """Wherever the first one is cut, the session sent whole then is answered as ever, and done once."""
-        for size in (0, 1, 22, 23, 24, 40, 58, 59, 60, 131, 132):
-            with self.subTest(size=size), Serve(2) as service:
-                with connect(service.port) as first:
-                    first.sendall(REQUESTS[:size])
-                with connect(service.port) as second:
-                    second.sendall(REQUESTS)
-                    self.assertEqual(read_exactly(second, len(REPLIES)), REPLIES)
-                    self.assertEqual(rows_shown(second), (2, HEADER_ROW + FOLDER_ROW))
+        for version in LIMITS:
+            requests, replies = session_in(version)
+            for size in (0, 1, 22, 23, 24, 40, 58, 59, 60, 131, 132):
+                with self.subTest(version=version, size=size), Serve(2) as service:
+                    with connect(service.port) as first:
+                        first.sendall(requests[:size])
+                    with connect(service.port) as second:
+                        second.sendall(requests)
+                        self.assertEqual(read_exactly(second, len(replies)), replies)
+                        self.assertEqual(rows_shown(second), (2, HEADER_ROW + FOLDER_ROW))
 
     def test_what_is_kept_is_kept_over_connections(self):
         with Serve(3) as service:
@@ -104,7 +107,8 @@ class ServeCommand(unittest.TestCase):
                 self.assertEqual(read_exactly(stream, len(MADE)), MADE)
 
     def test_what_ends_a_connection_ends_that_one_alone(self):
-        rests = [b"\x09" + CREATE[1:], HEADER.pack(1, 1, 1, 1, 1_048_641), CREATE[:17], CREATE[:22], b"GET / HTTP/1.1\r\n\r\n"]
+        rests = [b"\x09" + CREATE[1:], CREATE[:17], CREATE[:22], b"GET / HTTP/1.1\r\n\r\n"]
+        rests += [HEADER.pack(version, 1, 1, 1, limits.body + 1) for version, limits in LIMITS.items()]
         with Serve(len(rests) + 1) as service:
             for rest in rests:
                 with connect(service.port) as stream:

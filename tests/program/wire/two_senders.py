@@ -5,7 +5,7 @@ import threading
 import unittest
 
 import harness
-from harness import SECONDS, Serve, connect, frame, listen, send
+from harness import LIMITS, SECONDS, Serve, connect, frame, in_version, lines_in_version, listen, send
 
 HEADER = (
     b'"ID","PARENT_ID","URI","FILE_PATH","NAME","METHOD","STATUS","SIZE","TYPE","EXT","LAST_MODIFIED",'
@@ -101,15 +101,17 @@ class TwoSenders(unittest.TestCase):
             self.assertEqual(send(service.port, 7, b"create 9 0\n", first=1), (0, b"refused 2\n", ""))
 
     def test_a_connection_cut_after_each_byte(self):
-        sent = sum(map(len, deposit_frames(7)))
-        for room in range(sent):
-            with self.subTest(room=room), Serve(2) as service:
-                status, out, _ = send(Relay(service.port, room).port, 7, DEPOSIT)
-                self.assertEqual(status, 4)
-                self.assertTrue(DEPOSITED.startswith(out), out)
-                again = send(service.port, 7, DEPOSIT + b"export 1 0 1048576\n")
-                whole = DEPOSITED + part(6, HEADER + FOLDER + LETTERS)
-                self.assertEqual(again, (0, whole, ""))
+        for version in LIMITS:
+            lines = lines_in_version(version, DEPOSIT)
+            sent = sum(len(in_version(version, request)) for request in deposit_frames(7))
+            for room in range(sent):
+                with self.subTest(version=version, room=room), Serve(2) as service:
+                    status, out, _ = send(Relay(service.port, room).port, 7, lines)
+                    self.assertEqual(status, 4)
+                    self.assertTrue(DEPOSITED.startswith(out), out)
+                    again = send(service.port, 7, lines + b"export 1 0 1048576\n")
+                    whole = DEPOSITED + part(6, HEADER + FOLDER + LETTERS)
+                    self.assertEqual(again, (0, whole, ""))
 
 
 def deposit_frames(client, profile=1):

@@ -1,5 +1,6 @@
 """What the program does while nothing comes: it uses no processor, and holds back no reply."""
 
+import itertools
 import os
 import socket
 import subprocess
@@ -8,7 +9,7 @@ import time
 import unittest
 
 import session
-from harness import HEADER, PROGRAM, SECONDS, Serve, connect, frame, read_exactly, read_frame
+from harness import HEADER, LIMITS, PROGRAM, SECONDS, Serve, connect, frame, read_exactly, read_frame
 from two_senders import FOLDER
 from two_senders import HEADER as HEADER_ROW
 
@@ -53,7 +54,7 @@ class NothingHeldBack(unittest.TestCase):
 
     @classmethod
     def setUpClass(cls):
-        cls.steps = session.steps()
+        cls.steps = {version: session.steps(version) for version in LIMITS}
         folder = tempfile.TemporaryDirectory()
         cls.addClassCleanup(folder.cleanup)
         cls.registry = os.path.join(folder.name, "registry.csv")
@@ -61,14 +62,15 @@ class NothingHeldBack(unittest.TestCase):
             file.write(session.REGISTRY)
 
     def test_the_session_goes_to_the_limits(self):
-        """A body of 1,048,640 bytes, and a part of 1,048,576 behind its two numbers."""
-        longest = [max(map(len, side)) - HEADER.size for side in zip(*self.steps)]
-        self.assertEqual(longest, [1_048_640, 16 + 1_048_576])
+        """A body as long as there can be, and a part of 1,048,576 behind its two numbers."""
+        for version, limits in LIMITS.items():
+            longest = [max(map(len, side)) - HEADER.size for side in zip(*self.steps[version])]
+            self.assertEqual(longest, [limits.body, 16 + 1_048_576])
 
-    def replies_come(self, stream, front):
+    def replies_come(self, stream, steps, front):
         sent = 0
-        following = [request for request, _ in self.steps[1:]] + [b""]
-        for (request, reply), after in zip(self.steps, following):
+        following = [request for request, _ in steps[1:]] + [b""]
+        for (request, reply), after in zip(steps, following):
             ahead = after[: min(front, max(len(after) - 1, 0))]
             stream.sendall(request[sent:] + ahead)
             found = read_exactly(stream, len(reply))
@@ -76,21 +78,21 @@ class NothingHeldBack(unittest.TestCase):
             sent = len(ahead)
 
     def test_by_run(self):
-        for front in self.FRONTS:
+        for version, front in itertools.product(LIMITS, self.FRONTS):
             near, far = socket.socketpair()
             near.settimeout(SECONDS)
             words = [PROGRAM, "run", "--registry", self.registry]
-            with self.subTest(front=front), subprocess.Popen(words, stdin=far, stdout=far) as service, near:
+            with self.subTest(version=version, front=front), subprocess.Popen(words, stdin=far, stdout=far) as service, near:
                 far.close()
-                self.replies_come(near, front)
+                self.replies_come(near, self.steps[version], front)
                 near.shutdown(socket.SHUT_WR)
                 self.assertEqual((near.recv(1), service.wait(SECONDS)), (b"", 0))
 
     def test_by_serve(self):
-        for front in self.FRONTS:
-            with self.subTest(front=front), Serve(options=["--registry", self.registry]) as service:
+        for version, front in itertools.product(LIMITS, self.FRONTS):
+            with self.subTest(version=version, front=front), Serve(options=["--registry", self.registry]) as service:
                 with connect(service.port) as stream:
-                    self.replies_come(stream, front)
+                    self.replies_come(stream, self.steps[version], front)
 
     def test_by_send(self):
         """What a line prints is there while the next line has only begun, also where no line feed ends it."""

@@ -1,0 +1,48 @@
+"""Reads of files that are interrupted, cut short, or fail."""
+import os
+import random
+import unittest
+
+from trees import InFolder, lines, profile, walk
+
+PIECE = 1 << 20
+
+
+class Reads(InFolder):
+    def setUp(self):
+        super().setUp()
+        some = random.Random(11)
+        self.file(b"/a.bin", some.randbytes(3 * PIECE + 5))
+        self.file(b"/b.txt", b"")
+        self.file(b"/c.txt", b"some text")
+
+    def with_reads(self, **how):
+        return profile(self.top, env={**os.environ, "LD_PRELOAD": os.environ["PRELOAD_READS"], **how})
+
+    def test_as_ever(self):
+        for how in ({}, {"PREAD_INTERRUPTIONS": "64"}, {"PREAD_WIDTH": "1000"}, {"PREAD_WIDTH": "300000"}):
+            status, out, err = self.with_reads(**how)
+            self.assertEqual((status, lines(err, b"left out: ")), (0, []), how)
+            self.same(out, walk(self.top)[0])
+
+    def left_out(self, path, **how):
+        """With these reads the file at this path is left out, and no other."""
+        status, out, err = self.with_reads(**how)
+        self.assertEqual((status, lines(err, b"left out: ")), (5, [path + b": it could not be opened or read"]), how)
+        rows = [row for row in walk(self.top)[0] if row["FILE_PATH"].encode() != path]
+        for row in rows:
+            # the number of the file that was given up is not used again
+            del row["ID"]
+        self.same(out, rows)
+
+    def test_interrupted_too_often(self):
+        self.left_out(b"/a.bin", PREAD_INTERRUPTIONS="65")
+
+    def test_failed(self):
+        # four pieces and the end of the first file, the end of the second, and then the third
+        for number, path in ((1, b"/a.bin"), (4, b"/a.bin"), (5, b"/a.bin"), (6, b"/b.txt"), (7, b"/c.txt"), (8, b"/c.txt")):
+            self.left_out(path, PREAD_FAILS=str(number))
+
+
+if __name__ == "__main__":
+    unittest.main()

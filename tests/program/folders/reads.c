@@ -1,0 +1,40 @@
+/* Preloaded into a program, this interrupts what it reads of files by their places, cuts it short or lets it fail, by
+ * environment variables:
+ *   PREAD_INTERRUPTIONS   so many calls are interrupted first
+ *   PREAD_FAILS           the call of this number fails, counted from 1
+ *   PREAD_WIDTH           a call takes at most so many bytes
+ *   PREAD_SLEEPS          each call takes so many milliseconds */
+#define _GNU_SOURCE
+#include <dlfcn.h>
+#include <errno.h>
+#include <stdlib.h>
+#include <time.h>
+#include <unistd.h>
+
+static long calls;
+
+static long number(const char *name, long otherwise) {
+    const char *found = getenv(name);
+    return found ? atol(found) : otherwise;
+}
+
+static ssize_t failed(int error) {
+    errno = error;
+    return -1;
+}
+
+static ssize_t read_from(const char *name, int fd, void *bytes, size_t count, off64_t place) {
+    ssize_t (*real)(int, void *, size_t, off64_t) = (ssize_t(*)(int, void *, size_t, off64_t))dlsym(RTLD_NEXT, name);
+    size_t width = (size_t)number("PREAD_WIDTH", 1L << 40);
+    long sleeps = number("PREAD_SLEEPS", 0);
+    struct timespec long_enough = {sleeps / 1000, sleeps % 1000 * 1000000};
+    if (sleeps) nanosleep(&long_enough, NULL);
+    calls++;
+    if (calls <= number("PREAD_INTERRUPTIONS", 0)) return failed(EINTR);
+    if (calls == number("PREAD_FAILS", 0)) return failed(EIO);
+    return real(fd, bytes, count < width ? count : width, place);
+}
+
+ssize_t pread(int fd, void *bytes, size_t count, off_t place) { return read_from("pread", fd, bytes, count, place); }
+
+ssize_t pread64(int fd, void *bytes, size_t count, off64_t place) { return read_from("pread64", fd, bytes, count, place); }
