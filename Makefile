@@ -54,6 +54,7 @@ bench: build
 	@python3 tests/bench/compare_folders_export.py $(PROGRAM)
 	@python3 tests/bench/compare_store.py $(BENCH)
 	@python3 tests/bench/compare_run.py $(PROGRAM) $(BENCH)
+	@python3 tests/bench/compare_versions.py $(PROGRAM) $(BENCH)
 	@python3 tests/bench/memory_of_run.py $(PROGRAM)
 	@DROID_DESK=$(CURDIR)/$(PROGRAM) PYTHONPATH=tests/program/wire python3 tests/bench/attacks.py
 
