@@ -40,7 +40,7 @@ fn broken_frames(rt: HostRuntime) -> Result<(), Fail> {
             kind,
             client: 1,
             number,
-            body: Blob::copy_of(alloc, &body[..length])?,
+            body: Blob::copy_of(alloc, &body[..length.min(body.len())])?,
         };
         let reply = printed(alloc, service.handle(frame))?;
         assert!(rt;
