@@ -11,7 +11,7 @@ ghost use Rattle.droid_desk_commands.specs.Streams.{ConnectionGives, stream_turn
 use crate::connections::Connections;
 use crate::stream::{TURNS, serve_connection};
 use droid_core::Service;
-use droid_frame::{SteadyWrite, Unsteady};
+use droid_frame::{Noted, SteadyWrite};
 use std::alloc::Global;
 use std::io::{self, BufReader, ErrorKind, Read};
 use std::net::TcpListener;
@@ -57,7 +57,7 @@ impl Connections for Port {
         self.taken = taken;
         // A reply is one write, which needn't wait for more of them.
         let _ = stream.set_nodelay(true);
-        let mut writer = Unsteady::new(&stream);
+        let mut writer = Noted::new(&stream);
         let served = serve_stream(alloc, service, &stream, &mut writer, self.turns);
         let _ = served;
         Ok(())
@@ -81,7 +81,7 @@ fn serve_stream<R: Read + Drop, W: SteadyWrite>(
     ensures registry { registry_of service.new ≡ registry_of service.old }
 {
     let buffered = BufReader::new(alloc, reader)?;
-    let mut reader = Unsteady::new(buffered);
+    let mut reader = Noted::new(buffered);
     serve_connection(alloc, service, &mut reader, writer, turns);
     Ok(())
 }

@@ -4,7 +4,7 @@ use crate::ending::Ending;
 use crate::fresh::fresh_service;
 use droid_core::Service;
 use droid_desk_profiling::{Profiled, Wanted, common_registry, profile_folder};
-use droid_frame::Unsteady;
+use droid_frame::Noted;
 use droid_pronom::RegistryFault;
 use std::fs::{self, File, Files};
 use std::time::Clock;
@@ -25,7 +25,7 @@ where
 /// A fresh service over the registry of the file at this path.
 fn service_by_file<R: Files + AllocGlobal>(rt: &R, path: &str) -> Result<Service, Ending> {
     match fs::open(rt, path) {
-        Ok(file) => fresh_service(rt.alloc(), &mut Unsteady::new(file)),
+        Ok(file) => fresh_service(rt.alloc(), &mut Noted::new(file)),
         Err(_) => Err(Ending::Registry(RegistryFault::Read)),
     }
 }

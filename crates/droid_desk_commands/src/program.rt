@@ -15,7 +15,7 @@ use droid_core::Service;
 use droid_desk_arguments::{Asked, NoCommand, unread_words, what_is_asked};
 use droid_desk_profiling::{Profiled, Telling, Wanted};
 use droid_desk_sender::SendFault;
-use droid_frame::{FrameFault, NUMBER_LIMIT, Unsteady};
+use droid_frame::{FrameFault, NUMBER_LIMIT, Noted};
 use droid_pronom::RegistryFault;
 use droid_wire::ServeFault;
 use std::fs::{self, File, Files};
@@ -122,18 +122,13 @@ fn end_profile<R: Eprint>(rt: &R, ended: Result<Profiled, Ending>) -> ExitCode {
 /// Runs a script from standard input to standard output, over the registry of the file at this path, or
 /// over the sample registry where there is none.
 fn script_with<R: Files + Input + Print + AllocGlobal>(rt: &R, path: Option<&str>) -> Ending {
-    let mut input = Unsteady::new(rt.reader());
-    let mut output = Unsteady::new(io::writer(rt));
+    let mut input = Noted::new(rt.reader());
+    let mut output = Noted::new(io::writer(rt));
     let Some(path) = path else {
         return script_by_sample(rt.alloc(), &mut input, &mut output);
     };
     match fs::open(rt, path) {
-        Ok(file) => script_by_registry(
-            rt.alloc(),
-            &mut Unsteady::new(file),
-            &mut input,
-            &mut output,
-        ),
+        Ok(file) => script_by_registry(rt.alloc(), &mut Noted::new(file), &mut input, &mut output),
         Err(_) => Ending::Registry(RegistryFault::Read),
     }
 }
@@ -167,8 +162,8 @@ fn answer_input<R: Input + Print + AllocGlobal>(rt: &R, service: &mut Service) -
     answer_stream(
         rt.alloc(),
         service,
-        &mut Unsteady::new(input),
-        &mut Unsteady::new(io::writer(rt)),
+        &mut Noted::new(input),
+        &mut Noted::new(io::writer(rt)),
     )
 }
 
@@ -192,7 +187,7 @@ fn service_for<R: Files + AllocGlobal>(rt: &R, path: Option<&str>) -> Result<Ser
         return fresh_service(rt.alloc(), &mut sample_registry());
     };
     match fs::open(rt, path) {
-        Ok(file) => fresh_service(rt.alloc(), &mut Unsteady::new(file)),
+        Ok(file) => fresh_service(rt.alloc(), &mut Noted::new(file)),
         Err(_) => Err(Ending::Registry(RegistryFault::Read)),
     }
 }
@@ -229,10 +224,10 @@ fn send_over<R: Input + Print + AllocGlobal>(
         rt.alloc(),
         client,
         first,
-        &mut Unsteady::new(rt.reader()),
-        &mut Unsteady::new(replies),
-        &mut Unsteady::new(stream),
-        &mut Unsteady::new(io::writer(rt)),
+        &mut Noted::new(rt.reader()),
+        &mut Noted::new(replies),
+        &mut Noted::new(stream),
+        &mut Noted::new(io::writer(rt)),
     )
 }
 

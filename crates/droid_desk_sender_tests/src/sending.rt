@@ -3,7 +3,7 @@
 use crate::frames::{MADE, NODE, joined};
 use droid_desk_lines::Tally;
 use droid_desk_sender::{SendFault, send};
-use droid_frame::Unsteady;
+use droid_frame::Noted;
 use droid_frame_shaky::{STEADY, ShakyReader, ShakyWriter, Stop};
 use droid_wire::Client;
 use std::alloc::{AllocError, Global};
@@ -53,10 +53,10 @@ pub struct Outcome {
 /// Sends the lines by client 7, from number 1 on.
 pub fn sent(alloc: Global, streams: Streams<'_>) -> Outcome {
     let mut client = Client::new(alloc, 7, 1);
-    let mut lines = Unsteady::new(streams.lines);
-    let mut replies = Unsteady::new(streams.replies);
-    let mut frames = Unsteady::new(streams.frames);
-    let mut text = Unsteady::new(streams.text);
+    let mut lines = Noted::new(streams.lines);
+    let mut replies = Noted::new(streams.replies);
+    let mut frames = Noted::new(streams.frames);
+    let mut text = Noted::new(streams.text);
     let ended = send(
         alloc,
         &mut client,

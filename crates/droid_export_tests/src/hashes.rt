@@ -3,7 +3,7 @@
 use crate::columns::HEADER;
 use crate::nodes::{Identified, MD5_OF_NOTHING, everything, file};
 use droid_export::{export, export_text};
-use droid_frame::{HashKind, HashValue, Method, Record, Unsteady};
+use droid_frame::{HashKind, HashValue, Method, Noted, Record};
 use droid_pronom::Registry;
 use droid_pronom_sample::SAMPLE;
 use std::alloc::Global;
@@ -27,7 +27,7 @@ fn headers(rt: HostRuntime) -> Result<(), Fail> {
     let alloc = rt.alloc();
     let registry = Registry::parse(alloc, SAMPLE.as_bytes())?;
     for (hash, length, columns) in HEADERS {
-        let mut writer = Unsteady::new(Vec::new(alloc));
+        let mut writer = Noted::new(Vec::new(alloc));
         export(alloc, &[], &registry, &everything(alloc), hash, &mut writer)?;
         assert!(rt; writer.stream.len() == length);
         let expected = HEADER.replace(alloc, "\"MD5_HASH\",\"FORMAT_COUNT\"", columns)?;

@@ -6,7 +6,7 @@ ghost use Rattle.droid_export.specs.Text.{HaveMoments};
 
 use crate::nodes::{folder, message, texts};
 use droid_export::{ExportFault, export, export_text, moment_text, uri};
-use droid_frame::{Criteria, Criterion, Filter, HashKind, NodeKind, Record, Unsteady};
+use droid_frame::{Criteria, Criterion, Filter, HashKind, NodeKind, Noted, Record};
 use droid_pronom::Registry;
 use droid_pronom_sample::SAMPLE;
 use std::alloc::{AllocError, Global};
@@ -70,11 +70,11 @@ fn each_growth_of_an_export(rt: HostRuntime) -> Result<(), Fail> {
     let text = export_text(alloc, &nodes, &registry, &filter, hash).or_else(|_| export_text(
         alloc, &nodes, &registry, &filter, hash,
     ))?;
-    let mut writer = Unsteady::new(Vec::new(alloc));
+    let mut writer = Noted::new(Vec::new(alloc));
     let mut answer = export(alloc, &nodes, &registry, &filter, hash, &mut writer);
     if answer.is_err() {
         // The writer is a buffer, so want of memory may be its own.
-        writer = Unsteady::new(Vec::new(alloc));
+        writer = Noted::new(Vec::new(alloc));
         answer = export(alloc, &nodes, &registry, &filter, hash, &mut writer);
     }
     assert_eq!(rt; answer, Ok::<(), ExportFault>(()));

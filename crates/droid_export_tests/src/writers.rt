@@ -6,7 +6,7 @@ ghost use Rattle.droid_export.specs.Text.{HaveMoments};
 use crate::columns::HEADER;
 use crate::nodes::{everything, folder, message};
 use droid_export::{ExportFault, export, export_text};
-use droid_frame::{HashKind, Record, Unsteady};
+use droid_frame::{HashKind, Noted, Record};
 use droid_frame_shaky::{BYTE_BY_BYTE, Manner, STEADY, ShakyWriter, Stop};
 use droid_pronom::Registry;
 use droid_pronom_sample::SAMPLE;
@@ -32,7 +32,7 @@ fn exported(
     requires { HaveMoments records.now }
 {
     let registry = Registry::parse(alloc, SAMPLE.as_bytes())?;
-    let mut stream = Unsteady::new(writer);
+    let mut stream = Noted::new(writer);
     let answer = export(
         alloc,
         records,

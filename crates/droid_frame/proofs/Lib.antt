@@ -7,7 +7,7 @@ pub mod BodyLimits
 pub mod ByteLists
 pub mod FrameLaws
 pub mod ReplyFrames
-pub mod ReplyParts
+pub mod ReplyFronts
 pub mod ReplyWrites
 pub mod StreamArrivals
 pub mod StreamCounts

@@ -23,7 +23,7 @@ use Rattle.droid_frame.specs.ReplyFrames.{ReplyFramesAreReadable}
 use Rattle.droid_frame_values.specs.TextLists.{sized_bytes, texts_bytes}
 use Rattle.droid_frame.proofs.BodyLimits.{limit_at_least, version_small}
 use Rattle.droid_frame.proofs.ByteLists.{IsBytes-nil, IsBytes-cons, IsBytes-append, number_bytes, text_bytes}
-use Rattle.droid_frame.proofs.ReplyParts.{puids_are_short}
+use Rattle.droid_frame.proofs.ReplyFronts.{puids_are_short}
 
 -- bytes, and not many of them
 abbrev IsShort : ℕ → List ℕ → Type 0

@@ -9,11 +9,11 @@ use Rattle.droid_frame_values.specs.declared.reply.Reply.{Reply}
 use Rattle.droid_frame.specs.Headers.{header_bytes}
 use Rattle.droid_frame_values.specs.Replies.{reply_bytes, reply_kind}
 use Rattle.droid_frame.specs.ReplyFrames.{reply_frame}
-use Rattle.droid_frame.specs.ReplyParts.{reply_front, reply_rest}
+use Rattle.droid_frame.specs.ReplyFronts.{reply_front, reply_rest}
 use Rattle.droid_frame.specs.StreamWrites.{Stops}
 use Rattle.droid_frame_stream.specs.Writes.{StopsWithin}
 use Rattle.droid_frame_values.specs.TextLists.{sized_bytes, texts_bytes}
-use Rattle.droid_frame.proofs.ReplyParts.{front_and_rest}
+use Rattle.droid_frame.proofs.ReplyFronts.{front_and_rest}
 use Rattle.droid_frame.proofs.StreamWrites.{Sent, sent_nothing, stops_after}
 
 -- where a write stopped within a part, behind others of which `at` bytes stand before the whole

@@ -25,7 +25,7 @@ pub use Rattle.droid_frame_stream.specs.Writes
 pub use Rattle.droid_frame_stream.specs.declared as stream_types
 pub mod Headers
 pub mod ReplyFrames
-pub mod ReplyParts
+pub mod ReplyFronts
 pub mod StreamLaws
 pub mod StreamReads
 pub mod StreamWrites

@@ -13,7 +13,7 @@ mod text_lists;
 
 pub use droid_frame_bodies::{BodyFault, reply_of, request_of};
 pub use droid_frame_stream::{
-    Condition, InputFault, Progress, ReadFault, Retries, Seen, SteadyRead, SteadyWrite, Unsteady,
+    Condition, InputFault, Noted, Progress, ReadFault, Retries, Seen, SteadyRead, SteadyWrite,
     WriteFault, read_some, read_to_end, write_all,
 };
 pub use droid_frame_values::{

@@ -6,18 +6,18 @@
 
 mod fault;
 mod input;
+mod noted;
 mod reading;
 mod retries;
 mod seen;
 mod steady;
-mod unsteady;
 mod writing;
 
 pub use fault::{InputFault, ReadFault, WriteFault};
 pub use input::read_to_end;
+pub use noted::Noted;
 pub use reading::{fill, read_some};
 pub use retries::Retries;
 pub use seen::{Condition, Seen};
 pub use steady::{SteadyRead, SteadyWrite};
-pub use unsteady::Unsteady;
 pub use writing::{Progress, write_all};

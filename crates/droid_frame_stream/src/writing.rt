@@ -9,7 +9,7 @@ use crate::fault::WriteFault;
 use crate::retries::Retries;
 use crate::steady::SteadyWrite;
 
-/// How far a frame or a text has been written, over all of its parts.
+/// How far a frame or a text has been written, over all calls.
 #[derive(Drop)]
 pub struct Progress {
     /// How many bytes went out.
@@ -63,23 +63,23 @@ fn write_some<W: SteadyWrite>(writer: &mut W, bytes: &[u8], retries: &mut Retrie
     }
 }
 
-/// Writes all of one part. It takes no memory. After a fault, the first bytes of the part went out, but not
-/// all; the fault counts them after the bytes of the parts before.
+/// Writes all of these bytes. It takes no memory. After a fault, the first of them went out, but not all; the fault counts
+/// them after the bytes that went out before.
 pub fn write_all<W: SteadyWrite>(
     writer: &mut W,
-    part: &[u8],
+    bytes: &[u8],
     progress: &mut Progress,
 ) -> Result<(), WriteFault>
-    requires { progress.old.written + length part.now < 2 ^ 64 }
-    ensures ok { OnOk result (Appends (W.contents writer.old) (W.contents writer.new) part.now) }
-    ensures counted { OnOk result (progress.new.written ≡ progress.old.written + length part.now) }
+    requires { progress.old.written + length bytes.now < 2 ^ 64 }
+    ensures ok { OnOk result (Appends (W.contents writer.old) (W.contents writer.new) bytes.now) }
+    ensures counted { OnOk result (progress.new.written ≡ progress.old.written + length bytes.now) }
     ensures counted_err { IfErr result (λ fault. progress.new.written ≡ fault.written) }
-    ensures err { IfErr result (λ fault. StopsWithin (W.contents writer.old) (W.contents writer.new) part.now progress.old.written fault.written) }
-    ensures room_ok { OnOk result (Takes (W.room writer.old) (W.room writer.new) (length part.now)) }
+    ensures err { IfErr result (λ fault. StopsWithin (W.contents writer.old) (W.contents writer.new) bytes.now progress.old.written fault.written) }
+    ensures room_ok { OnOk result (Takes (W.room writer.old) (W.room writer.new) (length bytes.now)) }
     ensures room_err { IfErr result (λ fault. Takes (W.room writer.old) (W.room writer.new) (fault.written - progress.old.written)) }
     ensures counts { (start : ℕ) → Counts start (W.seen writer.old) progress.old.retries → WritesOn start (W.seen writer.new) (W.room writer.new) progress.new.retries result }
 {
-    let mut rest = part;
+    let mut rest = bytes;
     while !rest.is_empty() {
         let Some(count) = write_some(writer, rest, &mut progress.retries) else {
             return Err(progress.stopped());

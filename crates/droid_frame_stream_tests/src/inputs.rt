@@ -3,7 +3,7 @@
 use crate::interruptions::{is_seen, with_places};
 use crate::writers::ended;
 use droid_frame::{
-    Condition, InputFault, Progress, ReadFault, Retries, Seen, SteadyRead, Unsteady, WriteFault,
+    Condition, InputFault, Noted, Progress, ReadFault, Retries, Seen, SteadyRead, WriteFault,
     read_some, read_to_end, write_all,
 };
 use droid_frame_shaky::{
@@ -78,7 +78,7 @@ fn is_too_long(alloc: Global, bytes: &[u8], manner: Manner, less: usize) -> bool
 fn inputs_that_fail(rt: HostRuntime) -> Result<(), Fail> {
     for front in [b"".as_slice(), b"a", b"abc"] {
         for manner in [STEADY, BYTE_BY_BYTE] {
-            let mut reader = Unsteady::new(ShakyReader::broken(front, b"more", manner));
+            let mut reader = Noted::new(ShakyReader::broken(front, b"more", manner));
             assert!(rt; fails_once(rt.alloc(), &mut reader), "{front:?}");
             let rest = read_to_end(rt.alloc(), &mut reader, 100)?;
             assert!(rt; rest.as_slice() == b"more".as_slice(), "{front:?}");
@@ -89,7 +89,7 @@ fn inputs_that_fail(rt: HostRuntime) -> Result<(), Fail> {
 }
 
 /// Whether the reader fails, and its four last bytes are left.
-fn fails_once(alloc: Global, reader: &mut Unsteady<ShakyReader<'_>>) -> bool {
+fn fails_once(alloc: Global, reader: &mut Noted<ShakyReader<'_>>) -> bool {
     let fault = read_to_end(alloc, reader, 100).err();
     fault == Some(InputFault::Read)
         && reader.stream.left() == 4
@@ -132,7 +132,7 @@ fn each_interrupted(rt: &impl Abort, alloc: Global, rows: &[([Place; 3], u64, bo
 }
 
 /// Whether all of `abcdef` comes, or else a fault.
-fn is_so(alloc: Global, reader: &mut Unsteady<ShakyReader<'_>>, comes: bool) -> bool {
+fn is_so(alloc: Global, reader: &mut Noted<ShakyReader<'_>>, comes: bool) -> bool {
     match read_to_end(alloc, reader, 6) {
         Ok(input) => comes && input.as_slice() == b"abcdef".as_slice(),
         Err(fault) => !comes && fault == InputFault::Read,
@@ -195,7 +195,7 @@ fn parts_of_a_text(rt: HostRuntime) -> Result<(), Fail> {
 fn each_writing(rt: &impl Abort, alloc: Global, rows: &[Writing]) -> Result<(), Fail> {
     for (room, stop, places, count) in rows {
         let writer = ShakyWriter::new(Vec::new(alloc), *room, *stop, interrupted(*places));
-        let mut writer = Unsteady::new(writer);
+        let mut writer = Noted::new(writer);
         let given = two_parts(&mut writer);
         assert!(rt; given == ended(*count, 9), "{room} {places:?}");
         assert!(rt;
@@ -209,7 +209,7 @@ fn each_writing(rt: &impl Abort, alloc: Global, rows: &[Writing]) -> Result<(), 
 }
 
 /// Writes `abcd`, and then `efghi`.
-fn two_parts(writer: &mut Unsteady<ShakyWriter>) -> Result<(), WriteFault> {
+fn two_parts(writer: &mut Noted<ShakyWriter>) -> Result<(), WriteFault> {
     let mut progress = Progress::new();
     write_all(writer, b"abcd", &mut progress)?;
     if progress.written == 4 {
@@ -231,7 +231,7 @@ fn streams_over_memory(rt: HostRuntime) {
 }
 
 fn takes_all(alloc: Global) -> bool {
-    let mut taken = Unsteady::new(Vec::new(alloc));
+    let mut taken = Noted::new(Vec::new(alloc));
     write_all(&mut taken, b"abcd", &mut Progress::new()) == Ok(())
         && taken.stream.as_slice() == b"abcd".as_slice()
 }

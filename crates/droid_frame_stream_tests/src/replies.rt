@@ -2,7 +2,7 @@
 
 use crate::interruptions::{Row, once_more};
 use crate::writers::{ended, interrupted, took};
-use droid_frame::{Arrival, Condition, Unsteady, WriteFault, read_frame, reply_of, write_reply};
+use droid_frame::{Arrival, Condition, Noted, WriteFault, read_frame, reply_of, write_reply};
 use droid_frame_shaky::{BYTE_BY_BYTE, Manner, NOWHERE, Place, STEADY, ShakyWriter, Stop};
 use droid_frame_vectors::{FINISHED, FINISHED_WITH_SHA256, MADE, NODES_REACHED};
 use std::alloc::Global;
@@ -12,7 +12,7 @@ use std::process::Abort;
 fn written(
     alloc: Global,
     bytes: &[u8],
-    writer: &mut Unsteady<ShakyWriter>,
+    writer: &mut Noted<ShakyWriter>,
 ) -> Option<Result<(), WriteFault>> {
     let mut input = bytes;
     match read_frame(alloc, &mut input) {
@@ -35,7 +35,7 @@ fn ends(
     writer: ShakyWriter,
     wanted: Result<(), WriteFault>,
 ) -> Option<Condition> {
-    let mut writer = Unsteady::new(writer);
+    let mut writer = Noted::new(writer);
     let answer = written(alloc, bytes, &mut writer);
     if answer == Some(wanted) && took(&writer.stream, bytes, wanted) {
         Some(writer.seen.condition)

@@ -2,7 +2,7 @@
 
 use crate::interruptions::{Row, is_seen, once_more, with_places};
 use crate::writers::{ended, interrupted, took};
-use droid_frame::{Condition, FrameFault, Unsteady, WriteFault, body_limit, write_frame};
+use droid_frame::{Condition, FrameFault, Noted, WriteFault, body_limit, write_frame};
 use droid_frame_shaky::{BYTE_BY_BYTE, Manner, NOWHERE, STEADY, ShakyReader, ShakyWriter, Stop};
 use droid_frame_vectors::{FOLDER, VECTORS, Vector, comes, fault_of, frame_of, is_end, reader_of};
 use std::alloc::Global;
@@ -92,7 +92,7 @@ fn each_reader_fails(rt: &impl Abort, alloc: Global, vectors: &[Vector], manner:
 fn asked_again(alloc: Global, bytes: &[u8], manner: Manner) -> Option<usize> {
     for cut in 0..bytes.len() {
         let (front, behind) = bytes.split_at(cut);
-        let mut reader = Unsteady::new(ShakyReader::broken(front, behind, manner));
+        let mut reader = Noted::new(ShakyReader::broken(front, behind, manner));
         let fault = fault_of(alloc, &mut reader);
         let is_left = reader.stream.left() == behind.len();
         if fault != Some(FrameFault::Read)
@@ -107,7 +107,7 @@ fn asked_again(alloc: Global, bytes: &[u8], manner: Manner) -> Option<usize> {
 
 /// Whether the frame comes, then the fault, and then the frame again.
 fn fails_between(alloc: Global, vector: &Vector, manner: Manner) -> bool {
-    let mut reader = Unsteady::new(ShakyReader::broken(vector.bytes, vector.bytes, manner));
+    let mut reader = Noted::new(ShakyReader::broken(vector.bytes, vector.bytes, manner));
     comes(alloc, &mut reader, vector)
         && fault_of(alloc, &mut reader) == Some(FrameFault::Read)
         && comes(alloc, &mut reader, vector)
@@ -124,7 +124,7 @@ fn ends(
     if frame.body.len() > body_limit(vector.version) {
         return Ok(false);
     }
-    let mut writer = Unsteady::new(writer);
+    let mut writer = Noted::new(writer);
     let answer = write_frame(&frame, &mut writer);
     Ok(answer == wanted && took(&writer.stream, vector.bytes, answer))
 }

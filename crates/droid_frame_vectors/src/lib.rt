@@ -7,6 +7,6 @@ mod vectors;
 pub use reading::{comes, fault_of, is_end, reader_of};
 pub use vectors::{
     BAD_OPTION_IN_TWO, FINISHED, FINISHED_WITH_MD5, FINISHED_WITH_NOTHING, FINISHED_WITH_SHA256,
-    FOLDER, HEADER, INCOMPLETE, MADE, MADE_IN_TWO, MALFORMED, NODE, NODES_REACHED, NUMBER_REUSED,
-    VECTORS, Vector, body_of, frame, frame_of,
+    FOLDER, INCOMPLETE, MADE, MADE_IN_TWO, MALFORMED, NODE, NODES_REACHED, NUMBER_REUSED, VECTORS,
+    Vector, body_of, frame, frame_of,
 };

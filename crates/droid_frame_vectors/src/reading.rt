@@ -1,13 +1,13 @@
 //! How a frame is read, and whether it is the one of a vector.
 
 use crate::vectors::{Vector, body_of};
-use droid_frame::{Arrival, Frame, FrameFault, SteadyRead, Unsteady, read_frame};
+use droid_frame::{Arrival, Frame, FrameFault, Noted, SteadyRead, read_frame};
 use droid_frame_shaky::{Manner, ShakyReader, Stop};
 use std::alloc::Global;
 
 /// A reader that ends behind the bytes.
-pub fn reader_of(bytes: &[u8], manner: Manner) -> Unsteady<ShakyReader<'_>> {
-    Unsteady::new(ShakyReader::new(bytes, Stop::Ends, manner))
+pub fn reader_of(bytes: &[u8], manner: Manner) -> Noted<ShakyReader<'_>> {
+    Noted::new(ShakyReader::new(bytes, Stop::Ends, manner))
 }
 
 /// The fault of the next frame, or `None` where a frame or the end comes.

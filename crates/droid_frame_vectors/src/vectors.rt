@@ -1,10 +1,7 @@
 //! Frames whose bytes are written out.
 
-use droid_frame::{Blob, Frame};
+use droid_frame::{Blob, Frame, HEADER_LENGTH};
 use std::alloc::{AllocError, Global};
-
-/// How many bytes a header has.
-pub const HEADER: usize = 18;
 
 /// The reply to the first request of a profile.
 pub const MADE: &[u8] = &[
@@ -243,7 +240,7 @@ pub fn frame(
 
 /// What follows a frame's header.
 pub fn body_of(bytes: &[u8]) -> &[u8] {
-    match bytes.get(HEADER..) {
+    match bytes.get(HEADER_LENGTH..) {
         Some(body) => body,
         None => &[],
     }

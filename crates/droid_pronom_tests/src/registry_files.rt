@@ -1,6 +1,6 @@
 //! Registry files: what they come to, and their limits.
 
-use droid_frame::Unsteady;
+use droid_frame::Noted;
 use droid_pronom::{Registry, RegistryFault};
 use droid_pronom_sample::SAMPLE;
 use std::alloc::{AllocError, Global};
@@ -242,7 +242,7 @@ const READERS: [(u32, Option<usize>, &str); 6] = [
 fn readers(rt: HostRuntime) -> Result<(), Fail> {
     let alloc = rt.alloc();
     for (interruptions, fails_at, want) in &READERS {
-        let mut reader = Unsteady::new(Halting {
+        let mut reader = Noted::new(Halting {
             bytes: SAMPLE.as_bytes(),
             interruptions: *interruptions,
             is_next: false,

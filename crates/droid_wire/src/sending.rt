@@ -10,7 +10,7 @@ ghost use Rattle.droid_frame.specs.StreamWrites.{Stops};
 ghost use Rattle.droid_frame.specs.Versions.{IsVersion};
 
 use droid_frame::{
-    HEADER_LENGTH, Progress, Reply, SteadyWrite, Unsteady, WriteFault, reply_body_len, write_all,
+    HEADER_LENGTH, Noted, Progress, Reply, SteadyWrite, WriteFault, reply_body_len, write_all,
     write_reply,
 };
 use std::alloc::Global;
@@ -56,7 +56,7 @@ fn gathered(alloc: Global, version: u8, client: u32, number: u64, reply: &Reply)
     let Ok(bytes) = Vec::with_capacity(alloc, HEADER_LENGTH + size) else {
         return None;
     };
-    let mut frame = Unsteady::new(bytes);
+    let mut frame = Noted::new(bytes);
     match write_reply(version, client, number, reply, &mut frame) {
         Ok(()) => Some(frame.stream),
         Err(_) => None,

@@ -1,6 +1,6 @@
 //! Replies as bodies of frames.
 
-pub(crate) mod parts;
+pub(crate) mod fronts;
 mod small_bytes;
 
 ghost use Rattle.std.specs.Prelude.{◌≡◌, ◌≤◌, IfOk, length};
@@ -10,7 +10,7 @@ ghost use Rattle.droid_frame_values.specs.Replies.{HasReplySpelling, IsPuidText,
 ghost use Rattle.droid_frame_values.specs.TextLists.{texts_bytes};
 ghost use Rattle.droid_frame_values.specs.Versions.{IsVersion};
 
-use crate::replies::parts::front_of;
+use crate::replies::fronts::front_of;
 use crate::text_lists::append_texts;
 use droid_frame_values::{Blob, Reply, Texts};
 use std::alloc::{AllocError, Global};

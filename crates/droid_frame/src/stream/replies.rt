@@ -5,7 +5,7 @@ ghost use Rattle.std.specs.Io.KnownBytes.{Appends};
 ghost use Rattle.std.specs.List.{AllByRecursion};
 ghost use Rattle.droid_frame_values.specs.Replies.{HasReplySpelling, IsPuidText};
 ghost use Rattle.droid_frame.specs.ReplyFrames.{reply_frame};
-ghost use Rattle.droid_frame.specs.ReplyParts.{HasRestSpelling, reply_rest};
+ghost use Rattle.droid_frame.specs.ReplyFronts.{HasRestSpelling, reply_rest};
 ghost use Rattle.droid_frame.specs.StreamWrites.{Stops};
 ghost use Rattle.droid_frame_stream.specs.Seen.{Counts, IsSound};
 ghost use Rattle.droid_frame_stream.specs.Writes.{StopsWithin, Takes, TellsWrite, WritesOn};
@@ -13,7 +13,7 @@ ghost use Rattle.droid_frame_values.specs.TextLists.{texts_bytes};
 ghost use Rattle.droid_frame_values.specs.Versions.{IsVersion};
 
 use super::header::Header;
-use crate::replies::parts::{front_of, sized_puid};
+use crate::replies::fronts::{front_of, sized_puid};
 use crate::replies::reply_body_len;
 use droid_frame_stream::{Progress, SteadyWrite, WriteFault, write_all};
 use droid_frame_values::{Reply, Texts};

@@ -3,7 +3,7 @@ use Rattle.std.specs.List.{AllByRecursion}
 use Rattle.std.proofs.lemmas.List.{take_all}
 use Rattle.droid_frame_values.specs.Replies.{IsPuidText}
 use Rattle.droid_frame_values.specs.TextLists.{texts_bytes}
-use Rattle.droid_frame.proofs.ReplyParts.{puids_are_short, room_for_puid}
+use Rattle.droid_frame.proofs.ReplyFronts.{puids_are_short, room_for_puid}
 use Rattle.droid_frame.proofs.replies.puids_length.Goals as goal
 
 pub overflow_add-total-in-loop-puid : goal.overflow_add-total-in-loop-puid

@@ -5,14 +5,14 @@ use Rattle.droid_frame_stream.specs.Writes.{Takes}
 use Rattle.droid_frame_stream.proofs.Parts.{IsEnd}
 use Rattle.droid_frame_stream.proofs.writing.write_all.Given as goal
 
--- the part is what went out and the rest
+-- the bytes are what went out and the rest
 abbrev pub invariant-loop-rest : goal.invariant-loop-rest
 invariant-loop-rest g l = record {
-  written : Appends (g.W.Write.contents l.fn.writer) (g.W.Write.contents l.writer) (take (length l.part - length l.rest) l.part);
-  rest : IsEnd l.part l.rest;
-  room : Takes (g.W.SteadyWrite.room l.fn.writer) (g.W.SteadyWrite.room l.writer) (length l.part - length l.rest);
+  written : Appends (g.W.Write.contents l.fn.writer) (g.W.Write.contents l.writer) (take (length l.bytes - length l.rest) l.bytes);
+  rest : IsEnd l.bytes l.rest;
+  room : Takes (g.W.SteadyWrite.room l.fn.writer) (g.W.SteadyWrite.room l.writer) (length l.bytes - length l.rest);
   counts : (start : ℕ) → Counts start (g.W.SteadyWrite.seen l.fn.writer) l.fn.progress.retries → Counts start (g.W.SteadyWrite.seen l.writer) l.progress.retries;
-  counted : l.progress.written + length l.rest ≡ l.fn.progress.written + length l.part;
+  counted : l.progress.written + length l.rest ≡ l.fn.progress.written + length l.bytes;
 }
 
 -- each turn writes a byte

@@ -3,14 +3,14 @@ use Rattle.std.specs.Io.KnownBytes.{Appends}
 use Rattle.droid_frame_stream.specs.declared.fault.WriteFault.{WriteFault}
 use Rattle.droid_frame_values.specs.Replies.{reply_bytes}
 use Rattle.droid_frame.specs.ReplyFrames.{reply_frame}
-use Rattle.droid_frame.specs.ReplyParts.{reply_front, reply_rest}
+use Rattle.droid_frame.specs.ReplyFronts.{reply_front, reply_rest}
 use Rattle.droid_frame.specs.StreamWrites.{Stops}
 use Rattle.droid_frame_stream.specs.Writes.{StopsWithin}
 use Rattle.droid_frame_stream.specs.Writes.{Takes}
 use Rattle.droid_frame_stream.proofs.Scopes.{counts_begin}
 use Rattle.droid_frame_stream.proofs.Stopping.{takes_more, told_stop}
 use Rattle.droid_frame.proofs.StreamEnds.{first_room, takes_before, told_last, within_part}
-use Rattle.droid_frame.proofs.ReplyParts.{rest_spelled}
+use Rattle.droid_frame.proofs.ReplyFronts.{rest_spelled}
 use Rattle.droid_frame.proofs.ReplyWrites.{frame_size, all_sent, frame_is, rest_room, stops_in_front, stops_in_header, stops_in_rest}
 use Rattle.droid_frame.proofs.StreamWrites.{Sent, if_err, on_ok, passed_on, sent_more, sent_nothing}
 use Rattle.droid_frame.proofs.stream.replies.write_reply.Goals as goal

@@ -8,7 +8,7 @@ use Rattle.droid_frame_values.specs.declared.reply.Reply.{Reply}
 use Rattle.droid_frame_values.specs.declared.reply.Reply.TheVariants.{Made, Node, Taken, Finished, Abandoned, Progress, Part, Refused}
 use Rattle.droid_frame_values.specs.Fields.{u64_bytes}
 use Rattle.droid_frame_values.specs.Replies.{HasReplySpelling, IsPuidText, reply_bytes}
-use Rattle.droid_frame.specs.ReplyParts.{HasRestSpelling, reply_front, reply_rest}
+use Rattle.droid_frame.specs.ReplyFronts.{HasRestSpelling, reply_front, reply_rest}
 use Rattle.droid_frame_values.specs.TextLists.{sized_bytes, texts_bytes}
 
 pub front_and_rest : (version : ℕ) (reply : Reply) → reply_front version reply ++ reply_rest reply ≡ reply_bytes version reply

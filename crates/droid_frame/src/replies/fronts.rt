@@ -1,9 +1,9 @@
-//! The parts of a reply's body that have a few bytes.
+//! The fronts of replies' bodies: the fields that have a few bytes.
 
 ghost use Rattle.std.specs.Prelude.{◌≡◌, ◌≤◌, ◌++◌, [], length};
 ghost use Rattle.droid_frame_values.specs.Hashes.{IsHashValue};
 ghost use Rattle.droid_frame_values.specs.Replies.{HasReplySpelling, HasRefusalSpelling, IsPuidText, digest_bytes, refusal_bytes};
-ghost use Rattle.droid_frame.specs.ReplyParts.{reply_front};
+ghost use Rattle.droid_frame.specs.ReplyFronts.{reply_front};
 ghost use Rattle.droid_frame_values.specs.TextLists.{sized_bytes};
 
 use super::small_bytes::SmallBytes;

@@ -1,4 +1,4 @@
-//! Streams of which nothing is known beforehand.
+//! Streams of which nothing is known beforehand, and what they did is noted.
 
 ghost use Rattle.std.specs.Prelude.{◌≡◌, None};
 ghost use Rattle.droid_frame_stream.specs.Seen.{fresh};
@@ -9,27 +9,27 @@ use std::io::{self, Read, Write};
 
 /// Any stream of std's, as a file, a socket, a terminal or a vector, with what it did so far.
 #[derive(Drop)]
-pub struct Unsteady<S> {
+pub struct Noted<S> {
     /// The stream itself.
     pub stream: S,
     /// What it did since it was taken up; each read and write adds to it.
     pub seen: Seen,
 }
 
-impl<S> Unsteady<S> {
+impl<S> Noted<S> {
     /// Takes up a stream.
-    pub fn new(stream: S) -> Unsteady<S>
+    pub fn new(stream: S) -> Noted<S>
         ensures stream { result.stream ≡ stream }
         ensures seen { result.seen ≡ fresh }
     {
-        Unsteady {
+        Noted {
             stream,
             seen: Seen::fresh(),
         }
     }
 }
 
-impl<R: Read> Read for Unsteady<R> {
+impl<R: Read> Read for Noted<R> {
     ghost remaining = { λ reader. R.remaining reader.stream };
 
     fn read(&mut self, buf: &mut [u8]) -> io::Result<usize> {
@@ -37,7 +37,7 @@ impl<R: Read> Read for Unsteady<R> {
     }
 }
 
-impl<R: Read> SteadyRead for Unsteady<R> {
+impl<R: Read> SteadyRead for Noted<R> {
     ghost seen = { λ reader. reader.seen };
 
     fn read_on(&mut self, buffer: &mut [u8]) -> io::Result<usize> {
@@ -51,7 +51,7 @@ impl<R: Read> SteadyRead for Unsteady<R> {
     }
 }
 
-impl<W: Write> Write for Unsteady<W> {
+impl<W: Write> Write for Noted<W> {
     ghost contents = { λ writer. W.contents writer.stream };
 
     fn write(&mut self, buf: &[u8]) -> io::Result<usize> {
@@ -63,7 +63,7 @@ impl<W: Write> Write for Unsteady<W> {
     }
 }
 
-impl<W: Write> SteadyWrite for Unsteady<W> {
+impl<W: Write> SteadyWrite for Noted<W> {
     ghost seen = { λ writer. writer.seen };
 
     ghost room = { λ _. None };

@@ -1,4 +1,4 @@
--- For proofs alone: a reply's body in two parts, fields of a few bytes and then a list or bytes of any length.
+-- For proofs alone: a reply's body in two, a front of fields of a few bytes and then a list or bytes of any length.
 use Rattle.std.specs.Prelude.{ℕ, List, [], ◌++◌, length}
 use Rattle.std.specs.List.{AllByRecursion}
 use Rattle.droid_frame_values.specs.declared.reply.Reply.{Reply}
