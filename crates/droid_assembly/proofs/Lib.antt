@@ -1,4 +1,4 @@
-pub mod AllParts
+pub mod AllFields
 pub mod Along
 pub mod Digests
 pub mod Ends

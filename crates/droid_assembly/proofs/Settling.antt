@@ -17,7 +17,7 @@ use Rattle.droid_assembly.specs.declared.front.Front.{Front}
 use Rattle.droid_assembly.proofs.Indexes.{lacks_each}
 use Rattle.droid_assembly.proofs.Along.{along-begin, along-stands, along-within}
 
--- the front keeps these parts of an assembly
+-- the front keeps these fields of an assembly
 pub record IsOf (a : State) (front : Front) : Type 0 where
   pub first : a.first ≡ front.first.items
   pub last : a.last ≡ ring_items front.last
@@ -61,7 +61,7 @@ settled a piece front waiting from reserved = record {
 }
 
 module _ (a : State) (old new : Front) (waiting : List (Option (List ℕ))) (k : ℕ) (piece : Piece) where
-  -- what became of the parts: they went along from the first missing piece over k pieces, and stopped
+  -- what became of the fields: they went along from the first missing piece over k pieces, and stopped
   pub record Went : Type 0 where
     pub sound : IsConsistent a old
     pub same : IsOf a old
@@ -91,7 +91,7 @@ module _ (a : State) (old new : Front) (waiting : List (Option (List ℕ))) (k :
       (omega (arith, stands.counted, length-append pieces (piece ∷ [])))
       (ap (λ n. n + length piece.1) stands.weighed ∙ sym (sum_by_push (λ (q : Piece). length q.1) pieces piece))
 
-  -- and its parts belong together again
+  -- and its fields belong together again
   pub settled-sound : (reserved : Room) → Went → IsConsistent (settled a piece new waiting (a.first_missing + k) reserved) new
   settled-sound reserved went =
       let sound = went.sound in

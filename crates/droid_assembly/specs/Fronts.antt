@@ -6,7 +6,7 @@ use Rattle.droid_assembly.specs.Rings.{IsRing, ring_items}
 use Rattle.droid_assembly.specs.declared.front.Front.{Front}
 use Rattle.droid_assembly.specs.declared.running_hash.RunningHash.{RunningHash}
 
--- its parts belong together
+-- its fields belong together
 pub record IsFront (front : Front) : Type 0 where
   pub ring : IsRing front.last
   pub same_width : front.last.width ≡ front.width

@@ -1,4 +1,4 @@
--- What holds of the parts that an assembly keeps.
+-- What holds of the fields that an assembly keeps.
 use Rattle.std.specs.Prelude.{◌≡◌, ℕ, ◌+◌, ◌<◌, ◌≤◌, List, [], length, Option, None, unwrap_or, IsSome, MatchOption, ⊤, is_some, slice_index_or, sum_by, count_by, map}
 use Rattle.std.specs.List.{range_with_len}
 use Rattle.droid_assembly.specs.Pieces.{Piece, AreSizes, IsDue, bytes_at, file_bytes}
@@ -44,7 +44,7 @@ pub record IsFree (assembly : State) (piece : Piece) : Type 0 where
   pub near : piece.0 < assembly.first_missing + 16
   pub free : slot assembly.waiting piece.0 ≡ None
 
--- the parts of an assembly belong together, and it stands for some pieces
+-- the fields of an assembly belong together, and it stands for some pieces
 pub record IsConsistent (assembly : State) (kept : Front) : Type 0 where
   pub sizes : AreSizes assembly.size assembly.piece_size assembly.scan_limit
   pub within : assembly.first_missing ≤ count_of assembly

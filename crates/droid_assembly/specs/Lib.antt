@@ -1,9 +1,10 @@
+pub mod Faults
+pub mod Fields
 pub mod Fronts
 pub mod Handed
 pub mod Hashing
 pub mod Kept
 pub mod Lending
-pub mod Parts
 pub mod Pieces
 pub mod Rings
 pub mod State

@@ -6,7 +6,7 @@ use Rattle.droid_assembly.specs.declared.ring.Ring.{Ring}
 abbrev pub ring_items : Ring → List ℕ
 ring_items ring = drop ring.turn ring.bytes.items ++ take ring.turn ring.bytes.items
 
--- its parts belong together: it has turned only if it is full
+-- its fields belong together: it has turned only if it is full
 pub record IsRing (ring : Ring) : Type 0 where
   pub room : ring.width ≤ vec_capacity ring.bytes
   pub within : vec_len ring.bytes ≤ ring.width

@@ -45,7 +45,7 @@ impl Model for Assembly {
     ghost Value = { State };
 
     ghost use Rattle.droid_assembly.specs.Kept.{IsConsistent};
-    ghost use Rattle.droid_assembly.specs.Parts.{state_of};
+    ghost use Rattle.droid_assembly.specs.Fields.{state_of};
 
     ghost view = { state_of };
 

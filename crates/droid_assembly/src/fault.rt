@@ -1,6 +1,8 @@
 //! What an assembly refuses.
 
-use droid_frame::Blob;
+ghost use Rattle.std.specs.Prelude.{◌≡◌};
+
+use droid_frame::{Blob, Refusal};
 use thiserror::Error;
 
 /// Why a piece was not taken. Each hands the bytes of the piece back.
@@ -15,6 +17,21 @@ pub enum PutFault {
     /// The index lies 16 or more past the first missing one, which is `missing`.
     #[error("the piece lies too far past piece {missing}, which is missing")]
     TooFarAhead { missing: u32, bytes: Blob },
+}
+
+impl From<PutFault> for Refusal {
+    ghost use Rattle.droid_assembly.specs.Faults.{told_as};
+
+    ghost from_gives = { λ fault refusal. refusal ≡ told_as fault };
+
+    /// What a client is told; the bytes of the piece are dropped.
+    fn from(fault: PutFault) -> Refusal {
+        match fault {
+            PutFault::BadPiece { .. } => Refusal::BadPiece,
+            PutFault::PieceHeld { .. } => Refusal::PieceHeld,
+            PutFault::TooFarAhead { missing, .. } => Refusal::TooFarAhead { missing },
+        }
+    }
 }
 
 /// A piece is missing: this is the smallest such index.

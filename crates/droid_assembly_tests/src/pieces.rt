@@ -4,7 +4,7 @@ ghost use Rattle.std.specs.Prelude.{◌≡◌, OnOk, None};
 
 use crate::files::{Order, SUITE, assembled, expect_file, take};
 use crate::sha256::SHA256;
-use crate::steps::{Comes, Step, expect_incomplete, expect_whole};
+use crate::steps::{Step, Then, expect_incomplete, expect_whole};
 use droid_assembly::{Assembly, Sealed};
 use droid_frame::{Blob, HashKind, HashValue};
 use std::alloc::Global;
@@ -12,9 +12,9 @@ use std::test::Fail;
 
 // The last piece first, and the first taken back once.
 const ALONE: [Step; 3] = [
-    (1, "c", Comes::Settled(1), (1, 0, 1)),
-    (0, "ab", Comes::TakenBack(3), (1, 0, 1)),
-    (0, "ab", Comes::Settled(3), (2, 2, 4)),
+    (1, "c", Then::Settled(1), (1, 0, 1)),
+    (0, "ab", Then::TakenBack(3), (1, 0, 1)),
+    (0, "ab", Then::Settled(3), (2, 2, 4)),
 ];
 
 #[test]
@@ -61,14 +61,14 @@ fn suite_in_any_order(rt: HostRuntime) -> Result<(), Fail> {
 
 // A piece that is held, and five that the file doesn't have.
 const REFUSED: [Step; 8] = [
-    (0, "mess", Comes::Settled(4), (1, 1, 8)),
-    (0, "mess", Comes::PieceHeld, (1, 1, 8)),
-    (3, "s", Comes::BadPiece, (1, 1, 8)),
-    (3, "stt", Comes::BadPiece, (1, 1, 8)),
-    (3, "stst", Comes::BadPiece, (1, 1, 8)),
-    (4, "s", Comes::BadPiece, (1, 1, 8)),
-    (0, "", Comes::BadPiece, (1, 1, 8)),
-    (3, "st", Comes::Settled(10), (2, 1, 10)),
+    (0, "mess", Then::Settled(4), (1, 1, 8)),
+    (0, "mess", Then::PieceHeld, (1, 1, 8)),
+    (3, "s", Then::BadPiece, (1, 1, 8)),
+    (3, "stt", Then::BadPiece, (1, 1, 8)),
+    (3, "stst", Then::BadPiece, (1, 1, 8)),
+    (4, "s", Then::BadPiece, (1, 1, 8)),
+    (0, "", Then::BadPiece, (1, 1, 8)),
+    (3, "st", Then::Settled(10), (2, 1, 10)),
 ];
 
 #[test]
@@ -78,10 +78,10 @@ fn refusals_hand_the_bytes_back(rt: HostRuntime) -> Result<(), Fail> {
 
 // A piece 16 past the first missing one, before and after that one came.
 const FAR: [Step; 4] = [
-    (15, "p", Comes::Settled(1), (1, 0, 1)),
-    (16, "q", Comes::TooFarAhead(0), (1, 0, 1)),
-    (0, "a", Comes::Settled(2), (2, 1, 3)),
-    (16, "q", Comes::Settled(4), (3, 1, 4)),
+    (15, "p", Then::Settled(1), (1, 0, 1)),
+    (16, "q", Then::TooFarAhead(0), (1, 0, 1)),
+    (0, "a", Then::Settled(2), (2, 1, 3)),
+    (16, "q", Then::Settled(4), (3, 1, 4)),
 ];
 
 #[test]
@@ -91,10 +91,10 @@ fn sixteen_ahead_is_too_far(rt: HostRuntime) -> Result<(), Fail> {
 
 // Each piece that passes takes the one behind it along.
 const HANDED_BACK: [Step; 4] = [
-    (3, "st", Comes::Settled(2), (1, 0, 2)),
-    (1, "age ", Comes::Settled(6), (2, 0, 6)),
-    (0, "mess", Comes::Settled(10), (3, 2, 8)),
-    (2, "dige", Comes::Settled(12), (4, 4, 6)),
+    (3, "st", Then::Settled(2), (1, 0, 2)),
+    (1, "age ", Then::Settled(6), (2, 0, 6)),
+    (0, "mess", Then::Settled(10), (3, 2, 8)),
+    (2, "dige", Then::Settled(12), (4, 4, 6)),
 ];
 
 #[test]
@@ -112,22 +112,22 @@ fn pieces_are_handed_back(rt: HostRuntime) -> Result<(), Fail> {
 
 // All but piece 14 of the first sixteen, which piece 15 waits for; then that.
 const WAITING: [Step; 16] = [
-    (15, "p", Comes::Settled(1), (1, 0, 1)),
-    (0, "a", Comes::Settled(2), (2, 1, 3)),
-    (1, "b", Comes::Settled(4), (3, 2, 5)),
-    (2, "c", Comes::Settled(6), (4, 3, 7)),
-    (3, "d", Comes::Settled(8), (5, 4, 9)),
-    (4, "e", Comes::Settled(10), (6, 5, 9)),
-    (5, "f", Comes::Settled(10), (7, 6, 9)),
-    (6, "g", Comes::Settled(10), (8, 7, 9)),
-    (7, "h", Comes::Settled(10), (9, 8, 9)),
-    (8, "i", Comes::Settled(10), (10, 9, 9)),
-    (9, "j", Comes::Settled(10), (11, 10, 9)),
-    (10, "k", Comes::Settled(10), (12, 11, 9)),
-    (11, "l", Comes::Settled(10), (13, 12, 9)),
-    (12, "m", Comes::Settled(10), (14, 13, 9)),
-    (13, "n", Comes::Settled(10), (15, 14, 9)),
-    (14, "o", Comes::Settled(10), (16, 16, 8)),
+    (15, "p", Then::Settled(1), (1, 0, 1)),
+    (0, "a", Then::Settled(2), (2, 1, 3)),
+    (1, "b", Then::Settled(4), (3, 2, 5)),
+    (2, "c", Then::Settled(6), (4, 3, 7)),
+    (3, "d", Then::Settled(8), (5, 4, 9)),
+    (4, "e", Then::Settled(10), (6, 5, 9)),
+    (5, "f", Then::Settled(10), (7, 6, 9)),
+    (6, "g", Then::Settled(10), (8, 7, 9)),
+    (7, "h", Then::Settled(10), (9, 8, 9)),
+    (8, "i", Then::Settled(10), (10, 9, 9)),
+    (9, "j", Then::Settled(10), (11, 10, 9)),
+    (10, "k", Then::Settled(10), (12, 11, 9)),
+    (11, "l", Then::Settled(10), (13, 12, 9)),
+    (12, "m", Then::Settled(10), (14, 13, 9)),
+    (13, "n", Then::Settled(10), (15, 14, 9)),
+    (14, "o", Then::Settled(10), (16, 16, 8)),
 ];
 
 #[test]

@@ -11,7 +11,7 @@ use std::test::Fail;
 
 /// What a piece that is put comes to.
 #[derive(Clone, Copy)]
-pub enum Comes {
+pub enum Then {
     /// It is settled; so many bytes are kept while it is pending.
     Settled(u64),
     /// It is taken back; so many bytes are kept while it is pending.
@@ -24,16 +24,16 @@ pub enum Comes {
 
 /// The index of a piece, its bytes, what it comes to, and then the number of pieces held, the index of
 /// the first missing one and the number of bytes kept.
-pub type Step = (u32, &'static str, Comes, (u32, u32, u64));
+pub type Step = (u32, &'static str, Then, (u32, u32, u64));
 
 /// A file's bytes, the size of its pieces, and the scan limit.
 pub type File = (&'static str, u32, u32);
 
-fn is_refusal(fault: &PutFault, comes: Comes, text: &[u8]) -> bool {
+fn is_refusal(fault: &PutFault, comes: Then, text: &[u8]) -> bool {
     match (fault, comes) {
-        (PutFault::BadPiece { bytes }, Comes::BadPiece) => bytes.as_slice() == text,
-        (PutFault::PieceHeld { bytes }, Comes::PieceHeld) => bytes.as_slice() == text,
-        (PutFault::TooFarAhead { missing, bytes }, Comes::TooFarAhead(first)) => {
+        (PutFault::BadPiece { bytes }, Then::BadPiece) => bytes.as_slice() == text,
+        (PutFault::PieceHeld { bytes }, Then::PieceHeld) => bytes.as_slice() == text,
+        (PutFault::TooFarAhead { missing, bytes }, Then::TooFarAhead(first)) => {
             *missing == first && bytes.as_slice() == text
         }
         _ => false,
@@ -118,8 +118,8 @@ fn take_step(
     let (index, text, comes, (held, missing, kept_bytes)) = step;
     let bytes = Blob::copy_of(alloc, text.as_bytes())?;
     match comes {
-        Comes::Settled(kept) => settles(rt, assembly, bytes, index, kept, file)?,
-        Comes::TakenBack(kept) => takes_back(rt, assembly, bytes, index, kept)?,
+        Then::Settled(kept) => settles(rt, assembly, bytes, index, kept, file)?,
+        Then::TakenBack(kept) => takes_back(rt, assembly, bytes, index, kept)?,
         _ => refuses(rt, assembly, index, bytes, step),
     }
     let told = Views {

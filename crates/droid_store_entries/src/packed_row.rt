@@ -42,7 +42,7 @@ impl Model for PackedRow {
 }
 
 impl PackedRow {
-    /// The same values. A row with a NaN, or of more than a billion bytes, counts as out of memory.
+    /// The same values. A row with a NaN, or of more than a billion bytes, counts as memory that was refused.
     pub fn of(alloc: Global, row: &Row) -> Result<PackedRow, AllocError>
         ensures { IfOk result (λ packed. packed ≡ row.now) }
     {

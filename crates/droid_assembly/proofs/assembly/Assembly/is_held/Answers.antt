@@ -1,5 +1,5 @@
 use Rattle.std.proofs.Common.{arith}
-use Rattle.droid_assembly.specs.Parts.{state_of}
+use Rattle.droid_assembly.specs.Fields.{state_of}
 use Rattle.droid_assembly.specs.State.{StandsFor, count_of}
 use Rattle.droid_assembly.proofs.Indexes.{missing_before}
 use Rattle.droid_assembly.proofs.assembly.Assembly.is_held.Goals as goal

@@ -1,6 +1,6 @@
 use Rattle.std.proofs.Common.{◌≡◌, ◌+◌, ◌*◌, ◌∙◌, length, min, arith, ap, sym}
 use Rattle.droid_assembly.specs.Pieces.{bytes_held, file_bytes, missing, past}
-use Rattle.droid_assembly.specs.Parts.{state_of}
+use Rattle.droid_assembly.specs.Fields.{state_of}
 use Rattle.droid_assembly.specs.State.{StandsFor, count_of}
 use Rattle.droid_assembly.proofs.Past.{settled_split}
 use Rattle.droid_assembly.proofs.Whole.{settled_is, waiting_le, pending_le, length-before}
@@ -24,30 +24,30 @@ passed_was c =
 
 pub overflow_sub-result : goal.overflow_sub-result
 overflow_sub-result c =
-    let parts = c.self.inside in
-    omega (arith, passed_is c, settled_is (state_of parts) parts.front c.self.invariant)
+    let fields = c.self.inside in
+    omega (arith, passed_is c, settled_is (state_of fields) fields.front c.self.invariant)
 
 pub overflow_add-result : goal.overflow_add-result
 overflow_add-result c =
-    let parts = c.self.inside in
+    let fields = c.self.inside in
     let sound = c.self.invariant in
-    omega (arith, passed_is c, settled_is (state_of parts) parts.front sound, waiting_le (state_of parts) parts.front sound, sound.sizes.size_fits, sound.sizes.piece_size_fits)
+    omega (arith, passed_is c, settled_is (state_of fields) fields.front sound, waiting_le (state_of fields) fields.front sound, sound.sizes.size_fits, sound.sizes.piece_size_fits)
 
 pub overflow_add-result-2 : goal.overflow_add-result-2
 overflow_add-result-2 c =
-    let parts = c.self.inside in
+    let fields = c.self.inside in
     let sound = c.self.invariant in
     let pending = rw (← c.self.view_is) at c.pending_bytes.ensures in
-    omega (arith, passed_was c, settled_is (state_of parts) parts.front sound, pending_le (state_of parts) parts.front parts.pending sound sound.pending, pending, sound.sizes.size_fits, sound.sizes.piece_size_fits)
+    omega (arith, passed_was c, settled_is (state_of fields) fields.front sound, pending_le (state_of fields) fields.front fields.pending sound sound.pending, pending, sound.sizes.size_fits, sound.sizes.piece_size_fits)
 
 pub returns-clause-kept : goal.returns-clause-kept
 returns-clause-kept c pieces stands =
-    let parts = c.self.inside in
-    let a = state_of parts in
+    let fields = c.self.inside in
+    let a = state_of fields in
     let before : StandsFor a pieces = rw c.self.view_is stands in
     let pending = rw (← c.self.view_is) at c.pending_bytes.ensures in
     let passed : length (file_bytes (missing (count_of a) pieces) pieces) ≡ min a.size (a.first_missing * a.piece_size) =
-    ap (λ n. length (file_bytes n pieces)) (sym before.least) ∙ length-before a parts.front pieces before in
+    ap (λ n. length (file_bytes n pieces)) (sym before.least) ∙ length-before a fields.front pieces before in
     let first = missing (count_of a) pieces in
     let split : bytes_held pieces ≡ length (file_bytes first pieces) + bytes_held (past first pieces) =
     settled_split a.size a.piece_size pieces before.are_due before.are_distinct in
@@ -55,22 +55,22 @@ returns-clause-kept c pieces stands =
 
 pub returns-clause-bound : goal.returns-clause-bound
 returns-clause-bound c =
-    let parts = c.self.inside in
+    let fields = c.self.inside in
     let sound = c.self.invariant in
     let pending = rw (← c.self.view_is) at c.pending_bytes.ensures in
     rw (← c.self.view_is)
-    (omega (arith, passed_was c, settled_is (state_of parts) parts.front sound, pending_le (state_of parts) parts.front parts.pending sound sound.pending, pending, c.min-windows.ensures, c.from-3.ensures))
+    (omega (arith, passed_was c, settled_is (state_of fields) fields.front sound, pending_le (state_of fields) fields.front fields.pending sound sound.pending, pending, c.min-windows.ensures, c.from-3.ensures))
 
 pub returns-clause-most : goal.returns-clause-most
 returns-clause-most c =
-    let parts = c.self.inside in
+    let fields = c.self.inside in
     let sound = c.self.invariant in
     let pending = rw (← c.self.view_is) at c.pending_bytes.ensures in
     omega (
       arith,
       passed_was c,
-      settled_is (state_of parts) parts.front sound,
-      pending_le (state_of parts) parts.front parts.pending sound sound.pending,
+      settled_is (state_of fields) fields.front sound,
+      pending_le (state_of fields) fields.front fields.pending sound sound.pending,
       pending,
       c.min-windows.ensures,
       c.from-3.ensures,
@@ -80,15 +80,15 @@ returns-clause-most c =
 
 pub returns-clause-most_of_small : goal.returns-clause-most_of_small
 returns-clause-most_of_small c =
-    let parts = c.self.inside in
+    let fields = c.self.inside in
     let sound = c.self.invariant in
     let pending = rw (← c.self.view_is) at c.pending_bytes.ensures in
     rw (← c.self.view_is)
     (λ small. omega (
       arith,
       passed_was c,
-      settled_is (state_of parts) parts.front sound,
-      pending_le (state_of parts) parts.front parts.pending sound sound.pending,
+      settled_is (state_of fields) fields.front sound,
+      pending_le (state_of fields) fields.front fields.pending sound sound.pending,
       pending,
       c.min-windows.ensures,
       c.from-3.ensures,

@@ -1,5 +1,5 @@
 use Rattle.std.proofs.Common.{arith, sym, subst}
-use Rattle.droid_assembly.specs.Parts.{state_of}
+use Rattle.droid_assembly.specs.Fields.{state_of}
 use Rattle.droid_assembly.specs.State.{StandsFor, IsComplete}
 use Rattle.droid_frame.specs.Hashes.{IsHashValue}
 use Rattle.droid_assembly.proofs.Digests.{is_hash_value}

@@ -1,6 +1,6 @@
 use Rattle.std.proofs.Common.{◌∙◌, ap, length, refl}
 use Rattle.droid_assembly.specs.Hashing.{running_kind}
-use Rattle.droid_assembly.specs.Parts.{state_of}
+use Rattle.droid_assembly.specs.Fields.{state_of}
 use Rattle.droid_assembly.specs.State.{StandsFor}
 use Rattle.droid_assembly.proofs.Whole.{first-whole, last-whole, length-first, length-last}
 use Rattle.droid_assembly.proofs.assembly.Assembly.windows.Goals as goal
