@@ -17,23 +17,23 @@ use Rattle.droid_core_spec.proofs.Asked.{asked_in_a_version}
 use Rattle.droid_core_spec.proofs.Legal.{world_next, GoesOn-push}
 use Rattle.droid_core_spec.proofs.Meetings.{answer_malformed, next_malformed, answer_kept, next_kept, answer_new, next_new}
 use Rattle.droid_core_spec.proofs.Replied.{answer_no_store}
-use Rattle.droid_core_state.proofs.Replying.{kept_one_more}
+use Rattle.droid_core_requests.proofs.Replying.{kept_one_more}
 use Rattle.droid_store.specs.declared.rows.Entry as rows
 use Rattle.droid_store.specs.Rows.{Rows, reply_for}
-use Rattle.droid_core_state.specs.declared.parts.Parts.{Parts}
-use Rattle.droid_core_state.specs.declared.stamps.Stamp.{Stamp}
-use Rattle.droid_core_state.specs.Changes.{again, stamp_of, Stays, TakesOne, Leaves, Comes}
+use Rattle.droid_core_requests.specs.holdings.Holdings.{Holdings}
+use Rattle.droid_core_requests.specs.stamps.Stamp.{Stamp}
+use Rattle.droid_core_requests.specs.Changes.{again, stamp_of, Stays, TakesOne, Leaves, Comes}
 use Rattle.droid_core.specs.Standing.{Stand}
-use Rattle.droid_core_state.specs.Standing.{IsIn}
+use Rattle.droid_core_requests.specs.Standing.{IsIn}
 use Rattle.droid_core.proofs.KeptReplies.{entry_kept, none_kept, reply_spelled}
 
 -- ---- what a service stands for after a request
 
 -- the same rows stand for the same history
-pub stands_still : (setting : Setting) (service : Parts) (store : Rows) (history : History) → store ≡ service.store → Stand setting service history → Stand setting (record service { store = store }) history
+pub stands_still : (setting : Setting) (service : Holdings) (store : Rows) (history : History) → store ≡ service.store → Stand setting service history → Stand setting (record service { store = store }) history
 stands_still setting service store history same stands = subst (λ (rows : Rows). Stand setting (record service { store = rows }) history) (sym same) stands
 
-same_stands : (setting : Setting) (old new : Parts) (history : History) → Stays setting (world_of setting history) old new → Stand setting old history → Stand setting new history
+same_stands : (setting : Setting) (old new : Holdings) (history : History) → Stays setting (world_of setting history) old new → Stand setting old history → Stand setting new history
 same_stands setting old new history same stands = record {
   legal = stands.legal;
   replies = record { replies = same.replies ∙ stands.replies.replies; spelled = stands.replies.spelled };
@@ -41,7 +41,7 @@ same_stands setting old new history same stands = record {
 }
 
 -- one entry more, with the world that its verdict leaves
-taken_stands : (setting : Setting) (old new : Parts) (history : History) (frame : Frame) (request : Request) (reply : Reply) (after : World) → command frame ≡ Some request → kept history frame.client frame.number ≡ None
+taken_stands : (setting : Setting) (old new : Holdings) (history : History) (frame : Frame) (request : Request) (reply : Reply) (after : World) → command frame ≡ Some request → kept history frame.client frame.number ≡ None
     → judge setting (world_of setting history) frame.version request ≡ Accepted reply after → HasReplySpelling frame.version reply → TakesOne setting after old new (stamp_of frame) reply → Stand setting old history
     → Stand setting new (history ++ entry_of frame reply ∷ [])
 taken_stands setting old new history frame request reply after asked is_new accepted spelled takes stands =
@@ -53,7 +53,7 @@ taken_stands setting old new history frame request reply after asked is_new acce
       world = subst (λ (there : World). IsIn setting there new) (sym (world_next setting history entry may)) takes.world_is;
     }
 
-leaves_next : (setting : Setting) (old new : Parts) (history : History) (frame : Frame) (request : Request) (verdict : Verdict) → command frame ≡ Some request → kept history frame.client frame.number ≡ None
+leaves_next : (setting : Setting) (old new : Holdings) (history : History) (frame : Frame) (request : Request) (verdict : Verdict) → command frame ≡ Some request → kept history frame.client frame.number ≡ None
     → judge setting (world_of setting history) frame.version request ≡ verdict → HasReplySpelling frame.version (verdict_reply verdict) → Leaves setting (world_of setting history) old new (stamp_of frame) verdict → Stand setting old history
     → Stand setting new (history_with history frame (New verdict))
 leaves_next setting old new history frame request (Accepted reply after) asked is_new judged spelled leaves stands = taken_stands setting old new history frame request reply after asked is_new judged spelled leaves stands
@@ -74,7 +74,7 @@ wanting true P Q is it = it
 wanting false P Q is it = absurd cc
 
 -- memory was refused, and nothing is changed
-pub handles_want : (setting : Setting) (service : Parts) (history : History) (frame : Frame) (refusal : Refusal) → IsSome (command frame) → IsTrue (is_want_of refusal) → Stand setting service history
+pub handles_want : (setting : Setting) (service : Holdings) (history : History) (frame : Frame) (refusal : Refusal) → IsSome (command frame) → IsTrue (is_want_of refusal) → Stand setting service history
     → Handles setting history frame (Refused refusal) (Stand setting service)
 handles_want setting service history frame refusal asked want stands = wanting (is_want_of refusal) _ _ want (asked, stands)
 
@@ -90,7 +90,7 @@ unless_wanting true is wanting answered = wanting
 unless_wanting false is wanting answered = answered is
 
 -- what a kept row answers is the answer, and the history stays
-pub handles_again : (setting : Setting) (service : Parts) (history : History) (frame : Frame) (request : Request) (row : rows.Entry) (reply : Reply) → command frame ≡ Some request
+pub handles_again : (setting : Setting) (service : Holdings) (history : History) (frame : Frame) (request : Request) (row : rows.Entry) (reply : Reply) → command frame ≡ Some request
     → reply_for frame.client frame.number service.store ≡ Some row → ((kept : Reply) → SpellsReply row.version row.kind row.body kept → MatchBool (is_want reply) ⊤ (reply ≡ again row (stamp_of frame) kept))
     → Stand setting service history → Handles setting history frame reply (Stand setting service)
 handles_again setting service history frame request row reply asked found answers stands =
@@ -107,7 +107,7 @@ by_wanting true came wanting answered left = wanting came
 by_wanting false came wanting answered left = (answered came.0, left came.0 came.1)
 
 -- what its verdict says, under a new number
-pub handles_anew : (setting : Setting) (old new : Parts) (history : History) (frame : Frame) (request : Request) (reply : Reply) → command frame ≡ Some request → Stand setting old history
+pub handles_anew : (setting : Setting) (old new : Holdings) (history : History) (frame : Frame) (request : Request) (reply : Reply) → command frame ≡ Some request → Stand setting old history
     → reply_for frame.client frame.number old.store ≡ None → HasReplySpelling frame.version reply → Comes setting (world_of setting history) old new (stamp_of frame) (judge setting (world_of setting history) frame.version request) reply
     → Handles setting history frame reply (Stand setting new)
 handles_anew setting old new history frame request reply asked stands absent spelled comes =
@@ -122,7 +122,7 @@ handles_anew setting old new history frame request reply asked stands absent spe
 
 -- ---- the same, as the code has them
 
-pub answers_again : (setting : Setting) (service : Parts) (history : History) (frame : Frame) (request : Request) (stamp : Stamp) (row : rows.Entry) (reply : Reply) → stamp ≡ stamp_of frame → command frame ≡ Some request
+pub answers_again : (setting : Setting) (service : Holdings) (history : History) (frame : Frame) (request : Request) (stamp : Stamp) (row : rows.Entry) (reply : Reply) → stamp ≡ stamp_of frame → command frame ≡ Some request
     → reply_for stamp.client stamp.number service.store ≡ Some row → ((kept : Reply) → SpellsReply row.version row.kind row.body kept → MatchBool (is_want reply) ⊤ (reply ≡ again row stamp kept))
     → Stand setting service history → Handles setting history frame reply (Stand setting service)
 answers_again setting service history frame request stamp row reply is asked found answers stands =
@@ -130,7 +130,7 @@ answers_again setting service history frame request stamp row reply is asked fou
     (subst (λ (s : Stamp). reply_for s.client s.number service.store ≡ Some row) is found)
     (subst (λ (s : Stamp). (kept : Reply) → SpellsReply row.version row.kind row.body kept → MatchBool (is_want reply) ⊤ (reply ≡ again row s kept)) is answers) stands
 
-pub answers_anew : (setting : Setting) (old new : Parts) (history : History) (frame : Frame) (request : Request) (stamp : Stamp) (reply : Reply) → stamp ≡ stamp_of frame → command frame ≡ Some request → Stand setting old history
+pub answers_anew : (setting : Setting) (old new : Holdings) (history : History) (frame : Frame) (request : Request) (stamp : Stamp) (reply : Reply) → stamp ≡ stamp_of frame → command frame ≡ Some request → Stand setting old history
     → reply_for stamp.client stamp.number old.store ≡ None → HasReplySpelling stamp.version reply → Comes setting (world_of setting history) old new stamp (judge setting (world_of setting history) stamp.version request) reply
     → Handles setting history frame reply (Stand setting new)
 answers_anew setting old new history frame request stamp reply is asked stands absent spelled comes =

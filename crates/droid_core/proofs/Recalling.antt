@@ -17,12 +17,12 @@ use Rattle.droid_core_spec.specs.World.{World}
 use Rattle.droid_core_spec.proofs.Judged.{judged}
 use Rattle.droid_core_spec.proofs.Meetings.{next_kept, answer_new, next_new}
 use Rattle.droid_core_spec.proofs.Replied.{kept_next}
-use Rattle.droid_core_state.specs.Replies.{entry_row, KeepsReplies}
-use Rattle.droid_core_state.proofs.LookUps.{reply_found}
+use Rattle.droid_core_requests.specs.Replies.{entry_row, KeepsReplies}
+use Rattle.droid_core_requests.proofs.LookUps.{reply_found}
 use Rattle.droid_store.specs.declared.rows.Entry as rows
 use Rattle.droid_store.specs.Rows.{Rows, reply_for}
-use Rattle.droid_core_state.specs.declared.stamps.Stamp.{Stamp}
-use Rattle.droid_core_state.specs.Changes.{stamp_of, stamped}
+use Rattle.droid_core_requests.specs.stamps.Stamp.{Stamp}
+use Rattle.droid_core_requests.specs.Changes.{stamp_of, stamped}
 use Rattle.droid_core_requests.specs.KeptTexts.{IsLastText}
 use Rattle.droid_core_requests.specs.declared.kept_text.KeptText.{KeptText}
 use Rattle.droid_core.specs.Recent.{Whose, IsKeptRow, AreKept}
@@ -55,15 +55,15 @@ each_way false P Q came one other = (came.0, other came.1)
 
 -- the reply to a request under a kept number, which changes no history
 pub with_recent : (setting : Setting) (history : History) (frame : Frame) (request : Request) (row : rows.Entry) (reply : Reply) (before service : Service) → command frame ≡ Some request
-    → reply_for frame.client frame.number before.parts.store ≡ Some row → StandsFor setting before history → service.last ≡ before.last → Handles setting history frame reply (Stand setting service.parts)
+    → reply_for frame.client frame.number before.holdings.store ≡ Some row → StandsFor setting before history → service.last ≡ before.last → Handles setting history frame reply (Stand setting service.holdings)
     → AreKept history service.recent.rows.entries → Handles setting history frame reply (StandsFor setting service)
 with_recent setting history frame request row reply before service asked found stands same handled all =
-    let there = entry_kept history before.parts.store frame.client frame.number row stands.parts.replies found in
+    let there = entry_kept history before.holdings.store frame.client frame.number row stands.holdings.replies found in
     let stays = next_kept setting history frame request asked there.0 there.1 in
     let last = subst (IsLastText setting (world_of setting history)) (sym same) stands.last in
-    each_way (is_want reply) (IsSome (command frame)) (reply ≡ answer setting history frame) handled (λ parts. record { parts = parts; recent = all; last = last })
-    (λ parts. record {
-      parts = parts;
+    each_way (is_want reply) (IsSome (command frame)) (reply ≡ answer setting history frame) handled (λ holdings. record { holdings = holdings; recent = all; last = last })
+    (λ holdings. record {
+      holdings = holdings;
       recent = rows_next setting history frame service.recent.rows.entries all;
       last = subst (λ (h : History). IsLastText setting (world_of setting h) service.last) (sym stays) last;
     })
@@ -123,14 +123,14 @@ last_next setting history frame request reply last asked is_new is forgets =
 kept_by : (b : Bool) (setting : Setting) (history : History) (frame : Frame) (request : Request) (reply : Reply) (old : List (Whose × rows.Entry)) (service : Service) → is_want reply ≡ b → command frame ≡ Some request
     → kept history frame.client frame.number ≡ None → AreKept history old → Keeps old service.recent.rows.entries (is_command request) (stamp_of frame) reply
     → Forgets setting (world_of setting history) service.last (is_command request) reply
-    → (P : Type 0) → MatchBool b (P × Stand setting service.parts history) ((reply ≡ answer setting history frame) × Stand setting service.parts (next setting history frame))
+    → (P : Type 0) → MatchBool b (P × Stand setting service.holdings history) ((reply ≡ answer setting history frame) × Stand setting service.holdings (next setting history frame))
     → MatchBool b (P × StandsFor setting service history) ((reply ≡ answer setting history frame) × StandsFor setting service (next setting history frame))
 kept_by true setting history frame request reply old service want asked is_new all keeps forgets P handled =
-    (handled.0, record { parts = handled.1; recent = keeps history all (λ commands unrefused. absurd (let wants_not = no_want reply unrefused in cc)); last = forgets.0 })
+    (handled.0, record { holdings = handled.1; recent = keeps history all (λ commands unrefused. absurd (let wants_not = no_want reply unrefused in cc)); last = forgets.0 })
 kept_by false setting history frame request reply old service want asked is_new all keeps forgets P handled = (
   handled.0,
   record {
-    parts = handled.1;
+    holdings = handled.1;
     recent = keeps (next setting history frame) (rows_next setting history frame old all) (answered_row setting history frame request reply asked is_new handled.0);
     last = last_next setting history frame request reply service.last asked is_new handled.0 forgets;
   },
@@ -138,12 +138,12 @@ kept_by false setting history frame request reply old service want asked is_new 
 
 -- the reply to a new request, put at hand where it is kept
 pub with_new : (setting : Setting) (history : History) (frame : Frame) (request : Request) (stamp : Stamp) (reply : Reply) (commands : Bool) (before : Service) (service : Service) → stamp ≡ stamp_of frame → command frame ≡ Some request
-    → commands ≡ is_command request → StandsFor setting before history → reply_for stamp.client stamp.number before.parts.store ≡ None
+    → commands ≡ is_command request → StandsFor setting before history → reply_for stamp.client stamp.number before.holdings.store ≡ None
     → Keeps before.recent.rows.entries service.recent.rows.entries commands stamp reply
     → Forgets setting (world_of setting history) service.last commands reply
-    → Handles setting history frame reply (Stand setting service.parts) → Handles setting history frame reply (StandsFor setting service)
+    → Handles setting history frame reply (Stand setting service.holdings) → Handles setting history frame reply (StandsFor setting service)
 with_new setting history frame request stamp reply commands before service is asked commands_is stands absent keeps forgets handled =
-    let is_new = none_kept history before.parts.store frame.client frame.number stands.parts.replies (subst (λ (s : Stamp). reply_for s.client s.number before.parts.store ≡ None) is absent) in
+    let is_new = none_kept history before.holdings.store frame.client frame.number stands.holdings.replies (subst (λ (s : Stamp). reply_for s.client s.number before.holdings.store ≡ None) is absent) in
     let stamped_keeps = subst (λ (s : Stamp). Keeps before.recent.rows.entries service.recent.rows.entries commands s reply) is keeps in
     let all_keep = subst (λ (b : Bool). Keeps before.recent.rows.entries service.recent.rows.entries b (stamp_of frame) reply) commands_is stamped_keeps in
     kept_by (is_want reply) setting history frame request reply before.recent.rows.entries service refl asked is_new stands.recent all_keep

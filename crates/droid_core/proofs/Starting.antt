@@ -1,16 +1,16 @@
 -- A service with nothing in it stands for the empty history.
 use Rattle.std.proofs.Common.{◌≡◌, ℕ, zero, suc, [], None, refl, sym, ap, subst}
 use Rattle.droid_core_spec.specs.Histories.{world_of}
-use Rattle.droid_core_state.specs.Identified.{IsOf}
+use Rattle.droid_core_requests.specs.Identified.{IsOf}
 use Rattle.droid_core_spec.specs.Setting.{Setting}
 use Rattle.droid_core_spec.specs.World.{Profile, empty_world, numbered}
-use Rattle.droid_core_state.specs.Rows.{KeepsWorld}
-use Rattle.droid_core_state.proofs.Made.{world_empty}
+use Rattle.droid_core_requests.specs.Rows.{KeepsWorld}
+use Rattle.droid_core_requests.proofs.Made.{world_empty}
 use Rattle.droid_store.specs.Rows.{Rows, no_rows}
-use Rattle.droid_core_files.specs.Files.{OpenFiles, open_at}
-use Rattle.droid_core_state.specs.Assemblies.{HasAssemblies, HasItsAssemblyIn}
-use Rattle.droid_core_state.specs.declared.parts.Parts.{Parts}
-use Rattle.droid_core_state.specs.Standing.{limits_given, AreAllowed}
+use Rattle.droid_core_requests.specs.Files.{OpenFiles, open_at}
+use Rattle.droid_core_requests.specs.Assemblies.{HasAssemblies, HasItsAssemblyIn}
+use Rattle.droid_core_requests.specs.holdings.Holdings.{Holdings}
+use Rattle.droid_core_requests.specs.Standing.{limits_given, AreAllowed}
 use Rattle.droid_core.specs.Standing.{Stand}
 
 none_numbered : (number : ℕ) → numbered {A = Profile} [] number ≡ None
@@ -23,7 +23,7 @@ no_assembly files empty number id = rw (none_numbered number) (ap (open_at numbe
 no_assemblies : (files : OpenFiles) → files.files ≡ [] → HasAssemblies empty_world files
 no_assemblies files empty = record { each = no_assembly files empty; count = rw empty refl }
 
-pub starts : (setting : Setting) (service : Parts) → setting.limits ≡ limits_given service.limits → AreAllowed (limits_given service.limits) → IsOf (service.registry) setting
+pub starts : (setting : Setting) (service : Holdings) → setting.limits ≡ limits_given service.limits → AreAllowed (limits_given service.limits) → IsOf (service.registry) setting
     → service.store ≡ no_rows → service.files.files ≡ [] → service.files.limit ≡ setting.limits.unfinished → Stand setting service []
 unfolding world_of
 starts setting service limits allowed registry rows files room = record {

@@ -25,14 +25,14 @@ in_profile counted (Some profile) id = of_node counted profile (node_at profile.
 
 -- of the file with this number in this profile; none unless it is unfinished
 abbrev pub kept_bytes_of : World → ℕ → ℕ → Option ℕ
-kept_bytes_of world number id = in_profile bytes_kept (numbered world.profiles number) id
+kept_bytes_of world profile id = in_profile bytes_kept (numbered world.profiles profile) id
 
 abbrev pub most_bytes_of : World → ℕ → ℕ → Option ℕ
-most_bytes_of world number id = in_profile most_bytes (numbered world.profiles number) id
+most_bytes_of world profile id = in_profile most_bytes (numbered world.profiles profile) id
 
 -- how many bytes its pieces have, the last one perhaps fewer
 abbrev pub piece_size_of : World → ℕ → ℕ → Option ℕ
-piece_size_of world number id = in_profile (λ profile content. content.piece_size) (numbered world.profiles number) id
+piece_size_of world profile id = in_profile (λ its content. content.piece_size) (numbered world.profiles profile) id
 
 -- both are there and the first is no larger, or neither is there
 abbrev pub IsAtMost : Option ℕ → Option ℕ → Type 0

@@ -12,7 +12,7 @@ pub use Rattle.droid_core_spec.specs.Wants
 pub use Rattle.droid_core_spec.specs.Whole
 pub use Rattle.droid_core_spec.specs.World
 -- Which setting a registry makes.
-pub use Rattle.droid_core_state.specs.Identified
+pub use Rattle.droid_core_requests.specs.Identified
 -- What the service stands for, and what a list of requests gives.
 pub mod KeptBytes
 pub mod Recent

@@ -2,7 +2,7 @@
 use Rattle.std.specs.Prelude.{◌≡◌, ℕ, List, Some, option_map}
 use Rattle.std.specs.List.{Contains}
 use Rattle.droid_core_spec.specs.Histories.{History, kept}
-use Rattle.droid_core_state.specs.Replies.{entry_row}
+use Rattle.droid_core_requests.specs.Replies.{entry_row}
 use Rattle.droid_store.specs.declared.rows.Entry as rows
 
 -- a client, and one of its numbers

@@ -3,32 +3,32 @@ use Rattle.droid_core_spec.specs.Histories.{History, IsLegal, world_of}
 use Rattle.droid_core_spec.specs.Limits.{Limits}
 use Rattle.droid_core_spec.specs.Setting.{Setting}
 use Rattle.droid_pronom.specs.Registry.{Contents}
-use Rattle.droid_core_state.specs.Replies.{KeepsReplies}
-use Rattle.droid_core_state.specs.declared.parts.Parts.{Parts}
-use Rattle.droid_core_state.specs.Standing.{IsIn}
-use Rattle.droid_core_state.specs.Standing as parts
+use Rattle.droid_core_requests.specs.Replies.{KeepsReplies}
+use Rattle.droid_core_requests.specs.holdings.Holdings.{Holdings}
+use Rattle.droid_core_requests.specs.Standing.{IsIn}
+use Rattle.droid_core_requests.specs.Standing as holdings
 use Rattle.droid_core_requests.specs.KeptTexts.{IsLastText}
 use Rattle.droid_core.specs.Recent.{AreKept}
 use Rattle.droid_core.specs.declared.service.Service.{Service}
 
 -- the limits that the service was made with
 abbrev pub limits_of : Service → Limits
-limits_of service = parts.limits_given service.parts.limits
+limits_of service = holdings.limits_given service.holdings.limits
 
 -- the registry that the service was made with
 abbrev pub registry_of : Service → Contents
-registry_of service = service.parts.registry
+registry_of service = service.holdings.registry
 
--- the parts are where the history leads: each entry was accepted at its place, the kept replies are the
+-- the holdings are where the history leads: each entry was accepted at its place, the kept replies are the
 -- entries', and all else is the history's world
-pub record Stand (setting : Setting) (parts : Parts) (history : History) : Type 0 where
+pub record Stand (setting : Setting) (holdings : Holdings) (history : History) : Type 0 where
   pub legal : IsLegal setting history
-  pub replies : KeepsReplies history parts.store
-  pub world : IsIn setting (world_of setting history) parts
+  pub replies : KeepsReplies history holdings.store
+  pub world : IsIn setting (world_of setting history) holdings
 
--- the service is where the history leads: its parts are, each reply that it has at hand is the history's, and where it has
+-- the service is where the history leads: its holdings are, each reply that it has at hand is the history's, and where it has
 -- kept the text of an export, that is the export's text of its profile by its filter in the history's world
 pub record StandsFor (setting : Setting) (service : Service) (history : History) : Type 0 where
-  pub parts : Stand setting service.parts history
+  pub holdings : Stand setting service.holdings history
   pub recent : AreKept history service.recent.rows.entries
   pub last : IsLastText setting (world_of setting history) service.last

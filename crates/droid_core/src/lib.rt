@@ -4,5 +4,5 @@
 
 mod service;
 
-pub use droid_core_state::Limits;
+pub use droid_core_requests::Limits;
 pub use service::Service;

@@ -3,6 +3,7 @@
 ghost use Rattle.std.specs.Prelude.{◌≡◌};
 
 use droid_assembly::Incomplete;
+use droid_frame::Refusal;
 use std::alloc::AllocError;
 use thiserror::Error;
 
@@ -36,5 +37,19 @@ impl From<AllocError> for IdentifyFault {
 
     fn from(_error: AllocError) -> IdentifyFault {
         IdentifyFault::Memory
+    }
+}
+
+impl From<IdentifyFault> for Refusal {
+    ghost use Rattle.droid_core_files.specs.Faults.{told_as};
+
+    ghost from_gives = { λ fault refusal. refusal ≡ told_as fault };
+
+    /// What a client is told.
+    fn from(fault: IdentifyFault) -> Refusal {
+        match fault {
+            IdentifyFault::Incomplete { missing } => Refusal::Incomplete { missing },
+            IdentifyFault::Memory => Refusal::Memory,
+        }
     }
 }

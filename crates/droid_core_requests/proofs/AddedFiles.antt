@@ -16,7 +16,7 @@ use Rattle.droid_store.specs.Changes.{with_reply, with_node, new_file}
 use Rattle.droid_store.specs.Rows.{Rows}
 use Rattle.droid_core_state.proofs.Added.{file_added}
 use Rattle.droid_core_state.proofs.Soundness.{sound_added, file_of_checks}
-use Rattle.droid_core_state.specs.declared.parts.Parts.{Parts}
+use Rattle.droid_core_state.specs.declared.holdings.Holdings.{Holdings}
 use Rattle.droid_core_state.specs.declared.stamps.Stamp.{Stamp}
 use Rattle.droid_core_state.specs.Changes.{stamped, Comes}
 use Rattle.droid_core_state.specs.LookUps.{FindsProfile}
@@ -65,7 +65,7 @@ module _ (setting : Setting) (world : World) (version number parent : ℕ) (modi
     unfolding judge_file
     file_accepted is = rw (found, is) refl
 
-    pub comes_file : (old new : Parts) (stamp : Stamp) (id : ℕ) (way : List ℕ) (assembly : State) → IsIn setting world old → first_refusal ≡ None
+    pub comes_file : (old new : Holdings) (stamp : Stamp) (id : ℕ) (way : List ℕ) (assembly : State) → IsIn setting world old → first_refusal ≡ None
         → id ≡ length profile.nodes + 1 → way ≡ path profile.nodes parent ++ 47 ∷ name → AreShort name way → IsNew assembly size piece_size profile.scan_limit profile.hash
         → new.limits ≡ old.limits → new.registry ≡ old.registry
         → new.store ≡ with_reply (stamped stamp (replies.Node id)) (with_node (new_file number id parent modified size piece_size name way) old.store)

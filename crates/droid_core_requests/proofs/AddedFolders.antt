@@ -14,7 +14,7 @@ use Rattle.droid_store.specs.Changes.{with_reply, with_node, new_folder}
 use Rattle.droid_store.specs.Rows.{Rows}
 use Rattle.droid_core_state.proofs.Added.{folder_added}
 use Rattle.droid_core_state.proofs.Soundness.{sound_added, folder_of_checks}
-use Rattle.droid_core_state.specs.declared.parts.Parts.{Parts}
+use Rattle.droid_core_state.specs.declared.holdings.Holdings.{Holdings}
 use Rattle.droid_core_state.specs.declared.stamps.Stamp.{Stamp}
 use Rattle.droid_core_state.specs.Changes.{stamped, Comes}
 use Rattle.droid_core_state.specs.LookUps.{FindsProfile}
@@ -52,7 +52,7 @@ module _ (setting : Setting) (world : World) (number parent : ℕ) (modified : �
     unfolding judge_folder
     folder_accepted is = rw (found, is) refl
 
-    pub comes_folder : (old new : Parts) (stamp : Stamp) (id : ℕ) (way : List ℕ) → IsIn setting world old → refusal_of (folder_checks setting.limits profile.nodes parent modified name) ≡ None
+    pub comes_folder : (old new : Holdings) (stamp : Stamp) (id : ℕ) (way : List ℕ) → IsIn setting world old → refusal_of (folder_checks setting.limits profile.nodes parent modified name) ≡ None
         → id ≡ length profile.nodes + 1 → way ≡ path profile.nodes parent ++ 47 ∷ name → AreShort name way → new.limits ≡ old.limits → new.registry ≡ old.registry → new.files ≡ old.files
         → new.store ≡ with_reply (stamped stamp (replies.Node id)) (with_node (new_folder number id parent modified name way) old.store)
         → Comes setting world old new stamp verdict (replies.Node id)

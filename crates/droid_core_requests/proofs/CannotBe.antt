@@ -10,7 +10,7 @@ use Rattle.droid_core_files.specs.Files.{At, OpenFiles, open_at}
 use Rattle.droid_core_state.specs.Assemblies.{HasAssemblies, HasItsAssemblyIn, IsOpenFor}
 use Rattle.droid_core_state.specs.Sound.{IsSoundWorld}
 use Rattle.droid_core_state.specs.Standing.{IsIn}
-use Rattle.droid_core_state.specs.declared.parts.Parts.{Parts}
+use Rattle.droid_core_state.specs.declared.holdings.Holdings.{Holdings}
 use Rattle.droid_core_state.proofs.Items.{numbered_past}
 use Rattle.droid_core_state.proofs.LookUps.{records_found}
 use Rattle.droid_core_state.proofs.Sizes.{piece_size_within, size_within}
@@ -23,7 +23,7 @@ use Rattle.droid_core_requests.proofs.Moments.{moments_found}
 
 -- ---- of a file that was found
 
-module _ (setting : Setting) (world : World) (number id : ℕ) (row : FileRow) (has : HasFile world number id row) (old : Parts) (is_in : IsIn setting world old) where
+module _ (setting : Setting) (world : World) (number id : ℕ) (row : FileRow) (has : HasFile world number id row) (old : Holdings) (is_in : IsIn setting world old) where
   module _ (is : is_unfinished row.node.state ≡ true) where
     its : IsOpenFor has.profile has.content (open_at number id old.files.files)
     its = assembly_of world old.files is_in.files number has.profile id has.parent has.modified has.name has.content has.there has.at (unfinished_there world number id row has is)
@@ -50,7 +50,7 @@ module _ (setting : Setting) (world : World) (number id : ℕ) (row : FileRow) (
 -- ---- of a profile
 
 -- one of its records has a moment that can't be written
-pub moments_written : (setting : Setting) (world : World) (old : Parts) (store : Rows) (number : ℕ) (profile : Profile) → IsIn setting world old → store ≡ old.store → numbered world.profiles number ≡ Some profile → HaveMoments (records_of number store)
+pub moments_written : (setting : Setting) (world : World) (old : Holdings) (store : Rows) (number : ℕ) (profile : Profile) → IsIn setting world old → store ≡ old.store → numbered world.profiles number ≡ Some profile → HaveMoments (records_of number store)
 moments_written setting world old store number profile is_in same there =
     rw (same, records_found setting world old.store number profile is_in.rows.nodes there) (moments_found setting world number profile is_in.sound there)
 

@@ -18,7 +18,7 @@ use Rattle.droid_core_spec.specs.Setting.{Setting}
 use Rattle.droid_core_spec.specs.World.{Profile, World, numbered}
 use Rattle.droid_core_state.proofs.LookUps.{records_found}
 use Rattle.droid_store.specs.Rows.{records_of}
-use Rattle.droid_core_state.specs.declared.parts.Parts.{Parts}
+use Rattle.droid_core_state.specs.declared.holdings.Holdings.{Holdings}
 use Rattle.droid_core_state.specs.Standing.{IsIn}
 
 -- ---- records
@@ -86,7 +86,7 @@ part_within max allowed = elim (cases_Bool (is_part_size max)) [
 -- ---- the part itself
 
 -- the text of the rows' records is the export of the world's profile
-pub text_shown : (setting : Setting) (world : World) (service : Parts) (number : ℕ) (filter : Filter) (profile : Profile) → IsIn setting world service → numbered world.profiles number ≡ Some profile
+pub text_shown : (setting : Setting) (world : World) (service : Holdings) (number : ℕ) (filter : Filter) (profile : Profile) → IsIn setting world service → numbered world.profiles number ≡ Some profile
     → text service.registry filter profile.hash (records_of number service.store) ≡ setting.export_text (records setting profile) filter profile.hash
 text_shown setting world service number filter profile is_in there =
     let found = records_found setting world service.store number profile is_in.rows.nodes there in
@@ -94,6 +94,6 @@ text_shown setting world service number filter profile is_in there =
     rw (found, shown) refl
 
 -- a part of it, with the number of the accepted commands, is the part that is asked for
-pub part_shown : (setting : Setting) (world : World) (service : Parts) (accepted from max : ℕ) (filter : Filter) (profile : Profile) (bytes : List ℕ) → IsIn setting world service → accepted ≡ length service.store.replies
+pub part_shown : (setting : Setting) (world : World) (service : Holdings) (accepted from max : ℕ) (filter : Filter) (profile : Profile) (bytes : List ℕ) → IsIn setting world service → accepted ≡ length service.store.replies
     → bytes ≡ setting.export_text (records setting profile) filter profile.hash → part accepted bytes from max ≡ part_of setting world.accepted profile from max filter
 part_shown setting world service accepted from max filter profile bytes is_in counted shown = rw (counted, is_in.rows.accepted, shown) refl

@@ -14,7 +14,7 @@ use Rattle.droid_store.specs.Changes.{with_reply, without_node}
 use Rattle.droid_store.specs.Rows.{Rows, is_unfinished}
 use Rattle.droid_core_files.specs.Files.{OpenFile, OpenFiles, IsAt, is_of, open_at}
 use Rattle.droid_core_state.specs.Changes.{Leaves, stamped}
-use Rattle.droid_core_state.specs.declared.parts.Parts.{Parts}
+use Rattle.droid_core_state.specs.declared.holdings.Holdings.{Holdings}
 use Rattle.droid_core_requests.specs.declared.file_rows.FileRow.{FileRow}
 use Rattle.droid_core_state.specs.declared.stamps.Stamp.{Stamp}
 use Rattle.droid_core_requests.specs.LookUps.{HasFile, for_file}
@@ -42,7 +42,7 @@ module _ (setting : Setting) (world : World) (number id : ℕ) (row : FileRow) (
       let unfinished = unfinished_there world number id row has is in
       abandon_for_file world number id ∙ judged_there world number id row has (abandon_there world number id) ∙ rw unfinished refl
 
-  module _ (old : Parts) (stamp : Stamp) (place : ℕ) (store : Rows) (files : OpenFiles) (is_in : IsIn setting world old) (is : is_unfinished row.node.state ≡ true)
+  module _ (old : Holdings) (stamp : Stamp) (place : ℕ) (store : Rows) (files : OpenFiles) (is_in : IsIn setting world old) (is : is_unfinished row.node.state ≡ true)
       (stored : store ≡ with_reply (stamped stamp replies.Abandoned) (without_node number id old.store))
       (at_place : slice_get old.files.files place ≡ open_at number id old.files.files)
       (gone : (file : OpenFile) → IsAt old.files.files place file → open_at file.profile file.file files.files ≡ None)

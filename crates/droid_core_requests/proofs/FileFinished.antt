@@ -30,7 +30,7 @@ use Rattle.droid_core_files.specs.Identifying.{IsFindingOf}
 use Rattle.droid_core_files.specs.declared.finding.Finding as files
 use Rattle.droid_core_state.specs.Assemblies.{IsAssemblyOf, IsOpenFor}
 use Rattle.droid_core_state.specs.Changes.{Stays, Comes, stamped}
-use Rattle.droid_core_state.specs.declared.parts.Parts.{Parts}
+use Rattle.droid_core_state.specs.declared.holdings.Holdings.{Holdings}
 use Rattle.droid_core_requests.specs.declared.file_rows.FileRow.{FileRow}
 use Rattle.droid_core_state.specs.declared.stamps.Stamp.{Stamp}
 use Rattle.droid_core_requests.specs.LookUps.{HasFile, for_file}
@@ -54,7 +54,7 @@ finish_for_file setting world version number id = refl
 
 -- ---- where a file was only looked at
 
-pub only_looked : (setting : Setting) (world : World) (old : Parts) (place : ℕ) (store : Rows) (files : OpenFiles) → store ≡ old.store → IsAlikeBut place old.files files → Turns old.files files place IsUnchanged → IsIn setting world old
+pub only_looked : (setting : Setting) (world : World) (old : Holdings) (place : ℕ) (store : Rows) (files : OpenFiles) → store ≡ old.store → IsAlikeBut place old.files files → Turns old.files files place IsUnchanged → IsIn setting world old
     → Stays setting world old (record old { store = store; files = files })
 only_looked setting world old place store files same alike unchanged is_in = rw same (record {
   world_is = record {
@@ -78,7 +78,7 @@ unwanted false P Q is it = it
 -- ---- what is found
 
 -- what the registry finds is what the setting does
-found_is : (setting : Setting) (world : World) (old : Parts) (name bytes : List ℕ) (scan_limit : ℕ) (match_all : Bool) (found : Found) → IsIn setting world old → IsFound old.registry name bytes scan_limit match_all found
+found_is : (setting : Setting) (world : World) (old : Holdings) (name bytes : List ℕ) (scan_limit : ℕ) (match_all : Bool) (found : Found) → IsIn setting world old → IsFound old.registry name bytes scan_limit match_all found
     → found ≡ found_in (setting.identify name bytes scan_limit match_all)
 found_is setting world old name bytes scan_limit match_all found is_in is =
     found_once (Hits bytes scan_limit) old.registry name match_all found (found_in (setting.identify name bytes scan_limit match_all)) is (is_in.is_setting.registry.identifies name bytes scan_limit match_all)
@@ -111,7 +111,7 @@ module _ (setting : Setting) (world : World) (version number id : ℕ) (row : Fi
   accepted : refusal_of (finish_checks version has.profile.hash has.content) ≡ None → judge_finish setting world version number id ≡ reply_and_world
   accepted is = judged ∙ ap (λ found. unless_refused found reply_and_world) is
 
-  module _ (old : Parts) (place : ℕ) (is_in : IsIn setting world old) (is : is_unfinished row.node.state ≡ true) (at_place : slice_get old.files.files place ≡ open_at number id old.files.files)
+  module _ (old : Holdings) (place : ℕ) (is_in : IsIn setting world old) (is : is_unfinished row.node.state ≡ true) (at_place : slice_get old.files.files place ≡ open_at number id old.files.files)
       (told : is_told version has.profile.hash ≡ true) where
     unfinished : has.content.finished ≡ false
     unfinished = unfinished_there world number id row has is
@@ -120,7 +120,7 @@ module _ (setting : Setting) (world : World) (version number id : ℕ) (row : Fi
     its = assembly_of world old.files is_in.files number has.profile id has.parent has.modified has.name has.content has.there has.at unfinished
 
     -- it is not identified
-    pub comes_unfinished : (stamp : Stamp) (new : Parts) (refusal : Refusal) → Stays setting world old new
+    pub comes_unfinished : (stamp : Stamp) (new : Holdings) (refusal : Refusal) → Stays setting world old new
         → At old.files place (λ file. (version : ℕ) (profile : Profile) (content : Content) → IsAssemblyOf profile content file → content.finished ≡ false → is_told version profile.hash ≡ true → MatchBool (is_want_of refusal) ⊤ (refusal_of (finish_checks version profile.hash content) ≡ Some refusal))
         → Comes setting world old new stamp (judge_finish setting world version number id) (replies.Refused refusal)
     comes_unfinished stamp new refusal stays said =

@@ -15,7 +15,7 @@ use Rattle.droid_store.specs.Rows.{is_unfinished}
 use Rattle.droid_core_files.specs.Files.{OpenFiles}
 use Rattle.droid_core_state.specs.Assemblies.{HasAssemblies}
 use Rattle.droid_core_state.specs.Changes.{Stays, Leaves, Comes, answered}
-use Rattle.droid_core_state.specs.declared.parts.Parts.{Parts}
+use Rattle.droid_core_state.specs.declared.holdings.Holdings.{Holdings}
 use Rattle.droid_core_requests.specs.declared.file_rows.FileRow.{FileRow}
 use Rattle.droid_core_state.specs.declared.stamps.Stamp.{Stamp}
 use Rattle.droid_core_requests.specs.LookUps.{HasFile, for_file}
@@ -34,7 +34,7 @@ pub status_for_file : (world : World) (number id : ℕ) → judge_status world n
 unfolding judge_status
 status_for_file world number id = refl
 
-module _ (setting : Setting) (world : World) (old new : Parts) (stamp : Stamp) (verdict : Verdict) (stays : Stays setting world old new) where
+module _ (setting : Setting) (world : World) (old new : Holdings) (stamp : Stamp) (verdict : Verdict) (stays : Stays setting world old new) where
   one_of : (wanting : Bool) (P Q : Type 0) → P → Q → MatchBool wanting P Q
   one_of true P Q p q = p
   one_of false P Q p q = q
@@ -60,7 +60,7 @@ module _ (setting : Setting) (world : World) (number id : ℕ) (row : FileRow) (
   of_progress files assembled is (Err refusal) tells = tt
 
   -- of an unfinished file its assembly tells
-  pub unfinished_told : (old new : Parts) (stamp : Stamp) → Stays setting world old new → HasAssemblies world old.files → is_unfinished row.node.state ≡ true
+  pub unfinished_told : (old new : Holdings) (stamp : Stamp) → Stays setting world old new → HasAssemblies world old.files → is_unfinished row.node.state ≡ true
       → (told : Result Reply Refusal) → IfOk told (TellsProgress old.files) → IsOk told
       → Comes setting world old new stamp (judge_status world number id) (answered told)
   unfinished_told old new stamp stays assembled is told tells tells_it = comes_told setting world old new stamp _ stays told (of_progress old.files assembled is told tells) tells_it
@@ -69,7 +69,7 @@ module _ (setting : Setting) (world : World) (number id : ℕ) (row : FileRow) (
   finished_progress content finished = rw finished refl
 
   -- of a finished file its row does
-  pub finished_told : (old new : Parts) (stamp : Stamp) (count : ℕ) → Stays setting world old new → is_unfinished row.node.state ≡ false → count ≡ piece_count row.node.item.size row.node.piece_size
+  pub finished_told : (old new : Holdings) (stamp : Stamp) (count : ℕ) → Stays setting world old new → is_unfinished row.node.state ≡ false → count ≡ piece_count row.node.item.size row.node.piece_size
       → (Progress count count ≡ verdict_reply (judge_status world number id)) × Leaves setting world old new stamp (judge_status world number id)
   finished_told old new stamp count stays isnt counted =
       let finished = finished_progress has.content (finished_there world number id row has isnt) in

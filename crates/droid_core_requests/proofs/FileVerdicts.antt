@@ -12,7 +12,7 @@ use Rattle.droid_store.specs.declared.rows.NodeState.{NodeState}
 use Rattle.droid_store.specs.declared.rows.NodeState.TheVariants.{Folder, Unfinished, Finished}
 use Rattle.droid_store.specs.Rows.{is_unfinished}
 use Rattle.droid_core_state.specs.Changes.{Stays, Comes}
-use Rattle.droid_core_state.specs.declared.parts.Parts.{Parts}
+use Rattle.droid_core_state.specs.declared.holdings.Holdings.{Holdings}
 use Rattle.droid_core_requests.specs.declared.file_rows.FileRow.{FileRow}
 use Rattle.droid_core_state.specs.declared.stamps.Stamp.{Stamp}
 use Rattle.droid_core_requests.specs.LookUps.{HasFile, FindsFile, for_file, state_of}
@@ -21,7 +21,7 @@ use Rattle.droid_core_state.proofs.Staying.{if_refused, comes_refused}
 -- ---- where it was not found
 
 -- what its look-up refuses is refused
-pub comes_nowhere : (setting : Setting) (world : World) (old new : Parts) (stamp : Stamp) (number id : ℕ) (judge_there : Profile → ℕ → ℤ → List ℕ → Content → Verdict) (verdict : Verdict) (refusal : Refusal)
+pub comes_nowhere : (setting : Setting) (world : World) (old new : Holdings) (stamp : Stamp) (number id : ℕ) (judge_there : Profile → ℕ → ℤ → List ℕ → Content → Verdict) (verdict : Verdict) (refusal : Refusal)
     → verdict ≡ for_file world number id judge_there → FindsFile world number id (Err refusal) → Stays setting world old new → Comes setting world old new stamp verdict (Refused refusal)
 comes_nowhere setting world old new stamp number id judge_there verdict refusal judged found stays =
     comes_refused setting world old new stamp verdict refusal (if_refused (is_want_of refusal) (λ refuses. judged ∙ refuses judge_there) found) stays

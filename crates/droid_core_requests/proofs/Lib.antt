@@ -23,3 +23,6 @@ pub mod PuidTexts
 pub mod PutJudged
 pub mod SameLists
 pub mod UnchangedFiles
+pub use Rattle.droid_core_state.proofs.LookUps
+pub use Rattle.droid_core_state.proofs.Made
+pub use Rattle.droid_core_state.proofs.Replying

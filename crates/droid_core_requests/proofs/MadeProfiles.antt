@@ -18,7 +18,7 @@ use Rattle.droid_core_state.proofs.Soundness.{sound_made, scan_limit_of_checks}
 use Rattle.droid_core_state.proofs.Unfinished.{unfinished_made}
 use Rattle.droid_core_state.specs.Rows.{profile_row, KeepsWorld}
 use Rattle.droid_core_files.specs.Files.{OpenFile, OpenFiles, open_at}
-use Rattle.droid_core_state.specs.declared.parts.Parts.{Parts}
+use Rattle.droid_core_state.specs.declared.holdings.Holdings.{Holdings}
 use Rattle.droid_core_state.specs.declared.stamps.Stamp.{Stamp}
 use Rattle.droid_core_state.specs.Assemblies.{HasItsAssemblyIn, HasAssemblies}
 use Rattle.droid_core_state.specs.Changes.{stamped, Comes}
@@ -94,7 +94,7 @@ never_refused setting world scan_limit match_all hash refusal is judged =
 pub profile_count : (setting : Setting) (world : World) (rows : Rows) → KeepsWorld setting world rows → length rows.profiles ≡ length world.profiles
 profile_count setting world rows keeps = ap length keeps.profiles ∙ length-map world.profiles profile_row
 
-pub comes_made : (setting : Setting) (world : World) (old new : Parts) (stamp : Stamp) (scan_limit : ℕ) (match_all : Bool) (hash : HashKind) (number : ℕ)
+pub comes_made : (setting : Setting) (world : World) (old new : Holdings) (stamp : Stamp) (scan_limit : ℕ) (match_all : Bool) (hash : HashKind) (number : ℕ)
     → IsIn setting world old → refusal_of (create_checks setting.limits world scan_limit) ≡ None → number ≡ length world.profiles + 1
     → new.limits ≡ old.limits → new.registry ≡ old.registry → new.files ≡ old.files
     → new.store ≡ with_reply (stamped stamp (replies.Made number)) (with_profile scan_limit match_all hash old.store)

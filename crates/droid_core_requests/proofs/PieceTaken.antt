@@ -19,7 +19,7 @@ use Rattle.droid_store.specs.Rows.{Rows, is_unfinished}
 use Rattle.droid_core_files.specs.Files.{OpenFiles, At, Turns, IsAlikeBut, open_at}
 use Rattle.droid_core_state.specs.Assemblies.{IsAssemblyOf, IsOpenFor}
 use Rattle.droid_core_state.specs.Changes.{Stays, Leaves, Comes, stamped}
-use Rattle.droid_core_state.specs.declared.parts.Parts.{Parts}
+use Rattle.droid_core_state.specs.declared.holdings.Holdings.{Holdings}
 use Rattle.droid_core_requests.specs.declared.file_rows.FileRow.{FileRow}
 use Rattle.droid_core_state.specs.declared.stamps.Stamp.{Stamp}
 use Rattle.droid_core_requests.specs.LookUps.{HasFile, for_file}
@@ -39,12 +39,12 @@ unfolding judge_piece
 piece_for_file world number id index bytes = refl
 
 -- where the rows and the files are as before, the service is
-pub stays_as : (setting : Setting) (world : World) (old : Parts) (store : Rows) (files : OpenFiles) → store ≡ old.store → files ≡ old.files → IsIn setting world old
+pub stays_as : (setting : Setting) (world : World) (old : Holdings) (store : Rows) (files : OpenFiles) → store ≡ old.store → files ≡ old.files → IsIn setting world old
     → Stays setting world old (record old { store = store; files = files })
 stays_as setting world old store files same_store same_files is_in = rw (same_store, same_files) (record { world_is = is_in; replies = refl })
 
 -- a want, and nothing changed
-pub comes_wanting : (setting : Setting) (world : World) (old new : Parts) (stamp : Stamp) (verdict : Verdict) (refusal : Refusal) → refusal ≡ Memory → Stays setting world old new
+pub comes_wanting : (setting : Setting) (world : World) (old new : Holdings) (stamp : Stamp) (verdict : Verdict) (refusal : Refusal) → refusal ≡ Memory → Stays setting world old new
     → Comes setting world old new stamp verdict (replies.Refused refusal)
 comes_wanting setting world old new stamp verdict refusal memory stays = rw memory stays
 
@@ -72,7 +72,7 @@ module _ (setting : Setting) (world : World) (number id : ℕ) (row : FileRow) (
   accepted : None ≡ refusal_of (piece_checks has.content index bytes) → judge_piece world number id index bytes ≡ reply_and_world
   accepted is = judged ∙ ap (λ found. unless_refused found reply_and_world) (sym is)
 
-  module _ (old : Parts) (place : ℕ) (is_in : IsIn setting world old) (is : is_unfinished row.node.state ≡ true) (at_place : slice_get old.files.files place ≡ open_at number id old.files.files) where
+  module _ (old : Holdings) (place : ℕ) (is_in : IsIn setting world old) (is : is_unfinished row.node.state ≡ true) (at_place : slice_get old.files.files place ≡ open_at number id old.files.files) where
     unfinished : has.content.finished ≡ false
     unfinished = unfinished_there world number id row has is
 

@@ -45,7 +45,7 @@ plain_byte c is = elim (or_cases (is_ascii_alphanumeric c || (c == 47)) (c == 45
 
 plain_bytes : (text : List ℕ) → list_all is_puid_byte text ≡ true → AllByRecursion IsPlain text
 plain_bytes [] is = tt
-plain_bytes (c ∷ text) is = (let parts = and_parts (is_puid_byte c) (list_all is_puid_byte text) is in (plain_byte c parts.0, plain_bytes text parts.1))
+plain_bytes (c ∷ text) is = (let holdings = and_parts (is_puid_byte c) (list_all is_puid_byte text) is in (plain_byte c holdings.0, plain_bytes text holdings.1))
 
 ascii : (text : List ℕ) → AllByRecursion IsPlain text → IsAscii text
 ascii [] plain = IsAscii-nil

@@ -7,18 +7,18 @@ use Rattle.droid_core_spec.specs.Setting.{Setting}
 use Rattle.droid_core_spec.specs.World.{World}
 use Rattle.droid_core_state.specs.Changes.{Comes}
 use Rattle.droid_core_state.specs.Standing.{IsIn}
-use Rattle.droid_core_state.specs.declared.parts.Parts.{Parts}
+use Rattle.droid_core_state.specs.declared.holdings.Holdings.{Holdings}
 use Rattle.droid_core_state.specs.declared.stamps.Stamp.{Stamp}
 
 -- In each world in which the service may be, the reply is what judging the request there says, or want of memory, and the
 -- service is then in the world that this leaves. The reply has a spelling in the request's version, and the limits and the
 -- registry stay.
-pub record AnswersIn (MayBe : Setting → World → Type 0) (judged : Setting → World → Verdict) (stamp : Stamp) (old new : Parts) (reply : Reply) : Type 0 where
+pub record AnswersIn (MayBe : Setting → World → Type 0) (judged : Setting → World → Verdict) (stamp : Stamp) (old new : Holdings) (reply : Reply) : Type 0 where
   pub comes : (setting : Setting) (world : World) → MayBe setting world → Comes setting world old new stamp (judged setting world) reply
   pub spelled : HasReplySpelling stamp.version reply
   pub limits : new.limits ≡ old.limits
   pub registry : new.registry ≡ old.registry
 
 -- in each world whose rows and assemblies are the service's
-abbrev pub Answers : (Setting → World → Verdict) → Stamp → Parts → Parts → Reply → Type 0
+abbrev pub Answers : (Setting → World → Verdict) → Stamp → Holdings → Holdings → Reply → Type 0
 Answers judged stamp old new reply = AnswersIn (λ setting world. IsIn setting world old) judged stamp old new reply

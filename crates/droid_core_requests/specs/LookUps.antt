@@ -22,13 +22,13 @@ abbrev pub state_of : Content → NodeState
 state_of content = if content.finished then Finished else Unfinished
 
 -- the world has the file, and these are its row and its profile's
-pub record HasFile (world : World) (number id : ℕ) (row : FileRow) : Type 0 where
+pub record HasFile (world : World) (which id : ℕ) (row : FileRow) : Type 0 where
   pub profile : Profile
   pub parent : ℕ
   pub modified : ℤ
   pub name : List ℕ
   pub content : Content
-  pub there : numbered world.profiles number ≡ Some profile
+  pub there : numbered world.profiles which ≡ Some profile
   pub at : node_at profile.nodes id ≡ Some (File parent modified name content)
   pub profile_is : row.profile ≡ profile_row profile
   pub state_is : row.node.state ≡ state_of content
@@ -38,10 +38,10 @@ pub record HasFile (world : World) (number id : ℕ) (row : FileRow) : Type 0 wh
 
 -- what comes of a request for a file
 abbrev pub for_file : World → ℕ → ℕ → (Profile → ℕ → ℤ → List ℕ → Content → Verdict) → Verdict
-for_file world number id judge_there = in_profile (numbered world.profiles number) (λ profile. in_file (node_at profile.nodes id) (judge_there profile))
+for_file world profile id judge_there = in_profile (numbered world.profiles profile) (λ its. in_file (node_at its.nodes id) (judge_there its))
 
 -- the file's row; or whatever is asked of it is refused so, or memory was refused
 abbrev pub FindsFile : World → ℕ → ℕ → Result FileRow Refusal → Type 0
-FindsFile world number id (Ok row) = HasFile world number id row
-FindsFile world number id (Err refusal) =
-    MatchBool (is_want_of refusal) ⊤ ((judge_there : Profile → ℕ → ℤ → List ℕ → Content → Verdict) → for_file world number id judge_there ≡ Refuses refusal)
+FindsFile world profile id (Ok row) = HasFile world profile id row
+FindsFile world profile id (Err refusal) =
+    MatchBool (is_want_of refusal) ⊤ ((judge_there : Profile → ℕ → ℤ → List ℕ → Content → Verdict) → for_file world profile id judge_there ≡ Refuses refusal)

@@ -8,23 +8,28 @@ ghost use Rattle.droid_frame.specs.Versions.{IsVersion};
 ghost use Rattle.droid_store.specs.Rows.{reply_for};
 
 use crate::file_rows::{file_of, place_of_file};
-use droid_core_state::{Parts, Stamp, entry_of};
+use droid_core_state::{Holdings, Stamp, entry_of};
 use droid_frame::{Refusal, Reply};
 
 /// Abandons an unfinished file.
-pub fn abandon(parts: &mut Parts, stamp: Stamp, profile: u32, file: u32) -> Result<Reply, Refusal>
-    requires new { reply_for stamp.client stamp.number parts.old.store ≡ None }
+pub fn abandon(
+    holdings: &mut Holdings,
+    stamp: Stamp,
+    profile: u32,
+    file: u32,
+) -> Result<Reply, Refusal>
+    requires new { reply_for stamp.client stamp.number holdings.old.store ≡ None }
     requires small { stamp.number < 2 ^ 63 }
     requires version { IsVersion stamp.version }
-    ensures answers { Answers (λ setting world. judge_abandon world profile file) stamp parts.old parts.new (answered result) }
+    ensures answers { Answers (λ setting world. judge_abandon world profile file) stamp holdings.old holdings.new (answered result) }
 {
-    let row = file_of(&mut parts.store, profile, file)?;
+    let row = file_of(&mut holdings.store, profile, file)?;
     if !row.is_unfinished() {
         return Err(Refusal::AlreadyFinished);
     }
-    let place = place_of_file(&parts.files, profile, file)?;
-    let entry = entry_of(parts.alloc, stamp, &Reply::Abandoned)?;
-    parts.store.commit_abandon(&entry, profile, file)?;
-    parts.files.remove(place);
+    let place = place_of_file(&holdings.files, profile, file)?;
+    let entry = entry_of(holdings.alloc, stamp, &Reply::Abandoned)?;
+    holdings.store.commit_abandon(&entry, profile, file)?;
+    holdings.files.remove(place);
     Ok(Reply::Abandoned)
 }

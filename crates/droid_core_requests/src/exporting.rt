@@ -15,7 +15,7 @@ ghost use Rattle.droid_core_spec.specs.World.{World};
 ghost use Rattle.droid_store.specs.Rows.{records_of};
 
 use crate::kept_text::{KeptText, forget_text, keep_text, text_for};
-use droid_core_state::{Parts, export_refusal, is_moment, profile_of};
+use droid_core_state::{Holdings, export_refusal, is_moment, profile_of};
 use droid_export::export_text;
 use droid_frame::{Blob, Filter, Record, Refusal, Reply};
 use droid_store::Store;
@@ -24,32 +24,32 @@ use std::alloc::Global;
 /// A part of the export of a profile's records that meet the filter. The text is kept for its further parts, and one
 /// that was kept for them is read.
 pub fn export(
-    parts: &mut Parts,
+    holdings: &mut Holdings,
     last: &mut Option<KeptText>,
     profile: u32,
     from: u64,
     max: u32,
     filter: Filter,
 ) -> Result<Reply, Refusal>
-    ensures answers { (stamp : Stamp) → AnswersIn (λ setting world. IsIn setting world parts.old × IsLastText setting world last.old) (λ setting world. judge_export setting world profile from max filter) stamp parts.old parts.new (answered result) }
-    ensures last { (setting : Setting) (world : World) → IsIn setting world parts.old → IsLastText setting world last.old → IsLastText setting world last.new }
+    ensures answers { (stamp : Stamp) → AnswersIn (λ setting world. IsIn setting world holdings.old × IsLastText setting world last.old) (λ setting world. judge_export setting world profile from max filter) stamp holdings.old holdings.new (answered result) }
+    ensures last { (setting : Setting) (world : World) → IsIn setting world holdings.old → IsLastText setting world last.old → IsLastText setting world last.new }
     // It costs nothing anew where it is the last text, and it is the last text where something is left.
     ensures kept { IfOk result (λ reply. IsTrue (is_followed from max reply) → IsFor profile filter last.new) }
 {
-    let row = profile_of(parts.store.profile(profile))?;
+    let row = profile_of(holdings.store.profile(profile))?;
     if let Some(refusal) = export_refusal(max) {
         return Err(refusal);
     }
-    let accepted = accepted_by(&mut parts.store);
+    let accepted = accepted_by(&mut holdings.store);
     if let Some(text) = text_for(last, profile, &filter) {
-        let reply = part_of(parts.alloc, accepted, text, from, max)?;
+        let reply = part_of(holdings.alloc, accepted, text, from, max)?;
         return Ok(reply);
     }
     forget_text(last);
-    let records = records_in(&mut parts.store, profile)?;
+    let records = records_in(&mut holdings.store, profile)?;
     let shown = records.as_slice();
-    let text = export_text(parts.alloc, shown, &parts.registry, &filter, row.hash)?;
-    let reply = part_of(parts.alloc, accepted, &text, from, max)?;
+    let text = export_text(holdings.alloc, shown, &holdings.registry, &filter, row.hash)?;
+    let reply = part_of(holdings.alloc, accepted, &text, from, max)?;
     keep_text(last, profile, filter, text, from, max);
     Ok(reply)
 }

@@ -24,35 +24,46 @@ ghost use Rattle.droid_core_files.specs.Files.{OpenFile, IsAt, At, Turns, IsAlik
 ghost use Rattle.droid_core_files.specs.Identifying.{IsFindingOf, IsWellFormed};
 
 use crate::file_rows::{FileRow, file_of, none_is_pending, place_of_file};
-use droid_core_files::{Finding, IdentifyFault, UnfinishedFiles};
-use droid_core_state::{Parts, Stamp, entry_of, is_told};
+use droid_core_files::{Finding, UnfinishedFiles};
+use droid_core_state::{Holdings, Stamp, entry_of, is_told};
 use droid_frame::{HashKind, HashValue, Refusal, Reply};
 use droid_pronom::Registry;
 use droid_store::Store;
 use std::alloc::Global;
 
 /// Finishes a file: it is identified, and its pieces are dropped.
-pub fn finish(parts: &mut Parts, stamp: Stamp, profile: u32, file: u32) -> Result<Reply, Refusal>
-    requires new { reply_for stamp.client stamp.number parts.old.store ≡ None }
+pub fn finish(
+    holdings: &mut Holdings,
+    stamp: Stamp,
+    profile: u32,
+    file: u32,
+) -> Result<Reply, Refusal>
+    requires new { reply_for stamp.client stamp.number holdings.old.store ≡ None }
     requires small { stamp.number < 2 ^ 63 }
     requires version { IsVersion stamp.version }
-    ensures answers { Answers (λ setting world. judge_finish setting world stamp.version profile file) stamp parts.old parts.new (answered result) }
+    ensures answers { Answers (λ setting world. judge_finish setting world stamp.version profile file) stamp holdings.old holdings.new (answered result) }
 {
-    let row = file_of(&mut parts.store, profile, file)?;
+    let row = file_of(&mut holdings.store, profile, file)?;
     if !row.is_unfinished() {
         return Err(Refusal::AlreadyFinished);
     }
     if !is_told(stamp.version, row.profile.hash) {
         return Err(Refusal::BadOption);
     }
-    let place = place_of_file(&parts.files, profile, file)?;
-    none_is_pending(&parts.files, place)?;
-    let finding = identify_file(parts.alloc, &mut parts.files, place, &parts.registry, &row)?;
+    let place = place_of_file(&holdings.files, profile, file)?;
+    none_is_pending(&holdings.files, place)?;
+    let finding = identify_file(
+        holdings.alloc,
+        &mut holdings.files,
+        place,
+        &holdings.registry,
+        &row,
+    )?;
     is_of_kind(finding.sealed.hash, row.profile.hash)?;
     let reply = keep_finding(
-        parts.alloc,
-        &mut parts.store,
-        &mut parts.files,
+        holdings.alloc,
+        &mut holdings.store,
+        &mut holdings.files,
         place,
         stamp,
         profile,
@@ -87,8 +98,7 @@ fn identify_file(
     let name = row.node.item.name.as_str();
     match files.identify(alloc, place, registry, name, row.profile.match_all) {
         Ok(finding) => Ok(finding),
-        Err(IdentifyFault::Incomplete { missing }) => Err(Refusal::Incomplete { missing }),
-        Err(IdentifyFault::Memory) => Err(Refusal::Memory),
+        Err(fault) => Err(Refusal::from(fault)),
     }
 }
 

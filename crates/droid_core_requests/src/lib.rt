@@ -16,6 +16,8 @@ mod progress;
 mod same_filters;
 
 pub use abandoning::abandon;
+pub use droid_core_files::UnfinishedFiles;
+pub use droid_core_state::{Holdings, Limits, Stamp, answer_again, entry_of, reply_from};
 pub use exporting::export;
 pub use finishing::finish;
 pub use kept_text::{KeptText, forget_text};

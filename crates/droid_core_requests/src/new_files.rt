@@ -11,16 +11,16 @@ ghost use Rattle.droid_frame.specs.Versions.{IsVersion};
 ghost use Rattle.droid_store.specs.Rows.{reply_for};
 ghost use Rattle.droid_core_files.specs.Files.{open_at};
 
-use crate::new_places::{node_room, place_of};
+use crate::new_places::{node_room, path_of_new};
 use droid_assembly::Assembly;
 use droid_core_files::UnfinishedFiles;
-use droid_core_state::{Parts, Room, Stamp, entry_of, file_refusal, is_scan_limit, profile_of};
+use droid_core_state::{Holdings, Room, Stamp, entry_of, file_refusal, is_scan_limit, profile_of};
 use droid_frame::{HashKind, Refusal, Reply, Text};
 use std::alloc::Global;
 
 /// Adds a file to a profile, whose pieces are still to come.
 pub fn add_file(
-    parts: &mut Parts,
+    holdings: &mut Holdings,
     stamp: Stamp,
     profile: u32,
     parent: u32,
@@ -29,21 +29,21 @@ pub fn add_file(
     piece_size: u32,
     name: Text,
 ) -> Result<Reply, Refusal>
-    requires new { reply_for stamp.client stamp.number parts.old.store ≡ None }
+    requires new { reply_for stamp.client stamp.number holdings.old.store ≡ None }
     requires small { stamp.number < 2 ^ 63 }
     requires version { IsVersion stamp.version }
-    ensures answers { Answers (λ setting world. judge_file setting world stamp.version profile parent modified size piece_size name) stamp parts.old parts.new (answered result) }
+    ensures answers { Answers (λ setting world. judge_file setting world stamp.version profile parent modified size piece_size name) stamp holdings.old holdings.new (answered result) }
 {
-    let row = profile_of(parts.store.profile(profile))?;
-    let path = place_of(
-        parts.alloc,
-        &mut parts.store,
+    let row = profile_of(holdings.store.profile(profile))?;
+    let path = path_of_new(
+        holdings.alloc,
+        &mut holdings.store,
         profile,
         parent,
         name.as_str(),
     )?;
-    let nodes = node_room(parts, row);
-    let unfinished = unfinished_room(parts);
+    let nodes = node_room(holdings, row);
+    let unfinished = unfinished_room(holdings);
     if let Some(refusal) = file_refusal(
         stamp.version,
         modified,
@@ -55,11 +55,11 @@ pub fn add_file(
         return Err(refusal);
     }
     let id = row.nodes + 1;
-    let assembly = new_assembly(parts.alloc, size, piece_size, row.scan_limit, row.hash)?;
-    has_room(&parts.files, profile, id)?;
+    let assembly = new_assembly(holdings.alloc, size, piece_size, row.scan_limit, row.hash)?;
+    has_room(&holdings.files, profile, id)?;
     let reply = Reply::Node { id };
-    let entry = entry_of(parts.alloc, stamp, &reply)?;
-    parts.store.commit_file(
+    let entry = entry_of(holdings.alloc, stamp, &reply)?;
+    holdings.store.commit_file(
         &entry,
         profile,
         id,
@@ -70,18 +70,18 @@ pub fn add_file(
         name.as_str(),
         path.as_str(),
     )?;
-    parts.files.add(profile, id, assembly);
+    holdings.files.add(profile, id, assembly);
     Ok(reply)
 }
 
 /// How many files are unfinished, over all profiles, and how many may be.
-fn unfinished_room(parts: &Parts) -> Room
-    ensures count { result.count ≡ length parts.now.files.files }
-    ensures limit { result.limit ≡ parts.now.limits.unfinished }
+fn unfinished_room(holdings: &Holdings) -> Room
+    ensures count { result.count ≡ length holdings.now.files.files }
+    ensures limit { result.limit ≡ holdings.now.limits.unfinished }
 {
     Room {
-        count: u64::from(parts.files.len()),
-        limit: parts.limits.unfinished,
+        count: u64::from(holdings.files.len()),
+        limit: holdings.limits.unfinished,
     }
 }
 

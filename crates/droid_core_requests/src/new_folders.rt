@@ -7,40 +7,40 @@ ghost use Rattle.droid_core_spec.specs.Judging.{judge_folder};
 ghost use Rattle.droid_frame.specs.Versions.{IsVersion};
 ghost use Rattle.droid_store.specs.Rows.{reply_for};
 
-use crate::new_places::{node_room, place_of};
-use droid_core_state::{Parts, Stamp, entry_of, folder_refusal, profile_of};
+use crate::new_places::{node_room, path_of_new};
+use droid_core_state::{Holdings, Stamp, entry_of, folder_refusal, profile_of};
 use droid_frame::{Refusal, Reply, Text};
 
 /// Adds a folder to a profile.
 pub fn add_folder(
-    parts: &mut Parts,
+    holdings: &mut Holdings,
     stamp: Stamp,
     profile: u32,
     parent: u32,
     modified: i64,
     name: Text,
 ) -> Result<Reply, Refusal>
-    requires new { reply_for stamp.client stamp.number parts.old.store ≡ None }
+    requires new { reply_for stamp.client stamp.number holdings.old.store ≡ None }
     requires small { stamp.number < 2 ^ 63 }
     requires version { IsVersion stamp.version }
-    ensures answers { Answers (λ setting world. judge_folder setting world profile parent modified name) stamp parts.old parts.new (answered result) }
+    ensures answers { Answers (λ setting world. judge_folder setting world profile parent modified name) stamp holdings.old holdings.new (answered result) }
 {
-    let row = profile_of(parts.store.profile(profile))?;
-    let path = place_of(
-        parts.alloc,
-        &mut parts.store,
+    let row = profile_of(holdings.store.profile(profile))?;
+    let path = path_of_new(
+        holdings.alloc,
+        &mut holdings.store,
         profile,
         parent,
         name.as_str(),
     )?;
-    let nodes = node_room(parts, row);
+    let nodes = node_room(holdings, row);
     if let Some(refusal) = folder_refusal(modified, nodes) {
         return Err(refusal);
     }
     let id = row.nodes + 1;
     let reply = Reply::Node { id };
-    let entry = entry_of(parts.alloc, stamp, &reply)?;
-    parts.store.commit_folder(
+    let entry = entry_of(holdings.alloc, stamp, &reply)?;
+    holdings.store.commit_folder(
         &entry,
         profile,
         id,

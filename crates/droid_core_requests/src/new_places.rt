@@ -9,13 +9,13 @@ ghost use Rattle.droid_core_requests.specs.Places.{FindsFolder, FindsPlace, take
 ghost use Rattle.droid_store.specs.Rows.{child_at};
 
 use crate::file_rows::node_of;
-use droid_core_state::{Parts, Room, is_bad_name, is_too_deep_below, new_path};
+use droid_core_state::{Holdings, Room, is_bad_name, is_too_deep_below, new_path};
 use droid_frame::{Refusal, Text};
 use droid_store::{NodeRow, NodeState, ProfileRow, Store, StoreFault};
 use std::alloc::Global;
 
 /// The path of a new node of this folder, where its place and its name allow one.
-pub fn place_of(
+pub fn path_of_new(
     alloc: Global,
     store: &mut Store,
     profile: u32,
@@ -76,12 +76,12 @@ fn is_taken(found: Result<Option<u32>, StoreFault>) -> Result<bool, Refusal>
 }
 
 /// How many nodes a profile has had, and how many it may have.
-pub fn node_room(parts: &Parts, profile: ProfileRow) -> Room
+pub fn node_room(holdings: &Holdings, profile: ProfileRow) -> Room
     ensures count { result.count ≡ profile.nodes }
-    ensures limit { result.limit ≡ parts.now.limits.nodes }
+    ensures limit { result.limit ≡ holdings.now.limits.nodes }
 {
     Room {
         count: u64::from(profile.nodes),
-        limit: parts.limits.nodes,
+        limit: holdings.limits.nodes,
     }
 }

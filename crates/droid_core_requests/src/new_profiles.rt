@@ -11,50 +11,50 @@ ghost use Rattle.droid_core_spec.specs.World.{World};
 ghost use Rattle.droid_frame.specs.Versions.{IsVersion};
 ghost use Rattle.droid_store.specs.Rows.{reply_for};
 
-use droid_core_state::{Parts, Room, Stamp, create_refusal, entry_of};
+use droid_core_state::{Holdings, Room, Stamp, create_refusal, entry_of};
 use droid_frame::{HashKind, Refusal, Reply};
 
 /// Makes a profile, whose files get this hash.
 pub fn create_profile(
-    parts: &mut Parts,
+    holdings: &mut Holdings,
     stamp: Stamp,
     scan_limit: u32,
     match_all: bool,
     hash: HashKind,
 ) -> Result<Reply, Refusal>
-    requires new { reply_for stamp.client stamp.number parts.old.store ≡ None }
+    requires new { reply_for stamp.client stamp.number holdings.old.store ≡ None }
     requires small { stamp.number < 2 ^ 63 }
     requires version { IsVersion stamp.version }
-    ensures answers { Answers (λ setting world. judge_create setting world scan_limit match_all hash) stamp parts.old parts.new (answered result) }
+    ensures answers { Answers (λ setting world. judge_create setting world scan_limit match_all hash) stamp holdings.old holdings.new (answered result) }
     // What is refused is refused with no want of memory: no call before it takes any.
-    ensures refused { (setting : Setting) (world : World) (refusal : RefusalValue) → IsIn setting world parts.old
+    ensures refused { (setting : Setting) (world : World) (refusal : RefusalValue) → IsIn setting world holdings.old
         → judge_create setting world scan_limit match_all hash ≡ Refuses refusal → result ≡ Err refusal }
 {
-    let profiles = profile_room(parts);
+    let profiles = profile_room(holdings);
     if let Some(refusal) = create_refusal(scan_limit, profiles) {
         return Err(refusal);
     }
     let profile = profiles.count as u32 + 1;
     let reply = Reply::Made { profile };
-    let entry = entry_of(parts.alloc, stamp, &reply)?;
-    parts
+    let entry = entry_of(holdings.alloc, stamp, &reply)?;
+    holdings
         .store
         .commit_profile(&entry, profile, scan_limit, match_all, hash)?;
     Ok(reply)
 }
 
 /// How many profiles there are, and how many there may be. The store always tells it.
-fn profile_room(parts: &mut Parts) -> Room
-    ensures count { result.count ≡ length parts.old.store.profiles }
-    ensures limit { result.limit ≡ parts.old.limits.profiles }
-    ensures store { parts.new.store ≡ parts.old.store }
-    ensures files { parts.new.files ≡ parts.old.files }
-    ensures limits { parts.new.limits ≡ parts.old.limits }
-    ensures registry { parts.new.registry ≡ parts.old.registry }
+fn profile_room(holdings: &mut Holdings) -> Room
+    ensures count { result.count ≡ length holdings.old.store.profiles }
+    ensures limit { result.limit ≡ holdings.old.limits.profiles }
+    ensures store { holdings.new.store ≡ holdings.old.store }
+    ensures files { holdings.new.files ≡ holdings.old.files }
+    ensures limits { holdings.new.limits ≡ holdings.old.limits }
+    ensures registry { holdings.new.registry ≡ holdings.old.registry }
 {
-    let counts = parts.store.counts().unwrap();
+    let counts = holdings.store.counts().unwrap();
     Room {
         count: counts.profiles,
-        limit: parts.limits.profiles,
+        limit: holdings.limits.profiles,
     }
 }

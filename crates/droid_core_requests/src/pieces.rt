@@ -6,7 +6,7 @@ ghost use Rattle.droid_assembly.specs.State.{StandsFor, IsOfSameFile, with_pendi
 ghost use Rattle.droid_core_state.specs.Assemblies.{IsAssemblyOf};
 ghost use Rattle.droid_core_requests.specs.Answering.{Answers};
 ghost use Rattle.droid_core_state.specs.Changes.{answered};
-ghost use Rattle.droid_core_requests.specs.Taking.{put_refusal, refusal_in};
+ghost use Rattle.droid_core_requests.specs.Taking.{refusal_in};
 ghost use Rattle.droid_frame.specs.Replies.{HasRefusalSpelling};
 ghost use Rattle.droid_core_spec.specs.Judging.{judge_piece, refusal_of, piece_checks};
 ghost use Rattle.droid_core_spec.specs.World.{Content, Profile};
@@ -17,36 +17,35 @@ ghost use Rattle.droid_store.specs.Sizes.{entry_size, FitsARow};
 ghost use Rattle.droid_core_files.specs.Files.{At, Turns, IsAlikeBut};
 
 use crate::file_rows::{file_of, none_is_pending, place_of_file};
-use droid_assembly::PutFault;
 use droid_core_files::UnfinishedFiles;
-use droid_core_state::{Parts, Stamp, entry_of};
+use droid_core_state::{Holdings, Stamp, entry_of};
 use droid_frame::{Blob, Refusal, Reply};
 use droid_store::{Entry, Store};
 
 /// Takes a piece of a file.
 pub fn take_piece(
-    parts: &mut Parts,
+    holdings: &mut Holdings,
     stamp: Stamp,
     profile: u32,
     file: u32,
     index: u32,
     bytes: Blob,
 ) -> Result<Reply, Refusal>
-    requires new { reply_for stamp.client stamp.number parts.old.store ≡ None }
+    requires new { reply_for stamp.client stamp.number holdings.old.store ≡ None }
     requires small { stamp.number < 2 ^ 63 }
     requires version { IsVersion stamp.version }
-    ensures answers { Answers (λ setting world. judge_piece world profile file index bytes) stamp parts.old parts.new (answered result) }
+    ensures answers { Answers (λ setting world. judge_piece world profile file index bytes) stamp holdings.old holdings.new (answered result) }
 {
-    let row = file_of(&mut parts.store, profile, file)?;
+    let row = file_of(&mut holdings.store, profile, file)?;
     if !row.is_unfinished() {
         return Err(Refusal::AlreadyFinished);
     }
-    let place = place_of_file(&parts.files, profile, file)?;
-    let held = held_with_one_more(&parts.files, place)?;
+    let place = place_of_file(&holdings.files, profile, file)?;
+    let held = held_with_one_more(&holdings.files, place)?;
     let reply = Reply::Taken { held };
-    let entry = entry_of(parts.alloc, stamp, &reply)?;
-    put_piece(&mut parts.files, place, index, bytes)?;
-    keep_piece(&mut parts.store, &mut parts.files, place, &entry)?;
+    let entry = entry_of(holdings.alloc, stamp, &reply)?;
+    put_piece(&mut holdings.files, place, index, bytes)?;
+    keep_piece(&mut holdings.store, &mut holdings.files, place, &entry)?;
     Ok(reply)
 }
 
@@ -82,19 +81,7 @@ fn put_piece(
 {
     match files.put(place, index, bytes) {
         Ok(()) => Ok(()),
-        Err(fault) => Err(piece_refusal(&fault)),
-    }
-}
-
-/// Which refusal it comes to that a piece was not taken.
-fn piece_refusal(fault: &PutFault) -> Refusal
-    ensures refusal { result ≡ put_refusal fault.now }
-    ensures spelled { HasRefusalSpelling result }
-{
-    match fault {
-        PutFault::BadPiece { .. } => Refusal::BadPiece,
-        PutFault::PieceHeld { .. } => Refusal::PieceHeld,
-        PutFault::TooFarAhead { missing, .. } => Refusal::TooFarAhead { missing: *missing },
+        Err(fault) => Err(Refusal::from(fault)),
     }
 }
 

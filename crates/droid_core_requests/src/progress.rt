@@ -15,16 +15,16 @@ ghost use Rattle.droid_core_files.specs.Files.{open_at};
 
 use crate::file_rows::{file_of, place_of_file};
 use droid_core_files::UnfinishedFiles;
-use droid_core_state::Parts;
+use droid_core_state::Holdings;
 use droid_frame::{Refusal, Reply};
 
 /// Tells how far a file is.
-pub fn status(parts: &mut Parts, profile: u32, file: u32) -> Result<Reply, Refusal>
-    ensures answers { (stamp : Stamp) → Answers (λ setting world. judge_status world profile file) stamp parts.old parts.new (answered result) }
+pub fn status(holdings: &mut Holdings, profile: u32, file: u32) -> Result<Reply, Refusal>
+    ensures answers { (stamp : Stamp) → Answers (λ setting world. judge_status world profile file) stamp holdings.old holdings.new (answered result) }
 {
-    let row = file_of(&mut parts.store, profile, file)?;
+    let row = file_of(&mut holdings.store, profile, file)?;
     if row.is_unfinished() {
-        return progress_of(&parts.files, profile, file);
+        return progress_of(&holdings.files, profile, file);
     }
     let pieces = count_of(row.node.item.size, row.node.piece_size)?;
     Ok(Reply::Progress {

@@ -56,7 +56,7 @@ in_file (Some (File parent modified name content)) judge_there = judge_there par
 
 -- the world with this profile in the place of another
 abbrev pub world_set : World → ℕ → Profile → World
-world_set world number profile = world_with world (slice_set world.profiles (number - 1) profile)
+world_set world profile its = world_with world (slice_set world.profiles (profile - 1) its)
 
 -- the profile with one node more
 abbrev pub with_node : Profile → Node → Profile
@@ -131,58 +131,58 @@ judge_create setting world scan_limit match_all hash =
     (Accepted (replies.Made (length world.profiles + 1)) (world_with world (world.profiles ++ record { scan_limit = scan_limit; match_all = match_all; hash = hash; nodes = [] } ∷ [])))
 
 unfoldable pub judge_folder : Setting → World → ℕ → ℕ → ℤ → List ℕ → Verdict
-judge_folder setting world number parent modified name =
-    in_profile (numbered world.profiles number) (λ profile.
-    unless_refused (refusal_of (folder_checks setting.limits profile.nodes parent modified name))
-    (Accepted (replies.Node (length profile.nodes + 1)) (world_set world number (with_node profile (Folder parent modified name)))))
+judge_folder setting world profile parent modified name =
+    in_profile (numbered world.profiles profile) (λ its.
+    unless_refused (refusal_of (folder_checks setting.limits its.nodes parent modified name))
+    (Accepted (replies.Node (length its.nodes + 1)) (world_set world profile (with_node its (Folder parent modified name)))))
 
 unfoldable pub judge_file : Setting → World → ℕ → ℕ → ℕ → ℤ → ℕ → ℕ → List ℕ → Verdict
-judge_file setting world version number parent modified size piece_size name =
-    in_profile (numbered world.profiles number) (λ profile.
-    unless_refused (refusal_of (file_checks setting.limits world version profile.nodes parent modified size piece_size name))
-    (Accepted (replies.Node (length profile.nodes + 1)) (world_set world number (with_node profile
+judge_file setting world version profile parent modified size piece_size name =
+    in_profile (numbered world.profiles profile) (λ its.
+    unless_refused (refusal_of (file_checks setting.limits world version its.nodes parent modified size piece_size name))
+    (Accepted (replies.Node (length its.nodes + 1)) (world_set world profile (with_node its
     (File parent modified name (record { size = size; piece_size = piece_size; pieces = []; finished = false }))))))
 
 unfoldable pub judge_piece : World → ℕ → ℕ → ℕ → List ℕ → Verdict
-judge_piece world number file index bytes =
-    in_profile (numbered world.profiles number) (λ profile.
-    in_file (node_at profile.nodes file) (λ parent modified name content.
+judge_piece world profile file index bytes =
+    in_profile (numbered world.profiles profile) (λ its.
+    in_file (node_at its.nodes file) (λ parent modified name content.
     unless_refused (refusal_of (piece_checks content index bytes))
-    (Accepted (replies.Taken (length content.pieces + 1)) (world_set world number (node_set profile file (File parent modified name (with_piece content index bytes)))))))
+    (Accepted (replies.Taken (length content.pieces + 1)) (world_set world profile (node_set its file (File parent modified name (with_piece content index bytes)))))))
 
 unfoldable pub judge_finish : Setting → World → ℕ → ℕ → ℕ → Verdict
-judge_finish setting world version number file =
-    in_profile (numbered world.profiles number) (λ profile.
-    in_file (node_at profile.nodes file) (λ parent modified name content.
-    unless_refused (refusal_of (finish_checks version profile.hash content))
-    (Accepted (finished_reply (finding_of setting profile name content)) (world_set world number (node_set profile file (File parent modified name (as_finished content)))))))
+judge_finish setting world version profile file =
+    in_profile (numbered world.profiles profile) (λ its.
+    in_file (node_at its.nodes file) (λ parent modified name content.
+    unless_refused (refusal_of (finish_checks version its.hash content))
+    (Accepted (finished_reply (finding_of setting its name content)) (world_set world profile (node_set its file (File parent modified name (as_finished content)))))))
 
 unfoldable pub judge_abandon : World → ℕ → ℕ → Verdict
-judge_abandon world number file =
-    in_profile (numbered world.profiles number) (λ profile.
-    in_file (node_at profile.nodes file) (λ parent modified name content.
+judge_abandon world profile file =
+    in_profile (numbered world.profiles profile) (λ its.
+    in_file (node_at its.nodes file) (λ parent modified name content.
     unless_refused (refusal_of (abandon_checks content))
-    (Accepted replies.Abandoned (world_set world number (node_set profile file Abandoned)))))
+    (Accepted replies.Abandoned (world_set world profile (node_set its file Abandoned)))))
 
 unfoldable pub judge_status : World → ℕ → ℕ → Verdict
-judge_status world number file =
-    in_profile (numbered world.profiles number) (λ profile.
-    in_file (node_at profile.nodes file) (λ parent modified name content.
+judge_status world profile file =
+    in_profile (numbered world.profiles profile) (λ its.
+    in_file (node_at its.nodes file) (λ parent modified name content.
     Answered (progress_of content)))
 
 unfoldable pub judge_export : Setting → World → ℕ → ℕ → ℕ → Filter → Verdict
-judge_export setting world number from max filter =
-    in_profile (numbered world.profiles number) (λ profile.
+judge_export setting world profile from max filter =
+    in_profile (numbered world.profiles profile) (λ its.
     unless_refused (refusal_of (export_checks max))
-    (Answered (part_of setting world.accepted profile from max filter)))
+    (Answered (part_of setting world.accepted its from max filter)))
 
 -- by the kind of request, in the version in which it was sent
 unfoldable pub judge : Setting → World → ℕ → Request → Verdict
 judge setting world version (CreateProfile scan_limit match_all hash) = judge_create setting world scan_limit match_all hash
-judge setting world version (AddFolder number parent modified name) = judge_folder setting world number parent modified name
-judge setting world version (AddFile number parent modified size piece_size name) = judge_file setting world version number parent modified size piece_size name
-judge setting world version (Piece number file index bytes) = judge_piece world number file index bytes
-judge setting world version (Finish number file) = judge_finish setting world version number file
-judge setting world version (Abandon number file) = judge_abandon world number file
-judge setting world version (Status number file) = judge_status world number file
-judge setting world version (Export number from max filter) = judge_export setting world number from max filter
+judge setting world version (AddFolder profile parent modified name) = judge_folder setting world profile parent modified name
+judge setting world version (AddFile profile parent modified size piece_size name) = judge_file setting world version profile parent modified size piece_size name
+judge setting world version (Piece profile file index bytes) = judge_piece world profile file index bytes
+judge setting world version (Finish profile file) = judge_finish setting world version profile file
+judge setting world version (Abandon profile file) = judge_abandon world profile file
+judge setting world version (Status profile file) = judge_status world profile file
+judge setting world version (Export profile from max filter) = judge_export setting world profile from max filter

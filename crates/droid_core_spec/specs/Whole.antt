@@ -12,5 +12,5 @@ pub record IsWhole (content : Content) : Type 0 where
 -- each finished file of the world is whole
 abbrev pub FinishedAreWhole : World → Type 0
 FinishedAreWhole world =
-    (number id parent : ℕ) (modified : ℤ) (name : List ℕ) (content : Content) (profile : Profile)
-    → numbered world.profiles number ≡ Some profile → node_at profile.nodes id ≡ Some (File parent modified name content) → content.finished ≡ true → IsWhole content
+    (profile id parent : ℕ) (modified : ℤ) (name : List ℕ) (content : Content) (its : Profile)
+    → numbered world.profiles profile ≡ Some its → node_at its.nodes id ≡ Some (File parent modified name content) → content.finished ≡ true → IsWhole content

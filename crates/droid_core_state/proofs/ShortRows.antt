@@ -5,7 +5,7 @@ use Rattle.std.proofs.lemmas.List.{length-append}
 use Rattle.std.specs.List.{AllByRecursion, list_any}
 use Rattle.std.specs.Prelude.{nat_lt}
 use Rattle.std.specs.Str.{bytes_eq}
-use Rattle.droid_frame.proofs.ReplyParts.{puids_are_short}
+use Rattle.droid_frame.proofs.ReplyFronts.{puids_are_short}
 use Rattle.droid_frame.specs.Fields.{truth_bytes, u16_bytes}
 use Rattle.droid_frame.specs.Hashes.{IsHashValue, hash_bytes, hash_field, hash_value_kind}
 use Rattle.droid_frame.specs.Replies.{HasReplySpelling, IsPuidText, refusal_bytes, reply_bytes}

@@ -9,17 +9,17 @@ use Rattle.droid_core_spec.specs.Setting.{Setting}
 use Rattle.droid_core_spec.specs.Wants.{is_want_of}
 use Rattle.droid_core_spec.specs.World.{World}
 use Rattle.droid_store.specs.Rows.{Rows}
-use Rattle.droid_core_state.specs.declared.parts.Parts.{Parts}
+use Rattle.droid_core_state.specs.declared.holdings.Holdings.{Holdings}
 use Rattle.droid_core_state.specs.declared.stamps.Stamp.{Stamp}
 use Rattle.droid_core_state.specs.Changes.{Stays, Leaves, Comes}
 use Rattle.droid_core_state.specs.Standing.{IsSettingOf, IsIn}
 
 -- ---- nothing changed
 
-pub still_of : (setting : Setting) (old new : Parts) → new.limits ≡ old.limits → new.registry ≡ old.registry → IsSettingOf setting old → IsSettingOf setting new
+pub still_of : (setting : Setting) (old new : Holdings) → new.limits ≡ old.limits → new.registry ≡ old.registry → IsSettingOf setting old → IsSettingOf setting new
 still_of setting old new limits registry is = record { limits = rw limits is.limits; allowed = is.allowed; registry = rw registry is.registry }
 
-pub stays : (setting : Setting) (world : World) (old new : Parts) → new.limits ≡ old.limits → new.registry ≡ old.registry → new.store ≡ old.store → new.files ≡ old.files → IsIn setting world old → Stays setting world old new
+pub stays : (setting : Setting) (world : World) (old new : Holdings) → new.limits ≡ old.limits → new.registry ≡ old.registry → new.store ≡ old.store → new.files ≡ old.files → IsIn setting world old → Stays setting world old new
 stays setting world old new limits registry store files is = record {
   world_is = record {
     is_setting = still_of setting old new limits registry is.is_setting;
@@ -32,7 +32,7 @@ stays setting world old new limits registry store files is = record {
 }
 
 -- rows that were only read
-pub read_only : (setting : Setting) (world : World) (service : Parts) (rows : Rows) → rows ≡ service.store → IsIn setting world service → Stays setting world service (record service { store = rows })
+pub read_only : (setting : Setting) (world : World) (service : Holdings) (rows : Rows) → rows ≡ service.store → IsIn setting world service → Stays setting world service (record service { store = rows })
 read_only setting world service rows same is_in = rw same (record { world_is = is_in; replies = refl })
 
 -- ---- a refusal
@@ -47,12 +47,12 @@ pub of_any : (b : Bool) {P : Type 0} → P → MatchBool b ⊤ P
 of_any true p = tt
 of_any false p = p
 
-refused_or_wanting : (b : Bool) (setting : Setting) (world : World) (old new : Parts) (stamp : Stamp) (verdict : Verdict) (refusal : Refusal) → MatchBool b ⊤ (verdict ≡ Refuses refusal) → Stays setting world old new
+refused_or_wanting : (b : Bool) (setting : Setting) (world : World) (old new : Holdings) (stamp : Stamp) (verdict : Verdict) (refusal : Refusal) → MatchBool b ⊤ (verdict ≡ Refuses refusal) → Stays setting world old new
     → MatchBool b (Stays setting world old new) ((Refused refusal ≡ verdict_reply verdict) × Leaves setting world old new stamp verdict)
 refused_or_wanting true setting world old new stamp verdict refusal is same = same
 refused_or_wanting false setting world old new stamp verdict refusal is same = rw is (refl, same)
 
 -- the refusal is the verdict's, or memory was refused
-pub comes_refused : (setting : Setting) (world : World) (old new : Parts) (stamp : Stamp) (verdict : Verdict) (refusal : Refusal) → MatchBool (is_want_of refusal) ⊤ (verdict ≡ Refuses refusal) → Stays setting world old new
+pub comes_refused : (setting : Setting) (world : World) (old new : Holdings) (stamp : Stamp) (verdict : Verdict) (refusal : Refusal) → MatchBool (is_want_of refusal) ⊤ (verdict ≡ Refuses refusal) → Stays setting world old new
     → Comes setting world old new stamp verdict (Refused refusal)
 comes_refused setting world old new stamp verdict refusal is same = refused_or_wanting (is_want_of refusal) setting world old new stamp verdict refusal is same

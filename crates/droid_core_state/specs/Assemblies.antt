@@ -36,5 +36,5 @@ HasItsAssemblyIn (Some profile) id found = HasItsAssembly profile (numbered prof
 
 -- each unfinished file of the world has one assembly, and there is no other assembly
 pub record HasAssemblies (world : World) (files : OpenFiles) : Type 0 where
-  pub each : (number id : ℕ) → HasItsAssemblyIn (numbered world.profiles number) id (open_at number id files.files)
+  pub each : (profile id : ℕ) → HasItsAssemblyIn (numbered world.profiles profile) id (open_at profile id files.files)
   pub count : length files.files ≡ unfinished_in world

@@ -1,4 +1,4 @@
--- What one request changes inside the service. No public clause names these: they only serve proofs.
+-- What one request changes inside the service, as the clauses of each request and of a repeat say it.
 use Rattle.std.specs.Prelude.{◌≡◌, ◌∷◌, [], ◌++◌, if◌then◌else◌, Bool, MatchBool, Result, Ok, Err}
 use Rattle.droid_frame.specs.Replies.{reply_kind, reply_bytes}
 use Rattle.droid_frame.specs.types.frame.Frame.{Frame}
@@ -12,7 +12,7 @@ use Rattle.droid_core_spec.specs.Setting.{Setting}
 use Rattle.droid_core_spec.specs.Wants.{is_want}
 use Rattle.droid_core_spec.specs.World.{World}
 use Rattle.droid_store.specs.declared.rows.Entry as rows
-use Rattle.droid_core_state.specs.declared.parts.Parts.{Parts}
+use Rattle.droid_core_state.specs.declared.holdings.Holdings.{Holdings}
 use Rattle.droid_core_state.specs.declared.stamps.Stamp.{Stamp}
 use Rattle.droid_core_state.specs.Standing.{IsIn}
 
@@ -38,21 +38,21 @@ abbrev pub again : rows.Entry → Stamp → Reply → Reply
 again entry stamp kept = if is_row_of entry stamp then kept else Refused NumberReused
 
 -- the service is in the same world, with the same replies kept
-pub record Stays (setting : Setting) (world : World) (old new : Parts) : Type 0 where
+pub record Stays (setting : Setting) (world : World) (old new : Holdings) : Type 0 where
   pub world_is : IsIn setting world new
   pub replies : new.store.replies ≡ old.store.replies
 
 -- the service is in this world, and one reply more is kept
-pub record TakesOne (setting : Setting) (after : World) (old new : Parts) (stamp : Stamp) (reply : Reply) : Type 0 where
+pub record TakesOne (setting : Setting) (after : World) (old new : Holdings) (stamp : Stamp) (reply : Reply) : Type 0 where
   pub world_is : IsIn setting after new
   pub replies : new.store.replies ≡ old.store.replies ++ stamped stamp reply ∷ []
 
-abbrev pub Leaves : Setting → World → Parts → Parts → Stamp → Verdict → Type 0
+abbrev pub Leaves : Setting → World → Holdings → Holdings → Stamp → Verdict → Type 0
 Leaves setting world old new stamp (Accepted reply after) = TakesOne setting after old new stamp reply
 Leaves setting world old new stamp (Answered reply) = Stays setting world old new
 Leaves setting world old new stamp (Refuses refusal) = Stays setting world old new
 
 -- what a request under a new number makes of the service: what its verdict says, or want of memory and no change
-abbrev pub Comes : Setting → World → Parts → Parts → Stamp → Verdict → Reply → Type 0
+abbrev pub Comes : Setting → World → Holdings → Holdings → Stamp → Verdict → Reply → Type 0
 Comes setting world old new stamp verdict reply =
     MatchBool (is_want reply) (Stays setting world old new) ((reply ≡ verdict_reply verdict) × Leaves setting world old new stamp verdict)

@@ -15,12 +15,12 @@ profile_in (Ok None) = Err NoSuchProfile
 profile_in (Err fault) = Err Memory
 
 -- the world has the profile, and this is its row
-pub record HasProfile (world : World) (number : ℕ) (row : ProfileRow) : Type 0 where
+pub record HasProfile (world : World) (which : ℕ) (row : ProfileRow) : Type 0 where
   pub profile : Profile
-  pub there : numbered world.profiles number ≡ Some profile
+  pub there : numbered world.profiles which ≡ Some profile
   pub row_is : row ≡ profile_row profile
 
 -- the profile's row; or it is missing, or memory was refused
 abbrev pub FindsProfile : World → ℕ → Result ProfileRow Refusal → Type 0
-FindsProfile world number (Ok row) = HasProfile world number row
-FindsProfile world number (Err refusal) = MatchBool (is_want_of refusal) ⊤ ((refusal ≡ NoSuchProfile) × (numbered world.profiles number ≡ None))
+FindsProfile world profile (Ok row) = HasProfile world profile row
+FindsProfile world profile (Err refusal) = MatchBool (is_want_of refusal) ⊤ ((refusal ≡ NoSuchProfile) × (numbered world.profiles profile ≡ None))

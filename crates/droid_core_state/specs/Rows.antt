@@ -20,7 +20,7 @@ found_row finding plain = changes.finished finding.method finding.mismatch findi
 
 -- the rows with that of this file finished
 abbrev pub with_finding : ℕ → ℕ → Finding → Rows → Rows
-with_finding number id finding rows = changes.with_finished number id finding.method finding.mismatch finding.digest finding.puids rows
+with_finding profile id finding rows = changes.with_finished profile id finding.method finding.mismatch finding.digest finding.puids rows
 
 -- the row of a file: with what it was found to be where it is finished
 abbrev pub file_row : Setting → Profile → List ℕ → Content → rows.Node → rows.Node
@@ -28,27 +28,27 @@ file_row setting profile name content plain = if content.finished then found_row
 
 -- the row of the node with this number in the profile with that number; an abandoned one has none
 abbrev pub node_row : Setting → ℕ → Profile → ℕ → Node → Option rows.Node
-node_row setting number profile id (Folder parent modified name) =
-    Some (changes.new_folder number id parent modified name (path profile.nodes id))
-node_row setting number profile id (File parent modified name content) =
-    Some (file_row setting profile name content
-    (changes.new_file number id parent modified content.size content.piece_size name (path profile.nodes id)))
-node_row setting number profile id Abandoned = None
+node_row setting profile its id (Folder parent modified name) =
+    Some (changes.new_folder profile id parent modified name (path its.nodes id))
+node_row setting profile its id (File parent modified name content) =
+    Some (file_row setting its name content
+    (changes.new_file profile id parent modified content.size content.piece_size name (path its.nodes id)))
+node_row setting profile its id Abandoned = None
 
 -- the rows of the nodes from this number on
 abbrev pub node_rows_from : Setting → ℕ → Profile → ℕ → List Node → List rows.Node
-node_rows_from setting number profile id [] = []
-node_rows_from setting number profile id (node ∷ nodes) =
-    option_list (node_row setting number profile id node) ++ node_rows_from setting number profile (id + 1) nodes
+node_rows_from setting profile its id [] = []
+node_rows_from setting profile its id (node ∷ nodes) =
+    option_list (node_row setting profile its id node) ++ node_rows_from setting profile its (id + 1) nodes
 
 -- the rows of all nodes of the profile, by number; where there is no profile there is no row
 abbrev pub node_rows : Setting → ℕ → Option Profile → List rows.Node
-node_rows setting number None = []
-node_rows setting number (Some profile) = node_rows_from setting number profile 1 profile.nodes
+node_rows setting profile None = []
+node_rows setting profile (Some its) = node_rows_from setting profile its 1 its.nodes
 
 -- the rows of this profile's nodes, in order
 abbrev pub rows_in : ℕ → Rows → List rows.Node
-rows_in number rows = filter (λ node. node.profile == number) rows.nodes
+rows_in profile rows = filter (λ node. node.profile == profile) rows.nodes
 
 -- the profile rows are the world's
 abbrev pub KeepsProfiles : World → Rows → Type 0
@@ -56,7 +56,7 @@ KeepsProfiles world rows = rows.profiles ≡ map profile_row world.profiles
 
 -- the node rows are the world's, profile by profile, with abandoned nodes left out and finished files as found
 abbrev pub KeepsNodes : Setting → World → Rows → Type 0
-KeepsNodes setting world rows = (number : ℕ) → rows_in number rows ≡ node_rows setting number (numbered world.profiles number)
+KeepsNodes setting world rows = (profile : ℕ) → rows_in profile rows ≡ node_rows setting profile (numbered world.profiles profile)
 
 -- a name of 255 bytes at most, and a path of 4,096 at most
 pub record AreShort (called way : List ℕ) : Type 0 where
@@ -78,9 +78,9 @@ pub record KeepsWorld (setting : Setting) (world : World) (rows : Rows) : Type 0
 
 -- the row of the node with this number, where the profile has had one and it was not abandoned
 abbrev pub stored_in : Setting → ℕ → Profile → ℕ → Option Node → Option rows.Node
-stored_in setting number profile id None = None
-stored_in setting number profile id (Some node) = node_row setting number profile id node
+stored_in setting profile its id None = None
+stored_in setting profile its id (Some node) = node_row setting profile its id node
 
 abbrev pub stored : Setting → ℕ → ℕ → Option Profile → Option rows.Node
-stored setting number id None = None
-stored setting number id (Some profile) = stored_in setting number profile id (numbered profile.nodes id)
+stored setting profile id None = None
+stored setting profile id (Some its) = stored_in setting profile its id (numbered its.nodes id)

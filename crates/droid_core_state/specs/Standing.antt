@@ -1,4 +1,4 @@
--- Which world the parts of a service are in.
+-- Which world the holdings of a service are in.
 use Rattle.std.specs.Prelude.{◌≡◌, ◌≤◌}
 use Rattle.droid_core_state.specs.Identified.{IsOf}
 use Rattle.droid_core_spec.specs.Limits.{Limits}
@@ -8,7 +8,7 @@ use Rattle.droid_core_state.specs.Rows.{KeepsWorld}
 use Rattle.droid_core_state.specs.Sound.{IsSoundWorld}
 use Rattle.droid_core_state.specs.Assemblies.{HasAssemblies}
 use Rattle.droid_core_state.specs.declared.limits.Limits as given
-use Rattle.droid_core_state.specs.declared.parts.Parts.{Parts}
+use Rattle.droid_core_state.specs.declared.holdings.Holdings.{Holdings}
 
 -- limits as the definitions have them
 abbrev pub limits_given : given.Limits → Limits
@@ -20,16 +20,16 @@ pub record AreAllowed (limits : Limits) : Type 0 where
   pub nodes : limits.nodes ≤ 100000
   pub unfinished : limits.unfinished ≤ 64
 
--- the setting has the limits and is of the registry that the parts have
-pub record IsSettingOf (setting : Setting) (parts : Parts) : Type 0 where
-  pub limits : setting.limits ≡ limits_given parts.limits
+-- the setting has the limits and is of the registry that the holdings have
+pub record IsSettingOf (setting : Setting) (holdings : Holdings) : Type 0 where
+  pub limits : setting.limits ≡ limits_given holdings.limits
   pub allowed : AreAllowed setting.limits
-  pub registry : IsOf parts.registry setting
+  pub registry : IsOf holdings.registry setting
 
--- the parts are in this world: their rows and their assemblies are the world's
-pub record IsIn (setting : Setting) (world : World) (parts : Parts) : Type 0 where
-  pub is_setting : IsSettingOf setting parts
-  pub rows : KeepsWorld setting world parts.store
+-- the holdings are in this world: their rows and their assemblies are the world's
+pub record IsIn (setting : Setting) (world : World) (holdings : Holdings) : Type 0 where
+  pub is_setting : IsSettingOf setting holdings
+  pub rows : KeepsWorld setting world holdings.store
   pub sound : IsSoundWorld world
-  pub files : HasAssemblies world parts.files
-  pub room : parts.files.limit ≡ setting.limits.unfinished
+  pub files : HasAssemblies world holdings.files
+  pub room : holdings.files.limit ≡ setting.limits.unfinished

@@ -4,23 +4,23 @@
 #![tactic(auto)]
 
 mod first;
+mod holdings;
 pub mod laws;
 mod limits;
 mod look_ups;
 mod names;
 mod options;
-mod parts;
 mod paths;
 mod replies;
 mod room;
 mod stamps;
 
 pub use first::{create_refusal, export_refusal, file_refusal, folder_refusal};
+pub use holdings::Holdings;
 pub use limits::Limits;
 pub use look_ups::profile_of;
 pub use names::is_bad_name;
 pub use options::{is_moment, is_scan_limit, is_told};
-pub use parts::Parts;
 pub use paths::{is_too_deep_below, new_path};
 pub use replies::{answer_again, entry_of, reply_from};
 pub use room::Room;

@@ -2,11 +2,11 @@
 
 ghost use Rattle.std.specs.Prelude.{◌≡◌, ◌≢◌, ◌<◌, ◌^◌, true, false, None, Some, IfOk, IfErr};
 ghost use Rattle.droid_core_requests.specs.Answering.{AnswersIn};
-ghost use Rattle.droid_core_state.specs.Changes.{again, answered, is_row_of, stamp_of, stamped};
+ghost use Rattle.droid_core_requests.specs.Changes.{again, answered, is_row_of, stamp_of, stamped};
 ghost use Rattle.droid_core.specs.Recent.{AreKept, IsKeptRow};
 ghost use Rattle.droid_core.specs.Standing.{StandsFor, limits_of, registry_of};
 ghost use Rattle.droid_core_requests.specs.KeptTexts.{IsLastText};
-ghost use Rattle.droid_core_state.specs.Standing.{IsIn};
+ghost use Rattle.droid_core_requests.specs.Standing.{IsIn};
 ghost use Rattle.droid_frame.specs.Replies.{HasReplySpelling, SpellsReply};
 ghost use Rattle.droid_frame.specs.Versions.{IsVersion};
 ghost use Rattle.droid_frame.specs.types.frame.Frame.{Frame};
@@ -24,10 +24,9 @@ ghost use Rattle.droid_store.specs.Rows.{reply_for};
 use crate::service::Service;
 use crate::service::recent::RecentReplies;
 use droid_core_requests::{
-    KeptText, abandon, add_file, add_folder, create_profile, export, finish, forget_text, status,
-    take_piece,
+    Holdings, KeptText, Stamp, abandon, add_file, add_folder, answer_again, create_profile, export,
+    finish, forget_text, reply_from, status, take_piece,
 };
-use droid_core_state::{Parts, Stamp, answer_again, reply_from};
 use droid_frame::{Refusal, Reply, Request};
 use droid_store::{Entry, StoreFault};
 
@@ -43,7 +42,7 @@ pub fn answer(service: &mut Service, stamp: Stamp, request: Request) -> Reply
     ensures registry { registry_of service.new ≡ registry_of service.old }
 {
     match service.recent.find(stamp.client, stamp.number) {
-        Some(row) => answer_again(service.parts.alloc, row, stamp),
+        Some(row) => answer_again(service.holdings.alloc, row, stamp),
         None => answer_from_store(service, stamp, request),
     }
 }
@@ -58,7 +57,7 @@ fn answer_from_store(service: &mut Service, stamp: Stamp, request: Request) -> R
     ensures limits { limits_of service.new ≡ limits_of service.old }
     ensures registry { registry_of service.new ≡ registry_of service.old }
 {
-    let found = service.parts.store.reply_of(stamp.client, stamp.number);
+    let found = service.holdings.store.reply_of(stamp.client, stamp.number);
     answer_found(service, stamp, request, found)
 }
 
@@ -72,7 +71,7 @@ fn answer_found(
 ) -> Reply
     requires small { stamp.number < 2 ^ 63 }
     requires version { IsVersion stamp.version }
-    requires found { IfOk found (λ entry. entry ≡ reply_for stamp.client stamp.number service.old.parts.store) }
+    requires found { IfOk found (λ entry. entry ≡ reply_for stamp.client stamp.number service.old.holdings.store) }
     requires memory { IfErr found (λ fault. fault ≡ StoreFault.Memory) }
     ensures told { IfErr found (λ fault. result ≡ Refused Memory) }
     ensures handles { (setting : Setting) (history : History) (frame : Frame) → stamp ≡ stamp_of frame → command frame ≡ Some request
@@ -90,7 +89,7 @@ fn answer_found(
 
 /// Answers a request under whose number the store keeps this row, and puts the row at hand.
 fn answer_kept(service: &mut Service, stamp: Stamp, row: Entry) -> Reply
-    requires found { reply_for stamp.client stamp.number service.old.parts.store ≡ Some row }
+    requires found { reply_for stamp.client stamp.number service.old.holdings.store ≡ Some row }
     ensures handles { (setting : Setting) (history : History) (frame : Frame) (request : RequestValue) → stamp ≡ stamp_of frame → command frame ≡ Some request
         → StandsFor setting service.old history → Handles setting history frame result (StandsFor setting service.new) }
     // No want of the copy at hand is told: another version or mark is never a want, and neither is any reply but a Finished.
@@ -101,12 +100,12 @@ fn answer_kept(service: &mut Service, stamp: Stamp, row: Entry) -> Reply
     ensures registry { registry_of service.new ≡ registry_of service.old }
 {
     service.recent.put_copy(stamp.client, stamp.number, &row);
-    answer_again(service.parts.alloc, row, stamp)
+    answer_again(service.holdings.alloc, row, stamp)
 }
 
 /// Answers a request under a new number by its verdict, and puts the reply at hand where it is kept.
 fn answer_new(service: &mut Service, stamp: Stamp, request: Request) -> Reply
-    requires new { reply_for stamp.client stamp.number service.old.parts.store ≡ None }
+    requires new { reply_for stamp.client stamp.number service.old.holdings.store ≡ None }
     requires small { stamp.number < 2 ^ 63 }
     requires version { IsVersion stamp.version }
     ensures handles { (setting : Setting) (history : History) (frame : Frame) → stamp ≡ stamp_of frame → command frame ≡ Some request
@@ -116,7 +115,7 @@ fn answer_new(service: &mut Service, stamp: Stamp, request: Request) -> Reply
     ensures registry { registry_of service.new ≡ registry_of service.old }
 {
     let commands = asks_command(&request);
-    let outcome = apply(&mut service.parts, &mut service.last, stamp, request);
+    let outcome = apply(&mut service.holdings, &mut service.last, stamp, request);
     tell_new(
         &mut service.recent,
         &mut service.last,
@@ -173,29 +172,29 @@ fn refuses(reply: &Reply) -> bool
 
 /// Judges a request under a new number, and changes by it where it is an accepted command.
 fn apply(
-    parts: &mut Parts,
+    holdings: &mut Holdings,
     last: &mut Option<KeptText>,
     stamp: Stamp,
     request: Request,
 ) -> Result<Reply, Refusal>
-    requires new { reply_for stamp.client stamp.number parts.old.store ≡ None }
+    requires new { reply_for stamp.client stamp.number holdings.old.store ≡ None }
     requires small { stamp.number < 2 ^ 63 }
     requires version { IsVersion stamp.version }
-    ensures answers { AnswersIn (λ setting world. IsIn setting world parts.old × IsLastText setting world last.old) (λ setting world. judge setting world stamp.version request) stamp parts.old parts.new (answered result) }
-    ensures last { (setting : Setting) (world : World) → IsIn setting world parts.old → IsLastText setting world last.old → IsLastText setting world last.new }
+    ensures answers { AnswersIn (λ setting world. IsIn setting world holdings.old × IsLastText setting world last.old) (λ setting world. judge setting world stamp.version request) stamp holdings.old holdings.new (answered result) }
+    ensures last { (setting : Setting) (world : World) → IsIn setting world holdings.old → IsLastText setting world last.old → IsLastText setting world last.new }
 {
     match request {
         Request::CreateProfile {
             scan_limit,
             match_all,
             hash,
-        } => create_profile(parts, stamp, scan_limit, match_all, hash),
+        } => create_profile(holdings, stamp, scan_limit, match_all, hash),
         Request::AddFolder {
             profile,
             parent,
             modified,
             name,
-        } => add_folder(parts, stamp, profile, parent, modified, name),
+        } => add_folder(holdings, stamp, profile, parent, modified, name),
         Request::AddFile {
             profile,
             parent,
@@ -204,22 +203,22 @@ fn apply(
             piece_size,
             name,
         } => add_file(
-            parts, stamp, profile, parent, modified, size, piece_size, name,
+            holdings, stamp, profile, parent, modified, size, piece_size, name,
         ),
         Request::Piece {
             profile,
             file,
             index,
             bytes,
-        } => take_piece(parts, stamp, profile, file, index, bytes),
-        Request::Finish { profile, file } => finish(parts, stamp, profile, file),
-        Request::Abandon { profile, file } => abandon(parts, stamp, profile, file),
-        Request::Status { profile, file } => status(parts, profile, file),
+        } => take_piece(holdings, stamp, profile, file, index, bytes),
+        Request::Finish { profile, file } => finish(holdings, stamp, profile, file),
+        Request::Abandon { profile, file } => abandon(holdings, stamp, profile, file),
+        Request::Status { profile, file } => status(holdings, profile, file),
         Request::Export {
             profile,
             from,
             max,
             filter,
-        } => export(parts, last, profile, from, max, filter),
+        } => export(holdings, last, profile, from, max, filter),
     }
 }

@@ -5,19 +5,17 @@ ghost use Rattle.std.specs.List.{AllByRecursion};
 ghost use Rattle.droid_core.specs.KeptBytes.{IsAtMost, kept_bytes_of, most_bytes_of, piece_size_of};
 ghost use Rattle.droid_core.specs.Running.{Runs};
 ghost use Rattle.droid_core.specs.Standing.{StandsFor, limits_of, registry_of};
-ghost use Rattle.droid_core_state.specs.Standing.{limits_given};
+ghost use Rattle.droid_core_requests.specs.Standing.{limits_given};
 ghost use Rattle.droid_frame.specs.Replies.{HasReplySpelling};
 ghost use Rattle.droid_frame.specs.Versions.{is_version};
 ghost use Rattle.droid_frame.specs.types.refusal.Refusal.TheVariants as refusals;
 ghost use Rattle.droid_frame.specs.types.reply.Reply.TheVariants.{Refused};
 ghost use Rattle.droid_core_spec.specs.Histories.{History, Handles, world_of};
-ghost use Rattle.droid_core_state.specs.Identified.{IsOf};
+ghost use Rattle.droid_core_requests.specs.Identified.{IsOf};
 ghost use Rattle.droid_core_spec.specs.Setting.{Setting};
 
 use answering::answer;
-use droid_core_files::UnfinishedFiles;
-use droid_core_requests::KeptText;
-use droid_core_state::{Limits, Parts, Stamp};
+use droid_core_requests::{Holdings, KeptText, Limits, Stamp, UnfinishedFiles};
 use droid_frame::{BodyFault, Frame, Refusal, Reply, mark, request_of};
 use droid_pronom::Registry;
 use droid_store::{Store, StoreFault};
@@ -37,7 +35,7 @@ const RECENT: usize = 256;
 /// for good. The latest of them are at hand, so that a request which comes again soon asks no database, and so is the
 /// text of the last export, for its further parts.
 pub struct Service {
-    parts: Parts,
+    holdings: Holdings,
     recent: RecentReplies,
     last: Option<KeptText>,
 }
@@ -46,7 +44,7 @@ pub struct Service {
 impl Drop for Service {
     fn drop(self) {
         let Service {
-            parts: _parts,
+            holdings: _parts,
             recent: _recent,
             last: _last,
         } = self;
@@ -86,7 +84,7 @@ impl Service {
         ensures limits { IfOk result (λ service. limits_of service ≡ limits_given limits) }
         ensures registry { IfOk result (λ service. registry_of service ≡ registry) }
     {
-        let parts = Parts {
+        let holdings = Holdings {
             alloc,
             limits,
             registry,
@@ -95,7 +93,7 @@ impl Service {
         };
         let recent = RecentReplies::new(alloc, places)?;
         Ok(Service {
-            parts,
+            holdings,
             recent,
             last: None,
         })
@@ -118,7 +116,7 @@ impl Service {
             version: frame.version,
             mark: mark(frame.kind, frame.body.as_slice()),
         };
-        match request_of(self.parts.alloc, frame) {
+        match request_of(self.holdings.alloc, frame) {
             Ok(request) => answer(self, stamp, request),
             Err(BodyFault::Malformed) => Reply::Refused(Refusal::Malformed),
             Err(BodyFault::Memory) => Reply::Refused(Refusal::Memory),
@@ -137,7 +135,7 @@ impl Service {
         ensures limits { limits_of self.new ≡ limits_of self.old }
         ensures registry { registry_of self.new ≡ registry_of self.old }
     {
-        let mut replies = Vec::with_capacity(self.parts.alloc, frames.len())?;
+        let mut replies = Vec::with_capacity(self.holdings.alloc, frames.len())?;
         for frame in frames {
             let reply = self.handle(frame);
             replies.push(reply).unwrap();
@@ -156,7 +154,7 @@ impl Service {
         ensures of_version_1 { (setting : Setting) (history : History) → StandsFor setting self.now history
             → IfSome (piece_size_of (world_of setting history) profile file) (λ bytes. bytes ≤ 1048576) → IfSome result (λ bytes. bytes ≤ 16908288) }
     {
-        let place = self.parts.files.place_of(profile, file)?;
-        Some(self.parts.files.kept_bytes(place))
+        let place = self.holdings.files.place_of(profile, file)?;
+        Some(self.holdings.files.kept_bytes(place))
     }
 }

@@ -3,11 +3,11 @@
 ghost use Rattle.std.specs.Prelude.{◌≡◌, [], IfOk, IfSome};
 ghost use Rattle.droid_core.specs.Recent.{AreKept, IsKeptRow};
 ghost use Rattle.droid_core_spec.specs.Histories.{History};
-ghost use Rattle.droid_core_state.specs.Changes.{stamped};
+ghost use Rattle.droid_core_requests.specs.Changes.{stamped};
 ghost use Rattle.droid_frame.specs.Replies.{HasReplySpelling};
 ghost use Rattle.droid_frame.specs.Versions.{IsVersion};
 
-use droid_core_state::{Stamp, entry_of};
+use droid_core_requests::{Stamp, entry_of};
 use droid_frame::Reply;
 use droid_store::Entry;
 use lru::LruCache;

@@ -90,11 +90,11 @@ type Turn<'a> = (Step<'a>, u64, u64);
 // what is accepted, what is read from the store, and what is neither, one after the other where there is one place
 const TURNS: &[Turn] = &[
     (CREATE, 1, 2),
-    ((1, 2, Folder(1, 0, 0, "in"), Node(1)), 2, 1),
+    ((1, 1, 2, Folder(1, 0, 0, "in"), Node(1)), 2, 1),
     (CREATE, 1, 2),
-    ((1, 2, Folder(1, 0, 0, "out"), Refused(2)), 2, 1),
-    ((1, 3, Folder(1, 0, 0, "in"), Refused(9)), 2, 3),
-    ((1, 3, Export(1, 0, 2), Part(2, 296, &["\"I"])), 2, 3),
+    ((1, 1, 2, Folder(1, 0, 0, "out"), Refused(2)), 2, 1),
+    ((1, 1, 3, Folder(1, 0, 0, "in"), Refused(9)), 2, 3),
+    ((1, 1, 3, Export(1, 0, 2), Part(2, 296, &["\"I"])), 2, 3),
 ];
 
 fn is_put(alloc: Global, service: &mut Service, turn: &Turn<'_>) -> bool {
@@ -118,9 +118,9 @@ fn put_at_hand(rt: HostRuntime) {
 /// under the first number.
 const LATER: &[Step] = &[
     CREATE,
-    (1, 257, Folder(1, 0, 0, "f256"), Node(256)),
-    (1, 2, Folder(1, 0, 0, "f1"), Node(1)),
-    (1, 1, Create(65_535, false), Refused(2)),
+    (1, 1, 257, Folder(1, 0, 0, "f256"), Node(256)),
+    (1, 1, 2, Folder(1, 0, 0, "f1"), Node(1)),
+    (1, 1, 1, Create(65_535, false), Refused(2)),
 ];
 
 /// Whether the folder of this number is made, under the client's next number.
@@ -132,7 +132,7 @@ fn is_made(alloc: Global, service: &mut Service, id: u32) -> bool {
     is_answered(
         alloc,
         service,
-        &(1, number, Folder(1, 0, 0, name.as_str()), Node(id)),
+        &(1, 1, number, Folder(1, 0, 0, name.as_str()), Node(id)),
     )
 }
 

@@ -19,7 +19,7 @@ fn passes(alloc: Global, places: usize, steps: &[Step<'_>]) -> Option<bool> {
 }
 
 fn is_answered_in_the_end(alloc: Global, service: &mut Service, step: &Step<'_>) -> Option<bool> {
-    let (_, _, _, due) = *step;
+    let (_, _, _, _, due) = *step;
     let (kind, body) = answer(alloc, service, step)?;
     if kind == REFUSED && body.as_slice() == b"\x12".as_slice() {
         return Some(is_answered(alloc, service, step));

@@ -12,7 +12,7 @@ mod versions;
 
 use crate::service::Service;
 use crate::service::tests::steps::{Step, frame_of, is_due, is_kept};
-use droid_core_state::Limits;
+use droid_core_requests::Limits;
 use droid_frame::{Blob, is_version, mark, reply_body};
 use droid_pronom::Registry;
 use std::alloc::Global;
@@ -95,7 +95,7 @@ fn first_wrong(alloc: Global, service: &mut Service, steps: &[Step<'_>]) -> Opti
 /// The first step whose reply was to be kept, and isn't.
 fn first_lost(alloc: Global, service: &mut Service, steps: &[Step<'_>]) -> Option<usize> {
     for (place, step) in steps.iter().enumerate() {
-        let (_, _, _, due) = *step;
+        let (_, _, _, _, due) = *step;
         if !is_answered(alloc, service, step) & is_kept(due) {
             return Some(place);
         }
@@ -124,31 +124,17 @@ fn number_of(mark: [u8; 16]) -> u64 {
 
 /// Whether the step is answered by what is due.
 pub fn is_answered(alloc: Global, service: &mut Service, step: &Step<'_>) -> bool {
-    is_answered_in(1, alloc, service, step)
-}
-
-/// The same of a step in another version.
-pub fn is_answered_in(version: u8, alloc: Global, service: &mut Service, step: &Step<'_>) -> bool {
-    let (_, _, _, due) = *step;
-    match answer_in(version, alloc, service, step) {
+    let (_, _, _, _, due) = *step;
+    match answer(alloc, service, step) {
         Some((kind, body)) => is_due(kind, body.as_slice(), due),
         None => false,
     }
 }
 
-/// The kind and the body of the reply to a step, or `None` where memory was refused for the frame or that body.
+/// The kind of the reply to a step and its body in the step's version, or `None` where memory was refused for the frame
+/// or that body.
 pub fn answer(alloc: Global, service: &mut Service, step: &Step<'_>) -> Option<(u8, Blob)> {
-    answer_in(1, alloc, service, step)
-}
-
-/// The same of a step in another version. The body is the reply's in that version.
-fn answer_in(
-    version: u8,
-    alloc: Global,
-    service: &mut Service,
-    step: &Step<'_>,
-) -> Option<(u8, Blob)> {
-    let frame = frame_of(alloc, version, step)?;
+    let frame = frame_of(alloc, step)?;
     let version = frame.version;
     let reply = service.handle(frame);
     if !is_version(version) {

@@ -49,12 +49,12 @@ pub enum Due<'a> {
     Told(u8, &'a [u8]),
 }
 
-/// A client, one of its numbers, what it asks and what is due.
-pub type Step<'a> = (u32, u64, Ask<'a>, Due<'a>);
+/// A frame's version, its client, one of the client's numbers, what it asks and what is due.
+pub type Step<'a> = (u8, u32, u64, Ask<'a>, Due<'a>);
 
-/// The frame of a step in this version, or `None` where memory was refused.
-pub fn frame_of(alloc: Global, version: u8, step: &Step<'_>) -> Option<Frame> {
-    let (client, number, ask, _) = *step;
+/// The frame of a step, or `None` where memory was refused.
+pub fn frame_of(alloc: Global, step: &Step<'_>) -> Option<Frame> {
+    let (version, client, number, ask, _) = *step;
     match ask {
         Ask::Spelled(kind, body) => spelled(alloc, version, client, number, kind, body),
         _ => {

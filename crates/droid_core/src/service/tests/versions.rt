@@ -7,12 +7,9 @@ use crate::service::tests::steps::Ask::{
 use crate::service::tests::steps::Due::{Made, Node, Part, Refused, Taken, Told};
 use crate::service::tests::steps::{FINISHED, REFUSED, Step, frame_of};
 use crate::service::tests::texts::PLAIN;
-use crate::service::tests::{LARGEST, is_answered_in, service};
+use crate::service::tests::{LARGEST, ask, first_wrong, is_answered, service};
 use droid_frame::{HashKind, Refusal, Reply};
 use std::alloc::Global;
-
-/// The version, and the step in it.
-type Sent<'a> = (u8, Step<'a>);
 
 /// The digests are those of FIPS 180-4 and RFC 1321 of no byte.
 const PLAIN_SHA256: &[u8] =
@@ -24,99 +21,91 @@ const PLAIN_MD5: &[u8] =
 
 const PLAIN_NO_HASH: &[u8] = b"\x02\0\0\0\x01\x05dev/4";
 
-const EMPTY: Step = (1, 2, File(1, 0, 0, 0, 4, "e.txt"), Node(1));
+const EMPTY: Step = (1, 1, 2, File(1, 0, 0, 0, 4, "e.txt"), Node(1));
+
+const EMPTY_IN_TWO: Step = (2, 1, 2, File(1, 0, 0, 0, 4, "e.txt"), Node(1));
 
 // a profile of SHA-256: its files are finished in version 2 alone, which alone has the larger pieces
-const SHA256: &[Sent] = &[
-    (2, (1, 1, Spelled(1, b"\0\x01\0\0\0\x02"), Made(1))),
-    (2, (1, 1, Hashed(65_536, false, HashKind::Sha256), Made(1))),
-    (1, (1, 1, Create(65_536, false), Refused(2))),
-    (1, EMPTY),
-    (2, (1, 2, File(1, 0, 0, 0, 4, "e.txt"), Refused(2))),
-    (1, (1, 3, Finish(1, 1), Refused(10))),
-    (2, (1, 3, Finish(1, 1), Told(FINISHED, PLAIN_SHA256))),
-    (1, (1, 3, Finish(1, 1), Refused(2))),
-    (1, (1, 4, Finish(1, 1), Refused(12))),
+const SHA256: &[Step] = &[
+    (2, 1, 1, Spelled(1, b"\0\x01\0\0\0\x02"), Made(1)),
+    (2, 1, 1, Hashed(65_536, false, HashKind::Sha256), Made(1)),
+    (1, 1, 1, Create(65_536, false), Refused(2)),
+    EMPTY,
+    (2, 1, 2, File(1, 0, 0, 0, 4, "e.txt"), Refused(2)),
+    (1, 1, 3, Finish(1, 1), Refused(10)),
+    (2, 1, 3, Finish(1, 1), Told(FINISHED, PLAIN_SHA256)),
+    (1, 1, 3, Finish(1, 1), Refused(2)),
+    (1, 1, 4, Finish(1, 1), Refused(12)),
     (
         1,
-        (1, 5, File(1, 0, 0, 4_194_304, 4_194_304, "g"), Refused(10)),
+        1,
+        5,
+        File(1, 0, 0, 4_194_304, 4_194_304, "g"),
+        Refused(10),
     ),
-    (2, (1, 5, File(1, 0, 0, 4_194_304, 4_194_304, "g"), Node(2))),
+    (2, 1, 5, File(1, 0, 0, 4_194_304, 4_194_304, "g"), Node(2)),
     (
         2,
-        (1, 6, File(1, 0, 0, 4_194_305, 4_194_305, "h"), Refused(10)),
+        1,
+        6,
+        File(1, 0, 0, 4_194_305, 4_194_305, "h"),
+        Refused(10),
     ),
-    (1, (1, 6, Finish(1, 2), Refused(10))),
-    (2, (1, 6, Finish(1, 2), Told(REFUSED, b"\x10\0\0\0\0"))),
-    (1, (1, 6, Finish(1, 3), Refused(4))),
-    (1, (1, 6, Finish(2, 1), Refused(3))),
+    (1, 1, 6, Finish(1, 2), Refused(10)),
+    (2, 1, 6, Finish(1, 2), Told(REFUSED, b"\x10\0\0\0\0")),
+    (1, 1, 6, Finish(1, 3), Refused(4)),
+    (1, 1, 6, Finish(2, 1), Refused(3)),
 ];
 
 // no hash, and the MD5 of a profile of version 1, which a reply tells in the version of its request
-const OTHERS: &[Sent] = &[
-    (2, (1, 1, Hashed(65_536, false, HashKind::Nothing), Made(1))),
-    (2, EMPTY),
-    (1, (1, 3, Finish(1, 1), Refused(10))),
-    (2, (1, 3, Finish(1, 1), Told(FINISHED, PLAIN_NO_HASH))),
-    (1, (1, 4, Create(65_536, false), Made(2))),
-    (2, (1, 5, File(2, 0, 0, 0, 4, "e.txt"), Node(1))),
-    (2, (1, 6, Finish(2, 1), Told(FINISHED, PLAIN_MD5))),
-    (1, (1, 7, File(2, 0, 0, 0, 4, "f.txt"), Node(2))),
-    (1, (1, 8, Finish(2, 2), Told(FINISHED, PLAIN))),
-    (2, (1, 9, Hashed(65_536, false, HashKind::Md5), Made(3))),
+const OTHERS: &[Step] = &[
+    (2, 1, 1, Hashed(65_536, false, HashKind::Nothing), Made(1)),
+    EMPTY_IN_TWO,
+    (1, 1, 3, Finish(1, 1), Refused(10)),
+    (2, 1, 3, Finish(1, 1), Told(FINISHED, PLAIN_NO_HASH)),
+    (1, 1, 4, Create(65_536, false), Made(2)),
+    (2, 1, 5, File(2, 0, 0, 0, 4, "e.txt"), Node(1)),
+    (2, 1, 6, Finish(2, 1), Told(FINISHED, PLAIN_MD5)),
+    (1, 1, 7, File(2, 0, 0, 0, 4, "f.txt"), Node(2)),
+    (1, 1, 8, Finish(2, 2), Told(FINISHED, PLAIN)),
+    (2, 1, 9, Hashed(65_536, false, HashKind::Md5), Made(3)),
 ];
 
 // the same bytes in the other version, under a kept number: another request, or none
-const SAME_BYTES: &[Sent] = &[
-    (1, (1, 1, Create(65_536, false), Made(1))),
-    (2, (1, 1, Spelled(1, b"\0\x01\0\0\0"), Refused(1))),
-    (2, (1, 1, Spelled(1, b"\0\x01\0\0\0\x03"), Refused(1))),
-    (1, (1, 1, Spelled(1, b"\0\x01\0\0\0\x01"), Refused(1))),
-    (2, (1, 2, Folder(1, 0, 0, "in"), Node(1))),
-    (1, (1, 2, Folder(1, 0, 0, "in"), Refused(2))),
-    (1, (2, 2, Folder(1, 0, 0, "out"), Node(2))),
-    (2, (2, 2, Folder(1, 0, 0, "out"), Refused(2))),
+const SAME_BYTES: &[Step] = &[
+    (1, 1, 1, Create(65_536, false), Made(1)),
+    (2, 1, 1, Spelled(1, b"\0\x01\0\0\0"), Refused(1)),
+    (2, 1, 1, Spelled(1, b"\0\x01\0\0\0\x03"), Refused(1)),
+    (1, 1, 1, Spelled(1, b"\0\x01\0\0\0\x01"), Refused(1)),
+    (2, 1, 2, Folder(1, 0, 0, "in"), Node(1)),
+    (1, 1, 2, Folder(1, 0, 0, "in"), Refused(2)),
+    (1, 2, 2, Folder(1, 0, 0, "out"), Node(2)),
+    (2, 2, 2, Folder(1, 0, 0, "out"), Refused(2)),
     // a query is kept in neither
-    (1, (1, 3, Export(1, 0, 2), Part(3, 402, &["\"I"]))),
-    (2, (1, 3, Export(1, 0, 2), Part(3, 402, &["\"I"]))),
+    (1, 1, 3, Export(1, 0, 2), Part(3, 402, &["\"I"])),
+    (2, 1, 3, Export(1, 0, 2), Part(3, 402, &["\"I"])),
     // the largest part is the same in both
-    (1, (1, 3, Export(1, 0, 1_048_577), Refused(10))),
-    (2, (1, 3, Export(1, 0, 1_048_577), Refused(10))),
-    (1, (1, 3, Export(1, 402, 1_048_576), Part(3, 402, &[""]))),
-    (2, (1, 3, Export(1, 402, 1_048_576), Part(3, 402, &[""]))),
+    (1, 1, 3, Export(1, 0, 1_048_577), Refused(10)),
+    (2, 1, 3, Export(1, 0, 1_048_577), Refused(10)),
+    (1, 1, 3, Export(1, 402, 1_048_576), Part(3, 402, &[""])),
+    (2, 1, 3, Export(1, 402, 1_048_576), Part(3, 402, &[""])),
 ];
-
-/// The first of the steps that isn't answered by what is due, at once and once more.
-fn first_wrong(alloc: Global, service: &mut Service, sent: &[Sent<'_>]) -> Option<usize> {
-    for (place, (version, step)) in sent.iter().enumerate() {
-        let first = is_answered_in(*version, alloc, service, step);
-        let second = is_answered_in(*version, alloc, service, step);
-        if !(first & second) {
-            return Some(place);
-        }
-    }
-    None
-}
 
 #[test]
 fn both_versions(rt: HostRuntime) {
-    for places in [1usize, 256] {
-        for sent in [SHA256, OTHERS, SAME_BYTES] {
-            let mut service = service(rt.alloc(), LARGEST, places).expect(&rt, "a service");
-            let wrong = first_wrong(rt.alloc(), &mut service, sent);
-            assert!(rt; wrong.is_none(), "{places}: {wrong:?}");
-        }
-    }
+    ask(&rt, rt.alloc(), "SHA-256", LARGEST, SHA256);
+    ask(&rt, rt.alloc(), "others", LARGEST, OTHERS);
+    ask(&rt, rt.alloc(), "the same bytes", LARGEST, SAME_BYTES);
 }
 
 // a file of two pieces as large as version 2 has them, of a profile without a hash, so that the mark alone goes over them
-const ANNOUNCED: &[Sent] = &[
-    (2, (1, 1, Hashed(65_536, false, HashKind::Nothing), Made(1))),
-    (2, (1, 2, File(1, 0, 0, 8_388_608, 4_194_304, "z"), Node(1))),
+const ANNOUNCED: &[Step] = &[
+    (2, 1, 1, Hashed(65_536, false, HashKind::Nothing), Made(1)),
+    (2, 1, 2, File(1, 0, 0, 8_388_608, 4_194_304, "z"), Node(1)),
 ];
 
 fn is_taken(alloc: Global, service: &mut Service, bytes: &[u8]) -> bool {
-    is_answered_in(2, alloc, service, &(1, 3, Piece(1, 1, 1, bytes), Taken(1)))
+    is_answered(alloc, service, &(2, 1, 3, Piece(1, 1, 1, bytes), Taken(1)))
 }
 
 /// The second piece is kept whole while the first is missing.
@@ -139,8 +128,7 @@ fn other_versions(rt: HostRuntime) {
     for version in [0u8, 3, 255] {
         let frame = frame_of(
             alloc,
-            version,
-            &(1, 1, Spelled(1, b"\0\x01\0\0\0\x01"), Refused(1)),
+            &(version, 1, 1, Spelled(1, b"\0\x01\0\0\0\x01"), Refused(1)),
         );
         let reply = service.handle(frame.expect(&rt, "a frame"));
         assert!(rt;

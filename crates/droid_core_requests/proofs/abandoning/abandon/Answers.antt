@@ -11,8 +11,8 @@ returns-in_err-row c = record {
   answers = record {
     comes = λ setting world is_in.
         let fault = err_from_is_err_and c.from_residual.result c.from_residual.ensures.1 in
-        rw (fault.1, fault.2) (comes_nowhere setting world c.args.parts.now _ c.args.stamp c.args.profile c.args.file (abandon_there world c.args.profile c.args.file) _ _
-        (abandon_for_file world c.args.profile c.args.file) (c.in_err-row.ensures.found setting world is_in.rows) (read_only setting world c.args.parts.now c.file_of.new.store c.file_of.ensures.same is_in));
+        rw (fault.1, fault.2) (comes_nowhere setting world c.args.holdings.now _ c.args.stamp c.args.profile c.args.file (abandon_there world c.args.profile c.args.file) _ _
+        (abandon_for_file world c.args.profile c.args.file) (c.in_err-row.ensures.found setting world is_in.rows) (read_only setting world c.args.holdings.now c.file_of.new.store c.file_of.ensures.same is_in));
     spelled = search rules;
     limits = refl;
     registry = refl;
@@ -25,7 +25,7 @@ returns-then-not-is_unfinished c = record {
     comes = λ setting world is_in.
         let has = c.in_ok-row.ensures.found setting world is_in.rows in
         let refused = refused_finished setting world c.args.profile c.args.file c.in_ok-row.row has (sym c.if-not-is_unfinished.ensures) in
-        rw refused (refl, read_only setting world c.args.parts.now c.file_of.new.store c.file_of.ensures.same is_in);
+        rw refused (refl, read_only setting world c.args.holdings.now c.file_of.new.store c.file_of.ensures.same is_in);
     spelled = search rules;
     limits = refl;
     registry = refl;
@@ -38,7 +38,7 @@ returns c = record {
     comes = λ setting world is_in.
         let has = c.in_ok-row.ensures.found setting world is_in.rows in
         let stored = c.in_ok-commit_abandon.ensures.ok ∙ (rw (c.in_ok-entry.ensures.row, c.file_of.ensures.same) refl) in
-        abandoned setting world c.args.profile c.args.file c.in_ok-row.row has c.args.parts.now c.args.stamp c.in_ok-place.place c.commit_abandon.new.self c.remove.new.self is_in (sym c.if-not-is_unfinished.ensures)
+        abandoned setting world c.args.profile c.args.file c.in_ok-row.row has c.args.holdings.now c.args.stamp c.in_ok-place.place c.commit_abandon.new.self c.remove.new.self is_in (sym c.if-not-is_unfinished.ensures)
         stored c.in_ok-place.ensures.place c.remove.ensures.gone c.remove.ensures.others c.remove.ensures.count c.remove.ensures.limit;
     spelled = search rules;
     limits = refl;
@@ -51,7 +51,7 @@ returns-in_err-place c = record {
   answers = record {
     comes = λ setting world is_in.
         let has = c.in_ok-row.ensures.found setting world is_in.rows in
-        absurd (no_assembly setting world c.args.profile c.args.file c.in_ok-row.row has c.args.parts.now is_in (sym c.if-not-is_unfinished.ensures) c.in_err-place.ensures.none);
+        absurd (no_assembly setting world c.args.profile c.args.file c.in_ok-row.row has c.args.holdings.now is_in (sym c.if-not-is_unfinished.ensures) c.in_err-place.ensures.none);
     spelled = search rules;
     limits = refl;
     registry = refl;

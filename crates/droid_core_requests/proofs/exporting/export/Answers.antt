@@ -17,9 +17,9 @@ use Rattle.droid_core_requests.proofs.exporting.export.Goals as goal
 pub returns-in_err-row-clause-answers : goal.returns-in_err-row-clause-answers
 returns-in_err-row-clause-answers c = λ stamp. record {
   comes = λ setting world stands.
-      let service = c.args.parts.now in
+      let service = c.args.holdings.now in
       let refusal = c.in_err-row.field-0.0 in
-      let found = c.in_err-row.ensures.found setting world c.args.profile c.args.parts.now.store stands.0.rows c.profile.ensures.found in
+      let found = c.in_err-row.ensures.found setting world c.args.profile c.args.holdings.now.store stands.0.rows c.profile.ensures.found in
       let p = err_from_is_err_and c.from_residual.result c.from_residual.ensures.1 in
       let stays = read_only setting world service c.profile.new.self c.profile.ensures.same stands.0 in
       rw (p.1, p.2) (comes_refused setting world service _ stamp (judge_export setting world c.args.profile c.args.from c.args.max c.args.filter) c.in_err-row.field-0.0
@@ -32,8 +32,8 @@ returns-in_err-row-clause-answers c = λ stamp. record {
 pub returns-in-Some-clause-answers : goal.returns-in-Some-clause-answers
 returns-in-Some-clause-answers c = λ stamp. record {
   comes = λ setting world stands.
-      let service = c.args.parts.now in
-      let found = c.in_ok-row.ensures.found setting world c.args.profile c.args.parts.now.store stands.0.rows c.profile.ensures.found in
+      let service = c.args.holdings.now in
+      let found = c.in_ok-row.ensures.found setting world c.args.profile c.args.holdings.now.store stands.0.rows c.profile.ensures.found in
       let refused = export_refused setting world c.args.profile c.args.from c.args.max c.args.filter found.profile c.in-Some.refusal found.there c.in-Some.ensures.first in
       let stays = read_only setting world service c.profile.new.self c.profile.ensures.same stands.0 in
       comes_refused setting world service _ stamp (judge_export setting world c.args.profile c.args.from c.args.max c.args.filter) c.in-Some.refusal
@@ -46,8 +46,8 @@ returns-in-Some-clause-answers c = λ stamp. record {
 pub returns-in-Some-text_for-clause-answers : goal.returns-in-Some-text_for-clause-answers
 returns-in-Some-text_for-clause-answers c = λ stamp. record {
   comes = λ setting world stands.
-      let service = c.args.parts.now in
-      let found = c.in_ok-row.ensures.found setting world c.args.profile c.args.parts.now.store stands.0.rows c.profile.ensures.found in
+      let service = c.args.holdings.now in
+      let found = c.in_ok-row.ensures.found setting world c.args.profile c.args.holdings.now.store stands.0.rows c.profile.ensures.found in
       let judged = export_shown setting world c.args.profile c.args.from c.args.max c.args.filter found.profile found.there c.in_default.ensures.first in
       let same : c.accepted_by-accepted.new.store ≡ service.store = c.accepted_by-accepted.ensures.same ∙ c.profile.ensures.same in
       let count : c.accepted_by-accepted.result ≡ length service.store.replies = c.accepted_by-accepted.ensures.found ∙ ap (λ (rows : Rows). length rows.replies) c.profile.ensures.same in
@@ -63,8 +63,8 @@ returns-in-Some-text_for-clause-answers c = λ stamp. record {
 pub returns-clause-answers : goal.returns-clause-answers
 returns-clause-answers c = λ stamp. record {
   comes = λ setting world stands.
-      let service = c.args.parts.now in
-      let found = c.in_ok-row.ensures.found setting world c.args.profile c.args.parts.now.store stands.0.rows c.profile.ensures.found in
+      let service = c.args.holdings.now in
+      let found = c.in_ok-row.ensures.found setting world c.args.profile c.args.holdings.now.store stands.0.rows c.profile.ensures.found in
       let judged = export_shown setting world c.args.profile c.args.from c.args.max c.args.filter found.profile found.there c.in_default.ensures.first in
       let counted : c.accepted_by-accepted.new.store ≡ service.store = c.accepted_by-accepted.ensures.same ∙ c.profile.ensures.same in
       let same : c.records_in.new.store ≡ service.store = c.records_in.ensures.same ∙ counted in
@@ -85,8 +85,8 @@ returns-clause-answers c = λ stamp. record {
 
 pub returns-clause-last : goal.returns-clause-last
 returns-clause-last c = λ setting world is_in last.
-    let service = c.args.parts.now in
-    let found = c.in_ok-row.ensures.found setting world c.args.profile c.args.parts.now.store is_in.rows c.profile.ensures.found in
+    let service = c.args.holdings.now in
+    let found = c.in_ok-row.ensures.found setting world c.args.profile c.args.holdings.now.store is_in.rows c.profile.ensures.found in
     let counted : c.accepted_by-accepted.new.store ≡ service.store = c.accepted_by-accepted.ensures.same ∙ c.profile.ensures.same in
     let read : c.in_ok-text.text ≡ text service.registry c.args.filter found.profile.hash (records_of c.args.profile service.store) =
     c.in_ok-text.ensures
@@ -99,7 +99,7 @@ returns-clause-last c = λ setting world is_in last.
 pub returns-in_err-records-clause-answers : goal.returns-in_err-records-clause-answers
 returns-in_err-records-clause-answers c = λ stamp. record {
   comes = λ setting world stands.
-      let service = c.args.parts.now in
+      let service = c.args.holdings.now in
       let found = c.in_ok-row.ensures.found setting world c.args.profile service.store stands.0.rows c.profile.ensures.found in
       let counted : c.accepted_by-accepted.new.store ≡ service.store = c.accepted_by-accepted.ensures.same ∙ c.profile.ensures.same in
       let fault = err_from_is_err_and c.from_residual-in_err-records.result c.from_residual-in_err-records.ensures.1 in

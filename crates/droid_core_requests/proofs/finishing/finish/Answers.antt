@@ -16,8 +16,8 @@ returns-in_err-row c = record {
   answers = record {
     comes = λ setting world is_in.
         let fault = err_from_is_err_and c.from_residual.result c.from_residual.ensures.1 in
-        rw (fault.1, fault.2) (comes_nowhere setting world c.args.parts.now _ c.args.stamp c.args.profile c.args.file (finish_there setting world c.args.stamp.version c.args.profile c.args.file) _ _
-        (finish_for_file setting world c.args.stamp.version c.args.profile c.args.file) (c.in_err-row.ensures.found setting world is_in.rows) (read_only setting world c.args.parts.now c.file_of.new.store c.file_of.ensures.same is_in));
+        rw (fault.1, fault.2) (comes_nowhere setting world c.args.holdings.now _ c.args.stamp c.args.profile c.args.file (finish_there setting world c.args.stamp.version c.args.profile c.args.file) _ _
+        (finish_for_file setting world c.args.stamp.version c.args.profile c.args.file) (c.in_err-row.ensures.found setting world is_in.rows) (read_only setting world c.args.holdings.now c.file_of.new.store c.file_of.ensures.same is_in));
     spelled = search rules;
     limits = refl;
     registry = refl;
@@ -30,7 +30,7 @@ returns-then-not-is_unfinished c = record {
     comes = λ setting world is_in.
         let has = c.in_ok-row.ensures.found setting world is_in.rows in
         let refused = refused_finished setting world c.args.stamp.version c.args.profile c.args.file c.in_ok-row.row has (sym c.if-not-is_unfinished.ensures) in
-        rw refused (refl, read_only setting world c.args.parts.now c.file_of.new.store c.file_of.ensures.same is_in);
+        rw refused (refl, read_only setting world c.args.holdings.now c.file_of.new.store c.file_of.ensures.same is_in);
     spelled = search rules;
     limits = refl;
     registry = refl;
@@ -45,8 +45,8 @@ returns-in_err-finding c = record {
         let has = c.in_ok-row.ensures.found setting world is_in.rows in
         let there = told_there setting world c.args.stamp.version c.args.profile c.args.file c.in_ok-row.row has (sym c.if-not-is_told.ensures) in
         rw (fault.1, fault.2)
-        (comes_unfinished setting world c.args.stamp.version c.args.profile c.args.file c.in_ok-row.row has c.args.parts.now c.in_ok-place.place is_in (sym c.if-not-is_unfinished.ensures) c.in_ok-place.ensures.place there c.args.stamp _ _
-        (only_looked setting world c.args.parts.now c.in_ok-place.place c.file_of.new.store c.identify_file.new.files c.file_of.ensures.same c.identify_file.ensures.others c.identify_file.ensures.unchanged is_in)
+        (comes_unfinished setting world c.args.stamp.version c.args.profile c.args.file c.in_ok-row.row has c.args.holdings.now c.in_ok-place.place is_in (sym c.if-not-is_unfinished.ensures) c.in_ok-place.ensures.place there c.args.stamp _ _
+        (only_looked setting world c.args.holdings.now c.in_ok-place.place c.file_of.new.store c.identify_file.new.files c.file_of.ensures.same c.identify_file.ensures.others c.identify_file.ensures.unchanged is_in)
         c.in_err-finding.ensures.refused);
     spelled = search rules;
     limits = refl;
@@ -61,8 +61,8 @@ returns-in_err-reply c = record {
         let fault = err_from_is_err_and c.from_residual-in_err-reply.result c.from_residual-in_err-reply.ensures.1 in
         let memory = c.in_err-reply.ensures.memory (rw c.file_of.ensures.same is_in.rows.short) in
         rw (fault.1, fault.2)
-        (comes_wanting setting world c.args.parts.now _ c.args.stamp (judge_finish setting world c.args.stamp.version c.args.profile c.args.file) _ memory
-        (rw c.in_err-reply.ensures.same (only_looked setting world c.args.parts.now c.in_ok-place.place c.keep_finding.new.store c.identify_file.new.files (c.in_err-reply.ensures.not_kept ∙ c.file_of.ensures.same) c.identify_file.ensures.others c.identify_file.ensures.unchanged is_in)));
+        (comes_wanting setting world c.args.holdings.now _ c.args.stamp (judge_finish setting world c.args.stamp.version c.args.profile c.args.file) _ memory
+        (rw c.in_err-reply.ensures.same (only_looked setting world c.args.holdings.now c.in_ok-place.place c.keep_finding.new.store c.identify_file.new.files (c.in_err-reply.ensures.not_kept ∙ c.file_of.ensures.same) c.identify_file.ensures.others c.identify_file.ensures.unchanged is_in)));
     spelled = search rules;
     limits = refl;
     registry = refl;
@@ -77,12 +77,12 @@ returns c = record {
         let is = sym c.if-not-is_unfinished.ensures in
         let at_place = c.in_ok-place.ensures.place in
         let there = told_there setting world c.args.stamp.version c.args.profile c.args.file c.in_ok-row.row has (sym c.if-not-is_told.ensures) in
-        let found = finds setting world c.args.stamp.version c.args.profile c.args.file c.in_ok-row.row has c.args.parts.now c.in_ok-place.place is_in is at_place there c.in_ok-finding.finding c.in_ok-finding.ensures.finding in
-        let digest = digest_is setting world c.args.stamp.version c.args.profile c.args.file c.in_ok-row.row has c.args.parts.now c.in_ok-place.place is_in is at_place there c.in_ok-finding.finding c.in_ok-finding.ensures.finding in
-        let allowed = allowed_there setting world c.args.stamp.version c.args.profile c.args.file c.in_ok-row.row has c.args.parts.now c.in_ok-place.place is_in is at_place there c.in_ok-finding.ensures.allowed in
-        let seen = seen_is setting world c.args.stamp.version c.args.profile c.args.file c.in_ok-row.row has c.args.parts.now c.in_ok-place.place is_in is at_place there _ _ found digest in
+        let found = finds setting world c.args.stamp.version c.args.profile c.args.file c.in_ok-row.row has c.args.holdings.now c.in_ok-place.place is_in is at_place there c.in_ok-finding.finding c.in_ok-finding.ensures.finding in
+        let digest = digest_is setting world c.args.stamp.version c.args.profile c.args.file c.in_ok-row.row has c.args.holdings.now c.in_ok-place.place is_in is at_place there c.in_ok-finding.finding c.in_ok-finding.ensures.finding in
+        let allowed = allowed_there setting world c.args.stamp.version c.args.profile c.args.file c.in_ok-row.row has c.args.holdings.now c.in_ok-place.place is_in is at_place there c.in_ok-finding.ensures.allowed in
+        let seen = seen_is setting world c.args.stamp.version c.args.profile c.args.file c.in_ok-row.row has c.args.holdings.now c.in_ok-place.place is_in is at_place there _ _ found digest in
         let stored = c.in_ok-reply.ensures.kept ∙ (rw c.file_of.ensures.same refl) in
-        finished setting world c.args.stamp.version c.args.profile c.args.file c.in_ok-row.row has c.args.parts.now c.in_ok-place.place is_in is at_place there
+        finished setting world c.args.stamp.version c.args.profile c.args.file c.in_ok-row.row has c.args.holdings.now c.in_ok-place.place is_in is at_place there
         c.args.stamp c.in_ok-reply.reply c.keep_finding.new.store c.identify_file.new.files c.keep_finding.new.files (finding_in c.in_ok-finding.finding)
         allowed seen c.in_ok-reply.ensures.reply stored c.identify_file.ensures.others c.identify_file.ensures.unchanged
         c.in_ok-reply.ensures.gone c.in_ok-reply.ensures.others c.in_ok-reply.ensures.count c.keep_finding.ensures.limit;
@@ -97,7 +97,7 @@ returns-in_err-place c = record {
   answers = record {
     comes = λ setting world is_in.
         let has = c.in_ok-row.ensures.found setting world is_in.rows in
-        absurd (no_assembly setting world c.args.profile c.args.file c.in_ok-row.row has c.args.parts.now is_in (sym c.if-not-is_unfinished.ensures) c.in_err-place.ensures.none);
+        absurd (no_assembly setting world c.args.profile c.args.file c.in_ok-row.row has c.args.holdings.now is_in (sym c.if-not-is_unfinished.ensures) c.in_err-place.ensures.none);
     spelled = search rules;
     limits = refl;
     registry = refl;
@@ -109,7 +109,7 @@ returns-in_err-none_is_pending c = record {
   answers = record {
     comes = λ setting world is_in.
         let has = c.in_ok-row.ensures.found setting world is_in.rows in
-        absurd (one_pending setting world c.args.profile c.args.file c.in_ok-row.row has c.args.parts.now is_in (sym c.if-not-is_unfinished.ensures) c.in_ok-place.place c.in_ok-place.ensures.place c.in_err-none_is_pending.ensures.pending);
+        absurd (one_pending setting world c.args.profile c.args.file c.in_ok-row.row has c.args.holdings.now is_in (sym c.if-not-is_unfinished.ensures) c.in_ok-place.place c.in_ok-place.ensures.place c.in_err-none_is_pending.ensures.pending);
     spelled = search rules;
     limits = refl;
     registry = refl;
@@ -122,7 +122,7 @@ returns-then-not-is_told c = record {
     comes = λ setting world is_in.
         let has = c.in_ok-row.ensures.found setting world is_in.rows in
         let refused = refused_untold setting world c.args.stamp.version c.args.profile c.args.file c.in_ok-row.row has (sym c.if-not-is_unfinished.ensures) (sym c.if-not-is_told.ensures) in
-        rw refused (refl, read_only setting world c.args.parts.now c.file_of.new.store c.file_of.ensures.same is_in);
+        rw refused (refl, read_only setting world c.args.holdings.now c.file_of.new.store c.file_of.ensures.same is_in);
     spelled = search rules;
     limits = refl;
     registry = refl;
@@ -135,7 +135,7 @@ returns-in_err-is_of_kind c = record {
     comes = λ setting world is_in.
         let has = c.in_ok-row.ensures.found setting world is_in.rows in
         let there = told_there setting world c.args.stamp.version c.args.profile c.args.file c.in_ok-row.row has (sym c.if-not-is_told.ensures) in
-        let kind = kind_is setting world c.args.stamp.version c.args.profile c.args.file c.in_ok-row.row has c.args.parts.now c.in_ok-place.place is_in (sym c.if-not-is_unfinished.ensures) c.in_ok-place.ensures.place there c.in_ok-finding.finding c.in_ok-finding.ensures.finding in
+        let kind = kind_is setting world c.args.stamp.version c.args.profile c.args.file c.in_ok-row.row has c.args.holdings.now c.in_ok-place.place is_in (sym c.if-not-is_unfinished.ensures) c.in_ok-place.ensures.place there c.in_ok-finding.finding c.in_ok-finding.ensures.finding in
         absurd (let told = c.in_err-is_of_kind.ensures.its kind in cc);
     spelled = search rules;
     limits = refl;

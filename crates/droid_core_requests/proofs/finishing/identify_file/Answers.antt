@@ -1,5 +1,5 @@
 use Rattle.std.proofs.Common.{Err, ap, sym, ◌∙◌}
-use Rattle.droid_core_requests.proofs.FinishJudged.{some_missing, none_missing}
+use Rattle.droid_core_requests.proofs.FinishJudged.{told_of_fault, none_missing}
 use Rattle.droid_core_requests.proofs.finishing.identify_file.Goals as goal
 
 pub returns-in-Ok-clause-allowed : goal.returns-in-Ok-clause-allowed
@@ -10,7 +10,8 @@ pub returns-in-Ok-clause-finding : goal.returns-in-Ok-clause-finding
 returns-in-Ok-clause-finding c = λ file here pieces stands.
     rw c.as_str-name.ensures.value at ((c.in-Ok.ensures.identifies file here).finding pieces stands)
 
-pub returns-in-Err-Incomplete-clause-refused : goal.returns-in-Err-Incomplete-clause-refused
-returns-in-Err-Incomplete-clause-refused c = λ file here version profile content is unfinished told.
-    some_missing version profile.hash content c.in-Err-Incomplete.missing unfinished told
-    ((rw (is.size, is.piece_size) at ((c.identify.ensures.identifies file here).incomplete content.pieces c.in-Err-Incomplete.missing is.pieces)).0 (c.in-Err-Incomplete.is ∙ ap Err c.in-Err-Incomplete.field-0-is))
+pub returns-in-Err-clause-refused : goal.returns-in-Err-clause-refused
+returns-in-Err-clause-refused c = λ file here version profile content is unfinished told.
+    told_of_fault version profile.hash content c.in-Err.fault c.from.result unfinished told
+    (λ first is_first. (rw (is.size, is.piece_size) at ((c.identify.ensures.identifies file here).incomplete content.pieces first is.pieces)).0 (c.in-Err.is ∙ ap Err is_first))
+    c.from.ensures

@@ -15,7 +15,7 @@ pub returns-in_err-row : goal.returns-in_err-row
 returns-in_err-row c = record {
   answers = record {
     comes = λ setting world is.
-        let verdict = file_nowhere setting world c.args.stamp.version c.args.profile c.args.parent c.args.modified c.args.size c.args.piece_size c.args.name _ (c.in_err-row.ensures.found setting world c.args.profile c.args.parts.now.store is.rows c.profile.ensures.found) in
+        let verdict = file_nowhere setting world c.args.stamp.version c.args.profile c.args.parent c.args.modified c.args.size c.args.piece_size c.args.name _ (c.in_err-row.ensures.found setting world c.args.profile c.args.holdings.now.store is.rows c.profile.ensures.found) in
         let failed = err_from_is_err_and c.from_residual.result c.from_residual.ensures.1 in
         rw (failed.1, failed.2) (comes_refused setting world _ _ c.args.stamp _ _ verdict (stays setting world _ _ refl refl c.profile.ensures.same refl is));
     spelled = search rules;
@@ -28,8 +28,8 @@ pub returns-in_err-path : goal.returns-in_err-path
 returns-in_err-path c = record {
   answers = record {
     comes = λ setting world is.
-        let store = c.place_of.ensures.same ∙ c.profile.ensures.same in
-        let has = c.in_ok-row.ensures.found setting world c.args.profile c.args.parts.now.store is.rows c.profile.ensures.found in
+        let store = c.path_of_new.ensures.same ∙ c.profile.ensures.same in
+        let has = c.in_ok-row.ensures.found setting world c.args.profile c.args.holdings.now.store is.rows c.profile.ensures.found in
         let finds = c.in_err-path.ensures.found setting world has.profile (rw c.profile.ensures.same is.rows) is.sound has.there in
         let verdict = file_misplaced setting world c.args.stamp.version c.args.profile c.args.parent c.args.modified c.args.size c.args.piece_size c.args.name has.profile has.there _ (rw c.as_str.ensures.value at finds) in
         let failed = err_from_is_err_and c.from_residual-in_err-path.result c.from_residual-in_err-path.ensures.1 in
@@ -44,8 +44,8 @@ pub returns-in-Some : goal.returns-in-Some
 returns-in-Some c = record {
   answers = record {
     comes = λ setting world is.
-        let store = c.place_of.ensures.same ∙ c.profile.ensures.same in
-        let has = c.in_ok-row.ensures.found setting world c.args.profile c.args.parts.now.store is.rows c.profile.ensures.found in
+        let store = c.path_of_new.ensures.same ∙ c.profile.ensures.same in
+        let has = c.in_ok-row.ensures.found setting world c.args.profile c.args.holdings.now.store is.rows c.profile.ensures.found in
         let limit = c.node_room-nodes.ensures.limit ∙ sym (ap (λ (limits : Limits). limits.nodes) is.is_setting.limits) in
         let count = c.node_room-nodes.ensures.count ∙ ap (λ (row : ProfileRow). row.nodes) has.row_is in
         let most = c.unfinished_room-unfinished.ensures.limit ∙ sym (ap (λ (limits : Limits). limits.unfinished) is.is_setting.limits) in
@@ -64,8 +64,8 @@ pub returns : goal.returns
 returns c = record {
   answers = record {
     comes = λ setting world is.
-        let store = c.place_of.ensures.same ∙ c.profile.ensures.same in
-        let has = c.in_ok-row.ensures.found setting world c.args.profile c.args.parts.now.store is.rows c.profile.ensures.found in
+        let store = c.path_of_new.ensures.same ∙ c.profile.ensures.same in
+        let has = c.in_ok-row.ensures.found setting world c.args.profile c.args.holdings.now.store is.rows c.profile.ensures.found in
         let limit = c.node_room-nodes.ensures.limit ∙ sym (ap (λ (limits : Limits). limits.nodes) is.is_setting.limits) in
         let counted = ap (λ (row : ProfileRow). row.nodes) has.row_is in
         let most = c.unfinished_room-unfinished.ensures.limit ∙ sym (ap (λ (limits : Limits). limits.unfinished) is.is_setting.limits) in
@@ -88,8 +88,8 @@ pub returns-in_err-assembly : goal.returns-in_err-assembly
 returns-in_err-assembly c = record {
   answers = record {
     comes = λ setting world is.
-        let store = c.place_of.ensures.same ∙ c.profile.ensures.same in
-        let has = c.in_ok-row.ensures.found setting world c.args.profile c.args.parts.now.store is.rows c.profile.ensures.found in
+        let store = c.path_of_new.ensures.same ∙ c.profile.ensures.same in
+        let has = c.in_ok-row.ensures.found setting world c.args.profile c.args.holdings.now.store is.rows c.profile.ensures.found in
         let within = scan_limit_within world c.args.profile has.profile is.sound has.there in
         let memory = c.in_err-assembly.ensures.memory (rw (ap (λ (row : ProfileRow). row.scan_limit) has.row_is) within) in
         let failed = err_from_is_err_and c.from_residual-in_err-assembly.result c.from_residual-in_err-assembly.ensures.1 in
@@ -104,11 +104,11 @@ pub returns-in_err-has_room : goal.returns-in_err-has_room
 returns-in_err-has_room c = record {
   answers = record {
     comes = λ setting world is.
-        let has = c.in_ok-row.ensures.found setting world c.args.profile c.args.parts.now.store is.rows c.profile.ensures.found in
+        let has = c.in_ok-row.ensures.found setting world c.args.profile c.args.holdings.now.store is.rows c.profile.ensures.found in
         let counted = ap (λ (row : ProfileRow). row.nodes) has.row_is in
         let most = c.unfinished_room-unfinished.ensures.limit ∙ sym (ap (λ (limits : Limits). limits.unfinished) is.is_setting.limits) in
         let room = c.in_default.ensures.unfinished in
-        let fresh = no_file_yet world c.args.parts.now.files c.args.profile (c.in_ok-row.row.nodes + 1) has.profile is.files has.there (ap (λ n. n + 1) counted) in
+        let fresh = no_file_yet world c.args.holdings.now.files c.args.profile (c.in_ok-row.row.nodes + 1) has.profile is.files has.there (ap (λ n. n + 1) counted) in
         absurd (let told = c.in_err-has_room.ensures.fits (omega (arith, room, most, is.room, c.unfinished_room-unfinished.ensures.count)) fresh in cc);
     spelled = search rules;
     limits = refl;

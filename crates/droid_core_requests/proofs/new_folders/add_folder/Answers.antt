@@ -12,7 +12,7 @@ pub returns-in_err-row : goal.returns-in_err-row
 returns-in_err-row c = record {
   answers = record {
     comes = λ setting world is.
-        let verdict = folder_nowhere setting world c.args.profile c.args.parent c.args.modified c.args.name _ (c.in_err-row.ensures.found setting world c.args.profile c.args.parts.now.store is.rows c.profile.ensures.found) in
+        let verdict = folder_nowhere setting world c.args.profile c.args.parent c.args.modified c.args.name _ (c.in_err-row.ensures.found setting world c.args.profile c.args.holdings.now.store is.rows c.profile.ensures.found) in
         let failed = err_from_is_err_and c.from_residual.result c.from_residual.ensures.1 in
         rw (failed.1, failed.2) (comes_refused setting world _ _ c.args.stamp _ _ verdict (stays setting world _ _ refl refl c.profile.ensures.same refl is));
     spelled = search rules;
@@ -25,8 +25,8 @@ pub returns-in_err-path : goal.returns-in_err-path
 returns-in_err-path c = record {
   answers = record {
     comes = λ setting world is.
-        let store = c.place_of.ensures.same ∙ c.profile.ensures.same in
-        let has = c.in_ok-row.ensures.found setting world c.args.profile c.args.parts.now.store is.rows c.profile.ensures.found in
+        let store = c.path_of_new.ensures.same ∙ c.profile.ensures.same in
+        let has = c.in_ok-row.ensures.found setting world c.args.profile c.args.holdings.now.store is.rows c.profile.ensures.found in
         let finds = c.in_err-path.ensures.found setting world has.profile (rw c.profile.ensures.same is.rows) is.sound has.there in
         let verdict = folder_misplaced setting world c.args.profile c.args.parent c.args.modified c.args.name has.profile has.there _ (rw c.as_str.ensures.value at finds) in
         let failed = err_from_is_err_and c.from_residual-in_err-path.result c.from_residual-in_err-path.ensures.1 in
@@ -41,8 +41,8 @@ pub returns-in-Some : goal.returns-in-Some
 returns-in-Some c = record {
   answers = record {
     comes = λ setting world is.
-        let store = c.place_of.ensures.same ∙ c.profile.ensures.same in
-        let has = c.in_ok-row.ensures.found setting world c.args.profile c.args.parts.now.store is.rows c.profile.ensures.found in
+        let store = c.path_of_new.ensures.same ∙ c.profile.ensures.same in
+        let has = c.in_ok-row.ensures.found setting world c.args.profile c.args.holdings.now.store is.rows c.profile.ensures.found in
         let limit = c.node_room-nodes.ensures.limit ∙ sym (ap (λ (limits : Limits). limits.nodes) is.is_setting.limits) in
         let count = c.node_room-nodes.ensures.count ∙ ap (λ (row : ProfileRow). row.nodes) has.row_is in
         let finds = c.in_ok-path.ensures.found setting world has.profile (rw c.profile.ensures.same is.rows) is.sound has.there in
@@ -60,8 +60,8 @@ pub returns : goal.returns
 returns c = record {
   answers = record {
     comes = λ setting world is.
-        let store = c.place_of.ensures.same ∙ c.profile.ensures.same in
-        let has = c.in_ok-row.ensures.found setting world c.args.profile c.args.parts.now.store is.rows c.profile.ensures.found in
+        let store = c.path_of_new.ensures.same ∙ c.profile.ensures.same in
+        let has = c.in_ok-row.ensures.found setting world c.args.profile c.args.holdings.now.store is.rows c.profile.ensures.found in
         let limit = c.node_room-nodes.ensures.limit ∙ sym (ap (λ (limits : Limits). limits.nodes) is.is_setting.limits) in
         let counted = ap (λ (row : ProfileRow). row.nodes) has.row_is in
         let finds = c.in_ok-path.ensures.found setting world has.profile (rw c.profile.ensures.same is.rows) is.sound has.there in

@@ -13,7 +13,7 @@ returns-in-Ok-clause-judged c = λ file here profile content is unfinished.
 
 pub returns-in-Err-clause-judged : goal.returns-in-Err-clause-judged
 returns-in-Err-clause-judged c = λ file here profile content is unfinished.
-    ap Some c.piece_refusal.ensures.refusal
+    ap Some c.from.ensures
     ∙ sym (ap fault_refusal c.in-Err.is)
     ∙ put_judged content c.args.index c.args.bytes c.put.result unfinished
     (rw (is.size, is.piece_size) at (c.put.ensures.bad_piece file here))

@@ -13,8 +13,8 @@ returns-in_err-row c = record {
   answers = record {
     comes = λ setting world is_in.
         let fault = err_from_is_err_and c.from_residual.result c.from_residual.ensures.1 in
-        rw (fault.1, fault.2) (comes_nowhere setting world c.args.parts.now _ c.args.stamp c.args.profile c.args.file (piece_there world c.args.profile c.args.file c.args.index c.args.bytes) _ _
-        (piece_for_file world c.args.profile c.args.file c.args.index c.args.bytes) (c.in_err-row.ensures.found setting world is_in.rows) (read_only setting world c.args.parts.now c.file_of.new.store c.file_of.ensures.same is_in));
+        rw (fault.1, fault.2) (comes_nowhere setting world c.args.holdings.now _ c.args.stamp c.args.profile c.args.file (piece_there world c.args.profile c.args.file c.args.index c.args.bytes) _ _
+        (piece_for_file world c.args.profile c.args.file c.args.index c.args.bytes) (c.in_err-row.ensures.found setting world is_in.rows) (read_only setting world c.args.holdings.now c.file_of.new.store c.file_of.ensures.same is_in));
     spelled = search rules;
     limits = refl;
     registry = refl;
@@ -27,7 +27,7 @@ returns-then-not-is_unfinished c = record {
     comes = λ setting world is_in.
         let has = c.in_ok-row.ensures.found setting world is_in.rows in
         let finished = refused_finished setting world c.args.profile c.args.file c.in_ok-row.row has c.args.index c.args.bytes (sym c.if-not-is_unfinished.ensures) in
-        rw finished (refl, read_only setting world c.args.parts.now c.file_of.new.store c.file_of.ensures.same is_in);
+        rw finished (refl, read_only setting world c.args.holdings.now c.file_of.new.store c.file_of.ensures.same is_in);
     spelled = search rules;
     limits = refl;
     registry = refl;
@@ -40,10 +40,10 @@ returns-in_err-put_piece c = record {
     comes = λ setting world is_in.
         let fault = err_from_is_err_and c.from_residual-in_err-put_piece.result c.from_residual-in_err-put_piece.ensures.1 in
         let has = c.in_ok-row.ensures.found setting world is_in.rows in
-        let told = judged_by_put setting world c.args.profile c.args.file c.in_ok-row.row has c.args.index c.args.bytes c.args.parts.now c.in_ok-place.place is_in (sym c.if-not-is_unfinished.ensures) c.in_ok-place.ensures.place _ c.in_err-put_piece.ensures.judged in
+        let told = judged_by_put setting world c.args.profile c.args.file c.in_ok-row.row has c.args.index c.args.bytes c.args.holdings.now c.in_ok-place.place is_in (sym c.if-not-is_unfinished.ensures) c.in_ok-place.ensures.place _ c.in_err-put_piece.ensures.judged in
         rw (fault.1, fault.2)
-        (comes_refused setting world c.args.parts.now _ c.args.stamp _ _ (of_any _ (refused setting world c.args.profile c.args.file c.in_ok-row.row has c.args.index c.args.bytes _ told))
-        (stays_as setting world c.args.parts.now c.file_of.new.store c.put_piece.new.files c.file_of.ensures.same c.in_err-put_piece.ensures.same is_in));
+        (comes_refused setting world c.args.holdings.now _ c.args.stamp _ _ (of_any _ (refused setting world c.args.profile c.args.file c.in_ok-row.row has c.args.index c.args.bytes _ told))
+        (stays_as setting world c.args.holdings.now c.file_of.new.store c.put_piece.new.files c.file_of.ensures.same c.in_err-put_piece.ensures.same is_in));
     spelled = search rules;
     limits = refl;
     registry = refl;
@@ -52,7 +52,7 @@ returns-in_err-put_piece c = record {
 
 pub keep_piece-requires-clause-pending : goal.keep_piece-requires-clause-pending
 keep_piece-requires-clause-pending c =
-    is_pending c.args.parts.now.files c.put_piece.new.files c.in_ok-place.place c.args.index c.args.bytes c.put_piece.ensures.others c.in_ok-put_piece.ensures.pending
+    is_pending c.args.holdings.now.files c.put_piece.new.files c.in_ok-place.place c.args.index c.args.bytes c.put_piece.ensures.others c.in_ok-put_piece.ensures.pending
 
 pub returns-in_err-keep_piece : goal.returns-in_err-keep_piece
 returns-in_err-keep_piece c = record {
@@ -60,9 +60,9 @@ returns-in_err-keep_piece c = record {
     comes = λ setting world is_in.
         let fault = err_from_is_err_and c.from_residual-in_err-keep_piece.result c.from_residual-in_err-keep_piece.ensures.1 in
         let has = c.in_ok-row.ensures.found setting world is_in.rows in
-        let stays = not_kept setting world c.args.profile c.args.file c.in_ok-row.row has c.args.index c.args.bytes c.args.parts.now c.in_ok-place.place is_in (sym c.if-not-is_unfinished.ensures) c.in_ok-place.ensures.place
+        let stays = not_kept setting world c.args.profile c.args.file c.in_ok-row.row has c.args.index c.args.bytes c.args.holdings.now c.in_ok-place.place is_in (sym c.if-not-is_unfinished.ensures) c.in_ok-place.ensures.place
         c.keep_piece.new.store c.put_piece.new.files c.keep_piece.new.files c.put_piece.ensures.others c.keep_piece.ensures.others c.in_ok-put_piece.ensures.pending (c.in_err-keep_piece.ensures.not_kept ∙ c.file_of.ensures.same) c.in_err-keep_piece.ensures.taken_back in
-        rw (fault.1, fault.2) (comes_wanting setting world c.args.parts.now _ c.args.stamp (judge_piece world c.args.profile c.args.file c.args.index c.args.bytes) _ c.in_err-keep_piece.ensures.memory stays);
+        rw (fault.1, fault.2) (comes_wanting setting world c.args.holdings.now _ c.args.stamp (judge_piece world c.args.profile c.args.file c.args.index c.args.bytes) _ c.in_err-keep_piece.ensures.memory stays);
     spelled = search rules;
     limits = refl;
     registry = refl;
@@ -76,10 +76,10 @@ returns c = record {
         let has = c.in_ok-row.ensures.found setting world is_in.rows in
         let is = sym c.if-not-is_unfinished.ensures in
         let at_place = c.in_ok-place.ensures.place in
-        let told = judged_by_put setting world c.args.profile c.args.file c.in_ok-row.row has c.args.index c.args.bytes c.args.parts.now c.in_ok-place.place is_in is at_place _ c.in_ok-put_piece.ensures.judged in
-        let counted = held_is setting world c.args.profile c.args.file c.in_ok-row.row has c.args.index c.args.bytes c.args.parts.now c.in_ok-place.place is_in is at_place _ c.in_ok-held.ensures.held in
+        let told = judged_by_put setting world c.args.profile c.args.file c.in_ok-row.row has c.args.index c.args.bytes c.args.holdings.now c.in_ok-place.place is_in is at_place _ c.in_ok-put_piece.ensures.judged in
+        let counted = held_is setting world c.args.profile c.args.file c.in_ok-row.row has c.args.index c.args.bytes c.args.holdings.now c.in_ok-place.place is_in is at_place _ c.in_ok-held.ensures.held in
         let stored = c.in_ok-keep_piece.ensures.kept ∙ (rw (c.in_ok-entry.ensures.row, c.file_of.ensures.same) refl) in
-        taken setting world c.args.profile c.args.file c.in_ok-row.row has c.args.index c.args.bytes c.args.parts.now c.in_ok-place.place is_in is at_place
+        taken setting world c.args.profile c.args.file c.in_ok-row.row has c.args.index c.args.bytes c.args.holdings.now c.in_ok-place.place is_in is at_place
         c.keep_piece.new.store c.put_piece.new.files c.keep_piece.new.files c.put_piece.ensures.others c.keep_piece.ensures.others c.in_ok-put_piece.ensures.pending
         c.args.stamp _ counted stored told c.put_piece.ensures.stands c.in_ok-keep_piece.ensures.stands c.in_ok-keep_piece.ensures.same_file c.in_ok-keep_piece.ensures.none_pending;
     spelled = search rules;
@@ -93,7 +93,7 @@ returns-in_err-place c = record {
   answers = record {
     comes = λ setting world is_in.
         let has = c.in_ok-row.ensures.found setting world is_in.rows in
-        absurd (no_assembly setting world c.args.profile c.args.file c.in_ok-row.row has c.args.parts.now is_in (sym c.if-not-is_unfinished.ensures) c.in_err-place.ensures.none);
+        absurd (no_assembly setting world c.args.profile c.args.file c.in_ok-row.row has c.args.holdings.now is_in (sym c.if-not-is_unfinished.ensures) c.in_err-place.ensures.none);
     spelled = search rules;
     limits = refl;
     registry = refl;
@@ -105,7 +105,7 @@ returns-in_err-held c = record {
   answers = record {
     comes = λ setting world is_in.
         let has = c.in_ok-row.ensures.found setting world is_in.rows in
-        absurd (one_pending setting world c.args.profile c.args.file c.in_ok-row.row has c.args.parts.now is_in (sym c.if-not-is_unfinished.ensures) c.in_ok-place.place c.in_ok-place.ensures.place c.in_err-held.ensures.pending);
+        absurd (one_pending setting world c.args.profile c.args.file c.in_ok-row.row has c.args.holdings.now is_in (sym c.if-not-is_unfinished.ensures) c.in_ok-place.place c.in_ok-place.ensures.place c.in_err-held.ensures.pending);
     spelled = search rules;
     limits = refl;
     registry = refl;

@@ -11,8 +11,8 @@ returns-in_err-row c = record {
   answers = λ stamp. record {
     comes = λ setting world is_in.
         let fault = err_from_is_err_and c.from_residual.result c.from_residual.ensures.1 in
-        rw (fault.1, fault.2) (comes_nowhere setting world c.args.parts.now _ stamp c.args.profile c.args.file status_there _ _
-        (status_for_file world c.args.profile c.args.file) (c.in_err-row.ensures.found setting world is_in.rows) (read_only setting world c.args.parts.now c.file_of.new.store c.file_of.ensures.same is_in));
+        rw (fault.1, fault.2) (comes_nowhere setting world c.args.holdings.now _ stamp c.args.profile c.args.file status_there _ _
+        (status_for_file world c.args.profile c.args.file) (c.in_err-row.ensures.found setting world is_in.rows) (read_only setting world c.args.holdings.now c.file_of.new.store c.file_of.ensures.same is_in));
     spelled = search rules;
     limits = refl;
     registry = refl;
@@ -24,9 +24,9 @@ returns-then-is_unfinished c = record {
   answers = λ stamp. record {
     comes = λ setting world is_in.
         let has = c.in_ok-row.ensures.found setting world is_in.rows in
-        unfinished_told setting world c.args.profile c.args.file c.in_ok-row.row has c.args.parts.now _ stamp (read_only setting world c.args.parts.now c.file_of.new.store c.file_of.ensures.same is_in)
+        unfinished_told setting world c.args.profile c.args.file c.in_ok-row.row has c.args.holdings.now _ stamp (read_only setting world c.args.holdings.now c.file_of.new.store c.file_of.ensures.same is_in)
         is_in.files (sym c.if-is_unfinished.ensures) c.progress_of.result c.progress_of.ensures.progress
-        (told_at_all c.progress_of.result c.progress_of.ensures.none (no_assembly setting world c.args.profile c.args.file c.in_ok-row.row has c.args.parts.now is_in (sym c.if-is_unfinished.ensures)));
+        (told_at_all c.progress_of.result c.progress_of.ensures.none (no_assembly setting world c.args.profile c.args.file c.in_ok-row.row has c.args.holdings.now is_in (sym c.if-is_unfinished.ensures)));
     spelled = c.progress_of.ensures.spelled stamp.version;
     limits = refl;
     registry = refl;
@@ -38,7 +38,7 @@ returns c = record {
   answers = λ stamp. record {
     comes = λ setting world is_in.
         let has = c.in_ok-row.ensures.found setting world is_in.rows in
-        finished_told setting world c.args.profile c.args.file c.in_ok-row.row has c.args.parts.now _ stamp c.in_ok-pieces.pieces (read_only setting world c.args.parts.now c.file_of.new.store c.file_of.ensures.same is_in)
+        finished_told setting world c.args.profile c.args.file c.in_ok-row.row has c.args.holdings.now _ stamp c.in_ok-pieces.pieces (read_only setting world c.args.holdings.now c.file_of.new.store c.file_of.ensures.same is_in)
         (sym c.if-is_unfinished.ensures) c.in_ok-pieces.ensures.count;
     spelled = search rules;
     limits = refl;
@@ -51,7 +51,7 @@ returns-in_err-pieces c = record {
   answers = λ stamp. record {
     comes = λ setting world is_in.
         let has = c.in_ok-row.ensures.found setting world is_in.rows in
-        absurd (no_count setting world c.args.profile c.args.file c.in_ok-row.row has c.args.parts.now is_in (λ some few. absurd (let told = c.in_err-pieces.ensures.fits some few in cc)));
+        absurd (no_count setting world c.args.profile c.args.file c.in_ok-row.row has c.args.holdings.now is_in (λ some few. absurd (let told = c.in_err-pieces.ensures.fits some few in cc)));
     spelled = search rules;
     limits = refl;
     registry = refl;

@@ -1,6 +1,6 @@
 use Rattle.std.proofs.Common.{ℕ, List, refl, ap, ◌∙◌}
 use Rattle.droid_frame.specs.Frames.{mark_of}
-use Rattle.droid_core_state.specs.declared.stamps.Stamp.{Stamp}
+use Rattle.droid_core_requests.specs.stamps.Stamp.{Stamp}
 use Rattle.droid_core_spec.proofs.Asked.{asked, is_asked, nothing_asked}
 use Rattle.droid_core.specs.Standing.{StandsFor}
 use Rattle.droid_core.proofs.Handling.{handles_malformed, never_store}
@@ -25,15 +25,15 @@ returns-in-Err-Memory-clause-handles c = λ setting history stands.
 
 pub returns-in-Ok-clause-no_store : goal.returns-in-Ok-clause-no_store
 returns-in-Ok-clause-no_store c = λ setting history stands.
-    never_store setting history c.args.frame _ (StandsFor setting c.answer.new.service) stands.parts.legal (returns-in-Ok-clause-handles c setting history stands)
+    never_store setting history c.args.frame _ (StandsFor setting c.answer.new.service) stands.holdings.legal (returns-in-Ok-clause-handles c setting history stands)
 
 pub returns-in-Err-Malformed-clause-no_store : goal.returns-in-Err-Malformed-clause-no_store
 returns-in-Err-Malformed-clause-no_store c = λ setting history stands.
-    never_store setting history c.args.frame _ (StandsFor setting c.args.self.now) stands.parts.legal (returns-in-Err-Malformed-clause-handles c setting history stands)
+    never_store setting history c.args.frame _ (StandsFor setting c.args.self.now) stands.holdings.legal (returns-in-Err-Malformed-clause-handles c setting history stands)
 
 pub returns-in-Err-Memory-clause-no_store : goal.returns-in-Err-Memory-clause-no_store
 returns-in-Err-Memory-clause-no_store c = λ setting history stands.
-    never_store setting history c.args.frame _ (StandsFor setting c.args.self.now) stands.parts.legal (returns-in-Err-Memory-clause-handles c setting history stands)
+    never_store setting history c.args.frame _ (StandsFor setting c.args.self.now) stands.holdings.legal (returns-in-Err-Memory-clause-handles c setting history stands)
 
 pub answer-requires-clause-version : goal.answer-requires-clause-version
 answer-requires-clause-version c = c.in-Ok.ensures.found.1.version_is

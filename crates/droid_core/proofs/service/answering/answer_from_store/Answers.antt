@@ -6,5 +6,5 @@ answer_found-requires-clause-found c = rw c.reply_of-found.ensures.same c.reply_
 
 pub returns-clause-handles : goal.returns-clause-handles
 returns-clause-handles c = λ setting history frame is asks stands.
-    let still = stands_still setting c.args.service.now.parts c.reply_of-found.new.self history c.reply_of-found.ensures.same stands.parts in
-    c.answer_found.ensures.handles setting history frame is asks (record { parts = still; recent = stands.recent; last = stands.last })
+    let still = stands_still setting c.args.service.now.holdings c.reply_of-found.new.self history c.reply_of-found.ensures.same stands.holdings in
+    c.answer_found.ensures.handles setting history frame is asks (record { holdings = still; recent = stands.recent; last = stands.last })

@@ -1,6 +1,6 @@
 use Rattle.std.proofs.Common.{ap, sym, subst, ◌∙◌}
 use Rattle.droid_core_spec.specs.Verdicts.{is_refused}
-use Rattle.droid_core_state.specs.Changes.{stamped}
+use Rattle.droid_core_requests.specs.Changes.{stamped}
 use Rattle.droid_frame.specs.types.reply.Reply.{Reply}
 use Rattle.droid_core.specs.Recent.{IsKeptRow}
 use Rattle.droid_core.proofs.service.answering.tell_new.Goals as goal

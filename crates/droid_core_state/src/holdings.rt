@@ -1,4 +1,4 @@
-//! The parts of a service.
+//! What a service holds.
 
 use crate::limits::Limits;
 use droid_core_files::UnfinishedFiles;
@@ -6,9 +6,9 @@ use droid_pronom::Registry;
 use droid_store::Store;
 use std::alloc::Global;
 
-/// The parts of a service: what it was made with, its rows and its unfinished files.
+/// What a service holds: what it was made with, its rows and its unfinished files.
 #[derive(Drop)]
-pub struct Parts {
+pub struct Holdings {
     /// Where memory comes from.
     pub alloc: Global,
     /// How much the service takes at the most.

@@ -4,7 +4,7 @@ use Rattle.droid_core_state.proofs.LookUps.{child_found}
 use Rattle.droid_core_state.proofs.ShortRows.{place_is_short}
 use Rattle.droid_store.specs.Rows.{child_at}
 use Rattle.droid_core_requests.proofs.PlaceChecks.{child_told, no_child, folder_refused, bad_name, too_deep, taken, allowed}
-use Rattle.droid_core_requests.proofs.new_places.place_of.Goals as goal
+use Rattle.droid_core_requests.proofs.new_places.path_of_new.Goals as goal
 
 pub returns-in_err-folder-clause-found : goal.returns-in_err-folder-clause-found
 returns-in_err-folder-clause-found c = λ setting world profile keeps sound found.
