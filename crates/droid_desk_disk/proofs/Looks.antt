@@ -1,5 +1,5 @@
 -- Entries that are looked at one after the other.
-use Rattle.std.proofs.Common.{◌≡◌, ◌∙◌, ℕ, List, [], ◌∷◌, ◌++◌, ap, ap₂, sym, refl, map}
+use Rattle.std.proofs.Common.{◌≡◌, ◌∙◌, ℕ, List, [], ◌∷◌, ◌++◌, ap, ap₂, refl, map}
 use Rattle.std.proofs.lemmas.List.{map-append}
 use Rattle.droid_desk_tree.specs.Told.{GoesOver}
 use Rattle.droid_desk_tree.specs.declared.entry.Entry.{Entry}

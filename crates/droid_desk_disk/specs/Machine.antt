@@ -1,5 +1,5 @@
 -- What the machine's file system may say, as far as anything is known of it (this project's own).
-use Rattle.std.specs.Prelude.{◌≡◌, ℕ, ◌≤◌, List, ◌++◌, length, Option, Some, None}
+use Rattle.std.specs.Prelude.{◌≡◌, ℕ, ◌≤◌, List, ◌++◌, length, Some, None}
 use Rattle.std.specs.Fs.{IsDir, IsFile, file_type, metadata_len}
 use Rattle.std.specs.declared.fs.attrs.FileType.{FileType}
 use Rattle.std.specs.declared.fs.attrs.Metadata.{Metadata}

@@ -3,7 +3,7 @@
 use crate::output::OutputFault;
 use droid_frame::Text;
 use std::alloc::{AllocError, Global};
-use std::fs::{File, Files};
+use std::fs::{self, File, Files};
 use std::io::{self, Error, ErrorKind, Write};
 
 /// How many names are tried for the file.
@@ -24,6 +24,7 @@ pub(crate) struct Beside<'a, R: Files> {
     runtime: &'a R,
     alloc: Global,
     place: Text,
+    free: Option<Text>,
     made: Option<Made<R::File>>,
 }
 
@@ -34,8 +35,18 @@ impl<'a, R: Files> Beside<'a, R> {
             runtime,
             alloc,
             place,
+            free: None,
             made: None,
         }
+    }
+
+    /// Sees that a file can be made: one is made, and removed again. Its path is kept, so that the first bytes take no
+    /// memory for one.
+    pub fn see_room(&mut self) -> Result<(), OutputFault> {
+        let Made { file: _, path } = self.make()?;
+        let _ = fs::remove_file(self.runtime, path.as_str());
+        self.free = Some(path);
+        Ok(())
     }
 
     /// The file where it is made, and what else it is.
@@ -44,13 +55,25 @@ impl<'a, R: Files> Beside<'a, R> {
             runtime,
             alloc: _,
             place,
+            free: _,
             made,
         } = self;
         (runtime, place, made)
     }
 
+    /// Makes the file by the path that was kept, or where something has its name by now, by another.
+    fn begin(&mut self) -> Result<Made<R::File>, OutputFault> {
+        let Some(path) = self.free.take() else {
+            return self.make();
+        };
+        match File::create_new(self.runtime, path.as_str()) {
+            Ok(file) => Ok(Made { file, path }),
+            Err(_) => self.make(),
+        }
+    }
+
     /// Makes a file under a name that nothing has.
-    pub fn make(&self) -> Result<Made<R::File>, OutputFault> {
+    fn make(&self) -> Result<Made<R::File>, OutputFault> {
         for number in 0..NAMES {
             let Ok(path) = path_beside(self.alloc, self.place.as_str(), number) else {
                 return Err(OutputFault::Memory);
@@ -76,7 +99,7 @@ impl<R: Files> Write for Beside<'_, R> {
         if let Some(made) = &mut self.made {
             return made.file.write(buf);
         }
-        let Ok(mut made) = self.make() else {
+        let Ok(mut made) = self.begin() else {
             return Err(Error::from(ErrorKind::PermissionDenied));
         };
         let written = made.file.write(buf);

@@ -3,6 +3,7 @@
 ghost use Rattle.std.specs.Prelude.{◌≡◌, ◌⊎◌, ◌++◌, IfErr, IfOk, IsFalse, IsTrue};
 ghost use Rattle.droid_desk_tree.specs.declared.fault.TreeFault.TheVariants.{Memory, Unreadable};
 ghost use Rattle.droid_desk_disk.specs.Told.{IsSameFile, OpensAt, OpensNone, TellsBelow, folder_path};
+ghost use Rattle.droid_desk_disk.specs.Tops.{IsWithoutSlashes};
 
 use crate::disk::{Disk, Found};
 use crate::listing::list;
@@ -24,11 +25,13 @@ pub struct Folder<D: Disk + Drop> {
 impl<D: Disk + Drop> Folder<D> {
     /// The folder at this path, which may end in `/`.
     pub fn new(alloc: Global, disk: D, path: &str) -> Result<Folder<D>, AllocError>
-        ensures { IfOk result (λ folder. folder.disk ≡ disk) }
+        ensures disk { IfOk result (λ folder. folder.disk ≡ disk) }
+        ensures top { IfOk result (λ folder. IsWithoutSlashes path.now folder.top) }
     {
+        let top = without_slashes(path);
         Ok(Folder {
             disk,
-            top: Text::copy_of(alloc, path.trim_end_matches('/'))?,
+            top: Text::copy_of(alloc, top)?,
             open: None,
         })
     }
@@ -60,6 +63,13 @@ impl<D: Disk + Drop> Tree for Folder<D> {
         self.open = Some(file);
         Ok(())
     }
+}
+
+/// The path, without all slashes at its end.
+fn without_slashes(path: &str) -> &str
+    ensures { IsWithoutSlashes path.now result.now }
+{
+    path.trim_end_matches('/')
 }
 
 /// The path, where there was memory for it.

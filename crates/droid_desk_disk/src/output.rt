@@ -3,7 +3,7 @@
 ghost use Rattle.std.specs.Prelude.{◌≡◌, None};
 
 use crate::beside::{Beside, Made};
-use droid_frame::{SteadyWrite, Text, Unsteady};
+use droid_frame::{Noted, SteadyWrite, Text};
 use std::alloc::Global;
 use std::fs::{self, Files, OpenFile};
 use std::io::{self, Write};
@@ -25,7 +25,7 @@ pub enum OutputFault {
 /// meet it.
 #[derive(Drop)]
 pub struct Output<'a, R: Files> {
-    file: Unsteady<Beside<'a, R>>,
+    file: Noted<Beside<'a, R>>,
 }
 
 impl<'a, R: Files> Output<'a, R> {
@@ -41,11 +41,10 @@ impl<'a, R: Files> Output<'a, R> {
         let Ok(place) = Text::copy_of(alloc, place) else {
             return Err(OutputFault::Memory);
         };
-        let beside = Beside::new(alloc, runtime, place);
-        let Made { file: _, path } = beside.make()?;
-        let _ = fs::remove_file(runtime, path.as_str());
+        let mut beside = Beside::new(alloc, runtime, place);
+        beside.see_room()?;
         Ok(Output {
-            file: Unsteady::new(beside),
+            file: Noted::new(beside),
         })
     }
 

@@ -20,7 +20,7 @@ pub record At (setting : Setting) (world : World) (own : Own) : Type 0 where
   pub are_new : (number : ℕ) → own.number ≤ number → kept history 1 number ≡ None
 
 -- in every world where the service is, a request of version 2 is answered as it is judged there, and the service is then where that leads;
--- or memory was wanting, and it is where it was
+-- or memory was refused, and it is where it was
 abbrev pub Answers : Own → Asked → Own → Type 0
 Answers old asked new = (setting : Setting) (world : World) → At setting world old →
     MatchBool (is_want asked.1) (At setting world new)

@@ -3,6 +3,7 @@ pub use Rattle.droid_core.specs.Setting
 pub use Rattle.droid_core.specs.Standing
 -- What is asked of it, and what comes of that.
 pub mod Answering
+pub mod Faults
 pub mod Making
 pub mod Nodes
 pub mod Profiled

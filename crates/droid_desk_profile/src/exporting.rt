@@ -1,6 +1,6 @@
 //! The export of a profile, part by part.
 
-ghost use Rattle.std.specs.Prelude.{◌≡◌, ◌+◌, ℕ, List, [], true, IfOk, OnOk, length};
+ghost use Rattle.std.specs.Prelude.{◌≡◌, ◌+◌, ℕ, List, [], true, IfErr, IfOk, OnOk, length};
 ghost use Rattle.std.specs.Io.KnownBytes.{Appends};
 ghost use Rattle.droid_core.specs.Setting.{Setting};
 ghost use Rattle.droid_core.specs.World.{Node};
@@ -8,6 +8,7 @@ ghost use Rattle.droid_frame.specs.types.reply.Reply.TheVariants as replies;
 ghost use Rattle.droid_frame.specs.types.request.Request.TheVariants as requests;
 ghost use Rattle.droid_desk_tree.specs.declared.walking.Options.{Options};
 ghost use Rattle.droid_desk_profile.specs.Answering.{Answers, Holds, everything, text_of};
+ghost use Rattle.droid_desk_profile.specs.Faults.{IsPastWalk};
 
 use crate::fault::ProfileFault;
 use crate::own::Own;
@@ -33,8 +34,9 @@ pub(crate) fn export<W: SteadyWrite>(
     profile: u32,
     writer: &mut W,
 ) -> Result<(), ProfileFault>
-    ensures { (setting : Setting) (options : Options) (nodes : List Node) → profile ≡ 1 → Holds setting options nodes own.old →
+    ensures text { (setting : Setting) (options : Options) (nodes : List Node) → profile ≡ 1 → Holds setting options nodes own.old →
         OnOk result (Appends (W.contents writer.old) (W.contents writer.new) (text_of setting options nodes)) }
+    ensures past { IfErr result (λ fault. IsPastWalk fault) }
 {
     let mut from = 0;
     for _ in 0..u64::MAX {
@@ -51,7 +53,8 @@ pub(crate) fn export<W: SteadyWrite>(
 
 /// The place after so many bytes.
 fn place_after(from: u64, bytes: &[u8]) -> Result<u64, ProfileFault>
-    ensures { IfOk result (λ after. after ≡ from + length bytes.now) }
+    ensures after { IfOk result (λ after. after ≡ from + length bytes.now) }
+    ensures past { IfErr result (λ fault. IsPastWalk fault) }
 {
     match from.checked_add(bytes.len() as u64) {
         Some(after) => Ok(after),
@@ -61,7 +64,8 @@ fn place_after(from: u64, bytes: &[u8]) -> Result<u64, ProfileFault>
 
 /// The part from this place on.
 fn part_from(alloc: Global, own: &mut Own, profile: u32, from: u64) -> Result<Part, ProfileFault>
-    ensures { IfOk result (λ part. (as_of : ℕ) × Answers own.old (requests.Export profile from 1048576 everything, replies.Part as_of part.total part.bytes) own.new) }
+    ensures part { IfOk result (λ part. (as_of : ℕ) × Answers own.old (requests.Export profile from 1048576 everything, replies.Part as_of part.total part.bytes) own.new) }
+    ensures past { IfErr result (λ fault. IsPastWalk fault) }
 {
     let reply = match ask_part(alloc, own, profile, from) {
         Ok(reply) => reply,
@@ -90,7 +94,8 @@ fn ask_part(alloc: Global, own: &mut Own, profile: u32, from: u64) -> Result<Rep
 
 /// The part in a reply.
 fn part_of(reply: Reply) -> Result<Part, ProfileFault>
-    ensures { IfOk result (λ part. (as_of : ℕ) × (reply ≡ replies.Part as_of part.total part.bytes)) }
+    ensures part { IfOk result (λ part. (as_of : ℕ) × (reply ≡ replies.Part as_of part.total part.bytes)) }
+    ensures past { IfErr result (λ fault. IsPastWalk fault) }
 {
     match reply {
         Reply::Part {

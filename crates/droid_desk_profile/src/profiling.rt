@@ -1,9 +1,11 @@
 //! The profile of a tree.
 
-ghost use Rattle.std.specs.Prelude.{◌≡◌, [], IfOk, IsTrue};
+ghost use Rattle.std.specs.Prelude.{◌≡◌, [], IfErr, IfOk, IsTrue};
 ghost use Rattle.droid_core.specs.Setting.{Setting};
 ghost use Rattle.droid_core.specs.Standing.{StandsFor};
 ghost use Rattle.droid_desk_profile.specs.Profiled.{WritesProfile, WritesTree};
+ghost use Rattle.droid_desk_profile.specs.declared.fault.ProfileFault.TheVariants.{Walk};
+ghost use Rattle.droid_desk_tree.specs.declared.fault.WalkFault.{WalkFault};
 
 use crate::exporting::export;
 use crate::fault::ProfileFault;
@@ -33,6 +35,8 @@ pub fn profile<T: Tree, W: Watcher, O: SteadyWrite>(
     // files, each file with its bytes as they were read.
     ensures whole { (setting : Setting) → StandsFor setting service [] → IfOk result (λ whole. IsTrue whole →
         WritesProfile T.tells setting options tree.old tree.new (O.contents writer.old) (O.contents writer.new)) }
+    // Where the walk ended early, nothing was written.
+    ensures nothing { IfErr result (λ fault. (why : WalkFault) → fault ≡ Walk why → writer.new ≡ writer.old) }
 {
     let mut own = Own::new(service);
     let walked = match walk(alloc, tree, &mut own, watcher, options) {

@@ -1,7 +1,7 @@
 //! How the profile of a folder ends.
 
-ghost use Rattle.std.specs.Prelude.{◌≡◌};
-ghost use Rattle.droid_desk_profiling.specs.Endings.{status_of};
+ghost use Rattle.std.specs.Prelude.{◌≡◌, option_map};
+ghost use Rattle.droid_desk_profiling.specs.Endings.{fault_text, is_written, profile_fault_text, status_of, walk_fault_text};
 
 use droid_desk_disk::OutputFault;
 use droid_desk_profile::ProfileFault;
@@ -44,7 +44,9 @@ impl Profiled {
     }
 
     /// What the fault is called, where it is one.
-    fn fault_name(self) -> Option<&'static str> {
+    fn fault_name(self) -> Option<&'static str>
+        ensures { option_map (λ name. name.now) result ≡ fault_text self }
+    {
         match self {
             Profiled::Whole | Profiled::Partly => None,
             Profiled::NoFolder => Some("Folder"),
@@ -55,7 +57,9 @@ impl Profiled {
     }
 
     /// Whether the whole text was written.
-    pub(crate) fn is_written(self) -> bool {
+    pub(crate) fn is_written(self) -> bool
+        ensures { result ≡ is_written self }
+    {
         match self {
             Profiled::Whole | Profiled::Partly => true,
             Profiled::NoFolder | Profiled::NoOutput(_) | Profiled::Fault(_) => false,
@@ -64,7 +68,9 @@ impl Profiled {
 }
 
 /// What a fault is called.
-fn name_of(fault: ProfileFault) -> &'static str {
+fn name_of(fault: ProfileFault) -> &'static str
+    ensures { result.now ≡ profile_fault_text fault }
+{
     match fault {
         ProfileFault::Walk(fault) | ProfileFault::Export(fault) => walk_fault_name(fault),
         ProfileFault::Write(_) => "Write",
@@ -72,7 +78,9 @@ fn name_of(fault: ProfileFault) -> &'static str {
 }
 
 /// What a fault of a walk is called.
-fn walk_fault_name(fault: WalkFault) -> &'static str {
+fn walk_fault_name(fault: WalkFault) -> &'static str
+    ensures { result.now ≡ walk_fault_text fault }
+{
     match fault {
         WalkFault::Memory => "Memory",
         WalkFault::Exchange => "Exchange",

@@ -1,16 +1,22 @@
 //! The profile of a folder, written to standard output or to a file.
 
-ghost use Rattle.std.specs.Prelude.{◌≡◌, []};
+ghost use Rattle.std.specs.Prelude.{◌≡◌, [], false, IfErr, IfOk};
 ghost use Rattle.droid_desk_profile.specs.Setting.{Setting};
 ghost use Rattle.droid_desk_profile.specs.Standing.{StandsFor};
-ghost use Rattle.droid_desk_profile.specs.Profiled.{WritesProfile};
+ghost use Rattle.droid_desk_profile.specs.Profiled.{WritesProfile, WritesTree};
+ghost use Rattle.droid_desk_profile.specs.declared.fault.ProfileFault.TheVariants.{Walk};
+ghost use Rattle.droid_desk_profiling.specs.Ways.{CountsAndWrites, CountsAndWritesRest};
+ghost use Rattle.droid_desk_tree.specs.Counts.{CountsTooMany};
+ghost use Rattle.droid_desk_tree.specs.declared.fault.WalkFault.{WalkFault};
+ghost use Rattle.droid_desk_tree.specs.declared.fault.WalkFault.TheVariants.{Entries};
 
+use crate::audience::Audience;
 use crate::ending::Profiled;
 use droid_desk_disk::{Folder, Output, System};
 use droid_desk_profile::{ProfileFault, Service, profile};
 use droid_desk_telling::{Teller, Telling};
 use droid_desk_tree::{Options, Tree, WalkFault, Watcher, count};
-use droid_frame::{HashKind, SteadyWrite, Unsteady};
+use droid_frame::{HashKind, Noted, SteadyWrite};
 use std::alloc::Global;
 use std::fs::{self, File, Files};
 use std::io;
@@ -50,7 +56,7 @@ where
     }
     match wanted.output {
         Some(path) => profile_to_file(rt, service, wanted, path),
-        None => profile_to(rt, service, wanted, &mut Unsteady::new(io::writer(rt))),
+        None => profile_to(rt, service, wanted, &mut Noted::new(io::writer(rt))),
     }
 }
 
@@ -97,19 +103,55 @@ where
         return Profiled::Fault(ProfileFault::Walk(WalkFault::Memory));
     };
     let mut teller = Teller::new(rt, alloc, wanted.telling);
-    match count(alloc, &mut tree, NODE_LIMIT) {
-        Ok(counted) => teller.expect(counted),
-        Err(fault) => return Profiled::Fault(ProfileFault::Walk(fault)),
-    }
     let options = Options {
         scan_limit: wanted.limit,
         match_all: wanted.match_all,
         hash: wanted.hash,
         piece_size: PIECE_SIZE,
     };
-    let profiled = profile_of(alloc, service, &mut tree, &mut teller, options, writer);
-    teller.end();
-    profiled
+    match profile_tree(
+        alloc,
+        service,
+        &mut tree,
+        &mut teller,
+        options,
+        NODE_LIMIT,
+        writer,
+    ) {
+        Ok(profiled) => {
+            teller.end();
+            profiled
+        }
+        Err(fault) => Profiled::Fault(ProfileFault::Walk(fault)),
+    }
+}
+
+/// Counts what is in a tree, tells the watcher how much it is, and profiles it by a new service. A fault of the counting
+/// comes before the first request.
+pub fn profile_tree<T: Tree, W: Audience, O: SteadyWrite>(
+    alloc: Global,
+    service: Service,
+    tree: &mut T,
+    watcher: &mut W,
+    options: Options,
+    limit: u64,
+    writer: &mut O,
+) -> Result<Profiled, WalkFault>
+    // Where all is there, the tree was counted and has no more folders and files than the limit, and the text is that of
+    // `profile_of`.
+    ensures whole { (setting : Setting) → StandsFor setting service [] → IfOk result (λ ended. ended ≡ Profiled.Whole →
+        CountsAndWrites T.tells setting options limit tree.old tree.new (O.contents writer.old) (O.contents writer.new)) }
+    ensures partly { (setting : Setting) → StandsFor setting service [] → IfOk result (λ ended. ended ≡ Profiled.Partly →
+        CountsAndWritesRest T.tells W.expects W.hears setting options limit tree.old tree.new watcher.old watcher.new (O.contents writer.old) (O.contents writer.new)) }
+    // Where the counting failed, nothing was written, and nobody was told of anything.
+    ensures nothing { IfErr result (λ _. (writer.new ≡ writer.old) × (watcher.new ≡ watcher.old)) }
+    // That there are too many is said only where more were listed.
+    ensures too_many { IfErr result (λ fault. fault ≡ Entries → CountsTooMany T.tells limit tree.old tree.new) }
+{
+    let counted = count(alloc, tree, limit)?;
+    watcher.hear_count(counted);
+    let ended = profile_of(alloc, service, tree, watcher, options, writer);
+    Ok(ended)
 }
 
 /// Profiles a tree by a new service.
@@ -125,6 +167,11 @@ pub fn profile_of<T: Tree, W: Watcher, O: SteadyWrite>(
     // each file with its bytes as they were read.
     ensures whole { (setting : Setting) → StandsFor setting service [] → result ≡ Profiled.Whole →
         WritesProfile T.tells setting options tree.old tree.new (O.contents writer.old) (O.contents writer.new) }
+    // Where something was left out, the watcher was told of it with its reason, and the text is that of the rest.
+    ensures partly { (setting : Setting) → StandsFor setting service [] → result ≡ Profiled.Partly →
+        WritesTree T.tells W.hears setting options false tree.old tree.new watcher.old watcher.new (O.contents writer.old) (O.contents writer.new) }
+    // Where the walk ended early, nothing was written.
+    ensures nothing { (why : WalkFault) → result ≡ Profiled.Fault (Walk why) → writer.new ≡ writer.old }
 {
     match profile(alloc, service, tree, watcher, options, writer) {
         Ok(true) => Profiled::Whole,

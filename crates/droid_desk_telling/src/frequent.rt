@@ -1,5 +1,8 @@
 //! The most frequent formats.
 
+ghost use Rattle.std.specs.Prelude.{◌≡◌, IfOk, map};
+ghost use Rattle.droid_desk_telling.specs.Frequencies.{AreMostFrequent, format_of};
+
 use droid_frame::Text;
 use std::alloc::{AllocError, Global};
 use std::collections::BTreeMap;
@@ -20,15 +23,35 @@ pub(crate) struct Frequent {
 pub(crate) fn most_frequent(
     alloc: Global,
     formats: &BTreeMap<String, u64>,
-) -> Result<Vec<Frequent>, AllocError> {
-    let mut found = Vec::new(alloc);
+) -> Result<Vec<Frequent>, AllocError>
+    ensures { IfOk result (λ told. AreMostFrequent (map format_of formats.now.entries) told.items) }
+{
+    let all = all_formats(alloc, formats)?;
+    let told = first_of(all)?;
+    Ok(told)
+}
+
+/// All formats, in the order of their identifiers.
+fn all_formats(alloc: Global, formats: &BTreeMap<String, u64>) -> Result<Vec<Frequent>, AllocError>
+    ensures { IfOk result (λ all. all.items ≡ map format_of formats.now.entries) }
+{
+    let mut all = Vec::new(alloc);
     for (puid, count) in formats.iter() {
-        found.push(Frequent {
-            puid: Text::copy_of(alloc, puid.as_str())?,
+        let puid = Text::copy_of(alloc, puid.as_str())?;
+        all.push(Frequent {
+            puid,
             count: *count,
         })?;
     }
-    found.sort_by(|first, second| second.count.cmp(&first.count))?;
-    found.truncate(TOLD);
-    Ok(found)
+    Ok(all)
+}
+
+/// The most frequent ones; equally frequent ones stay in their order.
+fn first_of(all: Vec<Frequent>) -> Result<Vec<Frequent>, AllocError>
+    ensures { IfOk result (λ told. AreMostFrequent all.items told.items) }
+{
+    let mut told = all;
+    told.sort_by_key(|format| u64::MAX.saturating_sub(format.count))?;
+    told.truncate(TOLD);
+    Ok(told)
 }

@@ -1,8 +1,13 @@
 //! What is told on standard error while a tree is walked: what is left out, how far it is, and at the end what was done.
+//!
+//! Which text is told is proved; that it is printed, and when the clock is asked, are for tests, since the kit's own calls
+//! that print and tell the time promise nothing.
 #![tactic(auto)]
 
 mod columns;
+mod escaped;
 mod frequent;
+pub mod laws;
 mod line;
 mod measures;
 mod progress;
@@ -10,5 +15,8 @@ mod shown;
 mod table;
 mod tally;
 mod teller;
+mod telling;
+mod totals;
 
-pub use teller::{Teller, Telling};
+pub use teller::Teller;
+pub use telling::Telling;

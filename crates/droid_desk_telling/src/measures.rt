@@ -1,6 +1,7 @@
 //! Numbers of bytes and of seconds, as they are told.
 
-ghost use Rattle.std.specs.Prelude.{◌<◌};
+ghost use Rattle.std.specs.Prelude.{◌≡◌, ◌<◌, Some};
+ghost use Rattle.droid_desk_telling.specs.Units.{rate_of, span_text, speed_text, unit_bytes, unit_name};
 
 use std::fmt::{self, Display, Formatter, Write};
 
@@ -14,8 +15,11 @@ pub(crate) struct Unit {
 }
 
 /// The unit in which so many bytes are told: the first one in which they have four digits at most, or the last one.
+#[tactic(auto, unfolding(crate::specs::Units::unit_bytes, crate::specs::Units::unit_name))]
 pub(crate) fn unit_for(bytes: u64) -> Unit
-    ensures { 0 < result.bytes }
+    ensures some { 0 < result.bytes }
+    ensures bytes { result.bytes ≡ unit_bytes bytes }
+    ensures name { result.name.now ≡ unit_name bytes }
 {
     let (bytes, name) = match bytes {
         0..=9_999 => (1, "bytes"),
@@ -27,8 +31,24 @@ pub(crate) fn unit_for(bytes: u64) -> Unit
 }
 
 /// How many a second there are, of so many in so many milliseconds.
-pub(crate) fn rate(count: u64, milliseconds: u64) -> u64 {
+pub(crate) fn rate(count: u64, milliseconds: u64) -> u64
+    ensures { result ≡ rate_of count milliseconds }
+{
     count.saturating_mul(1_000) / milliseconds.max(1)
+}
+
+/// So many bytes a second, as they are told.
+#[derive(Clone, Copy)]
+pub(crate) struct Speed(pub u64);
+
+impl Display for Speed {
+    ghost output = { λ speed. Some (speed_text speed.0) };
+
+    #[tactic(auto, unfolding(crate::specs::Units::speed_text))]
+    fn fmt<W: Write>(&self, f: &mut Formatter<W>) -> fmt::Result {
+        let unit = unit_for(self.0);
+        write!(f, "{} {}/s", self.0 / unit.bytes, unit.name)
+    }
 }
 
 /// So many seconds, as they are told: in seconds, minutes, or hours and minutes.
@@ -36,6 +56,9 @@ pub(crate) fn rate(count: u64, milliseconds: u64) -> u64 {
 pub(crate) struct Span(pub u64);
 
 impl Display for Span {
+    ghost output = { λ span. Some (span_text span.0) };
+
+    #[tactic(auto, unfolding(crate::specs::Units::span_text))]
     fn fmt<W: Write>(&self, f: &mut Formatter<W>) -> fmt::Result {
         let seconds = self.0;
         let minutes = seconds / 60;

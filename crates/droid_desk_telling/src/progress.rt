@@ -1,6 +1,9 @@
 //! How far a walk is.
 
-use crate::measures::{Span, rate, unit_for};
+ghost use Rattle.std.specs.Prelude.{◌≡◌, [], Some};
+ghost use Rattle.droid_desk_telling.specs.HowFar.{amount_of, left_text, progress_text, time_left, work_in};
+
+use crate::measures::{Span, Speed, rate, unit_for};
 use droid_desk_tree::Counted;
 use std::fmt::{self, Display, Formatter, Write};
 
@@ -18,7 +21,9 @@ pub(crate) struct Amount {
 
 impl Amount {
     /// Nothing.
-    pub fn none() -> Amount {
+    pub fn none() -> Amount
+        ensures { result ≡ record { entries = 0; bytes = 0 } }
+    {
         Amount {
             entries: 0,
             bytes: 0,
@@ -26,7 +31,9 @@ impl Amount {
     }
 
     /// All that was counted.
-    pub fn of(counted: Counted) -> Amount {
+    pub fn of(counted: Counted) -> Amount
+        ensures { result ≡ amount_of counted }
+    {
         let nodes = counted.folders.saturating_add(counted.files);
         Amount {
             entries: nodes.saturating_add(counted.left_out),
@@ -35,7 +42,9 @@ impl Amount {
     }
 
     /// How much work it is, in bytes.
-    fn work(self) -> u64 {
+    fn work(self) -> u64
+        ensures { result ≡ work_in self }
+    {
         self.entries
             .saturating_mul(ENTRY)
             .saturating_add(self.bytes)
@@ -54,29 +63,47 @@ pub(crate) struct Progress {
 }
 
 impl Progress {
-    /// How many seconds are left, where what was done so far tells.
-    fn seconds_left(self) -> Option<u64> {
+    /// How long it still takes, where what was done so far tells.
+    #[tactic(auto, using(crate::proofs::Quotients::quotient_is))]
+    fn time_left(self) -> TimeLeft
+        ensures { result.0 ≡ time_left self }
+    {
         let left = self.all.work().saturating_sub(self.done.work());
-        left.checked_div(rate(self.done.work(), self.milliseconds))
+        TimeLeft(left.checked_div(rate(self.done.work(), self.milliseconds)))
     }
 }
 
 impl Display for Progress {
+    ghost output = { λ progress. Some (progress_text progress) };
+
+    #[tactic(auto, unfolding(crate::specs::HowFar::progress_text))]
     fn fmt<W: Write>(&self, f: &mut Formatter<W>) -> fmt::Result {
         let Progress { all, done, .. } = *self;
         let unit = unit_for(all.bytes);
-        write!(f, "{} of {} entries, ", done.entries, all.entries)?;
         write!(
             f,
-            "{} of {} {}, ",
+            "{} of {} entries, {} of {} {}, {}{}",
+            done.entries,
+            all.entries,
             done.bytes / unit.bytes,
             all.bytes / unit.bytes,
-            unit.name
-        )?;
-        let rate = rate(done.bytes, self.milliseconds);
-        let unit = unit_for(rate);
-        write!(f, "{} {}/s", rate / unit.bytes, unit.name)?;
-        match self.seconds_left() {
+            unit.name,
+            Speed(rate(done.bytes, self.milliseconds)),
+            self.time_left()
+        )
+    }
+}
+
+/// How many seconds are left, as they are told: nothing, where that isn't known.
+#[derive(Clone, Copy)]
+struct TimeLeft(Option<u64>);
+
+impl Display for TimeLeft {
+    ghost output = { λ left. Some (left_text left.0) };
+
+    #[tactic(auto, unfolding(crate::specs::HowFar::left_text))]
+    fn fmt<W: Write>(&self, f: &mut Formatter<W>) -> fmt::Result {
+        match self.0 {
             Some(seconds) => write!(f, ", {} left", Span(seconds)),
             None => Ok(()),
         }

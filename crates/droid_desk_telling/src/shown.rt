@@ -1,5 +1,11 @@
 //! Paths and causes as they are told.
 
+ghost use Rattle.std.specs.Prelude.{◌≡◌, chars, Some, None, if◌then◌else◌, option_map};
+ghost use Rattle.std.specs.Char.{is_control};
+ghost use Rattle.std.specs.List.{list_any};
+ghost use Rattle.droid_desk_telling.specs.Paths.{cause_text, is_plain, left_out_text, shown_text};
+
+use crate::escaped::write_escaped;
 use droid_desk_tree::LeftOut;
 use droid_frame::Refusal;
 use std::fmt::{self, Display, Formatter, Write};
@@ -9,29 +15,59 @@ use std::fmt::{self, Display, Formatter, Write};
 pub(crate) struct Shown<'a>(pub &'a [u8]);
 
 impl Display for Shown<'_> {
+    ghost output = { λ shown. Some (shown_text shown.0.now) };
+
+    #[tactic(auto, unfolding(crate::specs::Paths::shown_text))]
     fn fmt<W: Write>(&self, f: &mut Formatter<W>) -> fmt::Result {
         match plain_text(self.0) {
             Some(text) => f.write_str(text),
-            None => write!(f, "{}", self.0.escape_ascii()),
+            None => write_escaped(self.0, f),
         }
     }
 }
 
 /// The path as text, where it is text without control characters.
-fn plain_text(path: &[u8]) -> Option<&str> {
+fn plain_text(path: &[u8]) -> Option<&str>
+    ensures { option_map (λ text. text.now) result ≡ (if is_plain path.now then Some path.now else None) }
+{
     let Ok(text) = std::str::from_utf8(path) else {
         return None;
     };
-    for letter in text.chars() {
-        if letter.is_control() {
-            return None;
-        }
+    if has_control(text) {
+        return None;
     }
     Some(text)
 }
 
+/// Whether a text has a control character.
+fn has_control(text: &str) -> bool
+    ensures { result ≡ list_any is_control (chars text.now) }
+{
+    text.chars().any(|letter| letter.is_control())
+}
+
+/// What is told of something that was left out: its path, and why.
+#[derive(Clone, Copy)]
+pub(crate) struct NotTaken<'a> {
+    /// Its path, which may be no text.
+    pub path: &'a [u8],
+    /// Why it was left out.
+    pub why: LeftOut,
+}
+
+impl Display for NotTaken<'_> {
+    ghost output = { λ it. Some (left_out_text (shown_text it.path.now) (cause_text it.why)) };
+
+    fn fmt<W: Write>(&self, f: &mut Formatter<W>) -> fmt::Result {
+        writeln!(f, "left out: {}: {}", Shown(self.path), cause(self.why))
+    }
+}
+
 /// Why something was left out.
-pub(crate) fn cause(why: LeftOut) -> &'static str {
+#[tactic(auto, unfolding(crate::specs::Paths::cause_text))]
+fn cause(why: LeftOut) -> &'static str
+    ensures { result.now ≡ cause_text why }
+{
     match why {
         LeftOut::Kind => "neither a folder nor a regular file, or it can't be looked at",
         LeftOut::Name => "its name is no UTF-8",

@@ -1,29 +1,134 @@
 //! The table of what a walk did.
 
-use crate::frequent::most_frequent;
-use crate::tally::Tally;
-use std::alloc::Global;
-use std::io;
+ghost use Rattle.std.specs.Prelude.{Some, option_map, flat_map};
+ghost use Rattle.std.specs.Fmt.{WritesOnOk};
+ghost use Rattle.droid_desk_telling.specs.Tables.{count_line, format_line, formats_text, seconds_text, table_text};
 
-/// Prints the table, line by line.
-pub(crate) fn print_table<R: Eprint>(rt: &R, alloc: Global, tally: &Tally) -> io::Result<()> {
-    eprintln!(rt; "folders and files: {}", tally.taken)?;
-    eprintln!(rt; "files by signature: {}", tally.by_signature)?;
-    eprintln!(rt; "files by extension: {}", tally.by_extension)?;
-    eprintln!(rt; "files not identified: {}", tally.unidentified)?;
-    eprintln!(rt; "mismatches: {}", tally.mismatches)?;
-    print_formats(rt, alloc, tally)?;
-    eprintln!(rt; "bytes read: {}", tally.bytes)
+use crate::frequent::Frequent;
+use crate::tally::Tally;
+use std::fmt::{self, Display, Formatter, Write};
+
+/// A name and a number, in a line.
+#[derive(Clone, Copy)]
+pub(crate) struct CountLine<'a> {
+    /// What is counted.
+    pub name: &'a str,
+    /// How much of it there is.
+    pub count: u64,
 }
 
-/// Prints the most frequent formats.
-fn print_formats<R: Eprint>(rt: &R, alloc: Global, tally: &Tally) -> io::Result<()> {
-    let frequent = match most_frequent(alloc, &tally.formats) {
-        Ok(frequent) if tally.has_all_formats => frequent,
-        _ => return eprintln!(rt; "formats: there was no memory to count them"),
-    };
-    for format in frequent.as_slice() {
-        eprintln!(rt; "format {}: {}", format.puid.as_str(), format.count)?;
+impl Display for CountLine<'_> {
+    ghost output = { λ line. Some (count_line line.name.now line.count) };
+
+    #[tactic(auto, unfolding(crate::specs::Tables::count_line))]
+    fn fmt<W: Write>(&self, f: &mut Formatter<W>) -> fmt::Result {
+        writeln!(f, "{}: {}", self.name, self.count)
+    }
+}
+
+/// The table of what a walk did. Without formats there was no memory to count them.
+#[derive(Clone, Copy)]
+pub(crate) struct Table<'a> {
+    /// The numbers.
+    pub tally: Tally,
+    /// The most frequent formats.
+    pub formats: Option<&'a [Frequent]>,
+}
+
+impl Display for Table<'_> {
+    ghost output = { λ table. Some (table_text table.tally (option_map (λ formats. formats.now) table.formats)) };
+
+    #[tactic(auto, unfolding(crate::specs::Tables::table_text))]
+    fn fmt<W: Write>(&self, f: &mut Formatter<W>) -> fmt::Result {
+        let Table { tally, formats } = *self;
+        let taken = CountLine {
+            name: "folders and files",
+            count: tally.taken,
+        };
+        let by_signature = CountLine {
+            name: "files by signature",
+            count: tally.by_signature,
+        };
+        let by_extension = CountLine {
+            name: "files by extension",
+            count: tally.by_extension,
+        };
+        let unidentified = CountLine {
+            name: "files not identified",
+            count: tally.unidentified,
+        };
+        let mismatches = CountLine {
+            name: "mismatches",
+            count: tally.mismatches,
+        };
+        let formats = Formats(formats);
+        let bytes = CountLine {
+            name: "bytes read",
+            count: tally.bytes,
+        };
+        write!(
+            f,
+            "{taken}{by_signature}{by_extension}{unidentified}{mismatches}{formats}{bytes}"
+        )
+    }
+}
+
+/// The most frequent formats, or that there was no memory to count them.
+#[derive(Clone, Copy)]
+struct Formats<'a>(Option<&'a [Frequent]>);
+
+impl Display for Formats<'_> {
+    ghost output = { λ formats. Some (formats_text (option_map (λ told. told.now) formats.0)) };
+
+    #[tactic(auto, unfolding(crate::specs::Tables::formats_text))]
+    fn fmt<W: Write>(&self, f: &mut Formatter<W>) -> fmt::Result {
+        match self.0 {
+            Some(told) => write_formats(f, told),
+            None => writeln!(f, "formats: there was no memory to count them"),
+        }
+    }
+}
+
+fn write_formats<W: Write>(f: &mut Formatter<W>, told: &[Frequent]) -> fmt::Result
+    ensures { WritesOnOk W.write_str_gives f.old result (flat_map format_line told.now) f.new }
+{
+    for format in told {
+        write!(f, "{format}")?;
     }
     Ok(())
+}
+
+impl Display for Frequent {
+    ghost output = { λ format. Some (format_line format) };
+
+    #[tactic(auto, unfolding(crate::specs::Tables::format_line))]
+    fn fmt<W: Write>(&self, f: &mut Formatter<W>) -> fmt::Result {
+        let line = CountLine {
+            name: self.puid.as_str(),
+            count: self.count,
+        };
+        write!(f, "format {line}")
+    }
+}
+
+/// How long it took, where the clock tells.
+#[derive(Clone, Copy)]
+pub(crate) struct Took(pub Option<u64>);
+
+impl Display for Took {
+    ghost output = { λ took. Some (seconds_text took.0) };
+
+    fn fmt<W: Write>(&self, f: &mut Formatter<W>) -> fmt::Result {
+        match self.0 {
+            Some(seconds) => write!(
+                f,
+                "{}",
+                CountLine {
+                    name: "seconds",
+                    count: seconds
+                }
+            ),
+            None => Ok(()),
+        }
+    }
 }

@@ -1,14 +1,14 @@
-//! What a walk did so far.
+//! The numbers of what a walk did so far.
+
+ghost use Rattle.std.specs.Prelude.{◌≡◌};
+ghost use Rattle.droid_desk_telling.specs.Tallies.{after_bytes, after_found, after_left_out, after_method, after_mismatch, after_taken, done_in};
 
 use crate::progress::Amount;
-use droid_frame::{Method, Reply, Text, Texts};
-use std::alloc::{AllocError, Global};
-use std::collections::BTreeMap;
+use droid_frame::{Method, Reply};
 
-/// Counts of a walk.
-#[derive(Drop)]
+/// How much of each there was.
+#[derive(Clone, Copy)]
 pub(crate) struct Tally {
-    alloc: Global,
     /// How many folders and files are in the profile.
     pub taken: u64,
     /// How many entries were left out.
@@ -23,17 +23,14 @@ pub(crate) struct Tally {
     pub unidentified: u64,
     /// How many have an extension that is none of their formats'.
     pub mismatches: u64,
-    /// How many files have each format.
-    pub formats: BTreeMap<String, u64>,
-    /// Whether all formats are counted: there was memory for them.
-    pub has_all_formats: bool,
 }
 
 impl Tally {
     /// Nothing so far.
-    pub fn new(alloc: Global) -> Tally {
+    pub fn none() -> Tally
+        ensures { result ≡ record { taken = 0; left_out = 0; bytes = 0; by_signature = 0; by_extension = 0; unidentified = 0; mismatches = 0 } }
+    {
         Tally {
-            alloc,
             taken: 0,
             left_out: 0,
             bytes: 0,
@@ -41,40 +38,58 @@ impl Tally {
             by_extension: 0,
             unidentified: 0,
             mismatches: 0,
-            formats: BTreeMap::new(alloc),
-            has_all_formats: true,
         }
     }
 
     /// How much is done.
-    pub fn done(&self) -> Amount {
+    pub fn done(self) -> Amount
+        ensures { result ≡ done_in self }
+    {
         Amount {
             entries: self.taken.saturating_add(self.left_out),
             bytes: self.bytes,
         }
     }
 
+    /// Counts a folder or a file that is in the profile.
+    pub fn count_taken(&mut self)
+        ensures { self.new ≡ after_taken self.old }
+    {
+        self.taken = self.taken.saturating_add(1);
+    }
+
+    /// Counts what was left out.
+    pub fn count_left_out(&mut self)
+        ensures { self.new ≡ after_left_out self.old }
+    {
+        self.left_out = self.left_out.saturating_add(1);
+    }
+
+    /// Counts bytes that were read.
+    pub fn count_bytes(&mut self, count: u32)
+        ensures { self.new ≡ after_bytes count self.old }
+    {
+        self.bytes = self.bytes.saturating_add(u64::from(count));
+    }
+
     /// Counts what was found in a file, by the reply that finished it.
-    pub fn count_found(&mut self, found: &Reply) {
-        let Reply::Finished {
+    pub fn count_found(&mut self, found: &Reply)
+        ensures { self.new ≡ after_found found.now self.old }
+    {
+        if let Reply::Finished {
             method,
             mismatch,
-            puids,
             ..
         } = found
-        else {
-            return;
-        };
-        self.count_method(*method);
-        if *mismatch {
-            self.mismatches = self.mismatches.saturating_add(1);
-        }
-        if self.count_formats(puids).is_err() {
-            self.has_all_formats = false;
+        {
+            self.count_method(*method);
+            self.count_mismatch(*mismatch);
         }
     }
 
-    fn count_method(&mut self, method: Method) {
+    fn count_method(&mut self, method: Method)
+        ensures { self.new ≡ after_method method self.old }
+    {
         match method {
             Method::Signature => self.by_signature = self.by_signature.saturating_add(1),
             Method::Extension => self.by_extension = self.by_extension.saturating_add(1),
@@ -82,22 +97,11 @@ impl Tally {
         }
     }
 
-    fn count_formats(&mut self, puids: &Texts) -> Result<(), AllocError> {
-        for puid in puids.as_slice() {
-            self.count_format(puid)?;
-        }
-        Ok(())
-    }
-
-    fn count_format(&mut self, puid: &Text) -> Result<(), AllocError> {
-        if let Some(count) = self.formats.get_mut(puid.as_str()) {
-            *count = count.saturating_add(1);
-            return Ok(());
-        }
-        let puid = puid.try_clone(self.alloc)?.into_string();
-        match self.formats.insert(puid, 1) {
-            Ok(_) => Ok(()),
-            Err(_) => Err(AllocError),
+    fn count_mismatch(&mut self, mismatch: bool)
+        ensures { self.new ≡ after_mismatch mismatch self.old }
+    {
+        if mismatch {
+            self.mismatches = self.mismatches.saturating_add(1);
         }
     }
 }

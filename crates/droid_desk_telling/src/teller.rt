@@ -1,37 +1,21 @@
 //! Who tells on standard error what a walk does.
 
-use crate::line::line_of;
+ghost use Rattle.std.specs.Prelude.{◌≡◌, ◌⊎◌, true};
+ghost use Rattle.droid_desk_telling.specs.HowFar.{amount_of};
+ghost use Rattle.droid_desk_telling.specs.Rhythms.{is_due, IsTold};
+ghost use Rattle.droid_desk_telling.specs.Tallies.{Hears};
+
+use crate::frequent::most_frequent;
+use crate::line::{Framed, columns_for, line_of};
 use crate::progress::{Amount, Progress};
-use crate::shown::{Shown, cause};
-use crate::table::print_table;
-use crate::tally::Tally;
+use crate::shown::NotTaken;
+use crate::table::{CountLine, Table, Took};
+use crate::telling::{Telling, is_due};
+use crate::totals::Totals;
 use droid_desk_tree::{Counted, LeftOut, Watcher};
 use droid_frame::Reply;
 use std::alloc::Global;
 use std::time::{Clock, Instant};
-
-/// How many milliseconds it is from one line of progress to the next.
-const BETWEEN_LINES: u64 = 10_000;
-
-/// The same on a terminal, where one line is written anew.
-const BETWEEN_WRITINGS: u64 = 100;
-
-/// How many columns a line of progress has at most.
-const LINE_COLUMNS: usize = 160;
-
-/// The same on a terminal: one less than the narrowest usual one has. A narrower one is told to cut the line.
-const TERMINAL_COLUMNS: usize = 79;
-
-/// How much is told.
-#[derive(Clone, Copy, Debug, PartialEq, Eq)]
-pub enum Telling {
-    /// No progress and no table.
-    Quiet,
-    /// A line of progress every ten seconds.
-    Lines,
-    /// One line of progress, which is written anew.
-    Terminal,
-}
 
 /// Tells on standard error what is left out, how far it is, and at the end what was done.
 #[derive(Drop)]
@@ -40,7 +24,7 @@ pub struct Teller<'a, R> {
     alloc: Global,
     telling: Telling,
     all: Amount,
-    tally: Tally,
+    totals: Totals,
     begun: Option<Instant>,
     told: u64,
 }
@@ -53,32 +37,35 @@ impl<'a, R: Eprint + Clock> Teller<'a, R> {
             alloc,
             telling,
             all: Amount::none(),
-            tally: Tally::new(alloc),
+            totals: Totals::new(alloc),
             begun: Instant::now(runtime).ok(),
             told: 0,
         }
     }
 
     /// Takes it that there is so much.
-    pub fn expect(&mut self, counted: Counted) {
+    pub fn expect(&mut self, counted: Counted)
+        ensures all { self.new.all ≡ amount_of counted }
+        ensures totals { self.new.totals ≡ self.old.totals }
+    {
         self.all = Amount::of(counted);
     }
 
     /// Tells how far it is, where that was not told just before.
-    fn tell_progress(&mut self, path: &str) {
-        let between = match self.telling {
-            Telling::Quiet => return,
-            Telling::Lines => BETWEEN_LINES,
-            Telling::Terminal => BETWEEN_WRITINGS,
-        };
+    fn tell_progress(&mut self, path: &str)
+        ensures totals { self.new.totals ≡ self.old.totals }
+        ensures told { IsTold self.old.telling self.old.told self.new.telling self.new.told }
+    {
+        if self.telling == Telling::Quiet {
+            return;
+        }
         let Some(now) = self.milliseconds() else {
             return;
         };
-        if now.saturating_sub(self.told) < between {
-            return;
+        if is_due(self.telling, self.told, now) {
+            self.told = now;
+            self.tell_line(path, now);
         }
-        self.told = now;
-        self.tell_line(path, now);
     }
 
     /// How many milliseconds it took so far.
@@ -92,22 +79,15 @@ impl<'a, R: Eprint + Clock> Teller<'a, R> {
     fn tell_line(&self, path: &str, milliseconds: u64) {
         let progress = Progress {
             all: self.all,
-            done: self.tally.done(),
+            done: self.totals.tally.done(),
             milliseconds,
         };
-        let columns = match self.telling {
-            Telling::Quiet | Telling::Lines => LINE_COLUMNS,
-            Telling::Terminal => TERMINAL_COLUMNS,
-        };
-        let Ok(line) = line_of(self.alloc, progress, path, columns) else {
+        let telling = self.telling;
+        let Ok(line) = line_of(self.alloc, progress, path, columns_for(telling)) else {
             return;
         };
         let line = line.as_str();
-        if self.telling == Telling::Terminal {
-            let _ = eprint!(self.runtime; "\r\x1b[?7l{line}\x1b[K\x1b[?7h");
-            return;
-        }
-        let _ = eprintln!(self.runtime; "{line}");
+        let _ = eprint!(self.runtime; "{}", Framed { telling, line });
     }
 
     /// Takes the line of progress from a terminal.
@@ -120,42 +100,58 @@ impl<'a, R: Eprint + Clock> Teller<'a, R> {
     /// Tells what was done, at the end.
     pub fn end(self) {
         self.clear();
-        let left_out = self.tally.left_out;
-        if self.telling == Telling::Quiet && left_out == 0 {
+        let left_out = CountLine {
+            name: "left out in all",
+            count: self.totals.tally.left_out,
+        };
+        if self.telling == Telling::Quiet && left_out.count == 0 {
             return;
         }
-        let _ = eprintln!(self.runtime; "left out in all: {left_out}");
-        if self.telling == Telling::Quiet {
-            return;
+        let _ = eprint!(self.runtime; "{left_out}");
+        if self.telling != Telling::Quiet {
+            self.tell_table();
         }
-        let _ = print_table(self.runtime, self.alloc, &self.tally);
-        if let Some(milliseconds) = self.milliseconds() {
-            let seconds = milliseconds / 1_000;
-            let _ = eprintln!(self.runtime; "seconds: {seconds}");
+    }
+
+    /// Tells the table, and how long it took.
+    fn tell_table(&self) {
+        let took = Took(self.milliseconds().map(|milliseconds| milliseconds / 1_000));
+        let tally = self.totals.tally;
+        match most_frequent(self.alloc, &self.totals.formats) {
+            Ok(frequent) if self.totals.has_all_formats => {
+                let formats = Some(frequent.as_slice());
+                let _ = eprint!(self.runtime; "{}{took}", Table { tally, formats });
+            }
+            _ => {
+                let formats = None;
+                let _ = eprint!(self.runtime; "{}{took}", Table { tally, formats });
+            }
         }
     }
 }
 
 impl<R: Eprint + Clock> Watcher for Teller<'_, R> {
+    ghost hears = { λ old heard new. Hears old.totals heard new.totals × IsTold old.telling old.told new.telling new.told };
+
     fn left_out(&mut self, path: &[u8], why: LeftOut) {
-        self.tally.left_out = self.tally.left_out.saturating_add(1);
+        self.totals.tally.count_left_out();
         self.clear();
-        let _ = eprintln!(self.runtime; "left out: {}: {}", Shown(path), cause(why));
+        let _ = eprint!(self.runtime; "{}", NotTaken { path, why });
     }
 
     fn took_bytes(&mut self, path: &str, count: u32) {
-        self.tally.bytes = self.tally.bytes.saturating_add(u64::from(count));
+        self.totals.tally.count_bytes(count);
         self.tell_progress(path);
     }
 
     fn took_folder(&mut self, path: &str) {
-        self.tally.taken = self.tally.taken.saturating_add(1);
+        self.totals.tally.count_taken();
         self.tell_progress(path);
     }
 
     fn took_file(&mut self, path: &str, found: &Reply) {
-        self.tally.taken = self.tally.taken.saturating_add(1);
-        self.tally.count_found(found);
+        self.totals.tally.count_taken();
+        self.totals.count_found(found);
         self.tell_progress(path);
     }
 }

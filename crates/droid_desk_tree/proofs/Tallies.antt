@@ -4,7 +4,7 @@ use Rattle.std.specs.Prelude.{IsPermutation, IsUtf8}
 use Rattle.std.specs.List.{flat_map, count_by, AllByRecursion}
 use Rattle.std.proofs.lemmas.List.{map-append, take_more, take_all}
 use Rattle.std.proofs.lemmas.List.Sums.{sum_by-append}
-use Rattle.droid_desk_tree.specs.Counts.{Item, AFolder, AFile, NoNode, Adds, Listing, IsItem, IsListing, CountsItem, CountsItems, CountsFolder, CountsTree, bytes_in, entry_in, folders_in, is_file, is_folder, is_no_node, is_unread, items_in, path_of_item, paths_of, told_of_listing}
+use Rattle.droid_desk_tree.specs.Counts.{Item, AFolder, AFile, NoNode, Adds, Listing, IsItem, IsListing, CountsItem, CountsItems, CountsFolder, CountsTooMany, CountsTree, bytes_in, entry_in, folders_in, is_file, is_folder, is_no_node, is_unread, items_in, path_of_item, paths_of, told_of_listing}
 use Rattle.droid_desk_tree.specs.Steps.{ListsInOrder}
 use Rattle.droid_desk_tree.specs.Told.{Told, Unlisted, GoesOver}
 use Rattle.droid_desk_tree.specs.Visits.{AreInOrder, below}
@@ -187,6 +187,16 @@ module _ {T : Type 0} (tells : T → Told → T → Type 0) where
         bytes = omega (arith, front.bytes, next.bytes, items_more bytes_in front.listings next.listing);
         left_out = omega (arith, front.left_out, next.left_out, items_more (λ (i : Item). cond (is_no_node i) 1 0) front.listings next.listing, sum_by-append (λ (l : Listing). cond (is_unread l) 1 0) front.listings (next.listing ∷ []));
       }
+
+  pub count_too_many : (counted : Counted) (waiting : List Place) (tree tree_now : T) (limit : ℕ) → CountingTree counted waiting tree tree_now → limit < counted.folders + counted.files → CountsTooMany tells limit tree tree_now
+  count_too_many counted waiting tree tree_now limit front more = record {
+    listings = front.listings;
+    are = front.are;
+    told = front.told;
+    unlisted = paths_of waiting;
+    each_folder = front.places;
+    too_many = omega (arith, more, front.folders, front.files);
+  }
 
   pub count_done : (counted : Counted) (waiting : List Place) (tree tree_now : T) → CountingTree counted waiting tree tree_now → waiting ≡ [] → CountsTree tells counted tree tree_now
   count_done counted waiting tree tree_now front none = record {

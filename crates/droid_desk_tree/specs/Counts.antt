@@ -1,5 +1,5 @@
 -- How much there is in a tree (this project's own).
-use Rattle.std.specs.Prelude.{◌≡◌, ◌⊎◌, ℕ, ◌+◌, Bool, true, false, List, [], ◌∷◌, ◌++◌, map, sum_by, Option, Some, None, IsUtf8}
+use Rattle.std.specs.Prelude.{◌≡◌, ◌⊎◌, ℕ, ◌+◌, ◌<◌, Bool, true, false, List, [], ◌∷◌, ◌++◌, map, sum_by, Option, Some, None, IsUtf8}
 use Rattle.std.specs.List.{flat_map, count_by, AllByRecursion}
 use Rattle.droid_desk_tree.specs.Told.{Told, GoesOver}
 use Rattle.droid_desk_tree.specs.Visits.{AreInOrder, AreThose, below, told_of_folder}
@@ -86,6 +86,16 @@ pub record CountsTree {T : Type 0} (tells : T → Told → T → Type 0) (counte
   pub files : counted.files ≡ count_by is_file (items_in listings)
   pub bytes : counted.bytes ≡ sum_by bytes_in (items_in listings)
   pub left_out : counted.left_out ≡ count_by is_no_node (items_in listings) + count_by is_unread listings
+
+-- Folders were listed, the top first, each once, in the order of a walk, and not yet all that were found; and what was listed are
+-- more folders and files than the limit.
+pub record CountsTooMany {T : Type 0} (tells : T → Told → T → Type 0) (limit : ℕ) (tree tree_after : T) : Type 0 where
+  pub listings : List Listing
+  pub are : AllByRecursion IsListing listings
+  pub told : GoesOver tells tree (map told_of_listing listings) tree_after
+  pub unlisted : List (List ℕ)
+  pub each_folder : map (λ listing. listing.path) listings ++ unlisted ≡ [] ∷ flat_map folders_in listings
+  pub too_many : limit < count_by is_folder (items_in listings) + count_by is_file (items_in listings)
 
 -- ---- on the way
 

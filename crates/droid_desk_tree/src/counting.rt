@@ -1,7 +1,8 @@
 //! A first pass that only counts.
 
-ghost use Rattle.std.specs.Prelude.{◌≡◌, ◌+◌, ◌<◌, ◌≤◌, IfOk, OnOk};
-ghost use Rattle.droid_desk_tree.specs.Counts.{CountsItem, CountsItems, CountsFolder, CountsTree};
+ghost use Rattle.std.specs.Prelude.{◌≡◌, ◌≢◌, ◌+◌, ◌<◌, ◌≤◌, IfErr, IfOk, OnOk};
+ghost use Rattle.droid_desk_tree.specs.Counts.{CountsItem, CountsItems, CountsFolder, CountsTooMany, CountsTree};
+ghost use Rattle.droid_desk_tree.specs.declared.fault.WalkFault.TheVariants.{Entries};
 
 use crate::entry::{Entry, EntryKind};
 use crate::fault::WalkFault;
@@ -32,6 +33,8 @@ pub fn count<T: Tree>(alloc: Global, tree: &mut T, limit: u64) -> Result<Counted
     // The numbers are those of the tree as it was listed.
     ensures counted { IfOk result (λ counted. CountsTree T.tells counted tree.old tree.new) }
     ensures within { IfOk result (λ counted. counted.folders + counted.files ≤ limit) }
+    // That there are too many is said only where more were listed.
+    ensures too_many { IfErr result (λ fault. fault ≡ Entries → CountsTooMany T.tells limit tree.old tree.new) }
 {
     let mut pending = only_the_top(alloc)?;
     let mut counted = Counted {
@@ -44,7 +47,8 @@ pub fn count<T: Tree>(alloc: Global, tree: &mut T, limit: u64) -> Result<Counted
         let Some(place) = pending.pop_front() else {
             return Ok(counted);
         };
-        counted = count_folder(alloc, tree, &place, counted, limit, &mut pending)?;
+        counted = count_folder(alloc, tree, &place, counted, &mut pending)?;
+        see_room(counted, limit)?;
     }
     Err(WalkFault::Folders)
 }
@@ -55,17 +59,15 @@ fn count_folder<T: Tree>(
     tree: &mut T,
     place: &Place,
     before: Counted,
-    limit: u64,
     pending: &mut VecDeque<Place>,
 ) -> Result<Counted, WalkFault>
-    requires { before.folders + before.files ≤ limit }
     ensures counted { IfOk result (λ after. CountsFolder T.tells place.now.path before after tree.old tree.new pending.old.items pending.new.items) }
-    ensures within { IfOk result (λ after. after.folders + after.files ≤ limit) }
+    ensures other { IfErr result (λ fault. fault ≢ Entries) }
 {
     match read_folder(alloc, tree, place.path.as_str())? {
         Ok(entries) => {
             let entries = entries.as_slice();
-            let after = count_entries(alloc, place, entries, before, limit, pending)?;
+            let after = count_entries(alloc, place, entries, before, pending)?;
             Ok(after)
         }
         Err(_) => {
@@ -81,16 +83,14 @@ fn count_entries(
     place: &Place,
     entries: &[Entry],
     before: Counted,
-    limit: u64,
     pending: &mut VecDeque<Place>,
 ) -> Result<Counted, WalkFault>
-    requires { before.folders + before.files ≤ limit }
     ensures counted { IfOk result (λ after. CountsItems place.now.path entries.now before after pending.old.items pending.new.items) }
-    ensures within { IfOk result (λ after. after.folders + after.files ≤ limit) }
+    ensures other { IfErr result (λ fault. fault ≢ Entries) }
 {
     let mut counted = before;
     for entry in entries {
-        counted = count_entry(alloc, place, entry, counted, limit, pending)?;
+        counted = count_entry(alloc, place, entry, counted, pending)?;
     }
     Ok(counted)
 }
@@ -101,12 +101,10 @@ fn count_entry(
     place: &Place,
     entry: &Entry,
     before: Counted,
-    limit: u64,
     pending: &mut VecDeque<Place>,
 ) -> Result<Counted, WalkFault>
-    requires { before.folders + before.files ≤ limit }
     ensures counted { IfOk result (λ after. CountsItem place.now.path entry.now before after pending.old.items pending.new.items) }
-    ensures within { IfOk result (λ after. after.folders + after.files ≤ limit) }
+    ensures other { IfErr result (λ fault. fault ≢ Entries) }
 {
     let Some(name) = name_of(entry) else {
         let after = one_left_out(before)?;
@@ -114,13 +112,13 @@ fn count_entry(
     };
     match entry.kind {
         EntryKind::Folder => {
-            let after = one_folder(before, limit)?;
+            let after = one_folder(before)?;
             let path = path_below(alloc, place.path.as_str(), name)?;
             add_place(pending, path, 0)?;
             Ok(after)
         }
         EntryKind::File => {
-            let after = one_file(before, entry.len, limit)?;
+            let after = one_file(before, entry.len)?;
             Ok(after)
         }
         EntryKind::Other => {
@@ -130,29 +128,27 @@ fn count_entry(
     }
 }
 
-/// One folder more, within the limit.
-fn one_folder(before: Counted, limit: u64) -> Result<Counted, WalkFault>
+/// One folder more.
+fn one_folder(before: Counted) -> Result<Counted, WalkFault>
     ensures counted { IfOk result (λ after. after ≡ record before { folders = before.folders + 1 }) }
-    ensures within { IfOk result (λ after. after.folders + after.files ≤ limit) }
+    ensures other { IfErr result (λ fault. fault ≢ Entries) }
 {
-    see_room(before, limit)?;
     Ok(Counted {
-        folders: before.folders + 1,
+        folders: sum_of(before.folders, 1)?,
         files: before.files,
         bytes: before.bytes,
         left_out: before.left_out,
     })
 }
 
-/// One file more of so many bytes, within the limit.
-fn one_file(before: Counted, len: u64, limit: u64) -> Result<Counted, WalkFault>
+/// One file more of so many bytes.
+fn one_file(before: Counted, len: u64) -> Result<Counted, WalkFault>
     ensures counted { IfOk result (λ after. after ≡ record before { files = before.files + 1; bytes = before.bytes + len }) }
-    ensures within { IfOk result (λ after. after.folders + after.files ≤ limit) }
+    ensures other { IfErr result (λ fault. fault ≢ Entries) }
 {
-    see_room(before, limit)?;
     Ok(Counted {
         folders: before.folders,
-        files: before.files + 1,
+        files: sum_of(before.files, 1)?,
         bytes: sum_of(before.bytes, len)?,
         left_out: before.left_out,
     })
@@ -160,7 +156,8 @@ fn one_file(before: Counted, len: u64, limit: u64) -> Result<Counted, WalkFault>
 
 /// One more that is left out.
 fn one_left_out(before: Counted) -> Result<Counted, WalkFault>
-    ensures { IfOk result (λ after. after ≡ record before { left_out = before.left_out + 1 }) }
+    ensures counted { IfOk result (λ after. after ≡ record before { left_out = before.left_out + 1 }) }
+    ensures other { IfErr result (λ fault. fault ≢ Entries) }
 {
     Ok(Counted {
         folders: before.folders,
@@ -170,12 +167,13 @@ fn one_left_out(before: Counted) -> Result<Counted, WalkFault>
     })
 }
 
-/// Sees that one folder or file more is within the limit.
+/// Sees that there aren't more folders and files than the limit.
 fn see_room(counted: Counted, limit: u64) -> Result<(), WalkFault>
-    ensures { OnOk result (counted.folders + counted.files < limit) }
+    ensures within { OnOk result (counted.folders + counted.files ≤ limit) }
+    ensures too_many { IfErr result (λ fault. fault ≡ Entries → limit < counted.folders + counted.files) }
 {
     let nodes = sum_of(counted.folders, counted.files)?;
-    if nodes < limit {
+    if nodes <= limit {
         Ok(())
     } else {
         Err(WalkFault::Entries)
@@ -184,7 +182,8 @@ fn see_room(counted: Counted, limit: u64) -> Result<(), WalkFault>
 
 /// The sum of two numbers.
 fn sum_of(first: u64, second: u64) -> Result<u64, WalkFault>
-    ensures { IfOk result (λ sum. sum ≡ first + second) }
+    ensures sum { IfOk result (λ sum. sum ≡ first + second) }
+    ensures other { IfErr result (λ fault. fault ≢ Entries) }
 {
     match first.checked_add(second) {
         Some(sum) => Ok(sum),

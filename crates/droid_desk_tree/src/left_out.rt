@@ -1,7 +1,8 @@
 //! Why something of a tree isn't in its profile.
 
-ghost use Rattle.std.specs.Prelude.{◌≡◌, IfOk, OnOk};
+ghost use Rattle.std.specs.Prelude.{◌≡◌, ◌≢◌, IfErr, IfOk, OnOk};
 ghost use Rattle.droid_desk_tree.specs.declared.fault.TreeFault.TheVariants as faults;
+ghost use Rattle.droid_desk_tree.specs.declared.fault.WalkFault.TheVariants.{Entries};
 ghost use Rattle.droid_desk_tree.specs.declared.left_out.LeftOut.TheVariants as reasons;
 
 use crate::fault::{TreeFault, WalkFault};
@@ -26,6 +27,7 @@ pub enum LeftOut {
 pub(crate) fn unread(fault: TreeFault) -> Result<LeftOut, WalkFault>
     ensures told { OnOk result (fault ≡ faults.Unreadable) }
     ensures reason { IfOk result (λ why. why ≡ reasons.Unreadable) }
+    ensures other { IfErr result (λ fault. fault ≢ Entries) }
 {
     match fault {
         TreeFault::Memory => Err(WalkFault::Memory),

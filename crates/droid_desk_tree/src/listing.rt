@@ -1,8 +1,9 @@
 //! The entries of a folder, as the tree tells them.
 
-ghost use Rattle.std.specs.Prelude.{◌≡◌, IfOk, MatchOption, MatchResult, IsUtf8};
+ghost use Rattle.std.specs.Prelude.{◌≡◌, ◌≢◌, IfErr, IfOk, MatchOption, MatchResult, IsUtf8};
 ghost use Rattle.droid_desk_tree.specs.Steps.{ListsInOrder};
 ghost use Rattle.droid_desk_tree.specs.Told.{Unlisted};
+ghost use Rattle.droid_desk_tree.specs.declared.fault.WalkFault.TheVariants.{Entries};
 ghost use Rattle.droid_desk_tree.specs.declared.left_out.LeftOut.TheVariants as reasons;
 
 use crate::entry::Entry;
@@ -18,9 +19,10 @@ pub(crate) fn read_folder<T: Tree>(
     tree: &mut T,
     path: &str,
 ) -> Result<Result<Vec<Entry>, LeftOut>, WalkFault>
-    ensures { IfOk result (λ read. MatchResult read
+    ensures read { IfOk result (λ read. MatchResult read
         (λ entries. ListsInOrder T.tells path.now entries.items tree.old tree.new)
         (λ why. (why ≡ reasons.Unreadable) × T.tells tree.old (Unlisted path.now) tree.new)) }
+    ensures other { IfErr result (λ fault. fault ≢ Entries) }
 {
     match tree.entries(alloc, path) {
         Ok(entries) => {

@@ -1,8 +1,9 @@
 //! The entries of a folder in the order of their names.
 
-ghost use Rattle.std.specs.Prelude.{◌≡◌, ◌+◌, ◌<◌, IfOk, IsTrue, IsPermutation, length, slice_get};
+ghost use Rattle.std.specs.Prelude.{◌≡◌, ◌≢◌, ◌+◌, ◌<◌, IfErr, IfOk, IsTrue, IsPermutation, length, slice_get};
 ghost use Rattle.droid_desk_tree.specs.Order.{IsBefore};
 ghost use Rattle.droid_desk_tree.specs.Visits.{AreInOrder};
+ghost use Rattle.droid_desk_tree.specs.declared.fault.WalkFault.TheVariants.{Entries};
 
 use crate::entry::Entry;
 use crate::fault::WalkFault;
@@ -12,6 +13,7 @@ use std::cmp::Ordering;
 pub(crate) fn in_order(entries: Vec<Entry>) -> Result<Vec<Entry>, WalkFault>
     ensures same { IfOk result (λ sorted. IsPermutation entries.items sorted.items) }
     ensures in_order { IfOk result (λ sorted. AreInOrder sorted.items) }
+    ensures other { IfErr result (λ fault. fault ≢ Entries) }
 {
     let mut sorted = entries;
     sorted.sort_by(|first, second| first.name.as_slice().cmp(second.name.as_slice()))?;

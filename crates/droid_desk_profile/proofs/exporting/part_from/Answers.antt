@@ -4,7 +4,7 @@ use Rattle.droid_frame.specs.types.request.Request.TheVariants.{Export}
 use Rattle.droid_desk_profile.specs.Answering.{Answers, everything}
 use Rattle.droid_desk_profile.proofs.exporting.part_from.Goals as goal
 
-pub returns : goal.returns
-returns c =
-    let is = c.in_ok-part.ensures in
+pub returns-clause-part : goal.returns-clause-part
+returns-clause-part c =
+    let is = c.in_ok-part.ensures.part in
     (is.0, subst (λ (reply : Reply). Answers c.args.own.now (Export c.args.profile c.args.from 1048576 everything, reply) c.ask_part.new.own) is.1 c.in-Ok.ensures)

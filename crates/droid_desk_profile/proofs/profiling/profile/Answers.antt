@@ -6,8 +6,9 @@ pub returns : goal.returns
 returns g c = record {
   all = λ setting stands.
       let sent = submitted setting c.args.options g.T.Tree.tells g.W.Watcher.hears _ _ _ _ _ c.in-Ok.walked.profile _ _ (begins setting c.new-own.result c.args.service c.new-own.ensures.service stands) c.in-Ok.ensures.all in
-      sent.writes _ _ (c.in_ok-export.ensures setting c.args.options sent.nodes sent.number sent.holds);
+      sent.writes _ _ (c.in_ok-export.ensures.text setting c.args.options sent.nodes sent.number sent.holds);
   whole = λ setting stands whole.
       let sent = submitted_whole setting c.args.options g.T.Tree.tells _ _ c.in-Ok.walked.profile _ _ (begins setting c.new-own.result c.args.service c.new-own.ensures.service stands) (c.in-Ok.ensures.whole whole) in
-      sent.writes _ _ (c.in_ok-export.ensures setting c.args.options sent.nodes sent.number sent.holds);
+      sent.writes _ _ (c.in_ok-export.ensures.text setting c.args.options sent.nodes sent.number sent.holds);
+  nothing = tt;
 }

@@ -3,7 +3,7 @@ use Rattle.droid_desk_tree.proofs.Tallies.{counts_none, counts_file, counts_fold
 use Rattle.droid_desk_tree.proofs.counting.count_entry.Goals as goal
 
 pub returns-in_default-clause-counted : goal.returns-in_default-clause-counted
-returns-in_default-clause-counted c = counts_none c.args.place.now.path c.args.entry.now c.args.before c.in_ok-after.after c.args.pending.now.items (inl c.in_default.ensures) c.in_ok-after.ensures
+returns-in_default-clause-counted c = counts_none c.args.place.now.path c.args.entry.now c.args.before c.in_ok-after.after c.args.pending.now.items (inl c.in_default.ensures) c.in_ok-after.ensures.counted
 
 pub returns-in_ok-add_place-in-Folder-clause-counted : goal.returns-in_ok-add_place-in-Folder-clause-counted
 returns-in_ok-add_place-in-Folder-clause-counted c =
@@ -18,4 +18,4 @@ returns-in_ok-after-in-File-clause-counted c =
 
 pub returns-in_ok-after-in-Other-clause-counted : goal.returns-in_ok-after-in-Other-clause-counted
 returns-in_ok-after-in-Other-clause-counted c =
-    counts_none c.args.place.now.path c.args.entry.now c.args.before c.in_ok-after-in-Other.after c.args.pending.now.items (inr c.in-Other.is) c.in_ok-after-in-Other.ensures
+    counts_none c.args.place.now.path c.args.entry.now c.args.before c.in_ok-after-in-Other.after c.args.pending.now.items (inr c.in-Other.is) c.in_ok-after-in-Other.ensures.counted

@@ -1,0 +1,9 @@
+pub mod Cuts
+pub mod Frequencies
+pub mod HowFar
+pub mod Lines
+pub mod Paths
+pub mod Rhythms
+pub mod Tables
+pub mod Tallies
+pub mod Units
