@@ -1,8 +1,8 @@
 #!/bin/sh
 # Runs tests of the crates again and again, each time with another of their allocations refused. A test
-# asks again where memory was wanting, so it passes whichever allocation is refused. The tests are those
+# asks again where memory was refused, so it passes whichever allocation is refused. The tests are those
 # that `rt ci` or `rt test` left in the crates' out/. Then runs the program:
-#   program.sh            its script, with each allocation refused in turn
+#   program.sh            its script, in both versions, and the profile of a folder, with each allocation refused in turn
 #   refused_once.py       streams of frames, with each allocation refused in turn
 #   limited.py            every allocation of more than so many bytes refused
 #   long_bodies.py        what a header asks for whose length is past the limit
@@ -17,7 +17,8 @@ ${CC:-cc} -shared -fPIC -o "$work/refuse.so" "$top/tests/memory/refuse.c" -ldl |
 passed=0
 failed=0
 for test in droid_core_tests:memory::one_after_the_other droid_core_tests:memory::in_one_run \
-    droid_core_tests:scripts::each_growth_of_a_script droid_core:service::tests::memory::each_growth_of_both \
+    droid_core_tests:memory::in_one_run_of_version_2 droid_core_tests:scripts::each_growth_of_a_script \
+    droid_core_tests:scripts::each_growth_of_version_2 droid_core:service::tests::memory::each_growth_of_both \
     droid_assembly_tests:memory::each_growth_refused droid_pronom_tests:memory::each_growth_of_a_registry \
     droid_pronom_tests:memory::each_growth_of_a_search droid_frame_tests:memory::each_growth_of_a_request \
     droid_frame_tests:memory::each_growth_of_a_reply droid_frame_stream_tests:streams::growths_refused \

@@ -24,5 +24,5 @@ wait "$cases" || failed=1
 wait "$registries" || failed=1
 # the table of random requests in the tests of droid_core is what the model writes
 table=$tests/../../crates/droid_core/src/service/tests/by_chance.rt
-"$tests/model/recent_steps.py" 28 190 | cmp - "$table" || failed=1
+"$tests/model/recent_steps.py" 43 240 | cmp - "$table" || failed=1
 [ "$failed" -eq 0 ]

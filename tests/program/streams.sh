@@ -1,6 +1,7 @@
 #!/bin/sh
-# Runs the program on its stored script, and on the same requests as frames, over streams that are interrupted, cut
-# short or fail (streams.c), and compares the status, how many bytes of the replies were written, and the fault.
+# Runs the program on its stored script, and on the same requests as frames, in both versions, over streams that are
+# interrupted, cut short or fail (streams.c), and compares the status, how many bytes of the replies were written, and the
+# fault.
 set -u
 top=$(cd "$(dirname "$0")/../.." && pwd)
 program=${1:-$top/crates/droid_desk/out/droid_desk}
@@ -23,14 +24,21 @@ compare() {
             passed=$((passed + 1))
         else
             failed=$((failed + 1))
-            echo "$1: $name: ended with status $ended"
+            echo "$1: $name: ended with status $ended over $2"
             od -c "$work/out"
             cat "$work/err"
         fi
     done
 }
 
-compare script "$top/crates/droid_desk/stdin" "$top/crates/droid_desk/stdout" <<'ROWS'
+# the lines end at 19, 39, 59 and 80, in version 2 at 26, 49, 72 and 96, and what they print at 7, 14, 21 and 31; of the
+# whole input 64 interruptions are tried again, and of each printed reply
+cp "$top/crates/droid_desk/stdin" "$work/lines_1"
+sed 's/^/v2 /; s/ create .*/& md5/' "$work/lines_1" >"$work/lines_2"
+for version in 1 2; do
+    end=80
+    [ $version = 1 ] || end=96
+    compare script "$work/lines_$version" "$top/crates/droid_desk/stdout" <<ROWS
 steady 0 31 - READ_WIDTH=8192
 read_byte_by_byte 0 31 - READ_WIDTH=1
 read_interrupted_64_times 0 31 - READ_INTERRUPTIONS=64
@@ -45,16 +53,11 @@ write_fails_in_the_first_reply 4 3 Write WRITE_ROOM=3
 write_fails_in_the_second_reply 4 10 Write WRITE_ROOM=10 WRITE_WIDTH=2
 write_fails_behind_the_last_reply 0 31 - WRITE_ROOM=31
 write_takes_nothing 4 0 Write WRITE_WIDTH=0
-ROWS
-
-# the lines end at 19, 39, 59 and 80, and what they print at 7, 14, 21 and 31; of the whole input 64 interruptions are
-# tried again, and of each printed reply
-compare script "$top/crates/droid_desk/stdin" "$top/crates/droid_desk/stdout" <<'ROWS'
 read_interrupted_64_times_within_a_line 0 31 - READ_INTERRUPTED_AT=30:64
 read_interrupted_65_times_within_a_line 4 0 Read READ_INTERRUPTED_AT=30:65
 read_interrupted_64_times_over_two_lines 0 31 - READ_INTERRUPTED_AT=10:32,30:32
 read_interrupted_65_times_over_two_lines 4 0 Read READ_INTERRUPTED_AT=10:64,30:1
-read_interrupted_65_times_with_the_end 4 0 Read READ_INTERRUPTED_AT=10:64,80:1
+read_interrupted_65_times_with_the_end 4 0 Read READ_INTERRUPTED_AT=10:64,$end:1
 written_interrupted_64_times_within_two_replies 0 31 - WRITE_INTERRUPTED_AT=3:64,10:64
 written_interrupted_64_times_before_each_reply 0 31 - WRITE_INTERRUPTED_AT=0:64,7:64,14:64,21:64
 written_interrupted_64_times_over_one_reply 0 31 - WRITE_INTERRUPTED_AT=7:32,10:32
@@ -62,34 +65,42 @@ written_interrupted_65_times_over_one_reply 4 10 Write WRITE_INTERRUPTED_AT=7:32
 written_interrupted_65_times_within_the_second_reply 4 10 Write WRITE_INTERRUPTED_AT=3:64,10:65
 written_interrupted_65_times_within_the_last_reply 4 25 Write WRITE_INTERRUPTED_AT=3:64,10:64,17:64,25:65
 ROWS
+done
 
-# frames: version and kind, client, number, length of the body, body
 zeros='\0\0\0\0\0\0\0\0'
 client='\0\0\0\001'
 first='\0\0\0\0\0\0\0\001'
 second='\0\0\0\0\0\0\0\002'
 one='\0\0\0\001'
 top_folder="$one\\0\\0\\0\\0$zeros"
-printf '%b' "\\001\\001$client$first\\0\\0\\0\\005\\0\\001\\0\\0\\0" >"$work/requests"
-for _ in 1 2; do
-    printf '%b' "\\001\\002$client$second\\0\\0\\0\\022${top_folder}in" >>"$work/requests"
-done
-printf '%b' "\\001\\002$client$second\\0\\0\\0\\023${top_folder}out" >>"$work/requests"
-printf '%b' "\\001\\0201$client$first\\0\\0\\0\\004$one" >"$work/replies"
-for _ in 1 2; do
-    printf '%b' "\\001\\0202$client$second\\0\\0\\0\\004$one" >>"$work/replies"
-done
-printf '%b' "\\001\\0210$client$second\\0\\0\\0\\001\\002" >>"$work/replies"
+# VERSION, the last byte of the length of a profile's body, and what stands behind it, its hash; of each frame version and
+# kind, client, number, length of the body, body
+write_frames() {
+    version="\\00$1"
+    printf '%b' "$version\\001$client$first\\0\\0\\0$2\\0\\001\\0\\0\\0$3" >"$work/requests_$1"
+    for _ in 1 2; do
+        printf '%b' "$version\\002$client$second\\0\\0\\0\\022${top_folder}in" >>"$work/requests_$1"
+    done
+    printf '%b' "$version\\002$client$second\\0\\0\\0\\023${top_folder}out" >>"$work/requests_$1"
+    printf '%b' "$version\\0201$client$first\\0\\0\\0\\004$one" >"$work/replies_$1"
+    for _ in 1 2; do
+        printf '%b' "$version\\0202$client$second\\0\\0\\0\\004$one" >>"$work/replies_$1"
+    done
+    printf '%b' "$version\\0210$client$second\\0\\0\\0\\001\\002" >>"$work/replies_$1"
+}
+write_frames 1 '\005' ''
+write_frames 2 '\006' '\001'
 
-# the frames end at 23, 59, 95 and 132, and their replies at 22, 44, 66 and 85
-compare run "$work/requests" "$work/replies" <<'ROWS'
+# where the frames end; their replies end at 22, 44, 66 and 85 in both versions
+while read -r version a b c d; do
+    compare run "$work/requests_$version" "$work/replies_$version" <<ROWS
 steady 0 85 - READ_WIDTH=8192
 read_byte_by_byte 0 85 - READ_WIDTH=1
 read_interrupted_64_times 0 85 - READ_INTERRUPTIONS=64
 read_interrupted_65_times 4 0 Read READ_INTERRUPTIONS=65
 read_fails_at_once 4 0 Read READ_ROOM=0
-read_fails_between_frames 4 22 Read READ_ROOM=23
-read_fails_within_a_frame 4 44 Read READ_ROOM=94
+read_fails_between_frames 4 22 Read READ_ROOM=$a
+read_fails_within_a_frame 4 44 Read READ_ROOM=$((c - 1))
 read_fails_once_within_a_frame 4 22 Read READ_FAILS_ONCE=40
 written_byte_by_byte 0 85 - WRITE_WIDTH=1
 write_interrupted_64_times 0 85 - WRITE_INTERRUPTIONS=64
@@ -100,12 +111,12 @@ write_fails_between_replies 4 44 Write WRITE_ROOM=44
 write_fails_behind_the_last_reply 0 85 - WRITE_ROOM=85
 write_takes_nothing 4 0 Write WRITE_WIDTH=0
 read_interrupted_64_times_within_two_frames 0 85 - READ_INTERRUPTED_AT=10:64,40:64
-read_interrupted_64_times_before_each_frame_and_the_end 0 85 - READ_INTERRUPTED_AT=0:64,23:64,59:64,95:64,132:64
+read_interrupted_64_times_before_each_frame_and_the_end 0 85 - READ_INTERRUPTED_AT=0:64,$a:64,$b:64,$c:64,$d:64
 read_interrupted_64_times_over_header_and_body 0 85 - READ_INTERRUPTED_AT=10:32,20:32
 read_interrupted_65_times_over_header_and_body 4 0 Read READ_INTERRUPTED_AT=10:32,20:33
 read_interrupted_65_times_within_the_second_frame 4 22 Read READ_INTERRUPTED_AT=10:64,40:65
 read_interrupted_65_times_within_the_last_frame 4 66 Read READ_INTERRUPTED_AT=10:64,40:64,80:64,120:65
-read_interrupted_65_times_at_the_end 4 85 Read READ_INTERRUPTED_AT=10:64,132:65
+read_interrupted_65_times_at_the_end 4 85 Read READ_INTERRUPTED_AT=10:64,$d:65
 written_interrupted_64_times_within_two_replies 0 85 - WRITE_INTERRUPTED_AT=5:64,30:64
 written_interrupted_64_times_before_each_reply 0 85 - WRITE_INTERRUPTED_AT=0:64,22:64,44:64,66:64
 written_interrupted_64_times_over_header_and_body 0 85 - WRITE_INTERRUPTED_AT=5:32,20:32
@@ -113,5 +124,9 @@ written_interrupted_65_times_over_header_and_body 4 20 Write WRITE_INTERRUPTED_A
 written_interrupted_65_times_within_the_second_reply 4 30 Write WRITE_INTERRUPTED_AT=5:64,30:65
 written_interrupted_65_times_within_the_last_reply 4 80 Write WRITE_INTERRUPTED_AT=5:64,30:64,50:64,80:65
 ROWS
+done <<'ENDS'
+1 23 59 95 132
+2 24 60 96 133
+ENDS
 echo "streams: $passed passed, $failed failed"
 [ "$failed" -eq 0 ]

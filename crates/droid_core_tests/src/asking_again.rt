@@ -37,9 +37,9 @@ pub fn printed_again(alloc: Global, reply: Reply) -> Result<Vec<u8>, AllocError>
     print_answer(alloc, &answer).or_else(|_| print_answer(alloc, &answer))
 }
 
-/// Whether memory was refused, also that of the database.
+/// Whether memory was refused.
 fn is_wanting(reply: &Reply) -> bool {
-    matches!(reply, Reply::Refused(Refusal::Memory | Refusal::Store))
+    matches!(reply, Reply::Refused(Refusal::Memory))
 }
 
 /// What the reply to a line prints. The request is sent again where memory was refused.

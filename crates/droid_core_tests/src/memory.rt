@@ -6,7 +6,7 @@ use crate::asking::Step;
 use crate::asking_again::{
     ask_again, ask_all_again, frame_again, place_of, printed_again, service_again,
 };
-use crate::running::STORED;
+use crate::running::{STORED, STORED_IN_2};
 use droid_core::Service;
 use droid_frame::{Frame, Reply};
 use std::alloc::{AllocError, Global};
@@ -60,9 +60,9 @@ const RUNS: [(&str, &str); 5] = [
     ("made 1\nnode 1\nnode 1\nrefused 18\n", FOLDER),
 ];
 
-fn requests(rt: &impl Abort, alloc: Global) -> Result<Vec<Frame>, AllocError> {
+fn requests(rt: &impl Abort, alloc: Global, steps: &[Step]) -> Result<Vec<Frame>, AllocError> {
     let mut frames = Vec::new(alloc);
-    for (line, _) in STORED {
+    for (line, _) in steps {
         frames.push(frame_again(rt, alloc, line)?)?;
     }
     Ok(frames)
@@ -81,9 +81,14 @@ fn print_all(alloc: Global, replies: Vec<Reply>, buffer: &mut [u8]) -> Result<us
 
 /// Runs the requests once, and says whether memory was refused to none. Where it was refused for the list of replies,
 /// no request was handled.
-fn runs_whole(rt: &impl Abort, alloc: Global, service: &mut Service) -> Result<bool, Fail> {
+fn runs_whole(
+    rt: &impl Abort,
+    alloc: Global,
+    service: &mut Service,
+    steps: &[Step],
+) -> Result<bool, Fail> {
     let mut buffer = [0; 64];
-    let frames = requests(rt, alloc).or_else(|_| requests(rt, alloc))?;
+    let frames = requests(rt, alloc, steps).or_else(|_| requests(rt, alloc, steps))?;
     match service.run(frames) {
         Ok(replies) => {
             let count = print_all(alloc, replies, &mut buffer)?;
@@ -101,15 +106,24 @@ fn runs_whole(rt: &impl Abort, alloc: Global, service: &mut Service) -> Result<b
     }
 }
 
-#[test]
-fn in_one_run(rt: HostRuntime) -> Result<(), Fail> {
-    let alloc = rt.alloc();
+/// Asserts what comes of these steps in one run, of an empty service.
+fn is_run(rt: &impl Abort, alloc: Global, steps: &[Step]) -> Result<(), Fail> {
     let mut service = service_again(alloc)?;
-    if !runs_whole(&rt, alloc, &mut service)? {
+    if !runs_whole(rt, alloc, &mut service, steps)? {
         assert!(rt;
-            runs_whole(&rt, alloc, &mut service)?,
+            runs_whole(rt, alloc, &mut service, steps)?,
             "memory was refused twice"
         );
     }
     Ok(())
+}
+
+#[test]
+fn in_one_run(rt: HostRuntime) -> Result<(), Fail> {
+    is_run(&rt, rt.alloc(), &STORED)
+}
+
+#[test]
+fn in_one_run_of_version_2(rt: HostRuntime) -> Result<(), Fail> {
+    is_run(&rt, rt.alloc(), &STORED_IN_2)
 }

@@ -15,10 +15,18 @@ pub const STORED: [Step; 4] = [
     ("1 2 folder 1 0 0 out", "refused 2\n"),
 ];
 
-/// The requests of the stored run as frames.
-pub fn stored(rt: &impl Abort, alloc: Global) -> Result<Vec<Frame>, AllocError> {
+/// The same in version 2.
+pub const STORED_IN_2: [Step; 4] = [
+    ("v2 1 1 create 65536 0 md5", "made 1\n"),
+    ("v2 1 2 folder 1 0 0 in", "node 1\n"),
+    ("v2 1 2 folder 1 0 0 in", "node 1\n"),
+    ("v2 1 2 folder 1 0 0 out", "refused 2\n"),
+];
+
+/// The requests of these steps as frames.
+fn frames_of(rt: &impl Abort, alloc: Global, steps: &[Step]) -> Result<Vec<Frame>, AllocError> {
     let mut frames = Vec::new(alloc);
-    for (line, _) in STORED {
+    for (line, _) in steps {
         frames.push(frame(rt, alloc, line)?)?;
     }
     Ok(frames)
@@ -26,12 +34,17 @@ pub fn stored(rt: &impl Abort, alloc: Global) -> Result<Vec<Frame>, AllocError> 
 
 #[test]
 fn stored_run(rt: HostRuntime) -> Result<(), Fail> {
-    let alloc = rt.alloc();
-    let mut service = service(&rt, alloc, LARGEST)?;
-    let replies = service.run(stored(&rt, alloc)?)?;
-    assert_eq!(rt; replies.len(), STORED.len());
-    for (reply, (line, wanted)) in replies.into_iter().zip(STORED) {
-        is_printed(&rt, alloc, reply, line, wanted)?;
+    runs(&rt, rt.alloc(), &STORED)?;
+    runs(&rt, rt.alloc(), &STORED_IN_2)
+}
+
+/// Hands these steps to an empty service at once, and compares its replies.
+fn runs(rt: &impl Abort, alloc: Global, steps: &[Step]) -> Result<(), Fail> {
+    let mut service = service(rt, alloc, LARGEST)?;
+    let replies = service.run(frames_of(rt, alloc, steps)?)?;
+    assert_eq!(rt; replies.len(), steps.len());
+    for (reply, (line, wanted)) in replies.into_iter().zip(steps) {
+        is_printed(rt, alloc, reply, line, wanted)?;
     }
     Ok(())
 }

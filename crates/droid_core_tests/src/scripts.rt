@@ -1,4 +1,4 @@
-// The test passes too where any one allocation is refused: tests/memory refuses each in turn.
+// Each test passes too where any one allocation is refused: tests/memory refuses each in turn.
 //! Want of memory in a script: it ends it, and its first lines were handled, or it is the reply to one of its requests.
 
 use crate::asking_again::{ask_again, place_of, service_again};
@@ -6,11 +6,16 @@ use droid_core::Service;
 use droid_desk_lines::Tally;
 use droid_desk_script::{ScriptFault, script};
 use std::alloc::Global;
+use std::process::Abort;
 use std::test::Fail;
 
 /// A profile, a folder, a bad line, a file with no byte, and its end.
 const LINES: &[u8] =
     b"1 1 create 65536 0\n1 2 folder 1 0 0 in\nhello\n1 3 file 1 0 0 0 4 e.txt\n1 4 finish 1 2\n";
+
+/// The same in version 2.
+const LINES_IN_2: &[u8] =
+    b"v2 1 1 create 65536 0 md5\nv2 1 2 folder 1 0 0 in\nv2 hello\nv2 1 3 file 1 0 0 0 4 e.txt\nv2 1 4 finish 1 2\n";
 
 const TALLY: Tally = Tally { lines: 5, bad: 1 };
 
@@ -62,9 +67,10 @@ const WANTING: [(&str, &str); 4] = [
 fn ran(
     alloc: Global,
     service: &mut Service,
+    lines: &[u8],
     buffer: &mut [u8],
 ) -> (Result<Tally, ScriptFault>, usize) {
-    let mut lines = LINES;
+    let mut lines = lines;
     let room = buffer.len();
     let mut left = buffer;
     let ended = script(alloc, service, &mut lines, &mut left);
@@ -107,14 +113,13 @@ fn is_wanting(ended: &Result<Tally, ScriptFault>, printed: &[u8], shown: &[u8]) 
     }
 }
 
-#[test]
-fn each_growth_of_a_script(rt: HostRuntime) -> Result<(), Fail> {
-    let alloc = rt.alloc();
+/// Asserts what comes of these lines, of an empty service; where they ended early, then of the same again, to their end.
+fn is_run(rt: &impl Abort, alloc: Global, lines: &[u8]) -> Result<(), Fail> {
     let mut service = service_again(alloc)?;
     let mut buffer = [0; 128];
-    let (ended, count) = ran(alloc, &mut service, &mut buffer);
+    let (ended, count) = ran(alloc, &mut service, lines, &mut buffer);
     let printed = &buffer[..count.min(128)];
-    let shown = ask_again(&rt, alloc, &mut service, SHOW)?;
+    let shown = ask_again(rt, alloc, &mut service, SHOW)?;
     if is_whole(&ended, printed, shown.as_slice()) {
         return Ok(());
     }
@@ -125,13 +130,22 @@ fn each_growth_of_a_script(rt: HostRuntime) -> Result<(), Fail> {
     if ended.is_ok() {
         return Ok(());
     }
-    // the same again, to its end
-    let (ended, count) = ran(alloc, &mut service, &mut buffer);
+    let (ended, count) = ran(alloc, &mut service, lines, &mut buffer);
     let printed = &buffer[..count.min(128)];
-    let shown = ask_again(&rt, alloc, &mut service, SHOW)?;
+    let shown = ask_again(rt, alloc, &mut service, SHOW)?;
     assert!(rt;
         is_whole(&ended, printed, shown.as_slice()),
         "{ended:?} {printed:?} {shown:?}"
     );
     Ok(())
+}
+
+#[test]
+fn each_growth_of_a_script(rt: HostRuntime) -> Result<(), Fail> {
+    is_run(&rt, rt.alloc(), LINES)
+}
+
+#[test]
+fn each_growth_of_version_2(rt: HostRuntime) -> Result<(), Fail> {
+    is_run(&rt, rt.alloc(), LINES_IN_2)
 }

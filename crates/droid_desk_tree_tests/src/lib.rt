@@ -7,6 +7,8 @@ mod counts;
 #[cfg(test)]
 mod cuts;
 #[cfg(test)]
+mod faults;
+#[cfg(test)]
 mod leaving_out;
 #[cfg(test)]
 mod many;

@@ -5,7 +5,7 @@ use crate::notes::Watching;
 use droid_core::{Limits, Service};
 use droid_desk_profile::profile;
 use droid_desk_tree::{EntryKind, Options};
-use droid_frame::{HashKind, Unsteady};
+use droid_frame::{HashKind, Noted};
 use droid_pronom::Registry;
 use droid_pronom_sample::SAMPLE;
 use std::alloc::Global;
@@ -59,7 +59,7 @@ fn small_tree(rt: HostRuntime) -> Result<(), Fail> {
     let alloc = rt.alloc();
     let mut tree = MemoryTree { rows: &ROWS };
     let mut watcher = Watching::new(alloc);
-    let mut output = Unsteady::new(Vec::new(alloc));
+    let mut output = Noted::new(Vec::new(alloc));
     let whole = profile(
         alloc,
         service(alloc)?,
@@ -81,7 +81,7 @@ fn names_of_255_and_256_bytes(rt: HostRuntime) -> Result<(), Fail> {
     ];
     let mut tree = MemoryTree { rows: &rows };
     let mut watcher = Watching::new(alloc);
-    let mut output = Unsteady::new(Vec::new(alloc));
+    let mut output = Noted::new(Vec::new(alloc));
     let whole = profile(
         alloc,
         service(alloc)?,
@@ -117,7 +117,7 @@ fn hashes(rt: HostRuntime) -> Result<(), Fail> {
     for (hash, column, digest) in &HASHES {
         let mut tree = MemoryTree { rows: &rows };
         let mut watcher = Watching::new(alloc);
-        let mut output = Unsteady::new(Vec::new(alloc));
+        let mut output = Noted::new(Vec::new(alloc));
         let options = Options {
             hash: *hash,
             ..OPTIONS

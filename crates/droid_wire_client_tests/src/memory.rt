@@ -5,33 +5,41 @@
 use droid_frame::{Blob, Frame, Refusal, Reply, Request};
 use droid_wire_client::{Client, HearFault, Heard, SubmitFault};
 use std::alloc::{AllocError, Global};
+use std::process::Abort;
 use std::test::Fail;
 
-// A Finished of one identifier, fmt/1, whose digest is zero bytes.
-fn finished(alloc: Global) -> Result<Frame, AllocError> {
-    let mut body = [0; 26];
-    body[0] = 1;
-    body[19] = 1;
-    body[20] = 5;
-    body[21..26].copy_from_slice(b"fmt/1");
+// The bodies of a Finished of one identifier, fmt/1, by a signature, with a digest of zero bytes: in version 1 MD5's, and in
+// version 2 SHA-256's, behind its number.
+const FINISHED: [u8; 26] = [
+    1, 0, 0, 0, 0, 0, 0, 0, 0, 0, 0, 0, 0, 0, 0, 0, 0, 0, 0, 1, 5, 102, 109, 116, 47, 49,
+];
+
+const FINISHED_2: [u8; 43] = [
+    1, 0, 2, 0, 0, 0, 0, 0, 0, 0, 0, 0, 0, 0, 0, 0, 0, 0, 0, 0, 0, 0, 0, 0, 0, 0, 0, 0, 0, 0, 0, 0,
+    0, 0, 0, 0, 1, 5, 102, 109, 116, 47, 49,
+];
+
+// A reply to the first request in a version.
+fn reply(alloc: Global, version: u8, kind: u8, body: &[u8]) -> Result<Frame, AllocError> {
     Ok(Frame {
-        version: 1,
-        kind: 132,
+        version,
+        kind,
         client: 1,
         number: 1,
-        body: Blob::copy_of(alloc, &body)?,
+        body: Blob::copy_of(alloc, body)?,
     })
 }
 
+fn finished(alloc: Global, version: u8) -> Result<Frame, AllocError> {
+    match version {
+        1 => reply(alloc, version, 132, &FINISHED),
+        _ => reply(alloc, version, 132, &FINISHED_2),
+    }
+}
+
 // A refusal for memory.
-fn refusal(alloc: Global) -> Result<Frame, AllocError> {
-    Ok(Frame {
-        version: 1,
-        kind: 136,
-        client: 1,
-        number: 1,
-        body: Blob::copy_of(alloc, &[18])?,
-    })
+fn refusal(alloc: Global, version: u8) -> Result<Frame, AllocError> {
+    reply(alloc, version, 136, &[18])
 }
 
 fn finish() -> Request {
@@ -57,44 +65,53 @@ fn are_pending(client: &Client, count: usize, refused: Option<Refusal>) -> bool 
 }
 
 // Submits a request behind so many, once more where memory was refused and those are as they were.
-fn submitted(client: &mut Client, before: usize) -> Option<u64> {
+fn submitted(client: &mut Client, version: u8, before: usize) -> Option<u64> {
     let (first, second) = (finish(), finish());
-    if !first.fits(1) || !second.fits(1) {
+    if !first.fits(version) || !second.fits(version) {
         return None;
     }
-    match client.submit(1, first) {
+    match client.submit(version, first) {
         Ok(number) => Some(number),
         Err(SubmitFault::Memory) if are_pending(client, before, None) => {
-            client.submit(1, second).ok()
+            client.submit(version, second).ok()
         }
         Err(_) => None,
     }
 }
 
 // Takes the answer to the first of two requests, once more where memory was refused and both are as they were.
-fn heard(alloc: Global, client: &mut Client) -> Option<Heard> {
-    let frame = finished(alloc).or_else(|_| finished(alloc)).ok()?;
+fn heard(alloc: Global, client: &mut Client, version: u8) -> Option<Heard> {
+    let frame = finished(alloc, version)
+        .or_else(|_| finished(alloc, version))
+        .ok()?;
     match client.on_reply(frame) {
         Ok(heard) => Some(heard),
         Err(HearFault::Memory) if are_pending(client, 2, Some(Refusal::Memory)) => {
-            client.on_reply(finished(alloc).ok()?).ok()
+            client.on_reply(finished(alloc, version).ok()?).ok()
         }
         Err(_) => None,
     }
 }
 
-#[test]
-fn wanting_and_again(rt: HostRuntime) -> Result<(), Fail> {
-    let alloc = rt.alloc();
+// Asserts what comes of two requests in a version, of which the first is refused and then answered.
+fn is_answered_in(rt: &impl Abort, alloc: Global, version: u8) -> Result<(), Fail> {
     let mut client = Client::new(alloc, 1, 1);
     for (before, number) in NUMBERS.iter().enumerate() {
-        assert!(rt; submitted(&mut client, before) == Some(*number));
+        assert!(rt; submitted(&mut client, version, before) == Some(*number));
     }
-    let frame = refusal(alloc).or_else(|_| refusal(alloc))?;
+    let frame = refusal(alloc, version).or_else(|_| refusal(alloc, version))?;
     assert!(rt; client.on_reply(frame).ok() == Some(Heard::Refused));
-    assert!(rt; heard(alloc, &mut client) == Some(Heard::Answered));
+    assert!(rt; heard(alloc, &mut client, version) == Some(Heard::Answered));
     let answer = client.answer(1);
     assert!(rt; matches!(answer, Some(Reply::Finished { puids, .. }) if puids.len() == 1));
     assert!(rt; client.pending() == 1 && client.refusal(1) == Some(Refusal::Memory));
+    Ok(())
+}
+
+#[test]
+fn wanting_and_again(rt: HostRuntime) -> Result<(), Fail> {
+    for version in [1, 2] {
+        is_answered_in(&rt, rt.alloc(), version)?;
+    }
     Ok(())
 }

@@ -1,9 +1,10 @@
 //! Streams of frames over memory, and what is written for them.
 
 use crate::vectors::{
-    CREATE, FOLDER, MADE, NODE, NUMBER_REUSED, OTHER_FOLDER, joined, refused, service,
+    CREATE, CREATE_2, FOLDER, MADE, MADE_2, NODE, NUMBER_REUSED, OTHER_FOLDER, joined, refused,
+    service,
 };
-use droid_frame::{FrameFault, Unsteady};
+use droid_frame::{FrameFault, Noted};
 use droid_wire::{Ended, ServeFault, serve};
 use std::alloc::Global;
 use std::test::Fail;
@@ -24,16 +25,7 @@ const A_BYTE_MORE: [u8; 24] = [
 
 const NO_PROFILE: [u8; 19] = [1, 136, 0, 0, 0, 1, 0, 0, 0, 0, 0, 0, 0, 1, 0, 0, 0, 1, 1];
 
-/// In version 2 a profile with SHA-256 is asked for, and made.
-const CREATE_2: [u8; 24] = [
-    2, 1, 0, 0, 0, 1, 0, 0, 0, 0, 0, 0, 0, 1, 0, 0, 0, 6, 0, 1, 0, 0, 0, 2,
-];
-
-const MADE_2: [u8; 22] = [
-    2, 129, 0, 0, 0, 1, 0, 0, 0, 0, 0, 0, 0, 1, 0, 0, 0, 4, 0, 0, 0, 1,
-];
-
-/// A hash that there isn't, and its reply.
+/// In version 2 a hash that there isn't, and its reply.
 const NO_HASH: [u8; 24] = [
     2, 1, 0, 0, 0, 1, 0, 0, 0, 0, 0, 0, 0, 1, 0, 0, 0, 6, 0, 1, 0, 0, 0, 3,
 ];
@@ -52,8 +44,8 @@ fn served(
     turns: u32,
 ) -> Result<(Result<Ended, ServeFault>, Vec<u8>, usize), Fail> {
     let mut service = service(alloc)?;
-    let mut reader = Unsteady::new(input);
-    let mut writer = Unsteady::new(Vec::new(alloc));
+    let mut reader = Noted::new(input);
+    let mut writer = Noted::new(Vec::new(alloc));
     let ended = serve(alloc, &mut service, &mut reader, &mut writer, turns);
     Ok((ended, writer.stream, reader.stream.len()))
 }

@@ -1,8 +1,8 @@
 //! Streams that stop after each byte: each frame that came whole is answered, and the end says what the stream did.
 
-use crate::vectors::{CREATE, FOLDER, MADE, NODE, NUMBER_REUSED, OTHER_FOLDER, joined, service};
+use crate::vectors::{service, session};
 use droid_core::Service;
-use droid_frame::{FrameFault, Unsteady};
+use droid_frame::{FrameFault, Noted};
 use droid_frame_shaky::{BYTE_BY_BYTE, Manner, STEADY, ShakyReader, ShakyWriter, Stop};
 use droid_wire::{Ended, ServeFault, serve};
 use std::alloc::Global;
@@ -16,21 +16,27 @@ enum Which {
     Replies,
 }
 
+/// The version of the frames, and which of their streams stops behind how many bytes, and how.
+type Place = (u8, Which, usize, Stop);
+
 /// How serving ends, and how many bytes of the four replies are written. The requests' frames end behind bytes 23, 59,
-/// 95 and 132; those of the replies behind 22, 44, 66 and 85.
+/// 95 and 132, and in version 2 each a byte later; those of the replies behind 22, 44, 66 and 85 in both.
 type Wanted = (Result<Ended, ServeFault>, usize);
 
-/// How long all requests are together, and all replies.
-const REQUESTS: usize = 132;
+/// How long all requests are together in each version, and all replies in both.
+const REQUESTS: [(u8, usize); 2] = [(1, 132), (2, 133)];
 
 const REPLIES: usize = 85;
 
 const WHOLE: Wanted = (Ok(Ended::Closed), REPLIES);
 
-/// What is wanted where a stream stops so behind this byte.
-fn wanted(which: Which, count: usize, stop: Stop) -> Wanted {
+/// What is wanted where a stream stops there.
+fn wanted((version, which, count, stop): Place) -> Wanted {
     match which {
-        Which::Requests => (end_of_requests(count, stop), replies_to(count)),
+        Which::Requests => (
+            end_of_requests(version, count, stop),
+            replies_to(version, count),
+        ),
         Which::Replies if count < REPLIES => {
             let written = count as u64;
             (Err(ServeFault::Write { written }), count)
@@ -40,22 +46,23 @@ fn wanted(which: Which, count: usize, stop: Stop) -> Wanted {
 }
 
 /// How many bytes the replies have to the requests that lie whole in the first so many bytes.
-fn replies_to(count: usize) -> usize {
-    match count {
-        0..23 => 0,
-        23..59 => 22,
-        59..95 => 44,
-        95..132 => 66,
+fn replies_to(version: u8, count: usize) -> usize {
+    match (version, count) {
+        (1, 0..23) | (2, 0..24) => 0,
+        (1, 23..59) | (2, 24..60) => 22,
+        (1, 59..95) | (2, 60..96) => 44,
+        (1, 95..132) | (2, 96..133) => 66,
         _ => REPLIES,
     }
 }
 
 /// They end where a frame may begin or within one, or fail.
-fn end_of_requests(count: usize, stop: Stop) -> Result<Ended, ServeFault> {
-    match (stop, count) {
-        (Stop::Fails, _) => Err(ServeFault::Frame(FrameFault::Read)),
-        (Stop::Ends, 0 | 23 | 59 | 95 | 132) => Ok(Ended::Closed),
-        (Stop::Ends, _) => Err(ServeFault::Frame(FrameFault::Truncated)),
+fn end_of_requests(version: u8, count: usize, stop: Stop) -> Result<Ended, ServeFault> {
+    match (stop, version, count) {
+        (Stop::Fails, _, _) => Err(ServeFault::Frame(FrameFault::Read)),
+        (Stop::Ends, 1, 0 | 23 | 59 | 95 | 132) => Ok(Ended::Closed),
+        (Stop::Ends, 2, 0 | 24 | 60 | 96 | 133) => Ok(Ended::Closed),
+        (Stop::Ends, _, _) => Err(ServeFault::Frame(FrameFault::Truncated)),
     }
 }
 
@@ -73,13 +80,12 @@ fn requests_to(requests: &[u8], count: usize, stop: Stop, manner: Manner) -> Sha
 fn ends(
     rt: &impl Abort,
     alloc: Global,
-    (which, count, stop): (Which, usize, Stop),
+    (version, which, count, stop): Place,
     manner: Manner,
     turns: u32,
     (end, written): Wanted,
 ) -> Result<(), Fail> {
-    let requests = joined(alloc, &[&CREATE, &FOLDER, &FOLDER, &OTHER_FOLDER])?;
-    let replies = joined(alloc, &[&MADE, &NODE, &NODE, &NUMBER_REUSED])?;
+    let (requests, replies) = session(alloc, version)?;
     let space = Vec::new(alloc);
     let (reader, writer) = match which {
         Which::Requests => (
@@ -92,14 +98,17 @@ fn ends(
         ),
     };
     let mut service = service(alloc)?;
-    let (mut reader, mut writer) = (Unsteady::new(reader), Unsteady::new(writer));
+    let (mut reader, mut writer) = (Noted::new(reader), Noted::new(writer));
     let ended = serve(alloc, &mut service, &mut reader, &mut writer, turns);
-    assert!(rt; ended == end, "{count}: {ended:?}");
+    assert!(rt; ended == end, "version {version}, {count}: {ended:?}");
     let front = &replies.as_slice()[..written.min(replies.len())];
-    assert!(rt; writer.stream.taken() == front, "{count}");
+    assert!(rt;
+        writer.stream.taken() == front,
+        "version {version}, {count}"
+    );
     assert!(rt;
         gives_all(alloc, &mut service, requests.as_slice(), replies.as_slice()),
-        "{count}, served again"
+        "version {version}, {count}, served again"
     );
     Ok(())
 }
@@ -118,12 +127,12 @@ fn gives_all(alloc: Global, service: &mut Service, requests: &[u8], replies: &[u
 fn ends_at_each(
     rt: &impl Abort,
     alloc: Global,
-    (which, last, stop): (Which, usize, Stop),
+    (version, which, last, stop): Place,
     manner: Manner,
 ) -> Result<(), Fail> {
     for count in 0..=last {
-        let place = (which, count, stop);
-        ends(rt, alloc, place, manner, 9, wanted(which, count, stop))?;
+        let place = (version, which, count, stop);
+        ends(rt, alloc, place, manner, 9, wanted(place))?;
     }
     Ok(())
 }
@@ -133,18 +142,19 @@ fn ends_at_each(
 fn each_byte_of_the_requests(rt: HostRuntime) -> Result<(), Fail> {
     let alloc = rt.alloc();
     let which = Which::Requests;
-    ends_at_each(&rt, alloc, (which, REQUESTS, Stop::Fails), STEADY)?;
-    ends_at_each(&rt, alloc, (which, REQUESTS, Stop::Ends), BYTE_BY_BYTE)?;
-    for (turns, count, written) in [(2, 59, 44), (0, 0, 0)] {
-        let place = (which, count, Stop::Fails);
-        ends(
-            &rt,
-            alloc,
-            place,
-            STEADY,
-            turns,
-            (Ok(Ended::Turns), written),
-        )?;
+    for (version, last) in REQUESTS {
+        ends_at_each(&rt, alloc, (version, which, last, Stop::Fails), STEADY)?;
+        ends_at_each(&rt, alloc, (version, which, last, Stop::Ends), BYTE_BY_BYTE)?;
+    }
+    for (version, turns, count, written) in [
+        (1, 2, 59, 44),
+        (2, 2, 60, 44),
+        (1, 0, 0, 0),
+        (2, 0, 0, 0),
+    ] {
+        let place = (version, which, count, Stop::Fails);
+        let wanted = (Ok(Ended::Turns), written);
+        ends(&rt, alloc, place, STEADY, turns, wanted)?;
     }
     Ok(())
 }
@@ -154,10 +164,33 @@ fn each_byte_of_the_requests(rt: HostRuntime) -> Result<(), Fail> {
 fn each_byte_of_the_replies(rt: HostRuntime) -> Result<(), Fail> {
     let alloc = rt.alloc();
     let which = Which::Replies;
-    ends_at_each(&rt, alloc, (which, REPLIES, Stop::Ends), STEADY)?;
-    ends_at_each(&rt, alloc, (which, REPLIES, Stop::Fails), BYTE_BY_BYTE)?;
-    let place = (which, 0, Stop::Fails);
-    ends(&rt, alloc, place, STEADY, 0, (Ok(Ended::Turns), 0))
+    for version in [1, 2] {
+        ends_at_each(&rt, alloc, (version, which, REPLIES, Stop::Ends), STEADY)?;
+        ends_at_each(
+            &rt,
+            alloc,
+            (version, which, REPLIES, Stop::Fails),
+            BYTE_BY_BYTE,
+        )?;
+        let place = (version, which, 0, Stop::Fails);
+        ends(&rt, alloc, place, STEADY, 0, (Ok(Ended::Turns), 0))?;
+    }
+    Ok(())
+}
+
+/// Asserts what is wanted where this stream is interrupted in this manner.
+fn ends_interrupted(
+    rt: &impl Abort,
+    alloc: Global,
+    which: Which,
+    manner: Manner,
+    wanted: Wanted,
+) -> Result<(), Fail> {
+    for version in [1, 2] {
+        let place = (version, which, usize::MAX, Stop::Ends);
+        ends(rt, alloc, place, manner, 9, wanted)?;
+    }
+    Ok(())
 }
 
 /// Sixty-four interruptions are tried again; the next is a fault of the stream.
@@ -166,13 +199,12 @@ fn interruptions(rt: HostRuntime) -> Result<(), Fail> {
     let read = ServeFault::Frame(FrameFault::Read);
     let write = ServeFault::Write { written: 0 };
     for (which, fault) in [(Which::Requests, read), (Which::Replies, write)] {
-        let place = (which, usize::MAX, Stop::Ends);
         for (interruptions, wanted) in [(64, WHOLE), (65, (Err(fault), 0))] {
             let manner = Manner {
                 interruptions,
                 ..STEADY
             };
-            ends(&rt, rt.alloc(), place, manner, 9, wanted)?;
+            ends_interrupted(&rt, rt.alloc(), which, manner, wanted)?;
         }
     }
     Ok(())
@@ -187,13 +219,12 @@ fn interruptions_in_each(rt: HostRuntime) -> Result<(), Fail> {
         (Which::Requests, 70, read, 44),
         (Which::Replies, 50, write, 50),
     ] {
-        let place = (which, usize::MAX, Stop::Ends);
         for (times, wanted) in [(64, WHOLE), (65, (Err(fault), written))] {
             let manner = Manner {
                 places: [(5, 64), (30, 64), (third, times)],
                 ..STEADY
             };
-            ends(&rt, rt.alloc(), place, manner, 9, wanted)?;
+            ends_interrupted(&rt, rt.alloc(), which, manner, wanted)?;
         }
     }
     Ok(())

@@ -13,6 +13,15 @@ pub const MADE: [u8; 22] = [
     1, 129, 0, 0, 0, 1, 0, 0, 0, 0, 0, 0, 0, 1, 0, 0, 0, 4, 0, 0, 0, 1,
 ];
 
+/// In version 2 a profile with SHA-256 is asked for, and made.
+pub const CREATE_2: [u8; 24] = [
+    2, 1, 0, 0, 0, 1, 0, 0, 0, 0, 0, 0, 0, 1, 0, 0, 0, 6, 0, 1, 0, 0, 0, 2,
+];
+
+pub const MADE_2: [u8; 22] = [
+    2, 129, 0, 0, 0, 1, 0, 0, 0, 0, 0, 0, 0, 1, 0, 0, 0, 4, 0, 0, 0, 1,
+];
+
 pub const FOLDER: [u8; 36] = [
     1, 2, 0, 0, 0, 1, 0, 0, 0, 0, 0, 0, 0, 2, 0, 0, 0, 18, 0, 0, 0, 1, 0, 0, 0, 0, 0, 0, 0, 0, 0,
     0, 0, 0, 105, 110,
@@ -38,6 +47,28 @@ pub fn joined(alloc: Global, parts: &[&[u8]]) -> Result<Vec<u8>, AllocError> {
         bytes.extend_from_slice(part)?;
     }
     Ok(bytes)
+}
+
+/// The same as frames of a version, which is the first byte of each.
+pub fn joined_in(alloc: Global, version: u8, frames: &[&[u8]]) -> Result<Vec<u8>, AllocError> {
+    let mut bytes = Vec::new(alloc);
+    for frame in frames {
+        if let Some((_, others)) = frame.split_first() {
+            bytes.push(version)?;
+            bytes.extend_from_slice(others)?;
+        }
+    }
+    Ok(bytes)
+}
+
+/// Four requests in a version, and their replies.
+pub fn session(alloc: Global, version: u8) -> Result<(Vec<u8>, Vec<u8>), AllocError> {
+    let requests = match version {
+        1 => joined_in(alloc, 1, &[&CREATE, &FOLDER, &FOLDER, &OTHER_FOLDER])?,
+        _ => joined_in(alloc, 2, &[&CREATE_2, &FOLDER, &FOLDER, &OTHER_FOLDER])?,
+    };
+    let replies = joined_in(alloc, version, &[&MADE, &NODE, &NODE, &NUMBER_REUSED])?;
+    Ok((requests, replies))
 }
 
 /// The frame that refuses a request of client 1 by a number without a detail.

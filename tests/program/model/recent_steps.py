@@ -1,10 +1,10 @@
 #!/usr/bin/env -S python3 -S -B
-"""Writes a table of random requests with the model's replies: `recent_steps.py SEED COUNT`. With 28 and 190 it is the
+"""Writes a table of random requests with the model's replies: `recent_steps.py SEED COUNT`. With 43 and 240 it is the
 file crates/droid_core/src/service/tests/by_chance.rt, whose steps are put there to services with places for one recent
 reply and for 256 (`../model.sh` compares them).
 
-Three clients take part, each with numbers from 1, so that most numbers are used by all of them. Requests come again
-early and late, and kept numbers come with other requests.
+Three clients take part, each with numbers from 1, so that most numbers are used by all of them, in frames of both
+versions. Requests come again early and late, and kept numbers come with other requests and in the other version.
 """
 
 import os
@@ -19,26 +19,32 @@ from service import Service
 SAMPLE = os.path.join(os.path.dirname(os.path.abspath(__file__)), "..", "sample_registry.csv")
 WEIGHTS = {
     "create": 2, "folder": 5, "file": 10, "piece": 22, "finish": 9, "abandon": 2, "status": 4, "export": 4,
-    "repeat": 14, "reused": 8, "malformed": 1,
+    "repeat": 14, "reused": 8, "reversed": 4, "malformed": 1,
 }
 NAMES = ["in", "out", "a", "b", "a.txt", "m.msg", "m.txt", "x.abc", "y.let"]
 BAD_NAMES = ["", "..", "a/b"]
 CONTENTS = [b"", b"ab", b"abcxyz", b"abcd", b"message", b"message digest"]
 METHODS = {"none": 0, "Signature": 1, "Extension": 2}
 LIMITS = {"profiles": 1, "nodes": 2, "unfinished": 3}
+HASHES = {"none": "Nothing", "md5": "Md5", "sha256": "Sha256"}
+# how many bytes a digest has, by the number of its hash
+LENGTHS = [0, 16, 32]
 # `rt fmt` puts a row on one line where what is between its parentheses has so many characters at most
 WIDTH = 60
+# and a constant on one line where that has at most so many
+LINE = 100
 
 HEAD = """\
-//! Requests by chance with the replies of the model, which `tests/program/model/recent_steps.py 28 190` writes. Three
-//! clients use the same numbers; requests come again, and kept numbers come with other requests.
+//! Requests by chance with the replies of the model, which `tests/program/model/recent_steps.py 43 240` writes. Three
+//! clients use the same numbers in both versions; requests come again, and kept numbers come with other requests.
 
 use crate::service::tests::steps::Ask::{
-    Abandon, Create, Export, File, Finish, Folder, Piece, Status,
+    Abandon, Create, Export, File, Finish, Folder, Hashed, Piece, Status,
 };
 use crate::service::tests::steps::Due::{Made, Node, Part, Refused, Taken, Told};
 use crate::service::tests::steps::{ABANDONED, FINISHED, PROGRESS, REFUSED, Step};
 use crate::service::tests::{LARGEST, ask};
+use droid_frame::HashKind;
 """
 
 TEST = """\
@@ -87,7 +93,7 @@ class Story:
     def under_next_number(self, kind, **fields):
         client = self.random.choice(list(self.numbers))
         self.numbers[client] += 1
-        ends = {"version": 1, "client": client, "number": self.numbers[client]}
+        ends = {"version": self.random.choice([1, 1, 2]), "client": client, "number": self.numbers[client]}
         return ends | {"kind": kind, "hash": "md5"} | fields
 
     def profile(self):
@@ -113,14 +119,15 @@ class Story:
 
     def create(self):
         limit = self.random.choice([65_536, 65_536, 65_536, 3, 2, 0])
-        return self.under_next_number("create", limit=limit, match_all=self.random.random() < 0.3)
+        request = self.under_next_number("create", limit=limit, match_all=self.random.random() < 0.3)
+        return request if request["version"] == 1 else request | {"hash": self.random.choice(list(HASHES))}
 
     def folder(self):
         return self.under_next_number("folder", **self.place())
 
     def file(self):
         size = self.random.choice([0, 2, 4, 6, 7, 14])
-        piece_size = 0 if self.random.random() < 0.03 else self.random.choice([2, 4, 7, 14])
+        piece_size = 0 if self.random.random() < 0.03 else self.random.choice([2, 4, 7, 14, 1_048_577])
         return self.under_next_number("file", size=size, piece_size=piece_size, **self.place())
 
     def piece(self):
@@ -163,6 +170,11 @@ class Story:
         self.numbers[other["client"]] -= 1
         return other | {"client": whose["client"], "number": whose["number"]}
 
+    def reversed(self):
+        """The same under the same number, in the other version."""
+        request = self.repeat()
+        return request | ({"version": 2} if request["version"] == 1 else {"version": 1, "hash": "md5"})
+
     def malformed(self):
         return self.create() | {"number": 1 << 63}
 
@@ -178,12 +190,13 @@ def text(found):
 def ask(request):
     kind = request["kind"]
     if kind == "create":
-        return f"Create({whole(request['limit'])}, {str(request['match_all']).lower()})"
+        options = f"{whole(request['limit'])}, {str(request['match_all']).lower()}"
+        return f"Create({options})" if request["version"] == 1 else f"Hashed({options}, HashKind::{HASHES[request['hash']]})"
     head = str(request["profile"])
     if kind in ("folder", "file"):
         head += f", {request['parent']}, {whole(request['modified'])}"
         if kind == "file":
-            head += f", {request['size']}, {request['piece_size']}"
+            head += f", {request['size']}, {whole(request['piece_size'])}"
         return f'{kind.capitalize()}({head}, "{text(request["name"])}")'
     if kind == "export":
         return f"Export({head}, {request['from']}, {request['max']})"
@@ -197,9 +210,11 @@ def spelled(body):
     return "".join(f"\\x{byte:02x}" for byte in body)
 
 
-def found_body(method, mismatch, digest, puids):
+def found_body(version, method, mismatch, digest, puids):
     found = [] if puids == "-" else puids.split(",")
-    head = bytes([METHODS[method], mismatch == "true"]) + bytes.fromhex(digest) + pack(">H", len(found))
+    digest = b"" if digest == "-" else bytes.fromhex(digest)
+    hash = bytes([LENGTHS.index(len(digest))]) if version == 2 else b""
+    head = bytes([METHODS[method], mismatch == "true"]) + hash + digest + pack(">H", len(found))
     return spelled(head) + "".join(spelled([len(puid)]) + puid for puid in found)
 
 
@@ -208,17 +223,23 @@ def refusal(number, told):
     return f'Told(REFUSED, b"{spelled(body)}")'
 
 
+def constant(name, body):
+    head, value = f"const {name}: &[u8] =", f'b"{body}";'
+    on_one = f"{head} {value}"
+    return f"{on_one}\n" if len(on_one) <= LINE else f"{head}\n    {value}\n"
+
+
 class Table:
     """The rows, and what each Finished found under a name of its own."""
 
     def __init__(self):
         self.found = {}
 
-    def due(self, reply):
+    def due(self, version, reply):
         line, _, rest = reply.partition(b"\n")
         word, *told = line.decode("ascii").split(" ")
         if word == "finished":
-            return f"Told(FINISHED, {self.found.setdefault(found_body(*told), f'FOUND_{len(self.found) + 1}')})"
+            return f"Told(FINISHED, {self.found.setdefault(found_body(version, *told), f'FOUND_{len(self.found) + 1}')})"
         if word == "abandoned":
             return 'Told(ABANDONED, b"")'
         if word == "progress":
@@ -228,13 +249,14 @@ class Table:
         return refusal(*told) if len(told) == 2 else f"{word.capitalize()}({told[0]})"
 
     def row(self, request, reply):
-        parts = [str(request["client"]), whole(request["number"]), ask(request), self.due(reply)]
+        version = request["version"]
+        parts = [str(version), str(request["client"]), whole(request["number"]), ask(request), self.due(version, reply)]
         row = ", ".join(parts)
         return f"    ({row}),\n" if len(row) <= WIDTH else "    (\n" + "".join(f"        {it},\n" for it in parts) + "    ),\n"
 
     def written(self, steps):
         rows = [self.row(*step) for step in steps]
-        names = [f'const {name}: &[u8] =\n    b"{body}";\n' for body, name in self.found.items()]
+        names = [constant(name, body) for body, name in self.found.items()]
         return "\n".join([HEAD, *names, "const BY_CHANCE: &[Step] = &[\n" + "".join(rows) + "];\n"]) + TEST
 
 

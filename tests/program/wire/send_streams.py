@@ -1,5 +1,6 @@
 """`send` and `serve` on streams that are interrupted, cut short, fail or are reset (../streams.c)."""
 
+import itertools
 import os
 import socket
 import struct
@@ -7,14 +8,16 @@ import subprocess
 import time
 import unittest
 
-from harness import PROGRAM, SECONDS, Serve, connect, frame, listen, preloaded, send
-from harness import read_exactly, read_frame, read_until_reset
-from run_command import REPLIES, REQUESTS
+from harness import LIMITS, PROGRAM, SECONDS, Serve, connect, frame, in_version, lines_in_version, listen
+from harness import preloaded, read_exactly, read_frame, read_until_reset, send
+from run_command import ENDS, REPLIED, session_in
 from send_faults import made
 
-# the lines end at 15 and 31, their frames at 23 and 59, the reply frames at 22 and 44, what is printed at 7 and 14
 LINES = b"create 65536 0\nfolder 1 0 0 in\n"
 PRINTED = b"made 1\nnode 1\n"
+# where the lines and their frames end in each version; in both the reply frames end at 22 and 44, what is printed at 7 and 14
+LINE_ENDS = {1: (15, 31), 2: (22, 41)}
+FRAME_ENDS = {1: (23, 59), 2: (24, 60)}
 
 
 def variables(text):
@@ -23,39 +26,46 @@ def variables(text):
 
 
 class SendStreams(unittest.TestCase):
-    def ends(self, rows):
+    def ends(self, rows, versions=LIMITS):
         """Each row: the variables, how many bytes are printed, and the fault or None. Where a stream has broken, the
         same lines sent again are answered as if it had not."""
-        for row, printed, fault in rows:
-            with self.subTest(row=row), Serve(2) as service:
-                found = send(service.port, 7, LINES, env=preloaded("STREAMS", **variables(row)))
+        for version, (row, printed, fault) in itertools.product(versions, rows):
+            lines = lines_in_version(version, LINES)
+            with self.subTest(version=version, row=row), Serve(2) as service:
+                found = send(service.port, 7, lines, env=preloaded("STREAMS", **variables(row)))
                 status, said = (0, "") if fault is None else (4, f"fault: {fault}\n")
                 self.assertEqual(found, (status, PRINTED[:printed], said))
-                self.assertEqual(send(service.port, 7, LINES), (0, PRINTED, ""))
+                self.assertEqual(send(service.port, 7, lines), (0, PRINTED, ""))
+
+    def ends_at(self, places, rows_of):
+        """The same, where the rows go by these places in a version."""
+        for version, found in places.items():
+            self.ends(rows_of(*found), [version])
 
     def test_cut_short(self):
         self.ends([(f"{name}_WIDTH=1", 14, None) for name in ("READ", "WRITE", "RECEIVE", "SEND")])
 
     def test_lines(self):
-        self.ends(
-            [
+        self.ends_at(
+            LINE_ENDS,
+            lambda first, last: [
                 ("READ_INTERRUPTIONS=64", 14, None),
                 ("READ_INTERRUPTIONS=65", 0, "Read"),
-                ("READ_INTERRUPTED_AT=5:32,20:32", 14, None),
+                (f"READ_INTERRUPTED_AT=5:32,{first + 5}:32", 14, None),
                 ("READ_INTERRUPTED_AT=5:64", 14, None),
                 ("READ_INTERRUPTED_AT=5:65", 0, "Read"),
-                ("READ_INTERRUPTED_AT=20:65", 7, "Read"),
-                ("READ_INTERRUPTED_AT=31:65", 14, "Read"),
+                (f"READ_INTERRUPTED_AT={first + 5}:65", 7, "Read"),
+                (f"READ_INTERRUPTED_AT={last}:65", 14, "Read"),
                 # of the whole input, not of each line
-                ("READ_INTERRUPTED_AT=5:64,20:1", 7, "Read"),
-                ("READ_INTERRUPTED_AT=5:32,20:33", 7, "Read"),
-                ("READ_INTERRUPTED_AT=5:32,20:32,31:1", 14, "Read"),
+                (f"READ_INTERRUPTED_AT=5:64,{first + 5}:1", 7, "Read"),
+                (f"READ_INTERRUPTED_AT=5:32,{first + 5}:33", 7, "Read"),
+                (f"READ_INTERRUPTED_AT=5:32,{first + 5}:32,{last}:1", 14, "Read"),
                 ("READ_ROOM=0", 0, "Read"),
                 ("READ_ROOM=5", 0, "Read"),
-                ("READ_ROOM=20", 7, "Read"),
-                ("READ_ROOM=31", 14, "Read"),
-                ("READ_FAILS_ONCE=20", 7, "Read"),
-            ]
+                (f"READ_ROOM={first + 5}", 7, "Read"),
+                (f"READ_ROOM={last}", 14, "Read"),
+                (f"READ_FAILS_ONCE={first + 5}", 7, "Read"),
+            ],
         )
 
     def test_replies(self):
@@ -77,22 +87,23 @@ class SendStreams(unittest.TestCase):
         )
 
     def test_frames(self):
-        self.ends(
-            [
+        self.ends_at(
+            FRAME_ENDS,
+            lambda first, last: [
                 ("SEND_INTERRUPTIONS=64", 14, None),
                 ("SEND_INTERRUPTIONS=65", 0, "Write"),
                 ("SEND_INTERRUPTED_AT=5:64,30:64", 14, None),
-                ("SEND_INTERRUPTED_AT=0:64,23:64", 14, None),
+                (f"SEND_INTERRUPTED_AT=0:64,{first}:64", 14, None),
                 ("SEND_INTERRUPTED_AT=5:32,20:32", 14, None),
                 ("SEND_INTERRUPTED_AT=5:32,20:33", 0, "Write"),
                 ("SEND_INTERRUPTED_AT=5:64,30:65", 7, "Write"),
                 ("SEND_WIDTH=0", 0, "Write"),
                 ("SEND_ROOM=0", 0, "Write"),
                 ("SEND_ROOM=20", 0, "Write"),
-                ("SEND_ROOM=23", 7, "Write"),
-                ("SEND_ROOM=58", 7, "Write"),
-                ("SEND_ROOM=59", 14, None),
-            ]
+                (f"SEND_ROOM={first}", 7, "Write"),
+                (f"SEND_ROOM={last - 1}", 7, "Write"),
+                (f"SEND_ROOM={last}", 14, None),
+            ],
         )
 
     def test_what_is_printed(self):
@@ -123,38 +134,48 @@ class SendStreams(unittest.TestCase):
         self.assertEqual((done.returncode, done.stdout, done.stderr), (4, b"", b"fault: Read\n"))
 
 
-class ServeStreams(unittest.TestCase):
-    """The frames of a connection end at 23, 59, 95 and 132, and their replies at 22, 44, 66 and 85."""
+def each_at(places, times):
+    """So many interruptions at each of these places."""
+    return ",".join(f"{place}:{times}" for place in places)
 
-    def ends(self, rows):
+
+class ServeStreams(unittest.TestCase):
+    """The frames of a connection end as those of the stored session, and so do their replies."""
+
+    def ends(self, rows, versions=LIMITS):
         """Each row: the variables, and how many bytes of replies come. The next connection is served in any case."""
-        for row, replied in rows:
-            with self.subTest(row=row), Serve(2, env=preloaded("STREAMS", **variables(row))) as service:
+        for version, (row, replied) in itertools.product(versions, rows):
+            requests, replies = session_in(version)
+            environment = preloaded("STREAMS", **variables(row))
+            with self.subTest(version=version, row=row), Serve(2, env=environment) as service:
                 with connect(service.port) as stream:
-                    stream.sendall(REQUESTS)
-                    self.assertEqual(read_until_reset(stream, len(REPLIES)), REPLIES[:replied])
+                    stream.sendall(requests)
+                    self.assertEqual(read_until_reset(stream, len(replies)), replies[:replied])
                 with connect(service.port) as stream:
-                    stream.sendall(REQUESTS)
-                    self.assertEqual(read_exactly(stream, len(REPLIES)), REPLIES)
+                    stream.sendall(requests)
+                    self.assertEqual(read_exactly(stream, len(replies)), replies)
 
     def test_cut_short(self):
         self.ends([("RECEIVE_WIDTH=1", 85), ("SEND_WIDTH=1", 85)])
 
     def test_frames(self):
-        self.ends(
-            [
-                ("RECEIVE_INTERRUPTED_AT=10:64,40:64", 85),
-                ("RECEIVE_INTERRUPTED_AT=0:64,23:64,59:64,95:64,132:64", 85),
-                ("RECEIVE_INTERRUPTED_AT=10:64,40:65", 22),
-                ("RECEIVE_FAILS_ONCE=94", 44),
-            ]
-        )
+        for version, ends in ENDS.items():
+            self.ends(
+                [
+                    ("RECEIVE_INTERRUPTED_AT=10:64,40:64", 85),
+                    (f"RECEIVE_INTERRUPTED_AT={each_at(ends, 64)}", 85),
+                    ("RECEIVE_INTERRUPTED_AT=10:64,40:65", 22),
+                    (f"RECEIVE_FAILS_ONCE={ends[3] - 1}", 44),
+                    (f"RECEIVE_FAILS_ONCE={ends[3]}", 66),
+                ],
+                [version],
+            )
 
     def test_replies(self):
         self.ends(
             [
                 ("SEND_INTERRUPTED_AT=5:64,30:64", 85),
-                ("SEND_INTERRUPTED_AT=0:64,22:64,44:64,66:64", 85),
+                (f"SEND_INTERRUPTED_AT={each_at(REPLIED[:4], 64)}", 85),
                 ("SEND_INTERRUPTED_AT=5:64,30:65", 30),
                 ("SEND_FAILS_ONCE=50", 50),
             ]
@@ -170,6 +191,8 @@ def reset(stream):
 class Resets(unittest.TestCase):
     """The other end answers the first frame, and resets the connection where the second is due or was taken."""
 
+    VERSION = 1
+
     def setUp(self):
         self.listener = listen()
         self.addCleanup(self.listener.close)
@@ -184,12 +207,16 @@ class Resets(unittest.TestCase):
         self.stream, _ = self.listener.accept()
         self.stream.settimeout(SECONDS)
         self.give(b"create 65536 0\n")
-        self.assertEqual(read_frame(self.stream)[:3], (1, 7, 1))
-        self.stream.sendall(made(7, 1))
+        self.assertEqual(self.heard(), (1, 7, 1))
+        self.stream.sendall(in_version(self.VERSION, made(7, 1)))
 
     def give(self, line):
-        self.sender.stdin.write(line)
+        self.sender.stdin.write(lines_in_version(self.VERSION, line))
         self.sender.stdin.flush()
+
+    def heard(self):
+        """The kind, the client and the number of the next frame."""
+        return read_frame(self.stream, self.VERSION)[:3]
 
     def ends(self, fault):
         out, said = self.sender.communicate(timeout=SECONDS)
@@ -197,14 +224,14 @@ class Resets(unittest.TestCase):
 
     def test_where_a_reply_is_due(self):
         self.give(b"folder 1 0 0 in\n")
-        self.assertEqual(read_frame(self.stream)[:3], (2, 7, 2))
+        self.assertEqual(self.heard(), (2, 7, 2))
         reset(self.stream)
         self.ends("Read")
 
     def test_within_a_reply(self):
         self.give(b"folder 1 0 0 in\n")
-        self.assertEqual(read_frame(self.stream)[:3], (2, 7, 2))
-        self.stream.sendall(frame(130, 7, 2, b"\0\0\0\1")[:20])
+        self.assertEqual(self.heard(), (2, 7, 2))
+        self.stream.sendall(frame(130, 7, 2, b"\0\0\0\1", self.VERSION)[:20])
         reset(self.stream)
         self.ends("Read")
 
@@ -215,6 +242,10 @@ class Resets(unittest.TestCase):
         self.give(b"folder 1 0 0 in\n")
         out, said = self.sender.communicate(timeout=SECONDS)
         self.assertEqual((self.sender.returncode, out, said), (4, b"", b"fault: Write\n"))
+
+
+class ResetsInVersion2(Resets):
+    VERSION = 2
 
 
 if __name__ == "__main__":
