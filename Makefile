@@ -36,8 +36,8 @@ wrong: need_rt need_python
 	@RT=$(RT) python3 tools/wrong.py $(if $(BASE),--base $(BASE)) $(CRATES)
 
 # What the costly calls cost: a large registry read, files identified by it, a large export, a folder in a large
-# store, files piece by piece, a service with its program, and repeats; with the same in Python beside it; and the
-# dearest requests that a client can make.
+# store, files piece by piece, a service with its program, profiles of folders, and repeats; with the same in Python
+# beside it; and the dearest requests that a client can make.
 bench: build
 	@RT=$(RT) python3 tools/build.py droid_desk_bench
 	@$(BENCH) times
@@ -49,12 +49,15 @@ bench: build
 	@$(BENCH) memory 61 '{3}' ''
 	@$(BENCH) memory 61 '*' ''
 	@$(BENCH) service
+	@$(BENCH) commands
 	@$(BENCH) repeats
 	@python3 tests/bench/compare_export.py $(BENCH)
 	@python3 tests/bench/compare_folders_export.py $(PROGRAM)
+	@DROID_DESK=$(CURDIR)/$(PROGRAM) PYTHONPATH=tests/program/wire python3 tests/bench/compare_filters.py
 	@python3 tests/bench/compare_store.py $(BENCH)
 	@python3 tests/bench/compare_run.py $(PROGRAM) $(BENCH)
 	@python3 tests/bench/compare_versions.py $(PROGRAM) $(BENCH)
+	@python3 tests/bench/compare_profile.py $(PROGRAM)
 	@python3 tests/bench/memory_of_run.py $(PROGRAM)
 	@DROID_DESK=$(CURDIR)/$(PROGRAM) PYTHONPATH=tests/program/wire python3 tests/bench/attacks.py
 

@@ -12,8 +12,8 @@ import subprocess
 import tempfile
 import time
 
-from harness import HEADER, PROGRAM, frame, read_exactly
-from session import LARGEST_BODY, LARGEST_PIECE, numbers
+from harness import HEADER, LIMITS, MD5, PROGRAM, frame, read_exactly
+from session import LARGEST_PIECE, numbers
 
 MADE, NODE, TAKEN, FINISHED, ABANDONED, PROGRESS, PART, REFUSED = range(129, 137)
 MOST_NODES = 100_000
@@ -25,6 +25,7 @@ NAME = b"n" * 255
 # each byte of which is three in an URI, and the name's quotes are doubled in CSV
 ESCAPED = b'"' * 255
 DEPTH = 16
+SHA256 = b"\2"
 
 # what a registry's patterns may be, and how often it has room for one of 4,096 bytes
 ALTERNATIVES = b"*61(" + b"|".join(b"%02X" % (at % 256) for at in range(1_361)) + b"){0-999}00"
@@ -34,6 +35,12 @@ LONG_PATTERNS = 4_073
 ALIKE = b"a" * 15
 UNMET = b"a" * 14 + b"b"
 PUIDS = [b"a" * 11 + b"%04d" % number for number in range(4_096)]
+
+# as many of the longest texts as a frame of version 2 has room for, and the extension of files with names of 255 bytes: in
+# the order of texts it stands behind them all, and differs from each in its last byte alone
+LONG_LISTS = 64
+LONG_EXTENSION = b"a" * 248 + b"b"
+LONG_TEXTS = [b"a" * 249 + b"%06d" % number for number in range(LONG_LISTS * 255)]
 
 
 def folder(parent, name):
@@ -49,14 +56,16 @@ def export(most, criteria=b"\1\0"):
 
 
 class Service:
-    """`run` over a pair of sockets, with requests that are numbered from 1."""
+    """`run` over a pair of sockets, with requests of a version that are numbered from 1, and a profile with a hash."""
 
-    def __init__(self, *options):
+    def __init__(self, *options, version=1, hash=MD5):
         self.near, far = socket.socketpair()
         self.process = subprocess.Popen([PROGRAM, "run", *options], stdin=far, stdout=far)
         far.close()
+        self.version = version
+        self.most = LIMITS[version]
         self.number = 0
-        self.ask(1, LIMIT, MADE)
+        self.ask(1, LIMIT if version == 1 else LIMIT + hash, MADE)
 
     def __enter__(self):
         return self
@@ -70,14 +79,14 @@ class Service:
     def requests(self, kind, bodies):
         first = self.number + 1
         self.number += len(bodies)
-        return [frame(kind, 1, first + place, body) for place, body in enumerate(bodies)]
+        return [frame(kind, 1, first + place, body, self.version) for place, body in enumerate(bodies)]
 
     def reply(self, due):
         header = read_exactly(self.near, HEADER.size)
-        _, kind, _, _, length = HEADER.unpack(header)
+        version, kind, _, _, length = HEADER.unpack(header)
         body = read_exactly(self.near, length)
-        if kind != due:
-            raise SystemExit(f"answered {kind} {body[:20].hex()}, due was {due}")
+        if (version, kind) != (self.version, due):
+            raise SystemExit(f"answered {kind} {body[:20].hex()} in version {version}, due was {due} in {self.version}")
         return body
 
     def ask_all(self, kind, bodies, due):
@@ -145,27 +154,42 @@ def many_nodes():
         service.measure("CreateProfile", 1, [LIMIT] * ROUNDS, MADE)
         folders = [folder(parent, name) for name in names[:ROUNDS]]
         service.measure("AddFolder, a name of 255 bytes with a path of 4,096", 2, folders, NODE)
-        longest = folder(0, b"n" * (LARGEST_BODY - 16))
-        service.measure("AddFolder, a name of a whole frame", 2, [longest] * ROUNDS, REFUSED)
+        whole_frames(service)
         files = [file(parent, name, 1 << 40, LARGEST_PIECE) for name in names[ROUNDS:]]
         service.measure("AddFile, the same name, 2^40 bytes", 3, files, NODE)
         service.measure("Status", 7, [numbers(1, waiting)] * ROUNDS, PROGRESS)
         fifteen_waiting(service)
-        longest = bytes(LARGEST_BODY)
-        service.measure("a frame of no kind, as long as may be", 9, [longest] * ROUNDS, REFUSED)
 
 
-def fifteen_waiting(service):
+def whole_frames(service, of=""):
+    """A name and a body of no kind, as long as may be."""
+    name = b"n" * (service.most.body - len(folder(0, b"")))
+    service.measure(f"AddFolder{of}, a name of {len(name):,} bytes", 2, [folder(0, name)] * ROUNDS, REFUSED)
+    longest = bytes(service.most.body)
+    service.measure(f"a frame{of} of no kind, of {len(longest):,} bytes", 9, [longest] * ROUNDS, REFUSED)
+
+
+def fifteen_waiting(service, of=""):
     """Files with as many pieces before the first as may be."""
-    piece = b"p" * LARGEST_PIECE
-    nodes = service.nodes_of(3, [file(0, b"p%d" % place, 1 << 40, LARGEST_PIECE) for place in range(ROUNDS)])
+    size = service.most.piece
+    piece = b"p" * size
+    nodes = service.nodes_of(3, [file(0, b"p%d" % place, 1 << 40, size) for place in range(ROUNDS)])
     for node in nodes:
         for index in range(1, 16):
             service.ask(4, numbers(1, node, index) + piece, TAKEN)
     firsts = [numbers(1, node, 0) + piece for node in nodes[1:]]
-    service.measure("Piece of 1 MiB for which fifteen wait", 4, firsts, TAKEN)
-    service.measure("Abandon with fifteen pieces that wait", 6, [numbers(1, nodes[0])], ABANDONED)
-    service.measure("Abandon", 6, [numbers(1, node) for node in nodes[1:]], ABANDONED)
+    service.measure(f"Piece of {size >> 20} MiB{of} for which fifteen wait", 4, firsts, TAKEN)
+    service.measure(f"Abandon with fifteen pieces of {size >> 20} MiB{of} that wait", 6, [numbers(1, nodes[0])], ABANDONED)
+    service.measure(f"Abandon{of}", 6, [numbers(1, node) for node in nodes[1:]], ABANDONED)
+
+
+def in_version_2():
+    """What is larger in it, with each hash."""
+    for name, hash in (("MD5", MD5), ("SHA-256", SHA256)):
+        with Service(version=2, hash=hash) as service:
+            fifteen_waiting(service, f" with {name}")
+    with Service(version=2) as service:
+        whole_frames(service, " of version 2")
 
 
 def finished_file(service, name, content):
@@ -189,6 +213,13 @@ def unmet(tag):
     return export(1, b"\0\xff" + texts * 255)
 
 
+def long_lists():
+    """The same by lists of the longest extensions, no two of which are the same."""
+    told = [bytes([len(text)]) + text for text in LONG_TEXTS]
+    lists = [b"\3\xff" + b"".join(told[at : at + 255]) for at in range(0, len(told), 255)]
+    return export(1, bytes([0, len(lists)]) + b"".join(lists))
+
+
 def long_patterns(place):
     """Under as many patterns of the greatest length as a registry has room for."""
     for what, pattern in (("alternatives", ALTERNATIVES), ("gaps", GAPS)):
@@ -208,17 +239,31 @@ def many_formats(place):
         service.measure("Export of five such files by 255 lists of 255 PUIDs", 8, [unmet(2)], PART)
 
 
+def fill_with_files(service, extension):
+    """As many empty files as there may be, with this extension."""
+    for start in range(0, MOST_NODES, UNFINISHED):
+        numbered = range(start, min(start + UNFINISHED, MOST_NODES))
+        nodes = service.nodes_of(3, [file(0, b"%05d.%s" % (at, extension), 0, 1) for at in numbered])
+        service.ask_all(5, [numbers(1, node) for node in nodes], FINISHED)
+
+
 def many_files(place):
     """Of as many files as there may be, each of one format and with one extension."""
     text = b"F,%s,A,,,\nE,%s,%s,,,\n" % (ALIKE, ALIKE, ALIKE)
     with Service(*registry_in(place, text)) as service:
-        for start in range(0, MOST_NODES, UNFINISHED):
-            numbered = range(start, min(start + UNFINISHED, MOST_NODES))
-            nodes = service.nodes_of(3, [file(0, b"%d.%s" % (at, ALIKE), 0, 1) for at in numbered])
-            service.ask_all(5, [numbers(1, node) for node in nodes], FINISHED)
+        fill_with_files(service, ALIKE)
         service.measure("Export of 100,000 files", 8, [export(1)] * 2, PART)
         service.measure("Export of 100,000 files by 255 lists of 255 extensions", 8, [unmet(3)], PART)
         service.measure("Export of 100,000 files by 255 lists of 255 PUIDs", 8, [unmet(2)], PART)
+
+
+def many_long_files():
+    """Of as many files with the longest extensions."""
+    with Service(version=2) as service:
+        fill_with_files(service, LONG_EXTENSION)
+        service.measure("Export of 100,000 files with extensions of 249 bytes", 8, [export(1)], PART)
+        what = "Export of 100,000 files by 64 lists of 255 extensions of 255 bytes"
+        service.measure(what, 8, [long_lists()], PART)
 
 
 def long_paths():
@@ -233,10 +278,12 @@ def long_paths():
 
 def main():
     many_nodes()
+    in_version_2()
     with tempfile.TemporaryDirectory() as place:
         long_patterns(place)
         many_formats(place)
         many_files(place)
+    many_long_files()
     long_paths()
 
 

@@ -17,6 +17,7 @@ import urllib.parse
 FOLDERS = 100_000
 PART = 1 << 20
 WANTED = 0.35
+WANTED_FURTHER = 0.005
 WANTED_RATIO = 3
 COLUMNS = (
     "ID PARENT_ID URI FILE_PATH NAME METHOD STATUS SIZE TYPE EXT LAST_MODIFIED EXTENSION_MISMATCH MD5_HASH FORMAT_COUNT"
@@ -122,8 +123,8 @@ def main():
     print(f"export of {FOLDERS} folders: {len(text)} bytes in {len(times)} parts")
     print(f"  the first part: {times[0] * 1000:.0f} milliseconds; wanted at most {WANTED * 1000:.0f}")
     further = sorted(times[1:])
-    print(f"  each further part: {further[len(further) // 2] * 1000:.1f} milliseconds by the median")
-    print(f"  Python's sqlite3 and csv, the whole: {python * 1000:.0f} milliseconds; {python / times[0]:.1f} times as long, wanted {WANTED_RATIO}")
+    print(f"  each further part: {further[len(further) // 2] * 1000:.1f} milliseconds by the median; wanted at most {WANTED_FURTHER * 1000:.0f}")
+    print(f"  Python's sqlite3 and csv, the whole: {python * 1000:.0f} milliseconds; {python / times[0]:.1f} times as long, wanted at least {WANTED_RATIO}")
 
 
 main()

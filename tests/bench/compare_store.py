@@ -1,14 +1,27 @@
 """Runs the statements of a folder's request and of a removal's through Python's sqlite3 too, at as many nodes as the
 built program does, names in no order and 50 clients in turn.
 
-Usage: compare_store.py PROGRAM: the built droid_desk_bench. Prints the microseconds and the bytes a folder of both.
+Usage: compare_store.py PROGRAM [RUNS]: the built droid_desk_bench, and how often it and Python run, one after the other,
+which is five times unless it is said. Prints the microseconds and the bytes a folder of both, the median of all runs with
+the least and the most, beside what is wanted. With the word `sqlite3` and numbers of nodes it is Python's run, and prints
+what the program prints.
 """
 import re
 import resource
 import sqlite3
+import statistics
 import subprocess
 import sys
 import time
+from typing import NamedTuple
+
+RUNS = 5
+# what is wanted at most: how many times as long as Python's a folder takes, how many times as long at the most nodes as
+# at the fewest, how many microseconds a removal, and how many bytes a folder with its reply
+TIMES_PYTHON = 1.5
+TIMES_FEWEST = 2
+REMOVAL = 100
+BYTES = 900
 
 MEASURED = 500
 REMOVED = 50
@@ -80,11 +93,11 @@ def resident():
 
 
 def times(run, count):
-    """The microseconds of each of so many runs."""
+    """The nanoseconds of each of so many runs."""
     start = time.perf_counter()
     for _ in range(count):
         run()
-    return (time.perf_counter() - start) / count * 1e6
+    return (time.perf_counter() - start) / count * 1e9
 
 
 def opened():
@@ -95,38 +108,77 @@ def opened():
     return db
 
 
-def measured(db, count, filled, before):
-    """A folder's microseconds, its bytes and a removal's microseconds at so many nodes."""
-    for _ in range(filled, count - MEASURED):
-        add_node(db, 0, 0)
-    folder = times(lambda: add_node(db, 0, 0), MEASURED)
-    kept = (resident() - before) // count
-    files = [add_node(db, 1, 1000) for _ in range(REMOVED)]
-    removal = times(lambda: remove(db, files.pop()), REMOVED)
-    return folder, kept, removal
-
-
-def told_by(program):
-    """What the program prints: the nodes, a folder's nanoseconds, its bytes and a removal's nanoseconds."""
-    out = subprocess.run([program, "store"], stdout=subprocess.PIPE, check=True, text=True).stdout
-    folders = re.findall(r"a folder at (\d+) nodes in (\d+) nanoseconds", out)
-    kept = re.findall(r"resident: (\d+) bytes", out)
-    removals = re.findall(r"a removal at \d+ nodes in (\d+) nanoseconds", out)
-    print(out.strip().split("\n")[-1])
-    return [(int(count), int(each), int(size), int(other)) for (count, each), size, other in zip(folders, kept, removals)]
-
-
-def main():
-    own = told_by(sys.argv[1])
+def run_python(counts):
+    """Prints a folder's time, its bytes and a removal's time at so many nodes."""
     before = resident()
     db = opened()
     filled = 0
-    for count, each, size, other in own:
-        folder, kept, removal = measured(db, count, filled, before)
+    for count in counts:
+        for _ in range(filled, count - MEASURED):
+            add_node(db, 0, 0)
+        folder = times(lambda: add_node(db, 0, 0), MEASURED)
+        print(f"store: a folder at {count} nodes in {folder:.0f} nanoseconds")
+        print(f"  resident: {(resident() - before) // count} bytes for each folder with its reply")
+        files = [add_node(db, 1, 1000) for _ in range(REMOVED)]
+        removal = times(lambda: remove(db, files.pop()), REMOVED)
+        print(f"store: a removal at {count} nodes in {removal:.0f} nanoseconds")
         filled = count + REMOVED
-        print(f"store: a folder at {count} nodes: {each / 1000:.1f} microseconds; Python's sqlite3 {folder:.1f}; ratio {each / 1000 / folder:.2f}")
-        print(f"  a removal: {other / 1000:.1f} microseconds; Python's {removal:.1f}; a folder's memory: {size} bytes; Python's {kept}")
-    print(f"store: at {own[-1][0]} nodes {own[-1][1] / own[0][1]:.2f} times as long as at {own[0][0]}")
+
+
+class Figures(NamedTuple):
+    """A folder's microseconds, its bytes, and a removal's microseconds."""
+
+    folder: float
+    bytes: int
+    removal: float
+
+
+def told_by(*command):
+    """What it prints, as figures by the number of nodes, and its last line."""
+    out = subprocess.run(command, stdout=subprocess.PIPE, check=True, text=True).stdout
+    folders = re.findall(r"a folder at (\d+) nodes in (\d+) nanoseconds", out)
+    kept = re.findall(r"resident: (\d+) bytes", out)
+    removals = re.findall(r"a removal at \d+ nodes in (\d+) nanoseconds", out)
+    found = {}
+    for (count, folder), size, removal in zip(folders, kept, removals):
+        found[int(count)] = Figures(int(folder) / 1000, int(size), int(removal) / 1000)
+    return found, out.strip().split("\n")[-1]
+
+
+def span(values):
+    """The median with the least and the most."""
+    return f"{statistics.median(values):.1f} ({min(values):.1f} to {max(values):.1f})"
+
+
+def compare(count, own, python):
+    """Prints the figures of all runs at so many nodes, and gives the median of a folder's microseconds."""
+    own, python = Figures(*zip(*own)), Figures(*zip(*python))
+    folder = statistics.median(own.folder)
+    ratio = folder / statistics.median(python.folder)
+    print(
+        f"store: a folder at {count} nodes: {span(own.folder)} microseconds; Python's sqlite3 {span(python.folder)};"
+        f" ratio {ratio:.2f}, wanted at most {TIMES_PYTHON}"
+    )
+    print(f"  a removal: {span(own.removal)} microseconds, wanted at most {REMOVAL}; Python's {span(python.removal)}")
+    kept, other = statistics.median(own.bytes), statistics.median(python.bytes)
+    print(f"  a folder's memory: {kept:.0f} bytes, wanted at most {BYTES}; Python's {other:.0f}")
+    return folder
+
+
+def main():
+    if sys.argv[1] == "sqlite3":
+        return run_python([int(word) for word in sys.argv[2:]])
+    program, *word = sys.argv[1:]
+    own, python = [], []
+    for _ in range(int(word[0]) if word else RUNS):
+        found, last = told_by(program, "store")
+        own.append(found)
+        python.append(told_by(sys.executable, __file__, "sqlite3", *map(str, found))[0])
+        print(last, flush=True)
+    counts = [*own[0]]
+    folders = [compare(count, [run[count] for run in own], [run[count] for run in python]) for count in counts]
+    growth = folders[-1] / folders[0]
+    print(f"store: at {counts[-1]} nodes {growth:.2f} times as long as at {counts[0]}, wanted at most {TIMES_FEWEST}")
 
 
 main()

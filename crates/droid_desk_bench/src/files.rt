@@ -91,10 +91,12 @@ fn print_large<R: Print + Clock + AllocGlobal>(
         dropped = dropped.min(own);
     }
     println!(rt;
-        "assembly: 256 MiB {what} in {} microseconds, the hash alone over the same 256 buffers in {}; {} percent of it",
+        "assembly: 256 MiB {what} in {} microseconds, {} alone over the same 256 buffers in {}; {} percent of it, wanted at most {}",
         kept / 1_000,
+        name_of(beside),
         alone / 1_000,
-        percent(kept, alone)
+        percent(kept, alone),
+        most(hash)
     )?;
     println!(rt;
         "  with each buffer freed as it comes back in {} microseconds, {} percent",
@@ -102,6 +104,14 @@ fn print_large<R: Print + Clock + AllocGlobal>(
         percent(dropped, alone)
     )?;
     Ok(())
+}
+
+/// How many percent of a hash alone a file with this hash takes at most: of its own, and without one of MD5.
+fn most(hash: HashKind) -> u128 {
+    match hash {
+        HashKind::Nothing => 10,
+        HashKind::Md5 | HashKind::Sha256 => 105,
+    }
 }
 
 /// Prints how long a file in pieces of a byte takes: where each piece is dropped as it is handed back, and where all of
@@ -132,7 +142,7 @@ fn print_small<R: Print + Clock + AllocGlobal>(
         percent(dropped.saturating_sub(dropping), alone)
     )?;
     println!(rt;
-        "  what comes back kept aside: in {} microseconds, {} percent of the hash",
+        "  what comes back kept aside: in {} microseconds, {} percent of the hash, wanted at most 1000",
         kept / 1_000,
         percent(kept, alone)
     )?;
@@ -227,7 +237,16 @@ fn small_pieces(alloc: Global, turn: u32, order: Order) -> Result<Vec<Piece>, Er
     Ok(assembly::pieces(alloc, turn.saturating_mul(BATCH), BATCH, 1, order)?)
 }
 
-/// How many hundredths of the other one time is.
+/// How many hundredths of the other one time is, to the nearest.
 pub fn percent(one: u128, other: u128) -> u128 {
-    one.saturating_mul(100) / other.max(1)
+    one.saturating_mul(100).saturating_add(other / 2) / other.max(1)
+}
+
+/// What a hash is called.
+pub fn name_of(hash: HashKind) -> &'static str {
+    match hash {
+        HashKind::Nothing => "no hash",
+        HashKind::Md5 => "MD5",
+        HashKind::Sha256 => "SHA-256",
+    }
 }

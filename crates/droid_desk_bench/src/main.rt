@@ -1,17 +1,18 @@
 //! Measures what a large registry costs: reading it once, and identifying a file with it; what a large export
 //! costs; what one folder more costs in a store that has many; what a file costs piece by piece; and what a large
-//! file, many folders and repeats cost a service.
+//! file, many folders, very many commands and repeats cost a service.
 //!
 //! Without a word on the command line it prints what came out; with the word `times` how long it took too; with the
-//! word `text` the text of the export alone; with the words `store`, `assembly`, `patterns`, `service` and `repeats`
-//! the times of those alone; with the word `memory` and the three parts of a pattern, the memory of a registry of such
-//! patterns.
+//! word `text` the text of the export alone; with the words `store`, `assembly`, `patterns`, `service`, `commands` and
+//! `repeats` the times of those alone; with the word `memory` and the three parts of a pattern, the memory of a registry
+//! of such patterns.
 //! With the words `frames folders`, `frames status` and `frames pieces` it writes such frames, and with the word
 //! `answer` it answers the frames on its input in memory, and prints how long that took.
 #![tactic(auto)]
 
 mod assembly;
 mod bytes;
+mod commands;
 mod export;
 mod files;
 mod generated;
@@ -53,6 +54,9 @@ fn main(rt: HostRuntime) -> Result<(), Error> {
     }
     if wants(&rt, "service")? {
         return service::measure(&rt);
+    }
+    if wants(&rt, "commands")? {
+        return commands::measure(&rt);
     }
     if wants(&rt, "repeats")? {
         return repeats::measure(&rt);

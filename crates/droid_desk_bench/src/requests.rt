@@ -2,10 +2,10 @@
 
 use crate::assembly::content;
 use anyhow::{Context, Error};
-use droid_frame::{Blob, Frame, HashKind, Request, Text, request_frame};
+use droid_frame::{Blob, Criteria, Filter, Frame, HashKind, Request, Text, request_frame};
 use std::alloc::Global;
 
-/// How a file of 256 MiB is sent.
+/// How a file is sent.
 #[derive(Clone, Copy, Debug, PartialEq, Eq)]
 pub struct Sending {
     /// The version of its frames.
@@ -18,7 +18,7 @@ pub struct Sending {
     pub pieces: u32,
 }
 
-/// In the largest pieces of version 1.
+/// A file of 256 MiB in the largest pieces of version 1.
 pub const IN_VERSION_1: Sending = Sending {
     version: 1,
     hash: HashKind::Md5,
@@ -26,7 +26,7 @@ pub const IN_VERSION_1: Sending = Sending {
     pieces: 256,
 };
 
-/// In the largest pieces of version 2.
+/// The same in the largest pieces of version 2.
 pub const IN_VERSION_2: Sending = Sending {
     version: 2,
     hash: HashKind::Md5,
@@ -42,6 +42,14 @@ pub const WITHOUT_HASH: Sending = Sending {
     pieces: 64,
 };
 
+/// A file of as many pieces as there can be, each of one byte.
+pub const IN_SINGLE_BYTES: Sending = Sending {
+    version: 1,
+    hash: HashKind::Md5,
+    piece: 1,
+    pieces: 1 << 20,
+};
+
 /// How many repeats there are.
 pub const REPEATS: u32 = 10_000;
 
@@ -51,6 +59,14 @@ const STEP: u32 = 61_803;
 
 /// The frames that make a profile and a file, send all pieces of it, and finish it.
 pub fn of_file(alloc: Global, sending: Sending) -> Result<Vec<Frame>, Error> {
+    let mut frames = of_new_file(alloc, sending)?;
+    frames.append(&mut of_pieces(alloc, sending, 0, sending.pieces)?)?;
+    frames.push(of_finish(alloc, sending)?)?;
+    Ok(frames)
+}
+
+/// The frames that make a profile, and a file of which no piece came yet.
+pub fn of_new_file(alloc: Global, sending: Sending) -> Result<Vec<Frame>, Error> {
     let Sending {
         version,
         hash,
@@ -60,22 +76,56 @@ pub fn of_file(alloc: Global, sending: Sending) -> Result<Vec<Frame>, Error> {
     let mut frames = Vec::new(alloc);
     frames.push(frame(alloc, version, 0, &profile(hash))?)?;
     frames.push(frame(alloc, version, 1, &file(alloc, piece, pieces)?)?)?;
-    let bytes = content(alloc, piece)?;
-    for index in 0..pieces {
+    Ok(frames)
+}
+
+/// The frames that send the file's pieces from one to before another.
+pub fn of_pieces(alloc: Global, sending: Sending, from: u32, to: u32) -> Result<Vec<Frame>, Error> {
+    let mut frames = Vec::new(alloc);
+    let bytes = content(alloc, sending.piece)?;
+    for index in from..to {
         let request = Request::Piece {
             profile: 1,
             file: 1,
             index,
             bytes: Blob::copy_of(alloc, bytes.as_slice())?,
         };
-        frames.push(frame(alloc, version, 2 + u64::from(index), &request)?)?;
+        frames.push(frame(alloc, sending.version, 2 + u64::from(index), &request)?)?;
     }
-    let finish = Request::Finish {
+    Ok(frames)
+}
+
+/// The frame that finishes the file.
+pub fn of_finish(alloc: Global, sending: Sending) -> Result<Frame, Error> {
+    let request = Request::Finish {
         profile: 1,
         file: 1,
     };
-    frames.push(frame(alloc, version, 2 + u64::from(pieces), &finish)?)?;
-    Ok(frames)
+    frame(
+        alloc,
+        sending.version,
+        2 + u64::from(sending.pieces),
+        &request,
+    )
+}
+
+/// The frame that asks, once the file is finished, for the first byte of its profile's export.
+pub fn of_export(alloc: Global, sending: Sending) -> Result<Frame, Error> {
+    let request = Request::Export {
+        profile: 1,
+        from: 0,
+        max: 1,
+        filter: Filter {
+            all: true,
+            criteria: Criteria::new(alloc),
+        },
+    };
+    frame(
+        alloc,
+        sending.version,
+        3 + u64::from(sending.pieces),
+        &request,
+    )
 }
 
 /// The frame that makes a profile, under the number 0.
@@ -130,15 +180,6 @@ pub fn of_status(alloc: Global, from: u32, to: u32) -> Result<Vec<Frame>, Error>
         };
         frames.push(frame(alloc, 1, u64::from(number), &request)?)?;
     }
-    Ok(frames)
-}
-
-/// The frames that make a profile, and a file of which no piece comes.
-pub fn of_empty_file(alloc: Global) -> Result<Vec<Frame>, Error> {
-    let mut frames = Vec::new(alloc);
-    frames.push(of_profile(alloc)?)?;
-    let file = file(alloc, IN_VERSION_1.piece, IN_VERSION_1.pieces)?;
-    frames.push(frame(alloc, 1, 1, &file)?)?;
     Ok(frames)
 }
 

@@ -2,7 +2,7 @@
 
 use crate::{requests, service};
 use anyhow::{Context, Error};
-use droid_frame::{Arrival, Frame, Unsteady, read_frame, write_frame};
+use droid_frame::{Arrival, Frame, Noted, read_frame, write_frame};
 use std::alloc::Global;
 use std::io;
 use std::rt::Clock;
@@ -24,7 +24,7 @@ pub enum Load {
 
 /// Writes the frames.
 pub fn write<R: Print + AllocGlobal>(rt: &R, load: Load) -> Result<(), Error> {
-    let mut output = Unsteady::new(io::writer(rt));
+    let mut output = Noted::new(io::writer(rt));
     for frame in frames(rt.alloc(), load)? {
         if frame.body.len() > droid_frame::body_limit(frame.version) {
             return None.context("a body is too long");
@@ -44,7 +44,7 @@ fn frames(alloc: Global, load: Load) -> Result<Vec<Frame>, Error> {
             Ok(frames)
         }
         Load::Status => {
-            let mut frames = requests::of_empty_file(alloc)?;
+            let mut frames = requests::of_new_file(alloc, requests::IN_VERSION_1)?;
             frames.append(&mut requests::of_status(alloc, 2, SMALL)?)?;
             Ok(frames)
         }
@@ -69,7 +69,7 @@ pub fn answer<R: Input + Print + Clock + AllocGlobal>(rt: &R) -> Result<(), Erro
 
 fn read<R: Input + AllocGlobal>(rt: &R) -> Result<Vec<Frame>, Error> {
     let alloc = rt.alloc();
-    let mut input = Unsteady::new(rt.reader());
+    let mut input = Noted::new(rt.reader());
     let mut frames = Vec::new(alloc);
     for _ in 0..u32::MAX {
         match read_frame(alloc, &mut input).context("a frame")? {

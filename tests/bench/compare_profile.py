@@ -1,0 +1,187 @@
+"""Profiles two folders through the built program, and reads the same files by what there is without it.
+
+Usage: compare_profile.py PROGRAM: the built droid_desk. The first folder is made here by a fixed seed: 2,000 files of
+1,000,000,000 bytes together, the largest of 64 MiB, nested 12 deep. The second is /usr, or the largest folder in it that
+has no more folders and files than a profile may have. Prints, for each, the seconds of `profile` to a file, of two passes
+of MD5 over the same bytes, and of `file --mime-type` and then `md5sum` over the same list, with their ratios and what is
+wanted; and of the first how much memory its bytes take. The shortest of some rounds counts.
+"""
+import hashlib
+import os
+import random
+import stat
+import subprocess
+import sys
+import tempfile
+import time
+
+SEED = 32
+FILES = 2_000
+BYTES = 1_000_000_000
+LARGEST = 64 << 20
+DEPTH = 12
+FOLDERS = 120
+NODES = 100_000
+CHUNK = 1 << 20
+ROUNDS = 3
+
+# what is wanted: at most so often the time of two passes of MD5, at most this part of the time of `file` and `md5sum`, and
+# at most so much memory above that of the same tree with no bytes
+WANTED_PASSES = 1.25
+WANTED_TOOLS = 0.5
+WANTED_MEMORY = 64 << 20
+
+# an extension, and how a file of it begins
+KINDS = [
+    (".png", b"\x89PNG\r\n\x1a\n\0\0\0\rIHDR"),
+    (".jpg", b"\xff\xd8\xff\xe0\0\x10JFIF\0\1\1"),
+    (".pdf", b"%PDF-1.4\n"),
+    (".zip", b"PK\3\4\x14\0\0\0"),
+    (".gz", b"\x1f\x8b\x08\0"),
+    (".xml", b'<?xml version="1.0" encoding="UTF-8"?>\n<root>'),
+    (".txt", b"words and more words\n"),
+    (".dat", b""),
+]
+
+
+def sizes(chance):
+    """How long the files are: as many of each order of magnitude, one empty and one of the largest size."""
+    drawn = [2 ** chance.uniform(0, 23) for _ in range(FILES - 2)]
+    part = (BYTES - LARGEST) / sum(drawn)
+    rest = [int(size * part) for size in drawn]
+    rest[-1] += BYTES - LARGEST - sum(rest)
+    return [0, LARGEST] + rest
+
+
+def folders(chance):
+    """Paths of folders: a chain that is as deep as is wanted, and others below any of them."""
+    paths = [""]
+    for place in range(FOLDERS):
+        fit = [path for path in paths if path.count("/") < DEPTH]
+        above = paths[-1] if place < DEPTH else chance.choice(fit)
+        paths.append(f"{above}/folder {place}")
+    return paths[1:]
+
+
+def content(place, front, size):
+    return (front + random.Random(place).randbytes(max(size - len(front), 0)))[:size]
+
+
+def make(top, empty):
+    """The tree of the seed, with its bytes or with none."""
+    chance = random.Random(SEED)
+    paths = folders(chance)
+    for path in paths:
+        os.mkdir(top + path)
+    for place, size in enumerate(sizes(chance)):
+        extension, front = KINDS[place % len(KINDS)]
+        with open(f"{top}{chance.choice(paths)}/file {place}{extension}", "wb") as file:
+            file.write(b"" if empty else content(place, front, size))
+
+
+def files_below(top):
+    """The regular files below a folder, in the order of a profile or another, and how many folders and files there are."""
+    found, nodes = [], 0
+    for path, names, others in os.walk(top):
+        names.sort()
+        nodes += sum(not os.path.islink(os.path.join(path, name)) for name in names)
+        for name in sorted(others):
+            file = os.path.join(path, name)
+            if stat.S_ISREG(os.lstat(file).st_mode):
+                found.append(file)
+                nodes += 1
+    return found, nodes
+
+
+def of_the_machine():
+    """The folder of this machine that is profiled."""
+    below = sorted(entry.path for entry in os.scandir("/usr") if entry.is_dir(follow_symlinks=False))
+    counted = [(files_below(path)[1], path) for path in ["/usr"] + below]
+    return max(pair for pair in counted if pair[0] <= NODES)[1]
+
+
+def largest_memory(pid, before):
+    """The largest resident memory of a process so far, or what it was before where it has ended."""
+    with open(f"/proc/{pid}/status", encoding="ascii") as lines:
+        found = [line for line in lines if line.startswith("VmHWM:")]
+    return int(found[0].split()[1]) * 1024 if found else before
+
+
+def profiled(program, top, target):
+    """The seconds of a profile, and its largest resident memory, which is asked for fifty times a second."""
+    start = time.perf_counter()
+    memory = 0
+    words = [program, "profile", top, "--output", target, "--quiet"]
+    with subprocess.Popen(words, stderr=subprocess.DEVNULL) as run:
+        while run.returncode is None:
+            memory = largest_memory(run.pid, memory)
+            try:
+                run.wait(0.02)
+            except subprocess.TimeoutExpired:
+                pass
+        seconds = time.perf_counter() - start
+    if run.returncode not in (0, 5):
+        sys.exit(f"the profile of {top} ended with status {run.returncode}")
+    return seconds, memory
+
+
+def passes(files):
+    """The seconds of two passes of MD5 over the bytes of the files."""
+    start = time.perf_counter()
+    buffer = bytearray(CHUNK)
+    view = memoryview(buffer)
+    for path in files + files:
+        digest = hashlib.md5()
+        with open(path, "rb", buffering=0) as file:
+            while count := file.readinto(buffer):
+                digest.update(view[:count])
+        digest.hexdigest()
+    return time.perf_counter() - start
+
+
+def tools(files):
+    """The seconds of `file` and then `md5sum` over the files."""
+    names = b"\0".join(map(os.fsencode, files))
+    start = time.perf_counter()
+    for words in (["file", "--mime-type", "--"], ["md5sum", "--"]):
+        subprocess.run(["xargs", "-0", *words], input=names, stdout=subprocess.DEVNULL, check=True)
+    return time.perf_counter() - start
+
+
+def compare(program, top, target):
+    """Prints the times over a folder; the largest resident memory of its profile."""
+    files, nodes = files_below(top)
+    total = sum(os.stat(file).st_size for file in files)
+    for file in files:
+        with open(file, "rb", buffering=0) as bytes_of:
+            while bytes_of.read(CHUNK):
+                pass
+    own, twice, others, memory = [], [], [], 0
+    for _ in range(ROUNDS):
+        seconds, memory = profiled(program, top, target)
+        own.append(seconds)
+        twice.append(passes(files))
+        others.append(tools(files))
+    print(f"profile: {top}: {nodes} folders and files, {total} bytes: {min(own):.2f} seconds, {memory} bytes resident")
+    print(f"  two passes of MD5: {min(twice):.2f} seconds; ratio {min(own) / min(twice):.2f}, wanted at most {WANTED_PASSES}")
+    print(f"  file and md5sum: {min(others):.2f} seconds; ratio {min(own) / min(others):.2f}, wanted at most {WANTED_TOOLS}")
+    return memory
+
+
+def main():
+    program = os.path.abspath(sys.argv[1])
+    with tempfile.TemporaryDirectory() as work:
+        target = work + "/profile.csv"
+        trees = [work + "/made", work + "/empty"]
+        for place, top in enumerate(trees):
+            os.mkdir(top)
+            make(top, place == 1)
+        os.sync()
+        memory = compare(program, trees[0], target)
+        above = memory - profiled(program, trees[1], target)[1]
+        print(f"  {above} bytes resident above those of the same tree with no bytes; wanted at most {WANTED_MEMORY}")
+        compare(program, of_the_machine(), target)
+
+
+if __name__ == "__main__":
+    main()
