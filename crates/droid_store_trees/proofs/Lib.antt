@@ -1,4 +1,5 @@
 pub mod Altering
+pub mod Numbered
 pub mod Places
 pub mod Removals
 pub mod Seen

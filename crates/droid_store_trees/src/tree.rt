@@ -1,6 +1,6 @@
 //! One tree: its description, and its entries in order.
 
-ghost use Rattle.std.specs.Prelude.{◌≡◌, ◌^◌, ◌<◌, false, [], take, true, IsTrue, IfOk, OnOk, OnErr};
+ghost use Rattle.std.specs.Prelude.{◌≡◌, ◌^◌, ◌<◌, false, [], take, true, IsTrue, IfOk, IfSome, OnOk, OnErr};
 ghost use Rattle.std.specs.Ordering.{is_eq};
 ghost use Rattle.sqlite_value.specs.Value.{owned};
 ghost use Rattle.sqlite_value.specs.Order.{value_cmp};
@@ -126,6 +126,10 @@ impl Tree {
         requires { self.now.shape ≡ Shape.Table }
         ensures { IfOk result (Finds self.now.rows id row.new) }
     {
+        if let Some(found) = self.found_at_once(id) {
+            found.copy_into(row)?;
+            return Ok(true);
+        }
         let at = self.rows.place(Probe::BelowRowid(ValueRef::Int(id)));
         if !has_rowid_at(&self.rows, at, ValueRef::Int(id)) {
             return Ok(false);
@@ -137,6 +141,46 @@ impl Tree {
             }
             None => Ok(false),
         }
+    }
+
+    /// The row with this rowid, where it is found without a search. Rowids begin with 1, so as long as no row was taken
+    /// out each stands at its own; then as many places before the row that stands there as its rowid is below that row's,
+    /// unless one between them was taken out too.
+    fn found_at_once(&self, id: i64) -> Option<&PackedRow>
+        requires { self.now.shape ≡ Shape.Table }
+        ensures { IfSome result (λ found. Finds self.now.rows id found.now true) }
+    {
+        let number = usize::try_from(id).ok()?;
+        let at = number.checked_sub(1)?;
+        if let Some(found) = self.numbered_at(at, id) {
+            return Some(found);
+        }
+        let at = self.earlier_place(at, id)?;
+        self.numbered_at(at, id)
+    }
+
+    /// The row at this place, if it has this rowid.
+    fn numbered_at(&self, at: usize, id: i64) -> Option<&PackedRow>
+        requires { self.now.shape ≡ Shape.Table }
+        ensures { IfSome result (λ found. Finds self.now.rows id found.now true) }
+    {
+        let found = self.rows.get(at)?;
+        if compare(found.first(), ValueRef::Int(id)).is_eq() {
+            Some(found)
+        } else {
+            None
+        }
+    }
+
+    /// As many places before this one, or before the last, as the rowid is below that of the row there. It is a guess.
+    fn earlier_place(&self, at: usize, id: i64) -> Option<usize> {
+        let last = self.rows.len().checked_sub(1)?;
+        let at = at.min(last);
+        let ValueRef::Int(number) = self.rows.get(at)?.first() else {
+            return None;
+        };
+        let below = usize::try_from(number.checked_sub(id)?).ok()?;
+        at.checked_sub(below)
     }
 
     fn put(&mut self, alloc: Global, new: &Row) -> Result<(), AllocError>
