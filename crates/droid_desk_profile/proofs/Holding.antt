@@ -1,5 +1,5 @@
 -- The nodes that a service holds after the requests of a tree.
-use Rattle.std.proofs.Common.{◌≡◌, ℕ, ℤ, suc, ◌+◌, ◌≤◌, Bool, false, List, [], ◌∷◌, ◌++◌, length, map, Option, refl, sym, subst, arith, add-one, append-nil, append_assoc, length-append}
+use Rattle.std.proofs.Common.{◌≡◌, ℕ, ℤ, suc, ◌+◌, ◌≤◌, Bool, true, false, List, [], ◌∷◌, ◌++◌, length, map, Option, refl, sym, subst, arith, add-one, append-nil, append_assoc, length-append}
 use Rattle.std.specs.List.{flat_map, AllByRecursion}
 use Rattle.std.specs.Io.KnownBytes.{Appends}
 use Rattle.droid_frame.specs.types.reply.Reply.{Reply}
@@ -12,7 +12,7 @@ use Rattle.droid_core.specs.Wants.{is_want}
 use Rattle.droid_core.specs.World.{Content, Node, Folder, File, Abandoned, empty_world}
 use Rattle.droid_desk_tree.specs.Told.{Told, GoesOver}
 use Rattle.droid_desk_tree.specs.Heard.{Heard}
-use Rattle.droid_desk_tree.specs.Visits.{Sent, Kid, Subfolder, WholeFile, OtherKind, NoText, RefusedFolder, RefusedFile, DroppedFile, Visit, IsKid, IsOutcome, IsVisit, IsVisited, IsFinished, pieces_from, asked_of_kid, asked_of_visit}
+use Rattle.droid_desk_tree.specs.Visits.{Sent, Kid, Subfolder, WholeFile, OtherKind, NoText, RefusedFolder, RefusedFile, DroppedFile, WholeRest, DroppedRest, Visit, IsKid, IsOutcome, IsVisit, IsVisited, IsFinished, pieces_from, asked_of_kid, asked_of_visit}
 use Rattle.droid_desk_tree.specs.Walks.{Walks, WalksWhole}
 use Rattle.droid_desk_tree.specs.declared.walking.Options.{Options}
 use Rattle.droid_desk_profile.specs.Answering.{At, Answers, Holds, text_of}
@@ -117,6 +117,8 @@ module _ (setting : Setting) (options : Options) where
         holds = subst (Holds setting options (nodes ++ Abandoned ∷ [])) (sym split.2.2) gone;
         makes = (added.0, refl);
       }
+  kid_made folder (WholeRest entry number far from sent found) nodes own own_after holds p is = let goes : false ≡ true = is.0.goes in absurd cc
+  kid_made folder (DroppedRest entry number far from sent stop) nodes own own_after holds p is = let goes : false ≡ true = is.0.goes in absurd cc
 
   record MadeAll (entries : List Lying) (nodes : List Node) (own_after : Own) : Type 0 where
     after : List Node

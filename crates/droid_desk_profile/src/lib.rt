@@ -9,5 +9,6 @@ mod own;
 mod profiling;
 
 pub use droid_core::Service;
+pub use droid_frame::{HashKind, Noted, SteadyWrite};
 pub use fault::ProfileFault;
 pub use profiling::profile;

@@ -8,7 +8,7 @@ use Rattle.droid_desk_tree.specs.Asked.{Asked}
 use Rattle.droid_desk_tree.specs.Heard.{Heard}
 use Rattle.droid_desk_tree.specs.Steps.{TakesKid, TakesKids}
 use Rattle.droid_desk_tree.specs.Told.{Told, GoesOver}
-use Rattle.droid_desk_tree.specs.Visits.{IsOutcome, entry_of, is_taken, told_of_kid, asked_of_kid, heard_of_kid, places_of_kid}
+use Rattle.droid_desk_tree.specs.Visits.{MayCome, entry_of, is_taken, told_of_kid, asked_of_kid, heard_of_kid, places_of_kid}
 use Rattle.droid_desk_tree.specs.declared.entry.Entry.{Entry}
 use Rattle.droid_desk_tree.specs.declared.place.Place.{Place}
 use Rattle.droid_desk_tree.proofs.Runs.{over_more, all_more}
@@ -26,21 +26,21 @@ pub passed_more : {A : Type 0} (p : A → Bool) (xs : List A) (x : A) (all last 
 passed_more p xs x all last both front next is =
     is ∙ (ap (λ (b : Bool). b && last) front ∙ (ap (λ (b : Bool). list_all p xs && b) (next ∙ sym (and_true (p x))) ∙ sym (list_all-append p xs (x ∷ []))))
 
-module _ {T X W : Type 0} (tells : T → Told → T → Type 0) (asks : X → Asked → X → Type 0) (hears : W → Heard → W → Type 0) (profile piece_size : ℕ) (place : Place) where
-  pub no_kids : (tree : T) (exchange : X) (watcher : W) (waiting : List Place) → TakesKids tells asks hears profile piece_size place [] true tree tree exchange exchange watcher watcher waiting waiting
+module _ {T X W : Type 0} (tells : T → Told → T → Type 0) (asks : X → Asked → X → Type 0) (hears : W → Heard → W → Type 0) (goes_on : Bool) (profile piece_size : ℕ) (place : Place) where
+  pub no_kids : (tree : T) (exchange : X) (watcher : W) (waiting : List Place) → TakesKids tells asks hears goes_on profile piece_size place [] true tree tree exchange exchange watcher watcher waiting waiting
   no_kids tree exchange watcher waiting = record { kids = []; its = refl; are_outcomes = tt; whole_is = refl; told = refl; asked = refl; heard = refl; pending = sym (append-nil waiting) }
 
   pub kids_more : (entries : List Entry) (at : ℕ) (entry : Entry) (whole taken both : Bool) (tree tree_now tree_after : T) (exchange exchange_now exchange_after : X) (watcher watcher_now watcher_after : W) (waiting waiting_now waiting_after : List Place)
-      → TakesKids tells asks hears profile piece_size place (take at entries) whole tree tree_now exchange exchange_now watcher watcher_now waiting waiting_now
-      → TakesKid tells asks hears profile piece_size place entry taken tree_now tree_after exchange_now exchange_after watcher_now watcher_after waiting_now waiting_after
+      → TakesKids tells asks hears goes_on profile piece_size place (take at entries) whole tree tree_now exchange exchange_now watcher watcher_now waiting waiting_now
+      → TakesKid tells asks hears goes_on profile piece_size place entry taken tree_now tree_after exchange_now exchange_after watcher_now watcher_after waiting_now waiting_after
       → both ≡ (whole && taken) → at < length entries → entry ≡ get_or entries at entry
-      → TakesKids tells asks hears profile piece_size place (take (at + 1) entries) both tree tree_after exchange exchange_after watcher watcher_after waiting waiting_after
+      → TakesKids tells asks hears goes_on profile piece_size place (take (at + 1) entries) both tree tree_after exchange exchange_after watcher watcher_after waiting waiting_after
   kids_more entries at entry whole taken both tree tree_now tree_after exchange exchange_now exchange_after watcher watcher_now watcher_after waiting waiting_now waiting_after front next is within there =
       let one_more : take (at + 1) entries ≡ take at entries ++ entry ∷ [] = take_more entries at entry within ∙ ap (λ (e : Entry). take at entries ++ e ∷ []) (sym there) in
       record {
         kids = front.kids ++ next.kid ∷ [];
         its = map-append entry_of front.kids (next.kid ∷ []) ∙ (ap (λ (l : List Entry). l ++ entry_of next.kid ∷ []) front.its ∙ (ap (λ (e : Entry). take at entries ++ e ∷ []) next.its ∙ sym one_more));
-        are_outcomes = all_more (IsOutcome piece_size) front.kids next.kid front.are_outcomes next.is_outcome;
+        are_outcomes = all_more (MayCome goes_on piece_size) front.kids next.kid front.are_outcomes next.is_outcome;
         whole_is = passed_more is_taken front.kids next.kid whole taken both front.whole_is next.taken_is is;
         told = subst (λ (l : List Told). GoesOver tells tree l tree_after) (sym (given_more (told_of_kid place.path) front.kids next.kid))
             (over_more tells tree tree_now tree_after (flat_map (told_of_kid place.path) front.kids) (told_of_kid place.path next.kid) front.told next.told);
@@ -53,7 +53,7 @@ module _ {T X W : Type 0} (tells : T → Told → T → Type 0) (asks : X → As
       }
 
   pub all_kids : (entries : List Entry) (at : ℕ) (whole : Bool) (tree tree_now : T) (exchange exchange_now : X) (watcher watcher_now : W) (waiting waiting_now : List Place)
-      → TakesKids tells asks hears profile piece_size place (take at entries) whole tree tree_now exchange exchange_now watcher watcher_now waiting waiting_now → length entries ≤ at
-      → TakesKids tells asks hears profile piece_size place entries whole tree tree_now exchange exchange_now watcher watcher_now waiting waiting_now
+      → TakesKids tells asks hears goes_on profile piece_size place (take at entries) whole tree tree_now exchange exchange_now watcher watcher_now waiting waiting_now → length entries ≤ at
+      → TakesKids tells asks hears goes_on profile piece_size place entries whole tree tree_now exchange exchange_now watcher watcher_now waiting waiting_now
   all_kids entries at whole tree tree_now exchange exchange_now watcher watcher_now waiting waiting_now front all =
-      subst (λ (l : List Entry). TakesKids tells asks hears profile piece_size place l whole tree tree_now exchange exchange_now watcher watcher_now waiting waiting_now) (take_all at entries all) front
+      subst (λ (l : List Entry). TakesKids tells asks hears goes_on profile piece_size place l whole tree tree_now exchange exchange_now watcher watcher_now waiting waiting_now) (take_all at entries all) front

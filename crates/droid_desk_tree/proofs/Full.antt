@@ -1,12 +1,12 @@
 -- A walk that left nothing out.
-use Rattle.std.proofs.Common.{◌≡◌, ℕ, Bool, true, List, [], ◌∷◌, map, Option, Some, None, refl, sym, ◌∙◌}
+use Rattle.std.proofs.Common.{◌≡◌, ℕ, Bool, true, false, List, [], ◌∷◌, map, Option, Some, None, refl, sym, ◌∙◌}
 use Rattle.std.specs.Prelude.{IsPermutation, is_some}
 use Rattle.std.specs.List.{list_all, AllByRecursion}
 use Rattle.std.proofs.lemmas.Bool.{and_parts}
 use Rattle.droid_desk_tree.specs.Asked.{Asked}
 use Rattle.droid_desk_tree.specs.Heard.{Heard}
 use Rattle.droid_desk_tree.specs.Told.{Told}
-use Rattle.droid_desk_tree.specs.Visits.{Kid, Subfolder, WholeFile, OtherKind, NoText, RefusedFolder, RefusedFile, DroppedFile, Visit, AreThose, IsKid, IsOutcome, IsVisit, IsVisited, entry_of, is_full, is_taken}
+use Rattle.droid_desk_tree.specs.Visits.{Kid, Subfolder, WholeFile, OtherKind, NoText, RefusedFolder, RefusedFile, DroppedFile, WholeRest, DroppedRest, Visit, AreThose, IsKid, IsOutcome, IsVisit, IsVisited, entry_of, is_full, is_taken}
 use Rattle.droid_desk_tree.specs.Walks.{Walks, WalksWhole}
 use Rattle.droid_desk_tree.specs.declared.entry.Entry.{Entry}
 use Rattle.droid_desk_tree.specs.declared.walking.Options.{Options}
@@ -20,6 +20,8 @@ module _ (piece_size : ℕ) where
   kid_taken (RefusedFolder entry refusal) taken is = absurd cc
   kid_taken (RefusedFile entry refusal) taken is = absurd cc
   kid_taken (DroppedFile entry number sent stop) taken is = absurd cc
+  kid_taken (WholeRest entry number far from sent found) taken is = let goes : false ≡ true = is.0.goes in absurd cc
+  kid_taken (DroppedRest entry number far from sent stop) taken is = absurd cc
 
   kids_taken : (kids : List Kid) → list_all is_taken kids ≡ true → AllByRecursion (IsOutcome piece_size) kids → AllByRecursion (IsKid piece_size) kids
   kids_taken [] taken are = tt

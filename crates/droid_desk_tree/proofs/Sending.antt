@@ -1,5 +1,5 @@
 -- The pieces of a file, one after the other.
-use Rattle.std.proofs.Common.{◌≡◌, ◌≢◌, ℕ, suc, ◌+◌, ◌-◌, ◌<◌, inl, inr, min, List, [], ◌∷◌, ◌++◌, length, Result, Ok, Err, refl, sym, ap, subst, ◌∙◌, arith, length-append, append_assoc, append-nil}
+use Rattle.std.proofs.Common.{◌≡◌, ◌≢◌, ℕ, suc, ◌+◌, ◌-◌, ◌*◌, ◌<◌, ◌≤◌, inl, inr, min, List, [], ◌∷◌, ◌++◌, length, Result, Ok, Err, refl, sym, ap, subst, ◌∙◌, arith, length-append, append_assoc, append-nil}
 use Rattle.std.specs.Prelude.{MatchResult}
 use Rattle.std.proofs.lemmas.List.{get_or-append-add, map-append}
 use Rattle.std.proofs.lemmas.Grind.{flat_map-append}
@@ -11,7 +11,7 @@ use Rattle.droid_desk_tree.specs.Asked.{Asked}
 use Rattle.droid_desk_tree.specs.Heard.{Heard, TookBytes}
 use Rattle.droid_desk_tree.specs.Steps.{IsPastEnd, IsShort, ReadsPiece, SendsPiece, SendsFront, SendsAll, SendsPart, StopsAt}
 use Rattle.droid_desk_tree.specs.Told.{Told, Read, GoesOver, BytesCame}
-use Rattle.droid_desk_tree.specs.Visits.{Sent, Stop, NoneCame, FewerCame, MoreCame, AreCut, IsStop, bytes_of, reads_from, told_of_stop, pieces_from, pieces_heard}
+use Rattle.droid_desk_tree.specs.Visits.{Sent, Stop, NoneCame, FewerCame, MoreCame, AreCut, IsStop, begin_of, bytes_of, reads_from, told_of_stop, pieces_from, pieces_heard}
 use Rattle.droid_desk_tree.specs.declared.left_out.LeftOut.{LeftOut}
 use Rattle.droid_desk_tree.specs.declared.left_out.LeftOut.TheVariants as reasons
 use Rattle.droid_desk_tree.proofs.Runs.{over_one, over_more}
@@ -89,60 +89,66 @@ cut_more piece_size size from total (first ∷ sent) piece e within long cut =
 bytes_more : (sent : List Sent) (piece : Sent) → bytes_of (sent ++ piece ∷ []) ≡ bytes_of sent ++ piece.0
 bytes_more sent piece = flat_map-append (λ (p : Sent). p.0) sent (piece ∷ []) ∙ ap (λ (l : List ℕ). bytes_of sent ++ l) (append-nil piece.0)
 
-module _ {T X W : Type 0} (tells : T → Told → T → Type 0) (asks : X → Asked → X → Type 0) (hears : W → Heard → W → Type 0) (profile file piece_size size : ℕ) (path : List ℕ) where
-  pub none_sent : (tree : T) (exchange : X) (watcher : W) → SendsFront tells asks hears profile file piece_size size path 0 0 tree tree exchange exchange watcher watcher
-  none_sent tree exchange watcher = record { sent = []; counted = refl; joined = refl; within = omega arith; cut = tt; told = refl; asked = refl; heard = refl }
+least_size : (n size start : ℕ) → start ≡ min n size → start ≤ size
+least_size n size start is = omega (arith, is)
+
+module _ {T X W : Type 0} (tells : T → Told → T → Type 0) (asks : X → Asked → X → Type 0) (hears : W → Heard → W → Type 0) (profile file piece_size size first start : ℕ) (path : List ℕ) where
+  pub none_sent : (from : ℕ) (tree : T) (exchange : X) (watcher : W) → from ≡ start → start ≡ begin_of piece_size size first
+      → SendsFront tells asks hears profile file piece_size size first start path first from tree tree exchange exchange watcher watcher
+  none_sent from tree exchange watcher same begins =
+      let least = least_size (first * piece_size) size start begins in
+      record { sent = []; counted = omega arith; joined = omega (arith, same); within = omega (arith, same, least); cut = tt; told = refl; asked = refl; heard = refl }
 
   pub one_more_sent : (count from wanted added held : ℕ) (tree tree_now tree_after : T) (exchange exchange_now exchange_after : X) (watcher watcher_now watcher_after : W)
-      → SendsFront tells asks hears profile file piece_size size path count from tree tree_now exchange exchange_now watcher watcher_now
+      → SendsFront tells asks hears profile file piece_size size first start path count from tree tree_now exchange exchange_now watcher watcher_now
       → SendsPiece tells asks profile file count path from wanted held tree_now tree_after exchange_now exchange_after
       → hears watcher_now (TookBytes path wanted) watcher_after
       → wanted ≡ min piece_size (size - from) → (wanted ≡ 0 → ⊥) → added ≡ wanted
-      → SendsFront tells asks hears profile file piece_size size path (count + 1) (from + added) tree tree_after exchange exchange_after watcher watcher_after
+      → SendsFront tells asks hears profile file piece_size size first start path (count + 1) (from + added) tree tree_after exchange exchange_after watcher watcher_after
   one_more_sent count from wanted added held tree tree_now tree_after exchange exchange_now exchange_after watcher watcher_now watcher_after front next heard due some same =
       let piece : Sent = (next.bytes, held) in
-      let behind : from ≡ 0 + length (bytes_of front.sent) = omega (arith, front.joined) in
-      let place : count ≡ 0 + length front.sent = omega (arith, front.counted) in
+      let behind : from ≡ start + length (bytes_of front.sent) = sym front.joined in
+      let place : count ≡ first + length front.sent = sym front.counted in
       let within : from < size = omega (arith, due, some) in
       let read : tells tree_now (Read path from (length next.bytes) next.bytes) tree_after = subst (λ n. tells tree_now (Read path from n next.bytes) tree_after) (sym next.counted) next.told in
       let noted : hears watcher_now (TookBytes path (length next.bytes)) watcher_after = subst (λ n. hears watcher_now (TookBytes path n) watcher_after) (sym next.counted) heard in
       record {
         sent = front.sent ++ piece ∷ [];
         counted = omega (arith, length-append front.sent (piece ∷ []), front.counted);
-        joined = ap length (bytes_more front.sent piece) ∙ omega (arith, length-append (bytes_of front.sent) next.bytes, front.joined, next.counted, same);
+        joined = omega (arith, ap length (bytes_more front.sent piece), length-append (bytes_of front.sent) next.bytes, front.joined, next.counted, same);
         within = omega (arith, due, same);
-        cut = cut_more piece_size size 0 from front.sent piece behind within (next.counted ∙ due) front.cut;
-        told = subst (λ (l : List Told). GoesOver tells tree l tree_after) (sym (reads_more path 0 from front.sent piece behind))
-            (over_more tells tree tree_now tree_after (reads_from path 0 front.sent) (Read path from (length next.bytes) next.bytes ∷ []) front.told (over_one tells tree_now tree_after _ read));
-        asked = subst (λ (l : List Asked). GoesOver asks exchange l exchange_after) (sym (pieces_more profile file 0 count front.sent piece place))
-            (over_more asks exchange exchange_now exchange_after (pieces_from profile file 0 front.sent) ((Piece profile file count next.bytes, replies.Taken held) ∷ []) front.asked (over_one asks exchange_now exchange_after _ next.asked));
+        cut = cut_more piece_size size start from front.sent piece behind within (next.counted ∙ due) front.cut;
+        told = subst (λ (l : List Told). GoesOver tells tree l tree_after) (sym (reads_more path start from front.sent piece behind))
+            (over_more tells tree tree_now tree_after (reads_from path start front.sent) (Read path from (length next.bytes) next.bytes ∷ []) front.told (over_one tells tree_now tree_after _ read));
+        asked = subst (λ (l : List Asked). GoesOver asks exchange l exchange_after) (sym (pieces_more profile file first count front.sent piece place))
+            (over_more asks exchange exchange_now exchange_after (pieces_from profile file first front.sent) ((Piece profile file count next.bytes, replies.Taken held) ∷ []) front.asked (over_one asks exchange_now exchange_after _ next.asked));
         heard = subst (λ (l : List Heard). GoesOver hears watcher l watcher_after) (sym (map-append (λ (p : Sent). TookBytes path (length p.0)) front.sent (piece ∷ [])))
             (over_more hears watcher watcher_now watcher_after (pieces_heard path front.sent) (TookBytes path (length next.bytes) ∷ []) front.heard (over_one hears watcher_now watcher_after _ noted));
       }
 
   module _ (count from : ℕ) (tree tree_now tree_after : T) (exchange exchange_now : X) (watcher watcher_now : W)
-      (front : SendsFront tells asks hears profile file piece_size size path count from tree tree_now exchange exchange_now watcher watcher_now) where
+      (front : SendsFront tells asks hears profile file piece_size size first start path count from tree tree_now exchange exchange_now watcher watcher_now) where
     pub all_sent : tells tree_now (Read path from 1 []) tree_after → from ≡ size
-        → SendsAll tells asks hears profile file piece_size size path tree tree_after exchange exchange_now watcher watcher_now
+        → SendsAll tells asks hears profile file piece_size size first start path tree tree_after exchange exchange_now watcher watcher_now
     all_sent ended all = record {
       sent = front.sent;
       joined = front.joined ∙ all;
       cut = front.cut;
-      told = over_more tells tree tree_now tree_after (reads_from path 0 front.sent) (Read path (length (bytes_of front.sent)) 1 [] ∷ []) front.told
+      told = over_more tells tree tree_now tree_after (reads_from path start front.sent) (Read path (start + length (bytes_of front.sent)) 1 [] ∷ []) front.told
           (over_one tells tree_now tree_after _ (subst (λ n. tells tree_now (Read path n 1 []) tree_after) (sym front.joined) ended));
       asked = front.asked;
       heard = front.heard;
     }
 
     part_sent : (IsSuch : Stop → Type 0) (why : LeftOut) → StopsAt tells IsSuch path from why tree_now tree_after → ((stop : Stop) → IsSuch stop → IsStop piece_size size from stop)
-        → SendsPart tells asks hears profile file piece_size size path why tree tree_after exchange exchange_now watcher watcher_now
+        → SendsPart tells asks hears profile file piece_size size first start path why tree tree_after exchange exchange_now watcher watcher_now
     part_sent IsSuch why stops is_stop = record {
       sent = front.sent;
       stop = stops.stop;
       cut = front.cut;
       stopped = subst (λ n. IsStop piece_size size n stops.stop) (sym front.joined) (is_stop stops.stop stops.such);
       reason = stops.reason;
-      told = over_more tells tree tree_now tree_after (reads_from path 0 front.sent) (told_of_stop path (length (bytes_of front.sent)) stops.stop ∷ []) front.told
+      told = over_more tells tree tree_now tree_after (reads_from path start front.sent) (told_of_stop path (start + length (bytes_of front.sent)) stops.stop ∷ []) front.told
           (over_one tells tree_now tree_after _ (subst (λ n. tells tree_now (told_of_stop path n stops.stop) tree_after) (sym front.joined) stops.told));
       asked = front.asked;
       heard = front.heard;
@@ -154,9 +160,9 @@ module _ {T X W : Type 0} (tells : T → Told → T → Type 0) (asks : X → As
     short_stop wanted due some (MoreCame bytes) is = absurd is
 
     pub short_sent : (wanted : ℕ) (why : LeftOut) (exchange_after : X) → StopsAt tells (IsShort wanted) path from why tree_now tree_after × (exchange_after ≡ exchange_now) → wanted ≡ min piece_size (size - from) → (wanted ≡ 0 → ⊥)
-        → SendsPart tells asks hears profile file piece_size size path why tree tree_after exchange exchange_after watcher watcher_now
+        → SendsPart tells asks hears profile file piece_size size first start path why tree tree_after exchange exchange_after watcher watcher_now
     short_sent wanted why exchange_after stops due some =
-        subst (λ (x : X). SendsPart tells asks hears profile file piece_size size path why tree tree_after exchange x watcher watcher_now) (sym stops.1) (part_sent (IsShort wanted) why stops.0 (short_stop wanted due some))
+        subst (λ (x : X). SendsPart tells asks hears profile file piece_size size first start path why tree tree_after exchange x watcher watcher_now) (sym stops.1) (part_sent (IsShort wanted) why stops.0 (short_stop wanted due some))
 
     end_stop : from ≡ size → (stop : Stop) → IsPastEnd stop → IsStop piece_size size from stop
     end_stop all (NoneCame n) is = inr (all, is)
@@ -164,13 +170,13 @@ module _ {T X W : Type 0} (tells : T → Told → T → Type 0) (asks : X → As
     end_stop all (MoreCame bytes) is = (all, is)
 
     pub past_end_sent : (why : LeftOut) → from ≡ size → StopsAt tells IsPastEnd path from why tree_now tree_after
-        → SendsPart tells asks hears profile file piece_size size path why tree tree_after exchange exchange_now watcher watcher_now
+        → SendsPart tells asks hears profile file piece_size size first start path why tree tree_after exchange exchange_now watcher watcher_now
     past_end_sent why all stops = part_sent IsPastEnd why stops (end_stop all)
 
     -- at its end a file is whole, or not
     pub ends_sent : {A : Type 0} (read : Result A LeftOut) → from ≡ size
         → MatchResult read (λ _. tells tree_now (Read path from 1 []) tree_after) (λ why. StopsAt tells IsPastEnd path from why tree_now tree_after)
-        → MatchResult read (λ _. SendsAll tells asks hears profile file piece_size size path tree tree_after exchange exchange_now watcher watcher_now)
-        (λ why. SendsPart tells asks hears profile file piece_size size path why tree tree_after exchange exchange_now watcher watcher_now)
+        → MatchResult read (λ _. SendsAll tells asks hears profile file piece_size size first start path tree tree_after exchange exchange_now watcher watcher_now)
+        (λ why. SendsPart tells asks hears profile file piece_size size first start path why tree tree_after exchange exchange_now watcher watcher_now)
     ends_sent (Ok u) all ended = all_sent ended all
     ends_sent (Err why) all stops = past_end_sent why all stops

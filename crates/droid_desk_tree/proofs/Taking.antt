@@ -1,15 +1,15 @@
 -- An entry of a folder: a file, a folder, or what is neither.
-use Rattle.std.proofs.Common.{◌≡◌, ℕ, Bool, true, false, List, [], ◌∷◌, ◌++◌, Some, None, refl, sym, ap, subst, ◌∙◌, append-nil}
+use Rattle.std.proofs.Common.{◌≡◌, ℕ, Bool, true, false, List, [], ◌∷◌, ◌++◌, Option, Some, None, unwrap_or, refl, sym, ap, subst, ◌∙◌, arith, append-nil}
 use Rattle.std.specs.Prelude.{IsUtf8}
 use Rattle.droid_frame.specs.types.reply.Reply.{Reply}
 use Rattle.droid_frame.specs.types.reply.Reply.TheVariants as replies
 use Rattle.droid_frame.specs.types.request.Request.{Request}
 use Rattle.droid_frame.specs.types.request.Request.TheVariants.{AddFolder, AddFile, Finish, Abandon}
 use Rattle.droid_desk_tree.specs.Asked.{Asked}
-use Rattle.droid_desk_tree.specs.Heard.{Heard, Left, TookFolder, TookFile}
-use Rattle.droid_desk_tree.specs.Steps.{AddsNode, AddsFolder, Finishes, SendsAll, SendsPart, TakesKid}
+use Rattle.droid_desk_tree.specs.Heard.{Heard, Left, Held, TookFolder, TookFile}
+use Rattle.droid_desk_tree.specs.Steps.{AddsNode, AddsFolder, Finishes, Looks, LooksWhere, SendsAll, SendsPart, TakesKid}
 use Rattle.droid_desk_tree.specs.Told.{Told, GoesOver}
-use Rattle.droid_desk_tree.specs.Visits.{Subfolder, WholeFile, OtherKind, NoText, RefusedFolder, RefusedFile, DroppedFile, Sent, below, whole_read, part_read, pieces_from, pieces_heard, reason_of}
+use Rattle.droid_desk_tree.specs.Visits.{Subfolder, WholeFile, OtherKind, NoText, RefusedFolder, RefusedFile, DroppedFile, WholeRest, DroppedRest, Sent, GoesOn, begin_of, below, first_missing, whole_read, part_read, pieces_from, pieces_heard, reason_of}
 use Rattle.droid_desk_tree.specs.declared.entry.Entry.{Entry}
 use Rattle.droid_desk_tree.specs.declared.entry.EntryKind.TheVariants as kinds
 use Rattle.droid_desk_tree.specs.declared.left_out.LeftOut.{LeftOut}
@@ -17,7 +17,7 @@ use Rattle.droid_desk_tree.specs.declared.left_out.LeftOut.TheVariants as reason
 use Rattle.droid_desk_tree.specs.declared.place.Place.{Place}
 use Rattle.droid_desk_tree.proofs.Runs.{over_one, over_more}
 
-module _ {X W : Type 0} (asks : X → Asked → X → Type 0) (hears : W → Heard → W → Type 0) (profile piece_size : ℕ) where
+module _ {X W : Type 0} (asks : X → Asked → X → Type 0) (hears : W → Heard → W → Type 0) (goes_on : Bool) (profile piece_size : ℕ) where
   module _ (place : Place) (entry : Entry) (folder : ℕ) (path name : List ℕ) (here : path ≡ below place.path entry.name) (in_folder : folder ≡ place.number) (named : name ≡ entry.name) where
     -- what was asked by the path at hand, is asked of the entry
     folder_asked : AddFolder profile folder entry.modified name ≡ AddFolder profile place.number entry.modified entry.name
@@ -31,7 +31,7 @@ module _ {X W : Type 0} (asks : X → Asked → X → Type 0) (hears : W → Hea
 
     module _ (exchange exchange_after : X) (watcher watcher_now watcher_after : W) (waiting : List Place) (is_folder : entry.kind ≡ kinds.Folder) where
       pub folder_refused : AddsNode asks hears path (AddFolder profile folder entry.modified name) None exchange exchange_after watcher watcher_after
-          → AddsFolder asks hears profile piece_size place entry false exchange exchange_after watcher watcher_after waiting waiting
+          → AddsFolder asks hears goes_on profile piece_size place entry false exchange exchange_after watcher watcher_after waiting waiting
       folder_refused refused = record {
         kid = RefusedFolder entry refused.0;
         its = refl;
@@ -45,7 +45,7 @@ module _ {X W : Type 0} (asks : X → Asked → X → Type 0) (hears : W → Hea
 
       pub folder_added : (number : ℕ) (waiting_after : List Place) → AddsNode asks hears path (AddFolder profile folder entry.modified name) (Some number) exchange exchange_after watcher watcher_now
           → hears watcher_now (TookFolder path) watcher_after → waiting_after ≡ waiting ++ record { path = path; number = number } ∷ []
-          → AddsFolder asks hears profile piece_size place entry true exchange exchange_after watcher watcher_after waiting waiting_after
+          → AddsFolder asks hears goes_on profile piece_size place entry true exchange exchange_after watcher watcher_after waiting waiting_after
       folder_added number waiting_after added took pushed =
           let place_at : List ℕ → List Place = λ p. waiting ++ record { path = p; number = number } ∷ [] in
           record {
@@ -61,7 +61,7 @@ module _ {X W : Type 0} (asks : X → Asked → X → Type 0) (hears : W → Hea
 
     module _ {T : Type 0} (tells : T → Told → T → Type 0) (tree tree_after : T) (waiting : List Place) (is_file : entry.kind ≡ kinds.File) where
       pub file_refused : (exchange exchange_after : X) (watcher watcher_after : W) → AddsNode asks hears path (AddFile profile folder entry.modified entry.len piece_size name) None exchange exchange_after watcher watcher_after
-          → TakesKid tells asks hears profile piece_size place entry false tree tree exchange exchange_after watcher watcher_after waiting waiting
+          → TakesKid tells asks hears goes_on profile piece_size place entry false tree tree exchange exchange_after watcher watcher_after waiting waiting
       file_refused exchange exchange_after watcher watcher_after refused = record {
         kid = RefusedFile entry refused.0;
         its = refl;
@@ -73,54 +73,169 @@ module _ {X W : Type 0} (asks : X → Asked → X → Type 0) (hears : W → Hea
         pending = sym (append-nil waiting);
       }
 
-      module _ (number : ℕ) (exchange announced sent done : X) (watcher watcher_now watcher_sent watcher_after : W)
+      module _ (number : ℕ) (exchange announced looked sent done : X) (watcher watcher_now watcher_looked watcher_sent watcher_after : W)
           (added : AddsNode asks hears path (AddFile profile folder entry.modified entry.len piece_size name) (Some number) exchange announced watcher watcher_now) where
         first : asks exchange (AddFile profile place.number entry.modified entry.len piece_size entry.name, replies.Node number) announced
         first = subst (λ (r : Request). asks exchange (r, replies.Node number) announced) file_asked added.0
 
         -- what was told of its pieces, was told of the entry's
-        pieces_here : (pieces : List Sent) (w : W) → GoesOver hears watcher_now (pieces_heard path pieces) w → GoesOver hears watcher (pieces_heard (below place.path entry.name) pieces) w
-        pieces_here pieces w heard = subst (λ (p : List ℕ). GoesOver hears watcher (pieces_heard p pieces) w) here (subst (λ (v : W). GoesOver hears v (pieces_heard path pieces) w) added.1 heard)
+        pieces_here : (pieces : List Sent) (w v : W) → GoesOver hears w (pieces_heard path pieces) v → GoesOver hears w (pieces_heard (below place.path entry.name) pieces) v
+        pieces_here pieces w v heard = subst (λ (p : List ℕ). GoesOver hears w (pieces_heard p pieces) v) here heard
 
-        pub file_whole : SendsAll tells asks hears profile number piece_size entry.len path tree tree_after announced sent watcher_now watcher_sent → (found : Reply) → Finishes asks profile number found sent done
+        -- and where nobody was told anything before
+        pieces_first : (pieces : List Sent) (w : W) → GoesOver hears watcher_now (pieces_heard path pieces) w → GoesOver hears watcher (pieces_heard (below place.path entry.name) pieces) w
+        pieces_first pieces w heard = pieces_here pieces watcher w (subst (λ (v : W). GoesOver hears v (pieces_heard path pieces) w) added.1 heard)
+
+        -- ---- from its first piece on
+
+        file_whole : SendsAll tells asks hears profile number piece_size entry.len 0 0 path tree tree_after announced sent watcher_now watcher_sent → (found : Reply) → Finishes asks profile number found sent done
             → hears watcher_sent (TookFile path found) watcher_after
-            → TakesKid tells asks hears profile piece_size place entry true tree tree_after exchange done watcher watcher_after waiting waiting
+            → TakesKid tells asks hears goes_on profile piece_size place entry true tree tree_after exchange done watcher watcher_after waiting waiting
         file_whole all found finished took =
-            let heard = pieces_here all.sent watcher_sent all.heard in
+            let heard = pieces_first all.sent watcher_sent all.heard in
             record {
               kid = WholeFile entry number all.sent found;
               its = refl;
               is_outcome = (is_file, record { size = all.joined; cut = all.cut }, finished.is_finished);
               taken_is = refl;
-              told = subst (λ (p : List ℕ). GoesOver tells tree (whole_read p all.sent) tree_after) here all.told;
+              told = subst (λ (p : List ℕ). GoesOver tells tree (whole_read p 0 all.sent) tree_after) here all.told;
               asked = (announced, first, over_more asks announced sent done (pieces_from profile number 0 all.sent) ((Finish profile number, found) ∷ []) all.asked (over_one asks sent done _ finished.asked));
               heard = over_more hears watcher watcher_sent watcher_after (pieces_heard (below place.path entry.name) all.sent) (TookFile (below place.path entry.name) found ∷ []) heard
                   (over_one hears watcher_sent watcher_after _ (told_here watcher_sent watcher_after (λ p. TookFile p found) took));
               pending = sym (append-nil waiting);
             }
 
-        pub file_dropped : (why : LeftOut) → SendsPart tells asks hears profile number piece_size entry.len path why tree tree_after announced sent watcher_now watcher_sent
+        file_dropped : (why : LeftOut) → SendsPart tells asks hears profile number piece_size entry.len 0 0 path why tree tree_after announced sent watcher_now watcher_sent
             → asks sent (Abandon profile number, replies.Abandoned) done → hears watcher_sent (Left path why) watcher_after
-            → TakesKid tells asks hears profile piece_size place entry false tree tree_after exchange done watcher watcher_after waiting waiting
+            → TakesKid tells asks hears goes_on profile piece_size place entry false tree tree_after exchange done watcher watcher_after waiting waiting
         file_dropped why part given_up left =
-            let heard = pieces_here part.sent watcher_sent part.heard in
+            let heard = pieces_first part.sent watcher_sent part.heard in
             let told_why : hears watcher_sent (Left path (reason_of part.stop)) watcher_after = subst (λ (r : LeftOut). hears watcher_sent (Left path r) watcher_after) part.reason left in
             record {
               kid = DroppedFile entry number part.sent part.stop;
               its = refl;
               is_outcome = (is_file, record { cut = part.cut; stopped = part.stopped });
               taken_is = refl;
-              told = subst (λ (p : List ℕ). GoesOver tells tree (part_read p part.sent part.stop) tree_after) here part.told;
+              told = subst (λ (p : List ℕ). GoesOver tells tree (part_read p 0 part.sent part.stop) tree_after) here part.told;
               asked = (announced, first, over_more asks announced sent done (pieces_from profile number 0 part.sent) ((Abandon profile number, replies.Abandoned) ∷ []) part.asked (over_one asks sent done _ given_up));
               heard = over_more hears watcher watcher_sent watcher_after (pieces_heard (below place.path entry.name) part.sent) (Left (below place.path entry.name) (reason_of part.stop) ∷ []) heard
                   (over_one hears watcher_sent watcher_after _ (told_here watcher_sent watcher_after (λ p. Left p (reason_of part.stop)) told_why));
               pending = sym (append-nil waiting);
             }
 
+        -- ---- from its first missing piece on
+
+        module _ (index : ℕ) (looks : Looks asks hears goes_on profile number piece_size entry.len path index announced looked watcher_now watcher_looked) where
+          abbrev far : Reply
+          far = looks.asks_far.far
+
+          abbrev from : ℕ
+          from = begin_of piece_size entry.len index
+
+          goes : GoesOn goes_on piece_size entry far from
+          goes = record { is_file = is_file; goes = looks.goes; is_far = looks.asks_far.is_far; begins = ap (λ k. begin_of piece_size entry.len k) looks.asks_far.first_is }
+
+          asked_here : (pieces : List Sent) → GoesOver asks looked (pieces_from profile number index pieces) sent → GoesOver asks looked (pieces_from profile number (first_missing far) pieces) sent
+          asked_here pieces over = subst (λ k. GoesOver asks looked (pieces_from profile number k pieces) sent) looks.asks_far.first_is over
+
+          held_here : hears watcher (Held (below place.path entry.name) from) watcher_looked
+          held_here = told_here watcher watcher_looked (λ p. Held p from) (subst (λ (v : W). hears v (Held path from) watcher_looked) added.1 looks.heard)
+
+          rest_whole : SendsAll tells asks hears profile number piece_size entry.len index from path tree tree_after looked sent watcher_looked watcher_sent → (found : Reply) → Finishes asks profile number found sent done
+              → hears watcher_sent (TookFile path found) watcher_after
+              → TakesKid tells asks hears goes_on profile piece_size place entry true tree tree_after exchange done watcher watcher_after waiting waiting
+          rest_whole all found finished took =
+              let heard = pieces_here all.sent watcher_looked watcher_sent all.heard in
+              record {
+                kid = WholeRest entry number far from all.sent found;
+                its = refl;
+                is_outcome = (goes, record { size = all.joined; cut = all.cut }, finished.is_finished);
+                taken_is = refl;
+                told = subst (λ (p : List ℕ). GoesOver tells tree (whole_read p from all.sent) tree_after) here all.told;
+                asked = (
+                  announced,
+                  first,
+                  (
+                    looked,
+                    looks.asks_far.asked,
+                    over_more asks looked sent done (pieces_from profile number (first_missing far) all.sent) ((Finish profile number, found) ∷ []) (asked_here all.sent all.asked) (over_one asks sent done _ finished.asked),
+                  ),
+                );
+                heard = (
+                  watcher_looked,
+                  held_here,
+                  over_more hears watcher_looked watcher_sent watcher_after (pieces_heard (below place.path entry.name) all.sent) (TookFile (below place.path entry.name) found ∷ []) heard
+                      (over_one hears watcher_sent watcher_after _ (told_here watcher_sent watcher_after (λ p. TookFile p found) took)),
+                );
+                pending = sym (append-nil waiting);
+              }
+
+          rest_dropped : (why : LeftOut) → SendsPart tells asks hears profile number piece_size entry.len index from path why tree tree_after looked sent watcher_looked watcher_sent
+              → asks sent (Abandon profile number, replies.Abandoned) done → hears watcher_sent (Left path why) watcher_after
+              → TakesKid tells asks hears goes_on profile piece_size place entry false tree tree_after exchange done watcher watcher_after waiting waiting
+          rest_dropped why part given_up left =
+              let heard = pieces_here part.sent watcher_looked watcher_sent part.heard in
+              let told_why : hears watcher_sent (Left path (reason_of part.stop)) watcher_after = subst (λ (r : LeftOut). hears watcher_sent (Left path r) watcher_after) part.reason left in
+              record {
+                kid = DroppedRest entry number far from part.sent part.stop;
+                its = refl;
+                is_outcome = (goes, record { cut = part.cut; stopped = part.stopped });
+                taken_is = refl;
+                told = subst (λ (p : List ℕ). GoesOver tells tree (part_read p from part.sent part.stop) tree_after) here part.told;
+                asked = (
+                  announced,
+                  first,
+                  (
+                    looked,
+                    looks.asks_far.asked,
+                    over_more asks looked sent done (pieces_from profile number (first_missing far) part.sent) ((Abandon profile number, replies.Abandoned) ∷ []) (asked_here part.sent part.asked) (over_one asks sent done _ given_up),
+                  ),
+                );
+                heard = (
+                  watcher_looked,
+                  held_here,
+                  over_more hears watcher_looked watcher_sent watcher_after (pieces_heard (below place.path entry.name) part.sent) (Left (below place.path entry.name) (reason_of part.stop) ∷ []) heard
+                      (over_one hears watcher_sent watcher_after _ (told_here watcher_sent watcher_after (λ p. Left p (reason_of part.stop)) told_why)),
+                );
+                pending = sym (append-nil waiting);
+              }
+
+        -- ---- either
+
+        zero_begins : begin_of piece_size entry.len 0 ≡ 0
+        zero_begins = omega arith
+
+        -- what was done where it wasn't asked how far the file is
+        from_first : (P : ℕ → ℕ → X → W → Type 0) (index : ℕ) → index ≡ 0 → (looked ≡ announced) × (watcher_looked ≡ watcher_now) → P index (begin_of piece_size entry.len index) looked watcher_looked → P 0 0 announced watcher_now
+        from_first P index none same p =
+            subst (λ n. P 0 n announced watcher_now) zero_begins
+            (subst (λ (w : W). P 0 (begin_of piece_size entry.len 0) announced w) same.1
+            (subst (λ (x : X). P 0 (begin_of piece_size entry.len 0) x watcher_looked) same.0 (subst (λ n. P n (begin_of piece_size entry.len n) looked watcher_looked) none p)))
+
+        pub file_taken : (far : Option ℕ) (index : ℕ) → LooksWhere asks hears goes_on profile number piece_size entry.len path far announced looked watcher_now watcher_looked → index ≡ unwrap_or far 0
+            → SendsAll tells asks hears profile number piece_size entry.len index (begin_of piece_size entry.len index) path tree tree_after looked sent watcher_looked watcher_sent
+            → (found : Reply) → Finishes asks profile number found sent done → hears watcher_sent (TookFile path found) watcher_after
+            → TakesKid tells asks hears goes_on profile piece_size place entry true tree tree_after exchange done watcher watcher_after waiting waiting
+        file_taken None index looks is all found finished took =
+            file_whole (from_first (λ n k x w. SendsAll tells asks hears profile number piece_size entry.len n k path tree tree_after x sent w watcher_sent) index is looks all) found finished took
+        file_taken (Some there) index looks is all found finished took =
+            rest_whole there looks (subst (λ n. SendsAll tells asks hears profile number piece_size entry.len n (begin_of piece_size entry.len n) path tree tree_after looked sent watcher_looked watcher_sent) is all)
+            found finished took
+
+        pub file_left : (far : Option ℕ) (index : ℕ) (why : LeftOut) → LooksWhere asks hears goes_on profile number piece_size entry.len path far announced looked watcher_now watcher_looked → index ≡ unwrap_or far 0
+            → SendsPart tells asks hears profile number piece_size entry.len index (begin_of piece_size entry.len index) path why tree tree_after looked sent watcher_looked watcher_sent
+            → asks sent (Abandon profile number, replies.Abandoned) done → hears watcher_sent (Left path why) watcher_after
+            → TakesKid tells asks hears goes_on profile piece_size place entry false tree tree_after exchange done watcher watcher_after waiting waiting
+        file_left None index why looks is part given_up left =
+            file_dropped why (from_first (λ n k x w. SendsPart tells asks hears profile number piece_size entry.len n k path why tree tree_after x sent w watcher_sent) index is looks part) given_up left
+        file_left (Some there) index why looks is part given_up left =
+            rest_dropped there looks why
+            (subst (λ n. SendsPart tells asks hears profile number piece_size entry.len n (begin_of piece_size entry.len n) path why tree tree_after looked sent watcher_looked watcher_sent) is part) given_up left
+
   module _ {T : Type 0} (tells : T → Told → T → Type 0) (place : Place) (entry : Entry) (tree : T) where
     pub kid_of_folder : (taken : Bool) (exchange exchange_after : X) (watcher watcher_after : W) (waiting waiting_after : List Place)
-        → AddsFolder asks hears profile piece_size place entry taken exchange exchange_after watcher watcher_after waiting waiting_after
-        → TakesKid tells asks hears profile piece_size place entry taken tree tree exchange exchange_after watcher watcher_after waiting waiting_after
+        → AddsFolder asks hears goes_on profile piece_size place entry taken exchange exchange_after watcher watcher_after waiting waiting_after
+        → TakesKid tells asks hears goes_on profile piece_size place entry taken tree tree exchange exchange_after watcher watcher_after waiting waiting_after
     kid_of_folder taken exchange exchange_after watcher watcher_after waiting waiting_after added = record {
       kid = added.kid;
       its = added.its;
@@ -134,7 +249,7 @@ module _ {X W : Type 0} (asks : X → Asked → X → Type 0) (hears : W → Hea
 
     module _ (exchange : X) (watcher watcher_after : W) (waiting : List Place) where
       pub kid_of_no_text : ¬ (IsUtf8 entry.name) → hears watcher (Left (below place.path entry.name) reasons.Name) watcher_after
-          → TakesKid tells asks hears profile piece_size place entry false tree tree exchange exchange watcher watcher_after waiting waiting
+          → TakesKid tells asks hears goes_on profile piece_size place entry false tree tree exchange exchange watcher watcher_after waiting waiting
       kid_of_no_text isnt left = record {
         kid = NoText entry;
         its = refl;
@@ -147,7 +262,7 @@ module _ {X W : Type 0} (asks : X → Asked → X → Type 0) (hears : W → Hea
       }
 
       pub kid_of_other : (path : List ℕ) → path ≡ below place.path entry.name → entry.kind ≡ kinds.Other → hears watcher (Left path reasons.Kind) watcher_after
-          → TakesKid tells asks hears profile piece_size place entry false tree tree exchange exchange watcher watcher_after waiting waiting
+          → TakesKid tells asks hears goes_on profile piece_size place entry false tree tree exchange exchange watcher watcher_after waiting waiting
       kid_of_other path here is_other left = record {
         kid = OtherKind entry;
         its = refl;

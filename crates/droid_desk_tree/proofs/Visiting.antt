@@ -9,8 +9,8 @@ use Rattle.droid_desk_tree.specs.Asked.{Asked}
 use Rattle.droid_desk_tree.specs.Heard.{Heard, Left}
 use Rattle.droid_desk_tree.specs.Steps.{ListsInOrder, TakesKids, TakesVisit}
 use Rattle.droid_desk_tree.specs.Told.{Told, Listed, Unlisted, GoesOver}
-use Rattle.droid_desk_tree.specs.Visits.{AreInOrder, Visit, IsVisit, entry_of, is_full, told_of_visit, asked_of_visit, heard_of_visit, places_of_visit}
-use Rattle.droid_desk_tree.specs.Walks.{Walks, asked_of_tree, top}
+use Rattle.droid_desk_tree.specs.Visits.{AreInOrder, Visit, MayVisit, entry_of, is_full, told_of_visit, asked_of_visit, heard_of_visit, places_of_visit}
+use Rattle.droid_desk_tree.specs.Walks.{WalksOn, asked_of_tree, top}
 use Rattle.droid_desk_tree.specs.declared.entry.Entry.{Entry}
 use Rattle.droid_desk_tree.specs.declared.left_out.LeftOut.{LeftOut}
 use Rattle.droid_desk_tree.specs.declared.left_out.LeftOut.TheVariants as reasons
@@ -20,11 +20,11 @@ use Rattle.droid_desk_tree.proofs.Entries.{given_more, passed_more}
 use Rattle.droid_desk_tree.proofs.Runs.{over_one, over_more, all_more}
 
 -- the walk so far: these folders were visited, and those are to be visited
-pub record Walking {T X W : Type 0} (tells : T → Told → T → Type 0) (asks : X → Asked → X → Type 0) (hears : W → Heard → W → Type 0) (options : Options) (profile : ℕ) (waiting : List Place) (whole : Bool)
+pub record Walking {T X W : Type 0} (tells : T → Told → T → Type 0) (asks : X → Asked → X → Type 0) (hears : W → Heard → W → Type 0) (goes_on : Bool) (options : Options) (profile : ℕ) (waiting : List Place) (whole : Bool)
     (tree tree_now : T) (exchange exchange_now : X) (watcher watcher_now : W) : Type 0 where
   pub visits : List Visit
   pub places : map (λ visit. visit.place) visits ++ waiting ≡ top ∷ flat_map places_of_visit visits
-  pub visited : AllByRecursion (IsVisit options.piece_size) visits
+  pub visited : AllByRecursion (MayVisit goes_on options.piece_size) visits
   pub whole_is : whole ≡ list_all is_full visits
   pub told : GoesOver tells tree (flat_map told_of_visit visits) tree_now
   pub asked : GoesOver asks exchange (asked_of_tree options profile visits) exchange_now
@@ -36,10 +36,10 @@ none_left [] none = refl
 none_left (place ∷ waiting) none = absurd (omega (arith, ap length none, length-drop 1 (place ∷ waiting)))
 
 module _ {T X W : Type 0} (tells : T → Told → T → Type 0) (asks : X → Asked → X → Type 0) (hears : W → Heard → W → Type 0) where
-  module _ (profile piece_size : ℕ) (place : Place) (tree tree_now tree_after : T) (exchange exchange_after : X) (watcher watcher_after : W) (waiting waiting_after : List Place) where
+  module _ (goes_on : Bool) (profile piece_size : ℕ) (place : Place) (tree tree_now tree_after : T) (exchange exchange_after : X) (watcher watcher_after : W) (waiting waiting_after : List Place) where
     pub visit_made : (path : List ℕ) (entries found : List Entry) (whole : Bool) → path ≡ place.path → ListsInOrder tells path found tree tree_now → entries ≡ found
-        → TakesKids tells asks hears profile piece_size place entries whole tree_now tree_after exchange exchange_after watcher watcher_after waiting waiting_after
-        → TakesVisit tells asks hears profile piece_size place whole tree tree_after exchange exchange_after watcher watcher_after waiting waiting_after
+        → TakesKids tells asks hears goes_on profile piece_size place entries whole tree_now tree_after exchange exchange_after watcher watcher_after waiting waiting_after
+        → TakesVisit tells asks hears goes_on profile piece_size place whole tree tree_after exchange exchange_after watcher watcher_after waiting waiting_after
     visit_made path entries found whole here lists same taken =
         let are : found ≡ map entry_of taken.kids = sym (taken.its ∙ same) in
         record {
@@ -57,10 +57,10 @@ module _ {T X W : Type 0} (tells : T → Told → T → Type 0) (asks : X → As
           pending = taken.pending;
         }
 
-  pub visit_unread : (profile piece_size : ℕ) (place : Place) (why : LeftOut) (path bytes : List ℕ) (tree tree_after : T) (exchange : X) (watcher watcher_after : W) (waiting : List Place)
+  pub visit_unread : (goes_on : Bool) (profile piece_size : ℕ) (place : Place) (why : LeftOut) (path bytes : List ℕ) (tree tree_after : T) (exchange : X) (watcher watcher_after : W) (waiting : List Place)
       → path ≡ place.path → bytes ≡ place.path → (why ≡ reasons.Unreadable) × tells tree (Unlisted path) tree_after → hears watcher (Left bytes why) watcher_after
-      → TakesVisit tells asks hears profile piece_size place false tree tree_after exchange exchange watcher watcher_after waiting waiting
-  visit_unread profile piece_size place why path bytes tree tree_after exchange watcher watcher_after waiting same_path same_bytes unread left =
+      → TakesVisit tells asks hears goes_on profile piece_size place false tree tree_after exchange exchange watcher watcher_after waiting waiting
+  visit_unread goes_on profile piece_size place why path bytes tree tree_after exchange watcher watcher_after waiting same_path same_bytes unread left =
       let told_at : tells tree (Unlisted place.path) tree_after = subst (λ (p : List ℕ). tells tree (Unlisted p) tree_after) same_path unread.1 in
       let left_at : hears watcher (Left place.path why) watcher_after = subst (λ (p : List ℕ). hears watcher (Left p why) watcher_after) same_bytes left in
       record {
@@ -74,17 +74,17 @@ module _ {T X W : Type 0} (tells : T → Told → T → Type 0) (asks : X → As
         pending = sym (append-nil waiting);
       }
 
-  module _ (options : Options) (profile : ℕ) where
+  module _ (goes_on : Bool) (options : Options) (profile : ℕ) where
     pub begun : (waiting : List Place) (tree : T) (exchange exchange_now : X) (watcher : W) → waiting ≡ top ∷ [] → asks exchange (CreateProfile options.scan_limit options.match_all options.hash, replies.Made profile) exchange_now
-        → Walking tells asks hears options profile waiting true tree tree exchange exchange_now watcher watcher
+        → Walking tells asks hears goes_on options profile waiting true tree tree exchange exchange_now watcher watcher
     begun waiting tree exchange exchange_now watcher only made =
         record { visits = []; places = only; visited = tt; whole_is = refl; told = refl; asked = over_one asks exchange exchange_now _ made; heard = refl }
 
     pub visited_more : (place : Place) (waiting left waiting_after : List Place) (whole taken both : Bool) (tree tree_now tree_after : T) (exchange exchange_now exchange_after : X) (watcher watcher_now watcher_after : W)
-        → Walking tells asks hears options profile waiting whole tree tree_now exchange exchange_now watcher watcher_now → waiting ≡ place ∷ left
-        → TakesVisit tells asks hears profile options.piece_size place taken tree_now tree_after exchange_now exchange_after watcher_now watcher_after left waiting_after
+        → Walking tells asks hears goes_on options profile waiting whole tree tree_now exchange exchange_now watcher watcher_now → waiting ≡ place ∷ left
+        → TakesVisit tells asks hears goes_on profile options.piece_size place taken tree_now tree_after exchange_now exchange_after watcher_now watcher_after left waiting_after
         → both ≡ (whole && taken)
-        → Walking tells asks hears options profile waiting_after both tree tree_after exchange exchange_after watcher watcher_after
+        → Walking tells asks hears goes_on options profile waiting_after both tree tree_after exchange exchange_after watcher watcher_after
     visited_more place waiting left waiting_after whole taken both tree tree_now tree_after exchange exchange_now exchange_after watcher watcher_now watcher_after front popped next is =
         let here : List Place = map (λ (v : Visit). v.place) front.visits in
         let found : List Place = places_of_visit next.visit in
@@ -100,7 +100,7 @@ module _ {T X W : Type 0} (tells : T → Told → T → Type 0) (asks : X → As
               ∙ (ap (λ (l : List Place). (here ++ l) ++ found) (sym popped)
               ∙ (ap (λ (l : List Place). l ++ found) front.places
               ∙ ap (λ (l : List Place). top ∷ l) (sym (given_more places_of_visit front.visits next.visit))))));
-          visited = all_more (IsVisit options.piece_size) front.visits next.visit front.visited next.is_visit;
+          visited = all_more (MayVisit goes_on options.piece_size) front.visits next.visit front.visited next.is_visit;
           whole_is = passed_more is_full front.visits next.visit whole taken both front.whole_is next.whole_is is;
           told = subst (λ (l : List Told). GoesOver tells tree l tree_after) (sym (given_more told_of_visit front.visits next.visit))
               (over_more tells tree tree_now tree_after (flat_map told_of_visit front.visits) (told_of_visit next.visit) front.told next.told);
@@ -111,8 +111,8 @@ module _ {T X W : Type 0} (tells : T → Told → T → Type 0) (asks : X → As
               (over_more hears watcher watcher_now watcher_after (flat_map heard_of_visit front.visits) (heard_of_visit next.visit) front.heard next.heard);
         }
 
-    pub walked : (waiting : List Place) (whole : Bool) (tree tree_now : T) (exchange exchange_now : X) (watcher watcher_now : W) → Walking tells asks hears options profile waiting whole tree tree_now exchange exchange_now watcher watcher_now → waiting ≡ []
-        → Walks tells asks hears options profile whole tree tree_now exchange exchange_now watcher watcher_now
+    pub walked : (waiting : List Place) (whole : Bool) (tree tree_now : T) (exchange exchange_now : X) (watcher watcher_now : W) → Walking tells asks hears goes_on options profile waiting whole tree tree_now exchange exchange_now watcher watcher_now → waiting ≡ []
+        → WalksOn tells asks hears goes_on options profile whole tree tree_now exchange exchange_now watcher watcher_now
     walked waiting whole tree tree_now exchange exchange_now watcher watcher_now front none = record {
       visits = front.visits;
       each_folder = sym (append-nil (map (λ (v : Visit). v.place) front.visits)) ∙ (ap (λ (l : List Place). map (λ (v : Visit). v.place) front.visits ++ l) (sym none) ∙ front.places);

@@ -6,6 +6,8 @@ use Rattle.droid_desk_tree.specs.declared.left_out.LeftOut.{LeftOut}
 pub data Heard : Type 0 where
   -- this was left out, for this reason
   Left : (path : List ℕ) (why : LeftOut) → Heard
+  -- of the file at this path the first so many bytes need not be read: they had been taken before
+  Held : (path : List ℕ) (count : ℕ) → Heard
   -- of the file at this path so many bytes more were taken
   TookBytes : (path : List ℕ) (count : ℕ) → Heard
   -- the folder at this path is in the profile now

@@ -1,16 +1,16 @@
 -- What the parts of a walk leave: of a piece, a file, an entry, and a folder.
-use Rattle.std.specs.Prelude.{◌≡◌, ◌≢◌, ℕ, ◌≤◌, ◌<◌, Bool, List, [], ◌++◌, length, map, Option, Some, None, IsPermutation}
+use Rattle.std.specs.Prelude.{◌≡◌, ◌≢◌, ℕ, ◌+◌, ◌≤◌, ◌<◌, Bool, true, List, [], ◌++◌, length, map, Option, Some, None, IsPermutation}
 use Rattle.std.specs.List.{flat_map, list_all, AllByRecursion}
 use Rattle.droid_frame.specs.types.refusal.Refusal.{Refusal}
 use Rattle.droid_frame.specs.types.refusal.Refusal.TheVariants as refusals
 use Rattle.droid_frame.specs.types.reply.Reply.{Reply}
 use Rattle.droid_frame.specs.types.reply.Reply.TheVariants as replies
 use Rattle.droid_frame.specs.types.request.Request.{Request}
-use Rattle.droid_frame.specs.types.request.Request.TheVariants.{Piece, Finish}
+use Rattle.droid_frame.specs.types.request.Request.TheVariants.{Piece, Finish, Status}
 use Rattle.droid_desk_tree.specs.Asked.{Asked}
-use Rattle.droid_desk_tree.specs.Heard.{Heard, Left}
+use Rattle.droid_desk_tree.specs.Heard.{Heard, Left, Held}
 use Rattle.droid_desk_tree.specs.Told.{Told, Listed, Read, GoesOver}
-use Rattle.droid_desk_tree.specs.Visits.{AreInOrder, Sent, Stop, NoneCame, FewerCame, MoreCame, Kid, Visit, AreCut, IsFinished, IsStop, IsOutcome, IsVisit, bytes_of, entry_of, is_taken, is_full, part_read, pieces_from, pieces_heard, reads_from, reason_of, told_of_stop, whole_read, told_of_kid, asked_of_kid, heard_of_kid, places_of_kid, told_of_visit, asked_of_visit, heard_of_visit, places_of_visit}
+use Rattle.droid_desk_tree.specs.Visits.{AreInOrder, Sent, Stop, NoneCame, FewerCame, MoreCame, Kid, Visit, AreCut, MayCome, MayVisit, IsFar, IsFinished, IsStop, bytes_of, entry_of, is_taken, begin_of, first_missing, is_full, part_read, pieces_from, pieces_heard, reads_from, reason_of, told_of_stop, whole_read, told_of_kid, asked_of_kid, heard_of_kid, places_of_kid, told_of_visit, asked_of_visit, heard_of_visit, places_of_visit}
 use Rattle.droid_desk_tree.specs.declared.entry.Entry.{Entry}
 use Rattle.droid_desk_tree.specs.declared.left_out.LeftOut.{LeftOut}
 use Rattle.droid_desk_tree.specs.declared.left_out.LeftOut.TheVariants as reasons
@@ -59,38 +59,39 @@ pub record StopsAt {T : Type 0} (tells : T → Told → T → Type 0) (IsSuch : 
   pub reason : why ≡ reason_of stop
   pub told : tells tree (told_of_stop path from stop) tree_after
 
--- the first pieces of a file were read and sent: so many, of so many bytes
-pub record SendsFront {T X W : Type 0} (tells : T → Told → T → Type 0) (asks : X → Asked → X → Type 0) (hears : W → Heard → W → Type 0) (profile file piece_size size : ℕ) (path : List ℕ) (count total : ℕ)
+-- pieces of a file were read and sent, from this one on, which begins with this byte: up to the one with this index, and byte
+pub record SendsFront {T X W : Type 0} (tells : T → Told → T → Type 0) (asks : X → Asked → X → Type 0) (hears : W → Heard → W → Type 0) (profile file piece_size size first start : ℕ) (path : List ℕ) (count total : ℕ)
     (tree tree_after : T) (exchange exchange_after : X) (watcher watcher_after : W) : Type 0 where
   pub sent : List Sent
-  pub counted : length sent ≡ count
-  pub joined : length (bytes_of sent) ≡ total
+  pub counted : first + length sent ≡ count
+  pub joined : start + length (bytes_of sent) ≡ total
   pub within : total ≤ size
-  pub cut : AreCut piece_size size 0 sent
-  pub told : GoesOver tells tree (reads_from path 0 sent) tree_after
-  pub asked : GoesOver asks exchange (pieces_from profile file 0 sent) exchange_after
+  pub cut : AreCut piece_size size start sent
+  pub told : GoesOver tells tree (reads_from path start sent) tree_after
+  pub asked : GoesOver asks exchange (pieces_from profile file first sent) exchange_after
   pub heard : GoesOver hears watcher (pieces_heard path sent) watcher_after
 
--- all pieces of a file were read and sent, and it has no more
-pub record SendsAll {T X W : Type 0} (tells : T → Told → T → Type 0) (asks : X → Asked → X → Type 0) (hears : W → Heard → W → Type 0) (profile file piece_size size : ℕ) (path : List ℕ)
+-- all pieces of a file were read and sent, from this one on, which begins with this byte; and it has no more
+pub record SendsAll {T X W : Type 0} (tells : T → Told → T → Type 0) (asks : X → Asked → X → Type 0) (hears : W → Heard → W → Type 0) (profile file piece_size size first start : ℕ) (path : List ℕ)
     (tree tree_after : T) (exchange exchange_after : X) (watcher watcher_after : W) : Type 0 where
   pub sent : List Sent
-  pub joined : length (bytes_of sent) ≡ size
-  pub cut : AreCut piece_size size 0 sent
-  pub told : GoesOver tells tree (whole_read path sent) tree_after
-  pub asked : GoesOver asks exchange (pieces_from profile file 0 sent) exchange_after
+  pub joined : start + length (bytes_of sent) ≡ size
+  pub cut : AreCut piece_size size start sent
+  pub told : GoesOver tells tree (whole_read path start sent) tree_after
+  pub asked : GoesOver asks exchange (pieces_from profile file first sent) exchange_after
   pub heard : GoesOver hears watcher (pieces_heard path sent) watcher_after
 
--- the first pieces of a file were read and sent, and then the reading ended early, for this reason
-pub record SendsPart {T X W : Type 0} (tells : T → Told → T → Type 0) (asks : X → Asked → X → Type 0) (hears : W → Heard → W → Type 0) (profile file piece_size size : ℕ) (path : List ℕ) (why : LeftOut)
+-- pieces of a file were read and sent, from this one on, which begins with this byte; and then the reading ended early, for
+-- this reason
+pub record SendsPart {T X W : Type 0} (tells : T → Told → T → Type 0) (asks : X → Asked → X → Type 0) (hears : W → Heard → W → Type 0) (profile file piece_size size first start : ℕ) (path : List ℕ) (why : LeftOut)
     (tree tree_after : T) (exchange exchange_after : X) (watcher watcher_after : W) : Type 0 where
   pub sent : List Sent
   pub stop : Stop
-  pub cut : AreCut piece_size size 0 sent
-  pub stopped : IsStop piece_size size (length (bytes_of sent)) stop
+  pub cut : AreCut piece_size size start sent
+  pub stopped : IsStop piece_size size (start + length (bytes_of sent)) stop
   pub reason : why ≡ reason_of stop
-  pub told : GoesOver tells tree (part_read path sent stop) tree_after
-  pub asked : GoesOver asks exchange (pieces_from profile file 0 sent) exchange_after
+  pub told : GoesOver tells tree (part_read path start sent stop) tree_after
+  pub asked : GoesOver asks exchange (pieces_from profile file first sent) exchange_after
   pub heard : GoesOver hears watcher (pieces_heard path sent) watcher_after
 
 -- a file was finished, and this was replied
@@ -98,14 +99,33 @@ pub record Finishes {X : Type 0} (asks : X → Asked → X → Type 0) (profile 
   pub is_finished : IsFinished found
   pub asked : asks exchange (Finish profile file, found) exchange_after
 
+-- it was asked how far a file is: its first missing piece is this one
+pub record AsksFar {X : Type 0} (asks : X → Asked → X → Type 0) (profile file first : ℕ) (exchange exchange_after : X) : Type 0 where
+  pub far : Reply
+  pub is_far : IsFar far
+  pub first_is : first ≡ first_missing far
+  pub asked : asks exchange (Status profile file, far) exchange_after
+
+-- it was asked of a file that was just added, by a walk that goes on, and the watcher was told how much need not be read
+pub record Looks {X W : Type 0} (asks : X → Asked → X → Type 0) (hears : W → Heard → W → Type 0) (goes_on : Bool) (profile file piece_size size : ℕ) (path : List ℕ) (first : ℕ) (exchange exchange_after : X) (watcher watcher_after : W) : Type 0 where
+  pub goes : goes_on ≡ true
+  pub asks_far : AsksFar asks profile file first exchange exchange_after
+  pub heard : hears watcher (Held path (begin_of piece_size size first)) watcher_after
+
+-- the same, or it wasn't asked
+abbrev pub LooksWhere : {X W : Type 0} → (X → Asked → X → Type 0) → (W → Heard → W → Type 0) → Bool → ℕ → ℕ → ℕ → ℕ → List ℕ → Option ℕ → X → X → W → W → Type 0
+LooksWhere asks hears goes_on profile file piece_size size path None exchange exchange_after watcher watcher_after = (exchange_after ≡ exchange) × (watcher_after ≡ watcher)
+LooksWhere asks hears goes_on profile file piece_size size path (Some first) exchange exchange_after watcher watcher_after =
+    Looks asks hears goes_on profile file piece_size size path first exchange exchange_after watcher watcher_after
+
 -- ---- an entry
 
 -- this came of an entry of this folder; where it is a folder that is in the profile now, it is to be visited
-pub record TakesKid {T X W : Type 0} (tells : T → Told → T → Type 0) (asks : X → Asked → X → Type 0) (hears : W → Heard → W → Type 0) (profile piece_size : ℕ) (place : Place) (entry : Entry) (taken : Bool)
+pub record TakesKid {T X W : Type 0} (tells : T → Told → T → Type 0) (asks : X → Asked → X → Type 0) (hears : W → Heard → W → Type 0) (goes_on : Bool) (profile piece_size : ℕ) (place : Place) (entry : Entry) (taken : Bool)
     (tree tree_after : T) (exchange exchange_after : X) (watcher watcher_after : W) (waiting waiting_after : List Place) : Type 0 where
   pub kid : Kid
   pub its : entry_of kid ≡ entry
-  pub is_outcome : IsOutcome piece_size kid
+  pub is_outcome : MayCome goes_on piece_size kid
   pub taken_is : taken ≡ is_taken kid
   pub told : GoesOver tells tree (told_of_kid place.path kid) tree_after
   pub asked : GoesOver asks exchange (asked_of_kid profile piece_size place.number kid) exchange_after
@@ -113,11 +133,11 @@ pub record TakesKid {T X W : Type 0} (tells : T → Told → T → Type 0) (asks
   pub pending : waiting_after ≡ waiting ++ places_of_kid place.path kid
 
 -- this came of an entry that is a folder; the tree told nothing of it
-pub record AddsFolder {X W : Type 0} (asks : X → Asked → X → Type 0) (hears : W → Heard → W → Type 0) (profile piece_size : ℕ) (place : Place) (entry : Entry) (taken : Bool)
+pub record AddsFolder {X W : Type 0} (asks : X → Asked → X → Type 0) (hears : W → Heard → W → Type 0) (goes_on : Bool) (profile piece_size : ℕ) (place : Place) (entry : Entry) (taken : Bool)
     (exchange exchange_after : X) (watcher watcher_after : W) (waiting waiting_after : List Place) : Type 0 where
   pub kid : Kid
   pub its : entry_of kid ≡ entry
-  pub is_outcome : IsOutcome piece_size kid
+  pub is_outcome : MayCome goes_on piece_size kid
   pub taken_is : taken ≡ is_taken kid
   pub untold : told_of_kid place.path kid ≡ []
   pub asked : GoesOver asks exchange (asked_of_kid profile piece_size place.number kid) exchange_after
@@ -127,11 +147,11 @@ pub record AddsFolder {X W : Type 0} (asks : X → Asked → X → Type 0) (hear
 -- ---- a folder
 
 -- this came of all these entries of this folder
-pub record TakesKids {T X W : Type 0} (tells : T → Told → T → Type 0) (asks : X → Asked → X → Type 0) (hears : W → Heard → W → Type 0) (profile piece_size : ℕ) (place : Place) (entries : List Entry) (whole : Bool)
+pub record TakesKids {T X W : Type 0} (tells : T → Told → T → Type 0) (asks : X → Asked → X → Type 0) (hears : W → Heard → W → Type 0) (goes_on : Bool) (profile piece_size : ℕ) (place : Place) (entries : List Entry) (whole : Bool)
     (tree tree_after : T) (exchange exchange_after : X) (watcher watcher_after : W) (waiting waiting_after : List Place) : Type 0 where
   pub kids : List Kid
   pub its : map entry_of kids ≡ entries
-  pub are_outcomes : AllByRecursion (IsOutcome piece_size) kids
+  pub are_outcomes : AllByRecursion (MayCome goes_on piece_size) kids
   pub whole_is : whole ≡ list_all is_taken kids
   pub told : GoesOver tells tree (flat_map (told_of_kid place.path) kids) tree_after
   pub asked : GoesOver asks exchange (flat_map (asked_of_kid profile piece_size place.number) kids) exchange_after
@@ -139,11 +159,11 @@ pub record TakesKids {T X W : Type 0} (tells : T → Told → T → Type 0) (ask
   pub pending : waiting_after ≡ waiting ++ flat_map (places_of_kid place.path) kids
 
 -- a folder was visited
-pub record TakesVisit {T X W : Type 0} (tells : T → Told → T → Type 0) (asks : X → Asked → X → Type 0) (hears : W → Heard → W → Type 0) (profile piece_size : ℕ) (place : Place) (whole : Bool)
+pub record TakesVisit {T X W : Type 0} (tells : T → Told → T → Type 0) (asks : X → Asked → X → Type 0) (hears : W → Heard → W → Type 0) (goes_on : Bool) (profile piece_size : ℕ) (place : Place) (whole : Bool)
     (tree tree_after : T) (exchange exchange_after : X) (watcher watcher_after : W) (waiting waiting_after : List Place) : Type 0 where
   pub visit : Visit
   pub its : visit.place ≡ place
-  pub is_visit : IsVisit piece_size visit
+  pub is_visit : MayVisit goes_on piece_size visit
   pub whole_is : whole ≡ is_full visit
   pub told : GoesOver tells tree (told_of_visit visit) tree_after
   pub asked : GoesOver asks exchange (asked_of_visit profile piece_size visit) exchange_after

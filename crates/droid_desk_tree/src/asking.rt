@@ -1,11 +1,11 @@
 //! Asking a request, and what a reply to a new node says.
 
-ghost use Rattle.std.specs.Prelude.{◌≢◌, IfOk, OnOk};
+ghost use Rattle.std.specs.Prelude.{◌≡◌, ◌≢◌, IfOk, OnOk};
 ghost use Rattle.droid_frame.specs.types.reply.Reply.TheVariants as replies;
 ghost use Rattle.droid_frame.specs.types.request.Request.TheVariants as requests;
 ghost use Rattle.droid_frame.specs.types.refusal.Refusal.TheVariants as refusals;
 ghost use Rattle.droid_desk_tree.specs.Heard.{Left};
-ghost use Rattle.droid_desk_tree.specs.Steps.{AddsNode, Finishes};
+ghost use Rattle.droid_desk_tree.specs.Steps.{AddsNode, AsksFar, Finishes};
 ghost use Rattle.droid_desk_tree.specs.declared.left_out.LeftOut.TheVariants as reasons;
 
 use crate::exchange::Exchange;
@@ -105,6 +105,38 @@ pub(crate) fn finish<X: Exchange>(
         Reply::Refused(Refusal::Memory) => Err(WalkFault::Memory),
         _ => Err(WalkFault::Reply),
     }
+}
+
+/// Asks how far a file is, and gives its first missing piece. Where that is refused, as of a file that was given up, all are
+/// taken to be missing.
+pub(crate) fn ask_far<X: Exchange>(
+    alloc: Global,
+    exchange: &mut X,
+    profile: u32,
+    file: u32,
+) -> Result<u32, WalkFault>
+    ensures { IfOk result (λ first. AsksFar X.asks profile file first exchange.old exchange.new) }
+{
+    let request = Request::Status { profile, file };
+    match ask(alloc, exchange, &request)? {
+        Reply::Progress { held: _, missing } => Ok(missing),
+        Reply::Refused(refusal) => {
+            let first = first_of_refused(refusal)?;
+            Ok(first)
+        }
+        _ => Err(WalkFault::Reply),
+    }
+}
+
+/// The first piece that is taken to be missing where it is refused to tell; want of memory is none of the refusals.
+fn first_of_refused(refusal: Refusal) -> Result<u32, WalkFault>
+    ensures refused { OnOk result (refusal ≢ refusals.Memory) }
+    ensures first { IfOk result (λ first. first ≡ 0) }
+{
+    if refusal == Refusal::Memory {
+        return Err(WalkFault::Memory);
+    }
+    Ok(0)
 }
 
 /// Gives up an unfinished file.

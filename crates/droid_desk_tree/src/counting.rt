@@ -13,6 +13,9 @@ use crate::walking::{TURNS, only_the_top};
 use std::alloc::Global;
 use std::collections::VecDeque;
 
+/// How many folders and files a profile has at most.
+pub const NODE_LIMIT: u64 = 100_000;
+
 /// How much there is in a tree, without its top.
 #[derive(Clone, Copy, Debug)]
 pub struct Counted {

@@ -21,4 +21,10 @@ pub trait Exchange {
     /// Asks the request that this kind and this body spell in a frame of version 2.
     fn ask(&mut self, kind: u8, body: Blob) -> Result<Reply, ExchangeFault>
         ensures { IfOk result (λ reply. (request : Request) → SpellsRequest 2 kind body request → asks self.old (request, reply) self.new) };
+
+    /// Whether a walk that goes on where one before it ended asks of a file that was just added how far it is. Once it is
+    /// known that nothing of the files to come was sent before, it needn't.
+    fn looks(&self) -> bool {
+        false
+    }
 }

@@ -33,7 +33,7 @@ pub(crate) fn take_folder<T: Tree, X: Exchange, W: Watcher>(
     pending: &mut VecDeque<Place>,
 ) -> Result<bool, WalkFault>
     ensures { IfOk result (λ whole. into.folder ≡ place.now.number →
-        TakesVisit T.tells X.asks W.hears into.profile into.piece_size place.now whole tree.old tree.new exchange.old exchange.new watcher.old watcher.new pending.old.items pending.new.items) }
+        TakesVisit T.tells X.asks W.hears into.goes_on into.profile into.piece_size place.now whole tree.old tree.new exchange.old exchange.new watcher.old watcher.new pending.old.items pending.new.items) }
 {
     match read_folder(alloc, tree, place.path.as_str())? {
         Ok(entries) => {
@@ -62,7 +62,7 @@ fn take_entries<T: Tree, X: Exchange, W: Watcher>(
     pending: &mut VecDeque<Place>,
 ) -> Result<bool, WalkFault>
     ensures { IfOk result (λ whole. into.folder ≡ place.now.number →
-        TakesKids T.tells X.asks W.hears into.profile into.piece_size place.now entries.now whole tree.old tree.new exchange.old exchange.new watcher.old watcher.new pending.old.items pending.new.items) }
+        TakesKids T.tells X.asks W.hears into.goes_on into.profile into.piece_size place.now entries.now whole tree.old tree.new exchange.old exchange.new watcher.old watcher.new pending.old.items pending.new.items) }
 {
     let mut whole = true;
     for entry in entries {
@@ -91,7 +91,7 @@ fn take_entry<T: Tree, X: Exchange, W: Watcher>(
     pending: &mut VecDeque<Place>,
 ) -> Result<bool, WalkFault>
     ensures { IfOk result (λ taken. into.folder ≡ place.now.number →
-        TakesKid T.tells X.asks W.hears into.profile into.piece_size place.now entry.now taken tree.old tree.new exchange.old exchange.new watcher.old watcher.new pending.old.items pending.new.items) }
+        TakesKid T.tells X.asks W.hears into.goes_on into.profile into.piece_size place.now entry.now taken tree.old tree.new exchange.old exchange.new watcher.old watcher.new pending.old.items pending.new.items) }
 {
     let Some(name) = name_of(entry) else {
         tell_below(alloc, watcher, place, entry, LeftOut::Name)?;
@@ -144,7 +144,7 @@ fn add_folder<X: Exchange, W: Watcher>(
     pending: &mut VecDeque<Place>,
 ) -> Result<bool, WalkFault>
     ensures { IfOk result (λ taken. (place : Place) → path ≡ below place.path entry.now.name → into.folder ≡ place.number → name.now ≡ entry.now.name → entry.now.kind ≡ kinds.Folder →
-        AddsFolder X.asks W.hears into.profile into.piece_size place entry.now taken exchange.old exchange.new watcher.old watcher.new pending.old.items pending.new.items) }
+        AddsFolder X.asks W.hears into.goes_on into.profile into.piece_size place entry.now taken exchange.old exchange.new watcher.old watcher.new pending.old.items pending.new.items) }
 {
     match announce(alloc, exchange, watcher, into, path.as_str(), name, entry)? {
         Some(number) => {

@@ -21,11 +21,11 @@ mod walking;
 mod watcher;
 
 pub use asking::ask;
-pub use counting::{Counted, count};
+pub use counting::{Counted, NODE_LIMIT, count};
 pub use entry::{Entry, EntryKind};
 pub use exchange::{Exchange, ExchangeFault};
 pub use fault::{TreeFault, WalkFault};
 pub use left_out::LeftOut;
 pub use tree::Tree;
-pub use walking::{Options, Walked, walk};
+pub use walking::{Options, Walked, walk, walk_on};
 pub use watcher::Watcher;

@@ -5,6 +5,7 @@ ghost use Rattle.droid_frame.specs.Fields.{IsBytes, IsU32, u32_bytes};
 ghost use Rattle.droid_frame.specs.types.reply.Reply.TheVariants as replies;
 ghost use Rattle.droid_desk_tree.specs.Steps.{IsPastEnd, IsShort, ReadsPiece, SendsAll, SendsPart, SendsPiece, StopsAt};
 ghost use Rattle.droid_desk_tree.specs.Told.{Read};
+ghost use Rattle.droid_desk_tree.specs.Visits.{begin_of};
 ghost use Rattle.droid_desk_tree.specs.declared.left_out.LeftOut.TheVariants as reasons;
 
 use crate::exchange::Exchange;
@@ -32,9 +33,11 @@ pub(crate) struct Target {
     pub piece_size: u32,
     /// How many bytes the file is said to have.
     pub size: u64,
+    /// The first piece that is sent.
+    pub first: u32,
 }
 
-/// Reads a file piece by piece, and sends each before the next is read. That the file can't be read, or has more
+/// Reads a file piece by piece, from the first that is sent on, and sends each before the next is read. That the file can't be read, or has more
 /// bytes or fewer, is the inner error; not all of its pieces are sent then.
 pub(crate) fn send_pieces<T: Tree, X: Exchange, W: Watcher>(
     alloc: Global,
@@ -45,11 +48,11 @@ pub(crate) fn send_pieces<T: Tree, X: Exchange, W: Watcher>(
     path: &str,
 ) -> Result<Result<(), LeftOut>, WalkFault>
     ensures { IfOk result (λ read. MatchResult read
-        (λ _. SendsAll T.tells X.asks W.hears to.profile to.file to.piece_size to.size path.now tree.old tree.new exchange.old exchange.new watcher.old watcher.new)
-        (λ why. SendsPart T.tells X.asks W.hears to.profile to.file to.piece_size to.size path.now why tree.old tree.new exchange.old exchange.new watcher.old watcher.new)) }
+        (λ _. SendsAll T.tells X.asks W.hears to.profile to.file to.piece_size to.size to.first (begin_of to.piece_size to.size to.first) path.now tree.old tree.new exchange.old exchange.new watcher.old watcher.new)
+        (λ why. SendsPart T.tells X.asks W.hears to.profile to.file to.piece_size to.size to.first (begin_of to.piece_size to.size to.first) path.now why tree.old tree.new exchange.old exchange.new watcher.old watcher.new)) }
 {
-    let mut from = 0;
-    for index in 0..u32::MAX {
+    let mut from = begin_of(to.piece_size, to.size, to.first);
+    for index in to.first..u32::MAX {
         let wanted = next_len(to.size, from, to.piece_size);
         if wanted == 0 {
             let ended = ends_here(alloc, tree, path, from, to.size)?;
@@ -62,6 +65,14 @@ pub(crate) fn send_pieces<T: Tree, X: Exchange, W: Watcher>(
         watcher.took_bytes(path, wanted);
     }
     Err(WalkFault::Reply)
+}
+
+/// The byte with which this piece of a file begins, or the file's end.
+pub(crate) fn begin_of(piece_size: u32, size: u64, index: u32) -> u64
+    ensures { result ≡ begin_of piece_size size index }
+{
+    let before = u64::from(index).saturating_mul(u64::from(piece_size));
+    before.min(size)
 }
 
 /// How many bytes the next piece has: as many as pieces have, or what is left.

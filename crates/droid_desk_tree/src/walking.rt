@@ -1,7 +1,7 @@
 //! The walk over a whole tree.
 
-ghost use Rattle.std.specs.Prelude.{◌≡◌, [], ◌∷◌, IfOk, IsTrue};
-ghost use Rattle.droid_desk_tree.specs.Walks.{Walks, WalksWhole, top};
+ghost use Rattle.std.specs.Prelude.{◌≡◌, [], ◌∷◌, IfOk, IsTrue, true};
+ghost use Rattle.droid_desk_tree.specs.Walks.{Walks, WalksOn, WalksWhole, top};
 
 use crate::asking::make_profile;
 use crate::exchange::Exchange;
@@ -56,6 +56,38 @@ pub fn walk<T: Tree, X: Exchange, W: Watcher>(
     ensures whole { IfOk result (λ walked. IsTrue walked.whole →
         WalksWhole T.tells X.asks options walked.profile tree.old tree.new exchange.old exchange.new) }
 {
+    let walked = walk_by(alloc, tree, exchange, watcher, options, false)?;
+    Ok(walked)
+}
+
+/// The same, going on where a walk before it ended: of a file that was just added it is asked how far it is, where who
+/// answers wants that question, and the pieces below the first missing one are neither read nor sent.
+pub fn walk_on<T: Tree, X: Exchange, W: Watcher>(
+    alloc: Global,
+    tree: &mut T,
+    exchange: &mut X,
+    watcher: &mut W,
+    options: Options,
+) -> Result<Walked, WalkFault>
+    ensures { IfOk result (λ walked.
+        WalksOn T.tells X.asks W.hears true options walked.profile walked.whole tree.old tree.new exchange.old exchange.new watcher.old watcher.new) }
+{
+    let walked = walk_by(alloc, tree, exchange, watcher, options, true)?;
+    Ok(walked)
+}
+
+/// Walks over the tree, going on where a walk before it ended, or not.
+fn walk_by<T: Tree, X: Exchange, W: Watcher>(
+    alloc: Global,
+    tree: &mut T,
+    exchange: &mut X,
+    watcher: &mut W,
+    options: Options,
+    goes_on: bool,
+) -> Result<Walked, WalkFault>
+    ensures { IfOk result (λ walked.
+        WalksOn T.tells X.asks W.hears goes_on options walked.profile walked.whole tree.old tree.new exchange.old exchange.new watcher.old watcher.new) }
+{
     let profile = make_profile(
         alloc,
         exchange,
@@ -73,6 +105,7 @@ pub fn walk<T: Tree, X: Exchange, W: Watcher>(
             profile,
             folder: place.number,
             piece_size: options.piece_size,
+            goes_on,
         };
         let taken = take_folder(alloc, tree, exchange, watcher, into, &place, &mut pending)?;
         whole = both(whole, taken);

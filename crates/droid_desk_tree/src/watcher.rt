@@ -1,6 +1,6 @@
 //! What is told while a tree is walked.
 
-ghost use Rattle.droid_desk_tree.specs.Heard.{Heard, Left, TookBytes, TookFolder, TookFile};
+ghost use Rattle.droid_desk_tree.specs.Heard.{Heard, Left, Held, TookBytes, TookFolder, TookFile};
 
 use crate::left_out::LeftOut;
 use droid_frame::Reply;
@@ -14,6 +14,10 @@ pub trait Watcher {
     /// This was left out; the path may be no text.
     fn left_out(&mut self, path: &[u8], why: LeftOut)
         ensures { hears self.old (Left path.now why) self.new };
+
+    /// The first so many bytes of the file at this path need not be read: they had been taken before.
+    fn held(&mut self, path: &str, count: u64)
+        ensures { hears self.old (Held path.now count) self.new };
 
     /// So many bytes more of the file at this path were taken.
     fn took_bytes(&mut self, path: &str, count: u32)

@@ -21,6 +21,8 @@ pub struct Noting {
     pub nodes: u32,
     pub limit: u32,
     pub quiet: bool,
+    /// The first piece that it says to be missing, where it wants to be asked.
+    pub missing: Option<u32>,
 }
 
 impl Noting {
@@ -31,6 +33,7 @@ impl Noting {
             nodes: 0,
             limit: 100_000,
             quiet: false,
+            missing: None,
         }
     }
 }
@@ -59,8 +62,16 @@ impl Exchange for Noting {
                 hash: HashValue::Md5([0; 16]),
                 puids: Texts::new(self.alloc),
             },
+            7 => Reply::Progress {
+                held: 1,
+                missing: self.missing.unwrap_or(0),
+            },
             _ => Reply::Abandoned,
         })
+    }
+
+    fn looks(&self) -> bool {
+        self.missing.is_some()
     }
 }
 
@@ -77,6 +88,7 @@ pub struct Watching {
     pub alloc: Global,
     pub left_out: Vec<u8>,
     pub count: u64,
+    pub held: u64,
     pub bytes: u64,
     pub folders: u64,
     pub files: u64,
@@ -88,6 +100,7 @@ impl Watching {
             alloc,
             left_out: Vec::new(alloc),
             count: 0,
+            held: 0,
             bytes: 0,
             folders: 0,
             files: 0,
@@ -107,6 +120,10 @@ impl Watcher for Watching {
         };
         let _ = self.left_out.extend_from_slice(path);
         let _ = self.left_out.extend_from_slice(word);
+    }
+
+    fn held(&mut self, _path: &str, count: u64) {
+        self.held = self.held.wrapping_add(count);
     }
 
     fn took_bytes(&mut self, _path: &str, count: u32) {
