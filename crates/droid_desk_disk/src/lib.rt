@@ -11,8 +11,10 @@ mod names;
 mod output;
 mod reading;
 mod system;
+mod there;
 
 pub use disk::{Disk, Found};
 pub use folder::Folder;
 pub use output::{Output, OutputFault};
 pub use system::System;
+pub use there::is_folder;

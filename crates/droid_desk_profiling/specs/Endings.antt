@@ -3,8 +3,7 @@ use Rattle.std.specs.Prelude.{ℕ, Bool, true, false, List, Option, Some, None, 
 use Rattle.droid_desk_disk.specs.declared.output.OutputFault.TheVariants as outputs
 use Rattle.droid_desk_profile.specs.declared.fault.ProfileFault.{ProfileFault}
 use Rattle.droid_desk_profile.specs.declared.fault.ProfileFault.TheVariants as faults
-use Rattle.droid_desk_tree.specs.declared.fault.WalkFault.{WalkFault}
-use Rattle.droid_desk_tree.specs.declared.fault.WalkFault.TheVariants as walks
+use Rattle.droid_desk_telling.specs.Faults.{walk_fault_text}
 use Rattle.droid_desk_profiling.specs.declared.ending.Profiled.{Profiled}
 use Rattle.droid_desk_profiling.specs.declared.ending.Profiled.TheVariants.{Whole, Partly, NoFolder, NoOutput, Fault}
 
@@ -23,17 +22,6 @@ is_written Partly = true
 is_written NoFolder = false
 is_written (NoOutput fault) = false
 is_written (Fault fault) = false
-
--- what a fault of a walk is called
-abbrev pub walk_fault_text : WalkFault → List ℕ
-walk_fault_text walks.Memory = codes "Memory"
-walk_fault_text walks.Exchange = codes "Exchange"
-walk_fault_text walks.Reply = codes "Reply"
-walk_fault_text walks.TooLong = codes "TooLong"
-walk_fault_text walks.Names = codes "Names"
-walk_fault_text walks.Folders = codes "Folders"
-walk_fault_text walks.Entries = codes "Entries: there are more than 100,000 folders and files"
-walk_fault_text walks.Bytes = codes "Bytes"
 
 -- what a fault of a profile is called
 abbrev pub profile_fault_text : ProfileFault → List ℕ

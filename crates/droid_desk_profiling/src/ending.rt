@@ -1,11 +1,11 @@
 //! How the profile of a folder ends.
 
 ghost use Rattle.std.specs.Prelude.{◌≡◌, option_map};
-ghost use Rattle.droid_desk_profiling.specs.Endings.{fault_text, is_written, profile_fault_text, status_of, walk_fault_text};
+ghost use Rattle.droid_desk_profiling.specs.Endings.{fault_text, is_written, profile_fault_text, status_of};
 
 use droid_desk_disk::OutputFault;
 use droid_desk_profile::ProfileFault;
-use droid_desk_tree::WalkFault;
+use droid_desk_telling::walk_fault_name;
 use std::io;
 
 /// How the profile of a folder ends.
@@ -74,21 +74,5 @@ fn name_of(fault: ProfileFault) -> &'static str
     match fault {
         ProfileFault::Walk(fault) | ProfileFault::Export(fault) => walk_fault_name(fault),
         ProfileFault::Write(_) => "Write",
-    }
-}
-
-/// What a fault of a walk is called.
-fn walk_fault_name(fault: WalkFault) -> &'static str
-    ensures { result.now ≡ walk_fault_text fault }
-{
-    match fault {
-        WalkFault::Memory => "Memory",
-        WalkFault::Exchange => "Exchange",
-        WalkFault::Reply => "Reply",
-        WalkFault::TooLong => "TooLong",
-        WalkFault::Names => "Names",
-        WalkFault::Folders => "Folders",
-        WalkFault::Entries => "Entries: there are more than 100,000 folders and files",
-        WalkFault::Bytes => "Bytes",
     }
 }

@@ -12,21 +12,17 @@ ghost use Rattle.droid_desk_tree.specs.declared.fault.WalkFault.TheVariants.{Ent
 
 use crate::audience::Audience;
 use crate::ending::Profiled;
-use droid_desk_disk::{Folder, Output, System};
-use droid_desk_profile::{ProfileFault, Service, profile};
+use droid_desk_disk::{Folder, Output, System, is_folder};
+use droid_desk_profile::{HashKind, Noted, ProfileFault, Service, SteadyWrite, profile};
 use droid_desk_telling::{Teller, Telling};
-use droid_desk_tree::{Options, Tree, WalkFault, Watcher, count};
-use droid_frame::{HashKind, Noted, SteadyWrite};
+use droid_desk_tree::{NODE_LIMIT, Options, Tree, WalkFault, Watcher, count};
 use std::alloc::Global;
-use std::fs::{self, File, Files};
+use std::fs::{File, Files};
 use std::io;
 use std::time::Clock;
 
 /// How many bytes of a file are held at a time.
 const PIECE_SIZE: u32 = 1_048_576;
-
-/// How many folders and files a profile has at most.
-const NODE_LIMIT: u64 = 100_000;
 
 /// What is to be profiled, and how.
 #[derive(Clone, Copy)]
@@ -57,14 +53,6 @@ where
     match wanted.output {
         Some(path) => profile_to_file(rt, service, wanted, path),
         None => profile_to(rt, service, wanted, &mut Noted::new(io::writer(rt))),
-    }
-}
-
-/// Whether there is such a folder.
-fn is_folder<R: Files>(rt: &R, path: &str) -> bool {
-    match fs::metadata(rt, path) {
-        Ok(metadata) => metadata.is_dir(),
-        Err(_) => false,
     }
 }
 

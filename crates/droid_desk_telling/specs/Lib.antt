@@ -1,4 +1,5 @@
 pub mod Cuts
+pub mod Faults
 pub mod Frequencies
 pub mod HowFar
 pub mod Lines
@@ -6,4 +7,5 @@ pub mod Paths
 pub mod Rhythms
 pub mod Tables
 pub mod Tallies
+pub mod Tellers
 pub mod Units

@@ -5,7 +5,7 @@ use Rattle.droid_frame.specs.types.method.Method.{Method}
 use Rattle.droid_frame.specs.types.method.Method.TheVariants.{Unidentified, Signature, Extension}
 use Rattle.droid_frame.specs.types.reply.Reply.{Reply}
 use Rattle.droid_frame.specs.types.reply.Reply.TheVariants as replies
-use Rattle.droid_desk_tree.specs.Heard.{Heard, Left, TookBytes, TookFolder, TookFile}
+use Rattle.droid_desk_tree.specs.Heard.{Heard, Left, Held, TookBytes, TookFolder, TookFile}
 use Rattle.droid_desk_telling.specs.Units.{saturated}
 use Rattle.droid_desk_telling.specs.declared.progress.Amount.{Amount}
 use Rattle.droid_desk_telling.specs.declared.tally.Tally.{Tally}
@@ -23,6 +23,10 @@ after_left_out tally = record tally { left_out = next tally.left_out }
 
 abbrev pub after_bytes : ℕ → Tally → Tally
 after_bytes n tally = record tally { bytes = saturated (tally.bytes + n) }
+
+-- so many bytes more need not be read
+abbrev pub after_held : ℕ → Tally → Tally
+after_held n tally = record tally { held = saturated (tally.held + n) }
 
 -- a file more was found by this method
 abbrev pub after_method : Method → Tally → Tally
@@ -42,13 +46,14 @@ after_found other tally = tally
 -- the watcher was told this
 abbrev pub after_heard : Heard → Tally → Tally
 after_heard (Left path why) tally = after_left_out tally
+after_heard (Held path count) tally = after_held count tally
 after_heard (TookBytes path count) tally = after_bytes count tally
 after_heard (TookFolder path) tally = after_taken tally
 after_heard (TookFile path found) tally = after_found found (after_taken tally)
 
--- how much is done
+-- how much is done: bytes that need not be read are
 abbrev pub done_in : Tally → Amount
-done_in tally = record { entries = saturated (tally.taken + tally.left_out); bytes = tally.bytes }
+done_in tally = record { entries = saturated (tally.taken + tally.left_out); bytes = saturated (tally.bytes + tally.held) }
 
 -- how many files have this format
 abbrev pub count_in : {Y : Type 0} → BTreeMap (String Y) ℕ → List ℕ → ℕ

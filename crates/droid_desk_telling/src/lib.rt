@@ -6,6 +6,7 @@
 
 mod columns;
 mod escaped;
+mod faults;
 mod frequent;
 pub mod laws;
 mod line;
@@ -18,5 +19,7 @@ mod teller;
 mod telling;
 mod totals;
 
+pub use faults::walk_fault_name;
+pub use shown::Shown;
 pub use teller::Teller;
 pub use telling::Telling;

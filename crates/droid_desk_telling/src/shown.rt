@@ -12,7 +12,7 @@ use std::fmt::{self, Display, Formatter, Write};
 
 /// A path as it is told: as it is where it is text without control characters, and else with escapes.
 #[derive(Clone, Copy)]
-pub(crate) struct Shown<'a>(pub &'a [u8]);
+pub struct Shown<'a>(pub &'a [u8]);
 
 impl Display for Shown<'_> {
     ghost output = { λ shown. Some (shown_text shown.0.now) };

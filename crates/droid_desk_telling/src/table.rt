@@ -2,7 +2,7 @@
 
 ghost use Rattle.std.specs.Prelude.{Some, option_map, flat_map};
 ghost use Rattle.std.specs.Fmt.{WritesOnOk};
-ghost use Rattle.droid_desk_telling.specs.Tables.{count_line, format_line, formats_text, seconds_text, table_text};
+ghost use Rattle.droid_desk_telling.specs.Tables.{count_line, format_line, formats_text, held_text, seconds_text, table_text};
 
 use crate::frequent::Frequent;
 use crate::tally::Tally;
@@ -62,13 +62,14 @@ impl Display for Table<'_> {
             count: tally.mismatches,
         };
         let formats = Formats(formats);
+        let held = Held(tally.held);
         let bytes = CountLine {
             name: "bytes read",
             count: tally.bytes,
         };
         write!(
             f,
-            "{taken}{by_signature}{by_extension}{unidentified}{mismatches}{formats}{bytes}"
+            "{taken}{by_signature}{by_extension}{unidentified}{mismatches}{formats}{held}{bytes}"
         )
     }
 }
@@ -108,6 +109,25 @@ impl Display for Frequent {
             count: self.count,
         };
         write!(f, "format {line}")
+    }
+}
+
+/// How many bytes need not be read, where there are such.
+#[derive(Clone, Copy)]
+struct Held(u64);
+
+impl Display for Held {
+    ghost output = { λ held. Some (held_text held.0) };
+
+    fn fmt<W: Write>(&self, f: &mut Formatter<W>) -> fmt::Result {
+        if self.0 == 0 {
+            return Ok(());
+        }
+        let line = CountLine {
+            name: "bytes that were there",
+            count: self.0,
+        };
+        write!(f, "{line}")
     }
 }
 

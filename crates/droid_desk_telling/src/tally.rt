@@ -1,7 +1,7 @@
 //! The numbers of what a walk did so far.
 
 ghost use Rattle.std.specs.Prelude.{◌≡◌};
-ghost use Rattle.droid_desk_telling.specs.Tallies.{after_bytes, after_found, after_left_out, after_method, after_mismatch, after_taken, done_in};
+ghost use Rattle.droid_desk_telling.specs.Tallies.{after_bytes, after_found, after_held, after_left_out, after_method, after_mismatch, after_taken, done_in};
 
 use crate::progress::Amount;
 use droid_frame::{Method, Reply};
@@ -15,6 +15,8 @@ pub(crate) struct Tally {
     pub left_out: u64,
     /// How many bytes of files were read.
     pub bytes: u64,
+    /// How many need not be read, since they had been taken before.
+    pub held: u64,
     /// How many files were found by their signatures.
     pub by_signature: u64,
     /// How many were found by their extensions.
@@ -28,12 +30,13 @@ pub(crate) struct Tally {
 impl Tally {
     /// Nothing so far.
     pub fn none() -> Tally
-        ensures { result ≡ record { taken = 0; left_out = 0; bytes = 0; by_signature = 0; by_extension = 0; unidentified = 0; mismatches = 0 } }
+        ensures { result ≡ record { taken = 0; left_out = 0; bytes = 0; held = 0; by_signature = 0; by_extension = 0; unidentified = 0; mismatches = 0 } }
     {
         Tally {
             taken: 0,
             left_out: 0,
             bytes: 0,
+            held: 0,
             by_signature: 0,
             by_extension: 0,
             unidentified: 0,
@@ -47,7 +50,7 @@ impl Tally {
     {
         Amount {
             entries: self.taken.saturating_add(self.left_out),
-            bytes: self.bytes,
+            bytes: self.bytes.saturating_add(self.held),
         }
     }
 
@@ -70,6 +73,13 @@ impl Tally {
         ensures { self.new ≡ after_bytes count self.old }
     {
         self.bytes = self.bytes.saturating_add(u64::from(count));
+    }
+
+    /// Counts bytes that need not be read.
+    pub fn count_held(&mut self, count: u64)
+        ensures { self.new ≡ after_held count self.old }
+    {
+        self.held = self.held.saturating_add(count);
     }
 
     /// Counts what was found in a file, by the reply that finished it.

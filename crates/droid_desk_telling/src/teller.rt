@@ -3,7 +3,7 @@
 ghost use Rattle.std.specs.Prelude.{◌≡◌, ◌⊎◌, true};
 ghost use Rattle.droid_desk_telling.specs.HowFar.{amount_of};
 ghost use Rattle.droid_desk_telling.specs.Rhythms.{is_due, IsTold};
-ghost use Rattle.droid_desk_telling.specs.Tallies.{Hears};
+ghost use Rattle.droid_desk_telling.specs.Tellers.{TellerHears};
 
 use crate::frequent::most_frequent;
 use crate::line::{Framed, columns_for, line_of};
@@ -91,7 +91,7 @@ impl<'a, R: Eprint + Clock> Teller<'a, R> {
     }
 
     /// Takes the line of progress from a terminal.
-    fn clear(&self) {
+    pub fn clear(&self) {
         if self.telling == Telling::Terminal {
             let _ = eprint!(self.runtime; "\r\x1b[K");
         }
@@ -131,12 +131,17 @@ impl<'a, R: Eprint + Clock> Teller<'a, R> {
 }
 
 impl<R: Eprint + Clock> Watcher for Teller<'_, R> {
-    ghost hears = { λ old heard new. Hears old.totals heard new.totals × IsTold old.telling old.told new.telling new.told };
+    ghost hears = { λ old heard new. TellerHears old heard new };
 
     fn left_out(&mut self, path: &[u8], why: LeftOut) {
         self.totals.tally.count_left_out();
         self.clear();
         let _ = eprint!(self.runtime; "{}", NotTaken { path, why });
+    }
+
+    fn held(&mut self, path: &str, count: u64) {
+        self.totals.tally.count_held(count);
+        self.tell_progress(path);
     }
 
     fn took_bytes(&mut self, path: &str, count: u32) {
