@@ -1,0 +1,14 @@
+use Rattle.std.proofs.Common.{subst}
+use Rattle.droid_frame.specs.types.frame.Frame.{Frame}
+use Rattle.droid_frame.specs.types.reply.Reply.{Reply}
+use Rattle.droid_frame.specs.types.reply.Reply.TheVariants as replies
+use Rattle.droid_desk_submit.specs.Steps.{Waits}
+use Rattle.droid_desk_submit.proofs.exporting.ask_part.Goals as goal
+
+pub returns : goal.returns
+returns g c =
+    let part = c.in_ok-part.part in
+    let waiting = c.args.window.now.waiting.items in
+    let after = c.ask.new.self.waiting.items in
+    subst (λ (frame : Frame). Waits g.C.Connection.does frame (replies.Part part.as_of part.total part.bytes) waiting after c.args.window.now.connection c.ask.new.self.connection) c.in_ok-frame.ensures
+    (subst (λ (reply : Reply). Waits g.C.Connection.does c.in_ok-frame.frame reply waiting after c.args.window.now.connection c.ask.new.self.connection) c.in_ok-part.ensures c.in_ok-reply.ensures)

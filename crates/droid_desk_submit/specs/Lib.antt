@@ -1,0 +1,9 @@
+pub mod Events
+pub mod Exports
+pub mod Faults
+pub mod Numbering
+pub mod Asks
+pub mod Steps
+pub mod Streams
+pub mod Submits
+pub mod Runs
