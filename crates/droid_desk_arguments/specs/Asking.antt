@@ -6,7 +6,8 @@ use Rattle.droid_frame.specs.types.hash_kind.HashKind.{HashKind}
 use Rattle.droid_frame.specs.types.hash_kind.HashKind.TheVariants as hashes
 use Rattle.droid_desk_arguments.specs.Commands.{program}
 use Rattle.droid_desk_arguments.specs.declared.arguments.Asked.{Asked}
-use Rattle.droid_desk_arguments.specs.declared.arguments.Asked.TheVariants.{Profile, Script, Run, Serve, Send}
+use Rattle.droid_desk_arguments.specs.declared.arguments.Asked.TheVariants.{Profile, Submit, Script, Run, Serve, Send}
+use Rattle.droid_desk_arguments.specs.declared.submit.Place.{Place}
 
 -- the number that a text's digits write; a plus may stand first
 abbrev pub number_of : Text → ℕ
@@ -33,6 +34,12 @@ IsHash (Some text) hashes.Nothing = text ≡ codes "none"
 IsHash (Some text) hashes.Md5 = text ≡ codes "md5"
 IsHash (Some text) hashes.Sha256 = text ≡ codes "sha256"
 
+-- where a submission goes
+pub record IsSentBy (rows : List Row) (place : Place) : Type 0 where
+  pub port : option_map number_of (one_of (codes "port") rows) ≡ Some place.port
+  pub client : option_map number_of (one_of (codes "client") rows) ≡ Some place.client
+  pub first : IsNumberOr 64 1 (one_of (codes "first") rows) place.first
+
 -- what the options of the command with this name ask for
 abbrev pub IsAskedBy : Text → List Row → Asked → Type 0
 IsAskedBy name rows (Profile folder registry limit match_all hash output quiet) =
@@ -42,6 +49,15 @@ IsAskedBy name rows (Profile folder registry limit match_all hash output quiet) 
     × IsFlag (one_of (codes "match-all") rows) match_all
     × IsHash (first_of (codes "hash") rows) hash
     × (option_map (λ path. path.now) output ≡ first_of (codes "output") rows)
+    × IsFlag (one_of (codes "quiet") rows) quiet
+IsAskedBy name rows (Submit folder place piece_size limit match_all hash export quiet) =
+    (name ≡ codes "submit") × (Some folder.now ≡ first_of (codes "folder") rows)
+    × IsSentBy rows place
+    × IsNumberOr 32 262144 (one_of (codes "piece-size") rows) piece_size
+    × IsNumberOr 32 65536 (one_of (codes "limit") rows) limit
+    × IsFlag (one_of (codes "match-all") rows) match_all
+    × IsHash (first_of (codes "hash") rows) hash
+    × (option_map (λ path. path.now) export ≡ first_of (codes "export") rows)
     × IsFlag (one_of (codes "quiet") rows) quiet
 IsAskedBy name rows (Script registry) =
     (name ≡ codes "script") × (option_map (λ path. path.now) registry ≡ first_of (codes "registry") rows)

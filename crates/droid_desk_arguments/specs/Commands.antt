@@ -51,6 +51,15 @@ hash_option = option_named (codes "hash")
 abbrev pub output_option : Rule
 output_option = option_named (codes "output")
 
+abbrev pub early_first_option : Rule
+early_first_option = number_named (codes "first") 0 2305843009213693951
+
+abbrev pub piece_size_option : Rule
+piece_size_option = number_named (codes "piece-size") 1 4194304
+
+abbrev pub export_option : Rule
+export_option = option_named (codes "export")
+
 -- what is profiled, and by what
 abbrev pub profile_input : App
 profile_input = with_rule (with_rule (with_rule (new_app (codes "profile")) folder_word) registry_option) limit_option
@@ -58,6 +67,17 @@ profile_input = with_rule (with_rule (with_rule (new_app (codes "profile")) fold
 abbrev pub profile_command : App
 profile_command =
     with_rule (with_rule (with_rule (with_rule profile_input (flag_named (codes "match-all"))) hash_option) output_option) (flag_named (codes "quiet"))
+
+-- what is submitted, and where it goes
+abbrev pub submit_input : App
+submit_input = with_rule (with_rule (with_rule (new_app (codes "submit")) folder_word) port_option) client_option
+
+abbrev pub submit_numbers : App
+submit_numbers = with_rule (with_rule (with_rule submit_input early_first_option) piece_size_option) limit_option
+
+abbrev pub submit_command : App
+submit_command =
+    with_rule (with_rule (with_rule (with_rule submit_numbers (flag_named (codes "match-all"))) hash_option) export_option) (flag_named (codes "quiet"))
 
 abbrev pub script_command : App
 script_command = with_rule (new_app (codes "script")) registry_option
@@ -76,14 +96,16 @@ send_command = with_rule (with_rule (with_rule (new_app (codes "send")) port_opt
 abbrev pub wanting_command : App → App
 wanting_command a = record a { top = record a.top { subcommand_required = true } }
 
--- the program with its five commands
+-- the program with its six commands
 abbrev pub program : App
 program =
     with_subcommand
     (with_subcommand
     (with_subcommand
     (with_subcommand
+    (with_subcommand
     (with_subcommand (wanting_command (new_app (codes "droid_desk"))) profile_command.top)
+    submit_command.top)
     script_command.top)
     run_command.top)
     serve_command.top)

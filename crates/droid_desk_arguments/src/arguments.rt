@@ -13,6 +13,7 @@ use crate::stream_help::{
     CLIENT_HELP, CONNECTIONS_HELP, FIRST_HELP, RUN_ABOUT, RUN_HELP, SEND_ABOUT, SEND_HELP,
     SEND_PORT_HELP, SERVE_ABOUT, SERVE_HELP, SERVE_PORT_HELP,
 };
+use crate::submit::{Place, SUBMIT, submit, submit_asked};
 use clap::builder::ValueParser;
 use clap::error::ErrorKind;
 use clap::{Arg, ArgAction, ArgMatches, Command, Error};
@@ -30,13 +31,13 @@ const SEND: &str = "send";
 
 pub(crate) const REGISTRY: &str = "registry";
 
-const PORT: &str = "port";
+pub(crate) const PORT: &str = "port";
 
 const CONNECTIONS: &str = "connections";
 
-const CLIENT: &str = "client";
+pub(crate) const CLIENT: &str = "client";
 
-const FIRST: &str = "first";
+pub(crate) const FIRST: &str = "first";
 
 /// How many connections are served where the command line names no number.
 const DEFAULT_CONNECTIONS: u32 = 1;
@@ -60,6 +61,17 @@ pub enum Asked<'a> {
         match_all: bool,
         hash: HashKind,
         output: Option<&'a str>,
+        quiet: bool,
+    },
+    /// A folder of this machine is submitted to a service, and its CSV written where a file is named for it.
+    Submit {
+        folder: &'a str,
+        place: Place,
+        piece_size: u32,
+        limit: u32,
+        match_all: bool,
+        hash: HashKind,
+        export: Option<&'a str>,
         quiet: bool,
     },
     /// A script is run.
@@ -123,6 +135,9 @@ fn asked_by<'a>(matches: &ArgMatches<'a>) -> Option<Asked<'a>>
     if let Some(profile) = matches.subcommand_matches(PROFILE) {
         return profile_asked(profile);
     }
+    if let Some(submit) = matches.subcommand_matches(SUBMIT) {
+        return submit_asked(submit);
+    }
     if let Some(script) = matches.subcommand_matches(SCRIPT) {
         return Some(script_asked(script));
     }
@@ -182,6 +197,7 @@ fn command<'a>(alloc: Global) -> Result<Command<'a>, AllocError>
 {
     top(alloc)
         .subcommand(profile(alloc)?)?
+        .subcommand(submit(alloc)?)?
         .subcommand(script(alloc)?)?
         .subcommand(run(alloc)?)?
         .subcommand(serve(alloc)?)?
@@ -238,7 +254,7 @@ fn send<'a>(alloc: Global) -> Result<Command<'a>, AllocError>
         .about(SEND_ABOUT)
         .after_help(SEND_HELP)
         .arg(port(alloc, SEND_PORT_HELP))?
-        .arg(client(alloc))?
+        .arg(client(alloc, CLIENT_HELP))?
         .arg(first(alloc))
 }
 
@@ -253,7 +269,7 @@ pub(crate) fn registry<'a>(alloc: Global, help: &'a str) -> Arg<'a>
         .action(ArgAction::Set)
 }
 
-fn port<'a>(alloc: Global, help: &'a str) -> Arg<'a>
+pub(crate) fn port<'a>(alloc: Global, help: &'a str) -> Arg<'a>
     ensures rule { rule_of result ≡ port_option }
     ensures local { result.global ≡ false }
 {
@@ -267,11 +283,11 @@ fn connections<'a>(alloc: Global) -> Arg<'a>
     number(alloc, CONNECTIONS, "K", CONNECTIONS_HELP, 1, 1_000)
 }
 
-fn client<'a>(alloc: Global) -> Arg<'a>
+pub(crate) fn client<'a>(alloc: Global, help: &'a str) -> Arg<'a>
     ensures rule { rule_of result ≡ client_option }
     ensures local { result.global ≡ false }
 {
-    number(alloc, CLIENT, "C", CLIENT_HELP, 0, 4_294_967_295).required(true)
+    number(alloc, CLIENT, "C", help, 0, 4_294_967_295).required(true)
 }
 
 fn first<'a>(alloc: Global) -> Arg<'a>

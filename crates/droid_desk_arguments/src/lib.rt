@@ -7,6 +7,9 @@ mod no_command;
 mod profile;
 mod profile_help;
 mod stream_help;
+mod submit;
+mod submit_help;
 
 pub use arguments::{Asked, what_is_asked};
 pub use no_command::{NoCommand, unread_words};
+pub use submit::Place;

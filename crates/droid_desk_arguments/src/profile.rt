@@ -18,17 +18,17 @@ use std::alloc::{AllocError, Global};
 // The names of the command, of its word and of its options.
 pub(crate) const PROFILE: &str = "profile";
 
-const FOLDER: &str = "folder";
+pub(crate) const FOLDER: &str = "folder";
 
-const LIMIT: &str = "limit";
+pub(crate) const LIMIT: &str = "limit";
 
-const MATCH_ALL: &str = "match-all";
+pub(crate) const MATCH_ALL: &str = "match-all";
 
-const HASH: &str = "hash";
+pub(crate) const HASH: &str = "hash";
 
 const OUTPUT: &str = "output";
 
-const QUIET: &str = "quiet";
+pub(crate) const QUIET: &str = "quiet";
 
 /// How many bytes at each end of a file are looked at where the command line names no number.
 const DEFAULT_LIMIT: u32 = 65_536;
@@ -56,7 +56,7 @@ pub(crate) fn profile_asked<'a>(profile: &ArgMatches<'a>) -> Option<Asked<'a>>
 }
 
 /// The hash that this word names: MD5 without one. Of another word than `md5`, `sha256` and `none` there is none.
-fn hash_of(word: Option<&str>) -> Option<HashKind>
+pub(crate) fn hash_of(word: Option<&str>) -> Option<HashKind>
     ensures { IfSome result (λ hash. IsHash (option_map (λ text. text.now) word.entry) hash) }
 {
     let Some(word) = word else {
@@ -75,7 +75,7 @@ fn hash_of(word: Option<&str>) -> Option<HashKind>
 }
 
 /// Whether a flag is set.
-fn flag_of(matches: &ArgMatches<'_>, name: &str) -> bool
+pub(crate) fn flag_of(matches: &ArgMatches<'_>, name: &str) -> bool
     ensures { IsFlag (one_of name.now (rows_of (found_of matches.now))) result }
 {
     matches.get_flag(name)
@@ -100,23 +100,23 @@ fn input<'a>(alloc: Global) -> Result<Command<'a>, AllocError>
     Command::new(alloc, PROFILE)
         .about(PROFILE_ABOUT)
         .after_help(PROFILE_HELP)
-        .arg(folder(alloc))?
+        .arg(folder(alloc, FOLDER_HELP))?
         .arg(registry(alloc, OWN_REGISTRY_HELP))?
         .arg(limit(alloc))
 }
 
-fn folder<'a>(alloc: Global) -> Arg<'a>
+pub(crate) fn folder<'a>(alloc: Global, help: &'a str) -> Arg<'a>
     ensures rule { rule_of result ≡ folder_word }
     ensures local { result.global ≡ false }
 {
     Arg::new(alloc, FOLDER)
         .value_name("DIR")
-        .help(FOLDER_HELP)
+        .help(help)
         .action(ArgAction::Set)
         .required(true)
 }
 
-fn limit<'a>(alloc: Global) -> Arg<'a>
+pub(crate) fn limit<'a>(alloc: Global) -> Arg<'a>
     ensures rule { rule_of result ≡ limit_option }
     ensures local { result.global ≡ false }
 {
@@ -124,7 +124,7 @@ fn limit<'a>(alloc: Global) -> Arg<'a>
 }
 
 /// An option with one value.
-fn named<'a>(alloc: Global, name: &'a str, value: &'a str, help: &'a str) -> Arg<'a>
+pub(crate) fn named<'a>(alloc: Global, name: &'a str, value: &'a str, help: &'a str) -> Arg<'a>
     ensures rule { rule_of result ≡ option_named name.entry.now }
     ensures local { result.global ≡ false }
 {
@@ -136,7 +136,7 @@ fn named<'a>(alloc: Global, name: &'a str, value: &'a str, help: &'a str) -> Arg
 }
 
 /// An option without a value.
-fn flag<'a>(alloc: Global, name: &'a str, help: &'a str) -> Arg<'a>
+pub(crate) fn flag<'a>(alloc: Global, name: &'a str, help: &'a str) -> Arg<'a>
     ensures rule { rule_of result ≡ flag_named name.entry.now }
     ensures local { result.global ≡ false }
 {

@@ -15,6 +15,7 @@ use droid_core::Service;
 use droid_desk_arguments::{Asked, NoCommand, unread_words, what_is_asked};
 use droid_desk_profiling::{Profiled, Telling, Wanted};
 use droid_desk_sender::SendFault;
+use droid_desk_submitting::{Submitted, ToSubmit, submit_folder};
 use droid_frame::{FrameFault, NUMBER_LIMIT, Noted};
 use droid_pronom::RegistryFault;
 use droid_wire::ServeFault;
@@ -84,6 +85,30 @@ where
             };
             end_profile(rt, profile_with(rt, registry, wanted))
         }
+        Asked::Submit {
+            folder,
+            place,
+            piece_size,
+            limit,
+            match_all,
+            hash,
+            export,
+            quiet,
+        } => {
+            let wanted = ToSubmit {
+                folder,
+                port: place.port,
+                client: place.client,
+                first: place.first,
+                piece_size,
+                limit,
+                match_all,
+                hash,
+                export,
+                telling: telling_for(quiet, on_terminal),
+            };
+            end_submission(rt, submit_folder(rt, wanted))
+        }
         Asked::Script { registry } => end(rt, &script_with(rt, registry)),
         Asked::Run { registry } => end(rt, &answer_with(rt, registry, None)),
         Asked::Serve {
@@ -99,7 +124,7 @@ where
     }
 }
 
-/// How much is told while a folder is profiled.
+/// How much is told while a folder is profiled or submitted.
 fn telling_for(quiet: bool, on_terminal: bool) -> Telling {
     match (quiet, on_terminal) {
         (true, _) => Telling::Quiet,
@@ -117,6 +142,12 @@ fn end_profile<R: Eprint>(rt: &R, ended: Result<Profiled, Ending>) -> ExitCode {
         }
         Err(ending) => end(rt, &ending),
     }
+}
+
+/// Tells how the submission of a folder ended.
+fn end_submission<R: Eprint>(rt: &R, submitted: Submitted) -> ExitCode {
+    let _ = submitted.print(rt);
+    ExitCode::from(submitted.status())
 }
 
 /// Runs a script from standard input to standard output, over the registry of the file at this path, or
