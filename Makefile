@@ -59,6 +59,7 @@ bench: build
 	@python3 tests/bench/compare_versions.py $(PROGRAM) $(BENCH)
 	@python3 tests/bench/compare_profile.py $(PROGRAM)
 	@python3 tests/bench/memory_of_run.py $(PROGRAM)
+	@python3 tests/bench/compare_submit.py $(PROGRAM)
 	@DROID_DESK=$(CURDIR)/$(PROGRAM) PYTHONPATH=tests/program/wire python3 tests/bench/attacks.py
 
 need_rt:

@@ -8,6 +8,7 @@
 #   long_bodies.py        what a header asks for whose length is past the limit
 #   costs_of_requests.py  what a request of each kind makes it ask for, by the table costs_of_requests
 #   kept_for_ever.py      what it holds after long streams
+#   submissions_refused.py   its `submit`, with each allocation refused in turn
 set -u
 top=$(cd "$(dirname "$0")/../.." && pwd)
 work=$(mktemp -d) || exit 1
@@ -69,8 +70,8 @@ fi
 sh "$top/tests/memory/program.sh" "$work/refuse.so" || failed=$((failed + 1))
 # what these tests of the program share with those of its commands: tests/program/wire/harness.py
 export DROID_DESK="$top/crates/droid_desk/out/droid_desk" REFUSING="$work/refuse.so"
-export PYTHONPATH="$top/tests/memory:$top/tests/program/wire"
-for tests in refused_once limited long_bodies costs_of_requests kept_for_ever; do
+export PYTHONPATH="$top/tests/memory:$top/tests/program/wire:$top/tests/program/folders:$top/tests/program/submitting"
+for tests in refused_once limited long_bodies costs_of_requests kept_for_ever submissions_refused; do
     if python3 -S -B -m unittest -q "$tests" 2>"$work/said"; then
         passed=$((passed + 1))
         echo "$tests: passed"

@@ -10,6 +10,7 @@
 #   sizes.sh      and on scripts that go past usual sizes
 #   wire/run.sh   frames on standard streams and on connections, in Python
 #   folders/run.sh   profiles of folders of this machine, in Python
+#   submitting/run.sh   folders submitted to a port, through connections that are cut, in Python
 set -u
 top=$(cd "$(dirname "$0")/../.." && pwd)
 tests=$top/tests/program
@@ -48,5 +49,6 @@ part sh "$tests/random.sh" "$program"
 part sh "$tests/sizes.sh" "$program"
 part sh "$tests/wire/run.sh" "$program"
 part sh "$tests/folders/run.sh" "$program"
+part sh "$tests/submitting/run.sh" "$program"
 echo "$passed passed, $failed failed"
 [ "$failed" -eq 0 ]
