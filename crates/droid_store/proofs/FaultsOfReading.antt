@@ -1,7 +1,5 @@
 -- A row that was found is one that can be read, so it isn't read for want of memory alone.
-use Rattle.std.proofs.Common.{◌≡◌, ◌<◌, ℕ, zero, suc, List, [], ◌∷◌, length, map, get_or, Option, Some, None, option_map, Result, Ok, Err, IfErr, IsErrAnd, refl, ap, subst, ◌∙◌, arith}
-use Rattle.std.proofs.lemmas.List.{length-map}
-use Rattle.std.specs.List.{AllByRecursion}
+use Rattle.std.proofs.Common.{◌≡◌, Option, Some, None, option_map, Result, Ok, Err, IfErr, IsErrAnd, refl, ◌∙◌, arith}
 use Rattle.sqlite.specs.Order.{Row}
 use Rattle.droid_store.specs.declared.fault.StoreFault.{StoreFault}
 use Rattle.droid_store.specs.declared.fault.StoreFault.TheVariants.{Memory}
@@ -14,9 +12,6 @@ use Rattle.droid_store.specs.declared.rows.NodeState.{NodeState}
 use Rattle.droid_store.specs.declared.rows.NodeState.TheVariants.{Folder, Unfinished, Finished}
 use Rattle.droid_frame.specs.Fields.{method_number}
 use Rattle.droid_store.specs.Encoded.{number, state_number}
-use Rattle.droid_store.specs.Ranges.{NodeFits}
-use Rattle.droid_store.specs.Rows.{Node}
-use Rattle.droid_store.specs.Shown.{shown_node}
 use Rattle.droid_store.proofs.ToldFaults.{IsShort}
 
 -- a fault that `?` hands on
@@ -29,18 +24,6 @@ pub found_fits : {X : Type 0} (shown : X → Row) (Fits : X → Type 0) (found :
     → ((x : X) → row ≡ shown x → Fits x → P) → P
 found_fits shown Fits None row P is fits told = absurd cc
 found_fits shown Fits (Some x) row P is fits told = let at : row ≡ shown x = cc in told x at (fits x refl)
-
-row_fits : (ns : List Node) (i : ℕ) (row : Row) (P : Type 0) → AllByRecursion NodeFits ns → i < length ns → row ≡ get_or (map shown_node ns) i row → ((n : Node) → row ≡ shown_node n → NodeFits n → P) → P
-row_fits [] i row P all low is told = absurd (omega (arith, low))
-row_fits (n ∷ ns) zero row P all low is told = told n is all.0
-row_fits (n ∷ ns) (suc i) row P all low is told = row_fits ns i row P all.1 (omega (arith, low)) is told
-
--- one of the rows that a listing found
-pub listed_fits : (ns : List Node) (i : ℕ) (rows : List Row) (row : Row) (P : Type 0) → AllByRecursion NodeFits ns → rows ≡ map shown_node ns → i < length rows → row ≡ get_or rows i row
-    → ((n : Node) → row ≡ shown_node n → NodeFits n → P) → P
-listed_fits ns i rows row P all are low at told =
-    let long : length rows ≡ length ns = ap length are ∙ length-map ns shown_node in
-    row_fits ns i row P all (omega (arith, low, long)) (subst (λ rs. row ≡ get_or rs i row) are at) told
 
 -- ---- numbers in place of names
 

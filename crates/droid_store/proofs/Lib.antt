@@ -11,8 +11,8 @@ pub mod FindsNodes
 pub mod FindsProfiles
 pub mod FindsReplies
 pub mod FoundRows
+pub mod GivenRows
 pub mod Joined
-pub mod Listed
 pub mod ListsRecords
 pub mod Makes
 pub mod Meanings
@@ -20,7 +20,6 @@ pub mod NodeEffects
 pub mod NodeOrder
 pub mod Opened
 pub mod ReadableAfter
-pub mod RecordsSoFar
 pub mod Started
 pub mod ToldFaults
 pub mod Unique

@@ -9,6 +9,7 @@ mod commits;
 mod counting;
 mod fault;
 mod hashes;
+mod listing;
 mod look_ups;
 mod making;
 mod read_rows;

@@ -1,17 +1,17 @@
 //! Look-ups of one row by its key. They change nothing, also where they fail.
 
-ghost use Rattle.std.specs.Prelude.{◌≡◌, ◌≢◌, ◌<◌, ◌^◌, None, IfOk, IfErr, MatchOption, Ok, Err, map, filter, option_map};
+ghost use Rattle.std.specs.Prelude.{◌≡◌, ◌≢◌, ◌<◌, ◌^◌, None, IfOk, IfErr, MatchOption, Ok, Err, option_map};
 ghost use Rattle.sqlite.specs.Held.{state};
 ghost use Rattle.droid_store_trees.specs.Over.{over_trees};
 ghost use Rattle.sqlite.specs.declared.error.Error.TheVariants.{QueryReturnedNoRows};
 ghost use Rattle.droid_store_sql.specs.Transactions.{Settled};
 ghost use Rattle.droid_store_sql.specs.Wants.{IsWant};
 ghost use Rattle.droid_store.specs.Kept.{kept, Holds, AreApart};
-ghost use Rattle.droid_store.specs.Rows.{profile_at, node_at, child_at, reply_for, is_listed};
+ghost use Rattle.droid_store.specs.Rows.{profile_at, node_at, child_at, reply_for};
 ghost use Rattle.droid_store.specs.Shown.{shown_profile, shown_node, shown_id, shown_reply};
 
 use crate::changes::signed;
-use crate::statements::{FIND_CHILD, FIND_NODE, FIND_PROFILE, FIND_REPLY, LIST_RECORDS};
+use crate::statements::{FIND_CHILD, FIND_NODE, FIND_PROFILE, FIND_REPLY};
 use droid_store_trees::TreeStore;
 use sqlite::{Connection, Error, Row, params};
 
@@ -93,17 +93,4 @@ pub(crate) fn find_reply(
 {
     let answer = conn.query_row(FIND_REPLY, params![client, signed(number)]);
     or_none(answer)
-}
-
-/// The folders and finished files of the profile, by number.
-pub(crate) fn list_nodes(conn: &mut Connection<TreeStore>, profile: u32) -> Result<Vec<Row>, Error>
-    requires holds { Settled (state over_trees conn.old) (Holds (kept conn.old)) }
-    requires apart { AreApart (kept conn.old) }
-    ensures same { kept conn.new ≡ kept conn.old }
-    ensures holds { Settled (state over_trees conn.new) (Holds (kept conn.new)) }
-    ensures found { IfOk result (λ rows. rows.items ≡ map shown_node (filter (is_listed profile) (kept conn.old).nodes)) }
-    ensures limit { conn.new.step_limit ≡ conn.old.step_limit }
-    ensures want { conn.old.step_limit ≡ None → IfErr result IsWant }
-{
-    conn.query_all(LIST_RECORDS, params![profile])
 }

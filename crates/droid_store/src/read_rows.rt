@@ -1,6 +1,6 @@
 //! Rows that a look-up shows, read as what they stand for.
 
-ghost use Rattle.std.specs.Prelude.{◌≡◌, ◌<◌, ◌^◌, List, ℕ, IfOk, IfErr, IsTrue, Some, length, map, pos};
+ghost use Rattle.std.specs.Prelude.{◌≡◌, ◌<◌, ◌^◌, List, ℕ, IfOk, IfErr, IsTrue, Some, length, pos};
 ghost use Rattle.std.specs.List.{AllByRecursion};
 ghost use Rattle.sqlite.specs.Order.{column};
 ghost use Rattle.sqlite.specs.declared.types.Value.TheVariants.{Int, Blob as BlobValue};
@@ -247,23 +247,8 @@ fn method_of(number: u32) -> Option<Method>
     }
 }
 
-/// The records of these rows, in order.
-pub(crate) fn records_in(alloc: Global, rows: &[Row]) -> Result<Vec<Record>, StoreFault>
-    ensures read { IfOk result (λ records. (ns : List Node) → AllByRecursion (λ (n : Node). AllByRecursion IsWord n.puids) ns → rows.now ≡ map shown_node ns → records.items ≡ map record_of ns) }
-    ensures memory { (ns : List Node) → AllByRecursion NodeFits ns → rows.now ≡ map shown_node ns → IfErr result (λ fault. fault ≡ Memory) }
-{
-    let mut records = Vec::with_capacity(alloc, rows.len())?;
-    for row in rows {
-        let record = record_in(alloc, row)?;
-        match records.push(record) {
-            Ok(()) => {}
-            Err(_) => return Err(StoreFault::Memory),
-        }
-    }
-    Ok(records)
-}
-
-fn record_in(alloc: Global, row: &Row) -> Result<Record, StoreFault>
+/// The record of a row.
+pub(crate) fn record_in(alloc: Global, row: &Row) -> Result<Record, StoreFault>
     ensures read { IfOk result (λ read. (n : Node) → AllByRecursion IsWord n.puids → row.now ≡ shown_node n → read ≡ record_of n) }
     ensures memory { (n : Node) → row.now ≡ shown_node n → NodeFits n → IfErr result (λ fault. fault ≡ Memory) }
 {

@@ -5,8 +5,9 @@ ghost use Rattle.droid_store.specs.declared.fault.StoreFault.TheVariants.{Memory
 ghost use Rattle.droid_store.specs.Rows.{profile_at, node_at, child_at, reply_for, records_of, counts_of, row_of};
 
 use crate::fault::StoreFault;
-use crate::look_ups::{find_child, find_node, find_profile, find_reply, list_nodes};
-use crate::read_rows::{entry_of, node_of, profile_of, records_in};
+use crate::listing::list_records;
+use crate::look_ups::{find_child, find_node, find_profile, find_reply};
+use crate::read_rows::{entry_of, node_of, profile_of};
 use crate::rows::{Counts, Entry, NodeRow, ProfileRow};
 use crate::store::Store;
 use droid_frame::{NUMBER_LIMIT, Record};
@@ -76,8 +77,8 @@ impl Store {
         ensures found { IfOk result (λ found. found.items ≡ records_of profile self.old) }
         ensures memory { IfErr result (λ fault. fault ≡ Memory) }
     {
-        let rows = list_nodes(&mut self.conn, profile)?;
-        records_in(self.alloc, &rows)
+        let records = list_records(&mut self.conn, self.alloc, profile)?;
+        Ok(records)
     }
 
     /// How much there is. It goes through no table and always answers.
