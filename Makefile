@@ -31,7 +31,7 @@ test: need_rt
 	sh tests/memory/run.sh
 
 # The prover refuses every wrong body, those of wrong-bodies/ too. All are tried, or those of CRATES="a b", or with
-# BASE=commit those of the crates that changed since and of those above; LANES crates at once.
+# BASE=commit those of the crates that changed since and of those above. What the gate found on this machine it takes over.
 wrong: need_rt need_python
 	@RT=$(RT) python3 tools/wrong.py $(if $(BASE),--base $(BASE)) $(CRATES)
 
