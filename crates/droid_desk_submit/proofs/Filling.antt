@@ -1,17 +1,16 @@
 -- A submission that goes on, and the one that it goes on from.
-use Rattle.std.proofs.Common.{◌≡◌, ◌⊎◌, ℕ, suc, ◌+◌, List, [], ◌∷◌, ◌++◌, length, inl, inr, refl, sym, ap, ap₂, subst, ◌∙◌, append_assoc, arith}
+use Rattle.std.proofs.Common.{◌≡◌, ◌⊎◌, ℕ, suc, ◌+◌, List, [], ◌∷◌, ◌++◌, length, inl, inr, refl, sym, ap, subst, ◌∙◌, append_assoc, arith}
 use Rattle.std.specs.List.{flat_map}
 use Rattle.droid_frame.specs.types.frame.Frame.{Frame}
 use Rattle.droid_frame.specs.types.reply.Reply.{Reply}
 use Rattle.droid_frame.specs.types.reply.Reply.TheVariants as replies
-use Rattle.droid_frame.specs.types.request.Request.{Request}
 use Rattle.droid_frame.specs.types.request.Request.TheVariants.{CreateProfile, AddFile, Piece, Finish, Abandon, Status}
 use Rattle.droid_desk_tree.specs.Asked.{Asked}
 use Rattle.droid_desk_tree.specs.Visits.{Kid, Subfolder, WholeFile, OtherKind, NoText, RefusedFolder, RefusedFile, DroppedFile, WholeRest, DroppedRest, Sent, Visit, asked_of_kid, asked_of_visit, pieces_from, first_missing}
 use Rattle.droid_desk_tree.specs.Walks.{asked_of_tree}
 use Rattle.droid_desk_tree.specs.declared.place.Place.{Place}
 use Rattle.droid_desk_tree.specs.declared.walking.Options.{Options}
-use Rattle.droid_desk_submit.specs.Numbering.{after, behind, number_of, request_at}
+use Rattle.droid_desk_submit.specs.Numbering.{after, behind}
 use Rattle.droid_desk_submit.specs.Runs.{AreFilled, AreFilledVisits, IsFilled}
 use Rattle.droid_desk_submit.specs.Submits.{IsOneOf}
 use Rattle.droid_desk_submit.specs.declared.numbers.Numbers.{Numbers}

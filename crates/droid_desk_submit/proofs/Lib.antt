@@ -1,4 +1,5 @@
 pub mod Going
+pub mod Counting
 pub mod Waiting
 pub mod Requests
 pub mod Whole

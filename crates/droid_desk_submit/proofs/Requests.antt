@@ -1,7 +1,7 @@
 -- One request: a piece, or another.
-use Rattle.std.proofs.Common.{◌≡◌, ◌⊎◌, ℕ, List, [], ◌∷◌, ◌++◌, Contains, length, inl, inr, refl, sym, ap, subst, ◌∙◌, arith}
+use Rattle.std.proofs.Common.{◌≡◌, ℕ, List, [], ◌∷◌, Contains, length, inl, inr, refl, sym, ap, subst, ◌∙◌, arith}
 use Rattle.std.proofs.lemmas.List.Elements.{Contains-append_left, Contains-append_right, Contains-append_cases, Contains-push, Contains-push_cases}
-use Rattle.droid_frame.specs.Bodies.{SpellsRequest, request_body, request_kind}
+use Rattle.droid_frame.specs.Bodies.{SpellsRequest, request_kind}
 use Rattle.droid_frame.specs.types.frame.Frame.{Frame}
 use Rattle.droid_frame.specs.types.reply.Reply.{Reply}
 use Rattle.droid_frame.specs.types.request.Request.{Request}
@@ -11,10 +11,10 @@ use Rattle.droid_desk_submit.specs.Events.{Event, IsTaken}
 use Rattle.droid_desk_submit.specs.Numbering.{after, after_by, number_by, number_of, request_at}
 use Rattle.droid_desk_submit.specs.Steps.{Sends, Waits}
 use Rattle.droid_desk_submit.specs.declared.numbers.Numbers.{Numbers}
+use Rattle.droid_desk_submit.specs.Windows.{out_of}
+use Rattle.droid_desk_submit.specs.declared.window.Window.{Window}
+use Rattle.droid_desk_submit.proofs.Going.{nothing_in}
 use Rattle.droid_desk_submit.proofs.Waiting.{all_at}
-
-pub nothing_in : {A : Type 0} (xs : List A) (x : A) → xs ≡ [] → Contains xs x → ⊥
-nothing_in xs x none there = omega (arith, ap length none, there.1)
 
 -- a request's number, by its kind
 number_is : (numbers : Numbers) (request : Request) → number_by numbers (request_kind request) ≡ number_of numbers request
@@ -49,17 +49,15 @@ asked_is client numbers kind body request spells =
 pub behind_is : (numbers : Numbers) (kind : ℕ) (body : List ℕ) (request : Request) (reply : Reply) → SpellsRequest 2 kind body request → after_by numbers kind reply ≡ after numbers request reply
 behind_is numbers kind body request reply spells = ap (λ (k : ℕ). after_by numbers k reply) spells.kind_is ∙ after_is numbers request reply
 
-module _ {C : Type 0} (does : C → Event → C → Type 0) (frame : Frame) (reply : Reply) (waiting waiting_after : List Frame) (old new : C) where
-  pub piece_sent : frame.kind ≡ 4 → Sends does frame waiting waiting_after old new → Asks does frame reply waiting waiting_after old new
+module _ {C : Type 0} (does : C → Event → C → Type 0) (frame : Frame) (reply : Reply) (old new : Window C) where
+  pub piece_sent : frame.kind ≡ 4 → Sends does frame old new → Asks does frame reply old new
   piece_sent kind sends =
-      let way : (other : Frame) → Contains sends.others other → Contains waiting_after other =
+      let way : (other : Frame) → Contains sends.others other → Contains new.waiting.items other =
       λ other there. subst (λ (l : List Frame). Contains l other) (sym sends.behind) (Contains-append_left sends.others (frame ∷ []) other there) in
       record {
-        events = sends.events;
-        happened = sends.happened;
-        only = sends.only;
+        goes = sends.goes;
         moved = λ other there. elim (Contains-append_cases sends.settled sends.others other (subst (λ (l : List Frame). Contains l other) sends.cut there)) [
-          | inl before ↦ inr (all_at (IsTaken sends.events) sends.settled other sends.taken before)
+          | inl before ↦ inr (all_at (IsTaken (out_of old) sends.goes.events) sends.settled other sends.taken before)
           | inr late ↦ inl (way other late)
         ];
         kept = λ other there. elim (Contains-push_cases sends.others frame other (subst (λ (l : List Frame). Contains l other) sends.behind there)) [
@@ -70,13 +68,11 @@ module _ {C : Type 0} (does : C → Event → C → Type 0) (frame : Frame) (rep
         fares = inr (kind, subst (λ (l : List Frame). Contains l frame) (sym sends.behind) (Contains-push sends.others frame));
       }
 
-  pub waited : Waits does frame reply waiting waiting_after old new → Asks does frame reply waiting waiting_after old new
+  pub waited : Waits does frame reply old new → Asks does frame reply old new
   waited waits = record {
-    events = waits.events;
-    happened = waits.happened;
-    only = waits.only;
-    moved = λ other there. inr (all_at (IsTaken waits.events) waiting other waits.taken there);
-    kept = λ other there. absurd (nothing_in waiting_after other waits.none there);
+    goes = waits.goes;
+    moved = λ other there. inr (all_at (IsTaken (out_of old) waits.goes.events) old.waiting.items other waits.taken there);
+    kept = λ other there. absurd (nothing_in new.waiting.items other waits.none there);
     few = λ few. omega (arith, ap length waits.none);
     fares = inl waits.answered;
   }

@@ -3,20 +3,22 @@ use Rattle.std.proofs.Common.{◌≡◌, ◌⊎◌, ℕ, ◌<◌, ◌^◌, List,
 use Rattle.std.specs.List.{AllByRecursion}
 use Rattle.droid_frame.specs.types.frame.Frame.{Frame}
 use Rattle.droid_frame.specs.types.reply.Reply.{Reply}
-use Rattle.droid_frame.specs.types.reply.Reply.TheVariants as replies
 use Rattle.droid_desk_tree.specs.Asked.{Asked}
 use Rattle.droid_desk_tree.specs.Told.{GoesOver}
 use Rattle.droid_desk_tree.proofs.Runs.{over_more}
 use Rattle.droid_desk_submit.specs.Asks.{Asks, AsksNext, IsNew}
-use Rattle.droid_desk_submit.specs.Events.{Event, WritesOnly, IsTaken}
+use Rattle.droid_desk_submit.specs.Events.{Event, WritesOnly, IsTaken, out_after}
 use Rattle.droid_desk_submit.specs.Numbering.{AreNumbered, after, behind, number_of, request_at}
 use Rattle.droid_desk_submit.specs.Steps.{EndsAll}
 use Rattle.droid_desk_submit.specs.Submits.{AreDone, IsDone, IsOneOf, Submits}
+use Rattle.droid_desk_submit.specs.Windows.{AreIn, counted, out_of}
 use Rattle.droid_desk_submit.specs.declared.numbers.Numbers.{Numbers}
 use Rattle.droid_desk_submit.specs.declared.sender.Sender.{Sender}
-use Rattle.droid_desk_submit.proofs.Requests.{nothing_in}
-use Rattle.droid_desk_submit.proofs.Going.{all_append, only_in, answered_before, answered_after}
-use Rattle.droid_desk_submit.proofs.Waiting.{all_at, taken_before}
+use Rattle.droid_desk_submit.specs.declared.trying.Written.{Written}
+use Rattle.droid_desk_submit.specs.declared.trying.Written.TheVariants.{Nowhere, First, Answered, All}
+use Rattle.droid_desk_submit.specs.declared.window.Window.{Window}
+use Rattle.droid_desk_submit.proofs.Going.{all_append, only_in, answered_before, answered_after, nothing_in, out_on}
+use Rattle.droid_desk_submit.proofs.Waiting.{all_at, taken_before, taken_after}
 
 -- a request is done, or a piece that is under way
 abbrev pub IsMet : List Event → List Frame → Frame → Reply → Type 0
@@ -67,17 +69,24 @@ met_done events events_after waiting client numbers (x ∷ xs) done met =
 -- ---- what is done stays done
 
 done_before : (before after : List Event) (frame : Frame) (reply : Reply) → IsDone before frame reply → IsDone (before ++ after) frame reply
-done_before before after frame reply (inl is) = inl (answered_before before after frame reply is)
-done_before before after frame reply (inr is) = inr (is.0, taken_before before after frame is.1)
+done_before before after frame reply (inl is) = inl (answered_before [] before after frame reply is)
+done_before before after frame reply (inr is) = inr (is.0, taken_before [] before after frame is.1)
 
 -- what is under way moves on
-met_before : (before after : List Event) (waiting waiting_after : List Frame) → ((other : Frame) → Contains waiting other → Contains waiting_after other ⊎ IsTaken after other)
+met_before : (before after : List Event) (out waiting waiting_after : List Frame) → AreIn out (out_after [] before) → ((other : Frame) → Contains waiting other → Contains waiting_after other ⊎ IsTaken out after other)
     → (frame : Frame) (reply : Reply) → IsMet before waiting frame reply → IsMet (before ++ after) waiting_after frame reply
-met_before before after waiting waiting_after moved frame reply (inl is) = inl (done_before before after frame reply is)
-met_before before after waiting waiting_after moved frame reply (inr is) = elim (moved frame is.1) [
+met_before before after out waiting waiting_after are moved frame reply (inl is) = inl (done_before before after frame reply is)
+met_before before after out waiting waiting_after are moved frame reply (inr is) = elim (moved frame is.1) [
   | inl there ↦ inr (is.0, there)
-  | inr taken ↦ inl (inr (is.0, (taken.0, answered_after before after frame (replies.Taken taken.0) taken.1)))
+  | inr taken ↦ inl (inr (is.0, taken_after [] out before after are frame taken))
 ]
+
+-- where nothing waits, nothing is counted as out
+pub none_out : (written : Written) (waiting : List Frame) → waiting ≡ [] → AreIn (counted written waiting) []
+none_out Nowhere waiting none frame there = there
+none_out First waiting none frame there = subst (λ (l : List Frame). Contains (counted First l) frame) none there
+none_out Answered waiting none frame there = there
+none_out All waiting none frame there = subst (λ (l : List Frame). Contains l frame) none there
 
 -- ---- a whole list
 
@@ -90,6 +99,7 @@ module _ {C : Type 0} (does : C → Event → C → Type 0) (client : ℕ) (firs
     pub events : List Event
     pub happened : GoesOver does start events sender.window.connection
     pub only : AllByRecursion (WritesOnly (IsOneOf client first asked)) events
+    pub are_out : AreIn (out_of sender.window) (out_after [] events)
     pub way : (frame : Frame) → Contains sender.window.waiting.items frame → IsOneOf client first asked frame
     pub met : AreMet events sender.window.waiting.items client first asked
 
@@ -101,17 +111,18 @@ module _ {C : Type 0} (does : C → Event → C → Type 0) (client : ℕ) (firs
     events = [];
     happened = here;
     only = tt;
+    are_out = none_out sender.window.written sender.window.waiting.items new;
     way = λ frame there. absurd (nothing_in sender.window.waiting.items frame new there);
     met = tt;
   }
 
-  module _ (asked : List Asked) (x : Asked) (old new : Sender C) (before : Submitting asked old) (asks : Asks does (request_at client (number_of (behind first asked) x.0) x.0) x.1
-      old.window.waiting.items new.window.waiting.items old.window.connection new.window.connection) where
+  module _ (asked : List Asked) (x : Asked) (old new : Sender C) (before : Submitting asked old)
+      (asks : Asks does (request_at client (number_of (behind first asked) x.0) x.0) x.1 old.window new.window) where
     abbrev its : Frame
     its = request_at client (number_of (behind first asked) x.0) x.0
 
     abbrev events : List Event
-    events = before.events ++ asks.events
+    events = before.events ++ asks.goes.events
 
     early : (frame : Frame) → IsOneOf client first asked frame → IsOneOf client first (asked ++ x ∷ []) frame
     early frame is = one_of_before client first asked (x ∷ []) frame is
@@ -121,7 +132,7 @@ module _ {C : Type 0} (does : C → Event → C → Type 0) (client : ℕ) (firs
 
     its_met : IsMet events new.window.waiting.items its x.1
     its_met = elim asks.fares [
-      | inl answered ↦ inl (inl (answered_after before.events asks.events its x.1 answered))
+      | inl answered ↦ inl (inl (answered_after [] (out_of old.window) before.events asks.goes.events its x.1 before.are_out answered))
       | inr way ↦ inr way
     ]
 
@@ -131,29 +142,30 @@ module _ {C : Type 0} (does : C → Event → C → Type 0) (client : ℕ) (firs
       numbers = numbers ∙ sym (behind_last first asked x);
       numbered = numbered_last first asked x before.numbered below;
       events = events;
-      happened = over_more does start old.window.connection new.window.connection before.events asks.events before.happened asks.happened;
-      only = all_append (WritesOnly (IsOneOf client first (asked ++ x ∷ []))) before.events asks.events
+      happened = over_more does start old.window.connection new.window.connection before.events asks.goes.events before.happened asks.goes.happened;
+      only = all_append (WritesOnly (IsOneOf client first (asked ++ x ∷ []))) before.events asks.goes.events
           (only_in (IsOneOf client first asked) (IsOneOf client first (asked ++ x ∷ [])) early before.events before.only)
           (only_in (λ frame. Contains old.window.waiting.items frame ⊎ (frame ≡ its)) (IsOneOf client first (asked ++ x ∷ []))
           (λ frame may. elim may [
             | inl there ↦ early frame (before.way frame there)
             | inr same ↦ late frame same
           ])
-          asks.events asks.only);
+          asks.goes.events asks.goes.only);
+      are_out = out_on [] (out_of old.window) (out_of new.window) before.events asks.goes.events before.are_out asks.goes.are_out;
       way = λ frame there. elim (asks.kept frame there) [
         | inl before_it ↦ early frame (before.way frame before_it)
         | inr same ↦ late frame same
       ];
       met = met_last events new.window.waiting.items client first asked x
           (met_on before.events events old.window.waiting.items new.window.waiting.items client first asked
-          (met_before before.events asks.events old.window.waiting.items new.window.waiting.items asks.moved) before.met)
+          (met_before before.events asks.goes.events (out_of old.window) old.window.waiting.items new.window.waiting.items before.are_out asks.moved) before.met)
           its_met;
     }
 
   asked_next : (asked : List Asked) (x : Asked) (old new : Sender C) → Submitting asked old → AsksNext does x.0 x.1 old new → Submitting (asked ++ x ∷ []) new
   asked_next asked x old new before next =
-      let here : Numbers → Type 0 = λ numbers. Asks does (request_at client (number_of numbers x.0) x.0) x.1 old.window.waiting.items new.window.waiting.items old.window.connection new.window.connection in
-      let asks = subst (λ c. Asks does (request_at c (number_of old.numbers x.0) x.0) x.1 old.window.waiting.items new.window.waiting.items old.window.connection new.window.connection) before.same_client next.asks in
+      let here : Numbers → Type 0 = λ numbers. Asks does (request_at client (number_of numbers x.0) x.0) x.1 old.window new.window in
+      let asks = subst (λ c. Asks does (request_at c (number_of old.numbers x.0) x.0) x.1 old.window new.window) before.same_client next.asks in
       asked_one asked x old new before (subst here before.numbers asks) next.same_client
       (subst (λ (numbers : Numbers). new.numbers ≡ after numbers x.0 x.1) before.numbers next.numbers) (subst (λ (numbers : Numbers). numbers.next < 2 ^ 61) before.numbers next.below)
 
@@ -163,19 +175,18 @@ module _ {C : Type 0} (does : C → Event → C → Type 0) (client : ℕ) (firs
       subst (λ (l : List Asked). Submitting l new) (append_assoc asked (x ∷ []) more)
       (asked_all (asked ++ x ∷ []) more over.0 new (asked_next asked x old over.0 before over.1) over.2)
 
-  pub all_done : (asked : List Asked) (sender : Sender C) (waiting_after : List Frame) (new : C) → Submitting asked sender → EndsAll does sender.window.waiting.items waiting_after sender.window.connection new
-      → Submits does client first asked start new
-  all_done asked sender waiting_after new before ends = record {
-    events = before.events ++ ends.events;
-    happened = over_more does start sender.window.connection new before.events ends.events before.happened ends.happened;
+  pub all_done : (asked : List Asked) (sender : Sender C) (new : Window C) → Submitting asked sender → EndsAll does sender.window new → Submits does client first asked start new.connection
+  all_done asked sender new before ends = record {
+    events = before.events ++ ends.goes.events;
+    happened = over_more does start sender.window.connection new.connection before.events ends.goes.events before.happened ends.goes.happened;
     numbered = before.numbered;
-    only = all_append (WritesOnly (IsOneOf client first asked)) before.events ends.events before.only
-        (only_in (Contains sender.window.waiting.items) (IsOneOf client first asked) before.way ends.events ends.only);
-    done = met_done before.events (before.events ++ ends.events) sender.window.waiting.items client first asked
+    only = all_append (WritesOnly (IsOneOf client first asked)) before.events ends.goes.events before.only
+        (only_in (Contains sender.window.waiting.items) (IsOneOf client first asked) before.way ends.goes.events ends.goes.only);
+    done = met_done before.events (before.events ++ ends.goes.events) sender.window.waiting.items client first asked
         (λ frame reply met. elim met [
-          | inl is ↦ done_before before.events ends.events frame reply is
-          | inr way ↦ let taken = all_at (IsTaken ends.events) sender.window.waiting.items frame ends.taken way.1 in
-              inr (way.0, (taken.0, answered_after before.events ends.events frame (replies.Taken taken.0) taken.1))
+          | inl is ↦ done_before before.events ends.goes.events frame reply is
+          | inr way ↦ let taken = all_at (IsTaken (out_of sender.window) ends.goes.events) sender.window.waiting.items frame ends.taken way.1 in
+              inr (way.0, taken_after [] (out_of sender.window) before.events ends.goes.events before.are_out frame taken)
         ])
         before.met;
   }

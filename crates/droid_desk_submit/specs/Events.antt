@@ -1,5 +1,5 @@
 -- What happens on a connection (this project's own).
-use Rattle.std.specs.Prelude.{◌≡◌, ℕ, List, Contains}
+use Rattle.std.specs.Prelude.{◌≡◌, ℕ, List, [], ◌∷◌, ◌++◌, Contains}
 use Rattle.droid_frame.specs.types.frame.Frame.{Frame}
 use Rattle.droid_frame.specs.types.reply.Reply.{Reply}
 use Rattle.droid_frame.specs.types.reply.Reply.TheVariants as replies
@@ -32,12 +32,27 @@ pub record IsReplyTo (frame came : Frame) (reply : Reply) : Type 0 where
   pub number : came.number ≡ frame.number
   pub spelled : SpellsReply came.version came.kind came.body reply
 
--- this reply to this request came
-pub record IsAnswered (events : List Event) (frame : Frame) (reply : Reply) : Type 0 where
+-- The frames that are out, behind an event: those that were written, whole, on the connection that stands.
+abbrev pub out_behind : List Frame → Event → List Frame
+out_behind out (Sent frame) = out ++ frame ∷ []
+out_behind out (Came frame) = out
+out_behind out _ = []
+
+-- and behind events
+abbrev pub out_after : List Frame → List Event → List Frame
+out_after out [] = out
+out_after out (event ∷ events) = out_after (out_behind out event) events
+
+-- This reply to this request came, where these frames were out before. It came on the connection on which the request was
+-- written, and behind it.
+pub record IsAnswered (out : List Frame) (events : List Event) (frame : Frame) (reply : Reply) : Type 0 where
   pub came : Frame
-  pub is_there : Contains events (Came came)
+  pub before : List Event
+  pub later : List Event
+  pub cut : events ≡ before ++ Came came ∷ later
+  pub was_out : Contains (out_after out before) frame
   pub is_reply : IsReplyTo frame came reply
 
 -- the reply came that this piece was taken
-abbrev pub IsTaken : List Event → Frame → Type 0
-IsTaken events frame = (held : ℕ) × IsAnswered events frame (replies.Taken held)
+abbrev pub IsTaken : List Frame → List Event → Frame → Type 0
+IsTaken out events frame = (held : ℕ) × IsAnswered out events frame (replies.Taken held)

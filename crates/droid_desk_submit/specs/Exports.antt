@@ -27,7 +27,7 @@ IsPartRequest client profile frame = (from : ℕ) × (frame ≡ part_request cli
 abbrev pub ArePartsOf : List Event → ℕ → ℕ → ℕ → ℕ → ℕ → List (List ℕ) → Type 0
 ArePartsOf events client profile as_of total from [] = Unit {0}
 ArePartsOf events client profile as_of total from (part ∷ parts) =
-    IsAnswered events (part_request client profile from) (replies.Part as_of total part) × ArePartsOf events client profile as_of total (from + length part) parts
+    IsAnswered [] events (part_request client profile from) (replies.Part as_of total part) × ArePartsOf events client profile as_of total (from + length part) parts
 
 abbrev pub joined : List (List ℕ) → List ℕ
 joined parts = flat_map (λ part. part) parts

@@ -3,7 +3,7 @@ use Rattle.std.specs.Prelude.{ℕ, suc, ◌+◌, ◌^◌, ◌<◌, ◌==◌, if�
 use Rattle.droid_frame.specs.types.frame.Frame.{Frame}
 use Rattle.droid_frame.specs.types.reply.Reply.{Reply}
 use Rattle.droid_frame.specs.types.request.Request.{Request}
-use Rattle.droid_frame.specs.types.request.Request.TheVariants.{CreateProfile, AddFolder, AddFile, Piece, Finish, Abandon, Status, Export}
+use Rattle.droid_frame.specs.types.request.Request.TheVariants.{AddFile, Status}
 use Rattle.droid_frame.specs.Bodies.{request_kind, request_body}
 use Rattle.droid_desk_tree.specs.Asked.{Asked}
 use Rattle.droid_desk_tree.specs.Visits.{first_missing}

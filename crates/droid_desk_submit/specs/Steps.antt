@@ -4,71 +4,74 @@ use Rattle.std.specs.List.{AllByRecursion}
 use Rattle.droid_frame.specs.types.frame.Frame.{Frame}
 use Rattle.droid_frame.specs.types.reply.Reply.{Reply}
 use Rattle.droid_desk_tree.specs.Told.{GoesOver}
-use Rattle.droid_desk_submit.specs.Events.{Event, Came, WritesOnly, IsAnswered, IsTaken}
+use Rattle.droid_desk_submit.specs.Events.{Event, Came, WritesOnly, IsAnswered, IsTaken, out_after}
+use Rattle.droid_desk_submit.specs.Windows.{AreIn, counted, out_of}
+use Rattle.droid_desk_submit.specs.declared.window.Window.{Window}
 
--- something happened, and only such frames were written
-pub record Goes {C : Type 0} (does : C → Event → C → Type 0) (Is : Frame → Type 0) (old new : C) : Type 0 where
+-- Something happened, and only such frames were written. Where the ones were out before, the others are then.
+pub record Goes {C : Type 0} (does : C → Event → C → Type 0) (Is : Frame → Type 0) (out out_then : List Frame) (old new : C) : Type 0 where
   pub events : List Event
   pub happened : GoesOver does old events new
   pub only : AllByRecursion (WritesOnly Is) events
+  pub are_out : AreIn out_then (out_after out events)
 
--- the next frame came
-pub record Receives {C : Type 0} (does : C → Event → C → Type 0) (Is : Frame → Type 0) (came : Frame) (old new : C) : Type 0 where
-  pub events : List Event
-  pub happened : GoesOver does old events new
-  pub only : AllByRecursion (WritesOnly Is) events
-  pub is_there : Contains events (Came came)
+-- the next frame came, and the others were out when it did
+pub record Receives {C : Type 0} (does : C → Event → C → Type 0) (Is : Frame → Type 0) (came : Frame) (out out_then : List Frame) (old new : C) : Type 0 where
+  pub before : List Event
+  pub happened : GoesOver does old (before ++ Came came ∷ []) new
+  pub only : AllByRecursion (WritesOnly Is) before
+  pub were_out : AreIn out_then (out_after out before)
+
+-- ---- of windows
+
+-- The next frame came. The first of those that wait was out then, and so were all that are counted as out now, whichever of
+-- them are taken away.
+pub record Hears {C : Type 0} (does : C → Event → C → Type 0) (came : Frame) (old new : Window C) : Type 0 where
+  pub out_then : List Frame
+  pub receives : Receives does (Contains old.waiting.items) came (out_of old) out_then old.connection new.connection
+  pub first : (first : Frame) (more : List Frame) → old.waiting.items ≡ first ∷ more → Contains out_then first
+  pub are_out : (rest : List Frame) → AreIn rest old.waiting.items → AreIn (counted new.written rest) out_then
 
 -- a frame was put behind those that wait
-pub record Puts {C : Type 0} (does : C → Event → C → Type 0) (frame : Frame) (waiting waiting_after : List Frame) (old new : C) : Type 0 where
-  pub goes : Goes does (λ other. other ≡ frame) old new
-  pub behind : waiting_after ≡ waiting ++ frame ∷ []
+pub record Puts {C : Type 0} (does : C → Event → C → Type 0) (frame : Frame) (old new : Window C) : Type 0 where
+  pub goes : Goes does (λ other. other ≡ frame) (out_of old) (out_of new) old.connection new.connection
+  pub behind : new.waiting.items ≡ old.waiting.items ++ frame ∷ []
 
 -- the reply to the first of those that wait came
-pub record Takes {C : Type 0} (does : C → Event → C → Type 0) (reply : Reply) (waiting waiting_after : List Frame) (old new : C) : Type 0 where
+pub record Takes {C : Type 0} (does : C → Event → C → Type 0) (reply : Reply) (old new : Window C) : Type 0 where
   pub oldest : Frame
-  pub first : waiting ≡ oldest ∷ waiting_after
-  pub events : List Event
-  pub happened : GoesOver does old events new
-  pub only : AllByRecursion (WritesOnly (Contains waiting)) events
-  pub answered : IsAnswered events oldest reply
+  pub first : old.waiting.items ≡ oldest ∷ new.waiting.items
+  pub goes : Goes does (Contains old.waiting.items) (out_of old) (out_of new) old.connection new.connection
+  pub answered : IsAnswered (out_of old) goes.events oldest reply
 
 -- replies to so many of those that wait came, in their order, and each was taken
-pub record Settles {C : Type 0} (does : C → Event → C → Type 0) (count : ℕ) (waiting waiting_after : List Frame) (old new : C) : Type 0 where
+pub record Settles {C : Type 0} (does : C → Event → C → Type 0) (count : ℕ) (old new : Window C) : Type 0 where
   pub settled : List Frame
-  pub counted : length settled ≡ count
-  pub cut : waiting ≡ settled ++ waiting_after
-  pub events : List Event
-  pub happened : GoesOver does old events new
-  pub only : AllByRecursion (WritesOnly (Contains waiting)) events
-  pub taken : AllByRecursion (IsTaken events) settled
+  pub as_many : length settled ≡ count
+  pub cut : old.waiting.items ≡ settled ++ new.waiting.items
+  pub goes : Goes does (Contains old.waiting.items) (out_of old) (out_of new) old.connection new.connection
+  pub taken : AllByRecursion (IsTaken (out_of old) goes.events) settled
 
 -- a frame was sent, and replies to the first of those that waited came, each that a piece was taken; and no more than sixteen
 -- wait
-pub record Sends {C : Type 0} (does : C → Event → C → Type 0) (frame : Frame) (waiting waiting_after : List Frame) (old new : C) : Type 0 where
+pub record Sends {C : Type 0} (does : C → Event → C → Type 0) (frame : Frame) (old new : Window C) : Type 0 where
   pub settled : List Frame
   pub others : List Frame
-  pub cut : waiting ≡ settled ++ others
-  pub behind : waiting_after ≡ others ++ frame ∷ []
-  pub few : length waiting_after ≤ 16
-  pub events : List Event
-  pub happened : GoesOver does old events new
-  pub only : AllByRecursion (WritesOnly (λ other. Contains waiting other ⊎ (other ≡ frame))) events
-  pub taken : AllByRecursion (IsTaken events) settled
+  pub cut : old.waiting.items ≡ settled ++ others
+  pub behind : new.waiting.items ≡ others ++ frame ∷ []
+  pub few : length new.waiting.items ≤ 16
+  pub goes : Goes does (λ other. Contains old.waiting.items other ⊎ (other ≡ frame)) (out_of old) (out_of new) old.connection new.connection
+  pub taken : AllByRecursion (IsTaken (out_of old) goes.events) settled
 
 -- a frame was sent, and its reply came, behind the replies to all that waited, each that a piece was taken
-pub record Waits {C : Type 0} (does : C → Event → C → Type 0) (frame : Frame) (reply : Reply) (waiting waiting_after : List Frame) (old new : C) : Type 0 where
-  pub none : waiting_after ≡ []
-  pub events : List Event
-  pub happened : GoesOver does old events new
-  pub only : AllByRecursion (WritesOnly (λ other. Contains waiting other ⊎ (other ≡ frame))) events
-  pub taken : AllByRecursion (IsTaken events) waiting
-  pub answered : IsAnswered events frame reply
+pub record Waits {C : Type 0} (does : C → Event → C → Type 0) (frame : Frame) (reply : Reply) (old new : Window C) : Type 0 where
+  pub none : new.waiting.items ≡ []
+  pub goes : Goes does (λ other. Contains old.waiting.items other ⊎ (other ≡ frame)) (out_of old) (out_of new) old.connection new.connection
+  pub taken : AllByRecursion (IsTaken (out_of old) goes.events) old.waiting.items
+  pub answered : IsAnswered (out_of old) goes.events frame reply
 
 -- replies to all that waited came, each that a piece was taken
-pub record EndsAll {C : Type 0} (does : C → Event → C → Type 0) (waiting waiting_after : List Frame) (old new : C) : Type 0 where
-  pub none : waiting_after ≡ []
-  pub events : List Event
-  pub happened : GoesOver does old events new
-  pub only : AllByRecursion (WritesOnly (Contains waiting)) events
-  pub taken : AllByRecursion (IsTaken events) waiting
+pub record EndsAll {C : Type 0} (does : C → Event → C → Type 0) (old new : Window C) : Type 0 where
+  pub none : new.waiting.items ≡ []
+  pub goes : Goes does (Contains old.waiting.items) (out_of old) (out_of new) old.connection new.connection
+  pub taken : AllByRecursion (IsTaken (out_of old) goes.events) old.waiting.items

@@ -18,9 +18,10 @@ abbrev pub IsOneOf : ℕ → Numbers → List Asked → Frame → Type 0
 IsOneOf client numbers [] frame = ⊥
 IsOneOf client numbers (asked ∷ more) frame = (frame ≡ request_at client (number_of numbers asked.0) asked.0) ⊎ IsOneOf client (after numbers asked.0 asked.1) more frame
 
--- a request is done: the reply to it came, and is this; or, of a piece, that it was taken
+-- A request is done, from the first connection on: it was written, and behind it the reply to it came on that connection, and
+-- is this; or, of a piece, that it was taken.
 abbrev pub IsDone : List Event → Frame → Reply → Type 0
-IsDone events frame reply = IsAnswered events frame reply ⊎ ((frame.kind ≡ 4) × IsTaken events frame)
+IsDone events frame reply = IsAnswered [] events frame reply ⊎ ((frame.kind ≡ 4) × IsTaken [] events frame)
 
 -- each of these requests is done, under its number
 abbrev pub AreDone : List Event → ℕ → Numbers → List Asked → Type 0

@@ -89,8 +89,7 @@ fn ask_part<C: Connection>(
     profile: u32,
     from: u64,
 ) -> Result<Part, SendFault>
-    ensures { IfOk result (λ part. Waits C.does (part_request client profile from) (replies.Part part.as_of part.total part.bytes)
-        window.old.waiting.items window.new.waiting.items window.old.connection window.new.connection) }
+    ensures { IfOk result (λ part. Waits C.does (part_request client profile from) (replies.Part part.as_of part.total part.bytes) window.old window.new) }
 {
     let frame = part_frame(window.alloc, client, profile, from)?;
     let reply = window.ask(frame)?;

@@ -56,7 +56,7 @@ impl<C: Connection> Sender<C> {
 
     /// Takes the replies to all that are under way.
     pub(crate) fn end(&mut self) -> Result<(), SendFault>
-        ensures { OnOk result (EndsAll C.does self.old.window.waiting.items self.new.window.waiting.items self.old.window.connection self.new.window.connection) }
+        ensures { OnOk result (EndsAll C.does self.old.window self.new.window) }
     {
         if let Some(fault) = self.stopped {
             return Err(fault);
@@ -68,7 +68,7 @@ impl<C: Connection> Sender<C> {
     /// Asks the request that this kind and this body spell, under its number.
     fn ask_next(&mut self, kind: u8, body: Blob) -> Result<Reply, SendFault>
         ensures asks { IfOk result (λ reply. Asks C.does (record { version = 2; kind = kind; client = self.old.client; number = number_by self.old.numbers kind; body = body }) reply
-            self.old.window.waiting.items self.new.window.waiting.items self.old.window.connection self.new.window.connection) }
+            self.old.window self.new.window) }
         ensures numbers { IfOk result (λ reply. self.new.numbers ≡ after_by self.old.numbers kind reply) }
         ensures below { OnOk result (self.old.numbers.next < 2 ^ 61) }
         ensures client { self.new.client ≡ self.old.client }
@@ -91,7 +91,7 @@ impl<C: Connection> Sender<C> {
 
 /// Asks a request. A piece's reply isn't waited for: that it is taken is seen later.
 fn ask_frame<C: Connection>(window: &mut Window<C>, frame: Frame) -> Result<Reply, SendFault>
-    ensures { IfOk result (λ reply. Asks C.does frame reply window.old.waiting.items window.new.waiting.items window.old.connection window.new.connection) }
+    ensures { IfOk result (λ reply. Asks C.does frame reply window.old window.new) }
 {
     if frame.kind == PIECE {
         window.send(frame)?;

@@ -1,7 +1,8 @@
 //! Single steps on a connection.
 
-ghost use Rattle.std.specs.Prelude.{◌≡◌, Contains, MatchOption};
+ghost use Rattle.std.specs.Prelude.{◌≡◌, ◌⊎◌, ◌++◌, ◌∷◌, [], List, Contains, IsSome, IsTrue, MatchOption, if◌then◌else◌};
 ghost use Rattle.droid_desk_submit.specs.Steps.{Goes, Receives};
+ghost use Rattle.droid_desk_submit.specs.Windows.{AreIn, HasFirst, Stands, counted};
 
 use crate::connection::Connection;
 use droid_frame::Frame;
@@ -15,7 +16,7 @@ pub enum Written {
     Nowhere,
     /// On a new connection, which gave no answer yet, the first of them.
     First,
-    /// None of them, on a connection that gave an answer.
+    /// None of them, on a connection that stands.
     Answered,
     /// All of them.
     All,
@@ -23,7 +24,9 @@ pub enum Written {
 
 impl Written {
     /// Whether no connection stands.
-    pub(crate) fn is_nowhere(self) -> bool {
+    pub(crate) fn is_nowhere(self) -> bool
+        ensures { IsTrue result ⊎ Stands self }
+    {
         match self {
             Written::Nowhere => true,
             Written::First | Written::Answered | Written::All => false,
@@ -31,12 +34,14 @@ impl Written {
     }
 }
 
-/// How far it is after reading: whether a frame came.
-pub(crate) fn written_after(written: Written, came: bool) -> Written {
-    match (written, came) {
-        (_, false) => Written::Nowhere,
-        (Written::First, true) => Written::Answered,
-        (written, true) => written,
+/// How far it is behind an answer.
+pub(crate) fn behind_answer(written: Written) -> Written
+    ensures { (waiting rest : List Frame) → AreIn rest waiting → AreIn (counted result rest) (counted written waiting) }
+{
+    match written {
+        Written::First | Written::Answered => Written::Answered,
+        Written::All => Written::All,
+        Written::Nowhere => Written::Nowhere,
     }
 }
 
@@ -44,16 +49,28 @@ pub(crate) fn written_after(written: Written, came: bool) -> Written {
 pub(crate) fn write_behind<C: Connection>(
     written: Written,
     connection: &mut C,
+    waiting: &VecDeque<Frame>,
     frame: &Frame,
 ) -> Written
-    ensures { Goes C.does (λ other. other ≡ frame.now) connection.old connection.new }
+    ensures { Goes C.does (λ other. other ≡ frame.now) (counted written waiting.now.items) (counted result (waiting.now.items ++ frame.now ∷ [])) connection.old connection.new }
 {
     match written {
         Written::All => {
-            let stands = write_where(true, connection, frame);
-            all_where(stands)
+            if write(connection, frame) {
+                Written::All
+            } else {
+                Written::Nowhere
+            }
         }
-        Written::Nowhere | Written::First | Written::Answered => written,
+        Written::First => {
+            if waiting.is_empty() {
+                Written::Nowhere
+            } else {
+                Written::First
+            }
+        }
+        Written::Answered => Written::Answered,
+        Written::Nowhere => Written::Nowhere,
     }
 }
 
@@ -65,7 +82,8 @@ pub(crate) fn write_ahead<C: Connection>(
     connection: &mut C,
     waiting: &VecDeque<Frame>,
 ) -> Written
-    ensures { Goes C.does (Contains waiting.now.items) connection.old connection.new }
+    ensures goes { Goes C.does (Contains waiting.now.items) (counted written waiting.now.items) (counted result waiting.now.items) connection.old connection.new }
+    ensures first { HasFirst result waiting.now.items }
 {
     match written {
         Written::Nowhere => {
@@ -73,16 +91,21 @@ pub(crate) fn write_ahead<C: Connection>(
             written
         }
         Written::Answered => {
-            let stands = write_waiting(connection, waiting);
-            all_where(stands)
+            if write_waiting(connection, waiting) {
+                Written::All
+            } else {
+                Written::Nowhere
+            }
         }
-        Written::First | Written::All => written,
+        Written::First => Written::First,
+        Written::All => Written::All,
     }
 }
 
 /// Makes a connection, and writes the first of the frames that wait.
 fn begin<C: Connection>(connection: &mut C, waiting: &VecDeque<Frame>) -> Written
-    ensures { Goes C.does (Contains waiting.now.items) connection.old connection.new }
+    ensures goes { Goes C.does (Contains waiting.now.items) [] (counted result waiting.now.items) connection.old connection.new }
+    ensures first { HasFirst result waiting.now.items }
 {
     match connection.connect() {
         Ok(()) => {
@@ -95,49 +118,38 @@ fn begin<C: Connection>(connection: &mut C, waiting: &VecDeque<Frame>) -> Writte
 
 /// Writes the first of the frames that wait.
 fn write_first<C: Connection>(connection: &mut C, waiting: &VecDeque<Frame>) -> Written
-    ensures { Goes C.does (Contains waiting.now.items) connection.old connection.new }
+    ensures goes { Goes C.does (Contains waiting.now.items) [] (counted result waiting.now.items) connection.old connection.new }
+    ensures first { HasFirst result waiting.now.items }
 {
     let Some(frame) = waiting.get(0) else {
-        return Written::First;
+        return Written::Answered;
     };
-    let stands = write_where(true, connection, frame);
-    if stands {
+    if write(connection, frame) {
         Written::First
     } else {
         Written::Nowhere
     }
 }
 
-/// All were written where the connection stands.
-fn all_where(stands: bool) -> Written {
-    if stands {
-        Written::All
-    } else {
-        Written::Nowhere
-    }
-}
-
-/// Writes frames in their order, up to the first that can't be. The answer is whether all were.
+/// Writes all frames in their order, up to the first that can't be. The answer is whether all were.
 fn write_waiting<C: Connection>(connection: &mut C, waiting: &VecDeque<Frame>) -> bool
-    ensures { Goes C.does (Contains waiting.now.items) connection.old connection.new }
+    ensures { Goes C.does (Contains waiting.now.items) [] (if result then waiting.now.items else []) connection.old connection.new }
 {
-    let mut stands = true;
     for place in 0..waiting.len() {
         let Some(frame) = waiting.get(place) else {
             return false;
         };
-        stands = write_where(stands, connection, frame);
+        if !write(connection, frame) {
+            return false;
+        }
     }
-    stands
+    true
 }
 
-/// Writes a frame, where the connection stands. The answer is whether it stands then.
-fn write_where<C: Connection>(stands: bool, connection: &mut C, frame: &Frame) -> bool
-    ensures { Goes C.does (λ other. other ≡ frame.now) connection.old connection.new }
+/// Writes a frame. The answer is whether the connection stands then.
+fn write<C: Connection>(connection: &mut C, frame: &Frame) -> bool
+    ensures { (out : List Frame) → Goes C.does (λ other. other ≡ frame.now) out (if result then out ++ frame.now ∷ [] else []) connection.old connection.new }
 {
-    if !stands {
-        return false;
-    }
     match connection.write(frame) {
         Ok(()) => true,
         Err(_) => false,
@@ -150,7 +162,8 @@ pub(crate) fn read_where<C: Connection>(
     alloc: Global,
     connection: &mut C,
 ) -> Option<Frame>
-    ensures { MatchOption result (Goes C.does (λ _. ⊥) connection.old connection.new) (λ came. Receives C.does (λ _. ⊥) came connection.old connection.new) }
+    ensures read { (out : List Frame) → MatchOption result (Goes C.does (λ _. ⊥) out [] connection.old connection.new) (λ came. Receives C.does (λ _. ⊥) came out out connection.old connection.new) }
+    ensures stood { IsSome result → Stands written }
 {
     if written.is_nowhere() {
         return None;

@@ -3,11 +3,12 @@
 ghost use Rattle.std.specs.Prelude.{◌≡◌, ℕ, [], Contains, IfOk, IsTrue, MatchOption, OnOk};
 ghost use Rattle.droid_frame.specs.types.reply.Reply.TheVariants as replies;
 ghost use Rattle.droid_desk_submit.specs.Events.{IsReplyTo};
-ghost use Rattle.droid_desk_submit.specs.Steps.{EndsAll, Goes, Puts, Receives, Sends, Settles, Takes, Waits};
+ghost use Rattle.droid_desk_submit.specs.Steps.{EndsAll, Goes, Hears, Puts, Sends, Settles, Takes, Waits};
+ghost use Rattle.droid_desk_submit.specs.Windows.{out_of};
 
 use crate::connection::Connection;
 use crate::fault::SendFault;
-use crate::trying::{Written, read_where, write_ahead, write_behind, written_after};
+use crate::trying::{Written, behind_answer, read_where, write_ahead, write_behind};
 use droid_frame::{Frame, Refusal, Reply, reply_of};
 use std::alloc::{AllocError, Global};
 use std::collections::VecDeque;
@@ -48,10 +49,10 @@ impl<C: Connection> Window<C> {
 
     /// Puts a frame behind those that wait, and writes it where they were all written.
     fn put(&mut self, frame: Frame) -> Result<(), AllocError>
-        ensures { OnOk result (Puts C.does frame self.old.waiting.items self.new.waiting.items self.old.connection self.new.connection) }
+        ensures { OnOk result (Puts C.does frame self.old self.new) }
     {
         self.waiting.reserve(1)?;
-        let written = write_behind(self.written, &mut self.connection, &frame);
+        let written = write_behind(self.written, &mut self.connection, &self.waiting, &frame);
         self.written = written;
         self.waiting.push_back_reserved(frame);
         Ok(())
@@ -59,7 +60,7 @@ impl<C: Connection> Window<C> {
 
     /// Sends a frame without its reply. Where as many are under way as may be, it takes the reply to the first.
     pub(crate) fn send(&mut self, frame: Frame) -> Result<(), SendFault>
-        ensures { OnOk result (Sends C.does frame self.old.waiting.items self.new.waiting.items self.old.connection self.new.connection) }
+        ensures { OnOk result (Sends C.does frame self.old self.new) }
     {
         let count = self.waiting.len().saturating_sub(OTHERS);
         self.settle(count)?;
@@ -69,7 +70,7 @@ impl<C: Connection> Window<C> {
 
     /// Sends a frame, and takes the replies to all that are under way, its own last.
     pub(crate) fn ask(&mut self, frame: Frame) -> Result<Reply, SendFault>
-        ensures { IfOk result (λ reply. Waits C.does frame reply self.old.waiting.items self.new.waiting.items self.old.connection self.new.connection) }
+        ensures { IfOk result (λ reply. Waits C.does frame reply self.old self.new) }
     {
         self.send(frame)?;
         let count = self.waiting.len().saturating_sub(1);
@@ -80,7 +81,7 @@ impl<C: Connection> Window<C> {
 
     /// Takes the replies to all that are under way, each of which is that a piece was taken.
     pub(crate) fn settle_all(&mut self) -> Result<(), SendFault>
-        ensures { OnOk result (EndsAll C.does self.old.waiting.items self.new.waiting.items self.old.connection self.new.connection) }
+        ensures { OnOk result (EndsAll C.does self.old self.new) }
     {
         let count = self.waiting.len();
         self.settle(count)?;
@@ -89,7 +90,7 @@ impl<C: Connection> Window<C> {
 
     /// Takes the replies to so many of the frames that wait, each of which is that a piece was taken.
     fn settle(&mut self, count: usize) -> Result<(), SendFault>
-        ensures { OnOk result (Settles C.does count self.old.waiting.items self.new.waiting.items self.old.connection self.new.connection) }
+        ensures { OnOk result (Settles C.does count self.old self.new) }
     {
         for _ in 0..count {
             let reply = self.take()?;
@@ -100,7 +101,7 @@ impl<C: Connection> Window<C> {
 
     /// Takes the reply to the first of the frames that wait.
     fn take(&mut self) -> Result<Reply, SendFault>
-        ensures { IfOk result (λ reply. Takes C.does reply self.old.waiting.items self.new.waiting.items self.old.connection self.new.connection) }
+        ensures { IfOk result (λ reply. Takes C.does reply self.old self.new) }
     {
         let came = self.receive()?;
         let Some(oldest) = self.waiting.pop_front() else {
@@ -112,7 +113,7 @@ impl<C: Connection> Window<C> {
 
     /// Reads the next frame, over as many new connections as may break.
     fn receive(&mut self) -> Result<Frame, SendFault>
-        ensures received { IfOk result (λ came. Receives C.does (Contains self.old.waiting.items) came self.old.connection self.new.connection) }
+        ensures received { IfOk result (λ came. Hears C.does came self.old self.new) }
         ensures same { OnOk result (self.new.waiting.items ≡ self.old.waiting.items) }
     {
         let tries = if self.written.is_nowhere() {
@@ -131,14 +132,21 @@ impl<C: Connection> Window<C> {
 
     /// Reads the next frame, over this connection or, where it broke before, a new one.
     fn read_once(&mut self) -> Option<Frame>
-        ensures read { MatchOption result (Goes C.does (Contains self.old.waiting.items) self.old.connection self.new.connection)
-            (λ came. Receives C.does (Contains self.old.waiting.items) came self.old.connection self.new.connection) }
+        ensures read { MatchOption result (Goes C.does (Contains self.old.waiting.items) (out_of self.old) (out_of self.new) self.old.connection self.new.connection)
+            (λ came. Hears C.does came self.old self.new) }
         ensures same { self.new.waiting.items ≡ self.old.waiting.items }
     {
         let written = write_ahead(self.written, &mut self.connection, &self.waiting);
-        let frame = read_where(written, self.alloc, &mut self.connection);
-        self.written = written_after(written, frame.is_some());
-        frame
+        match read_where(written, self.alloc, &mut self.connection) {
+            Some(frame) => {
+                self.written = behind_answer(written);
+                Some(frame)
+            }
+            None => {
+                self.written = Written::Nowhere;
+                None
+            }
+        }
     }
 }
 

@@ -8,7 +8,7 @@ use Rattle.droid_desk_submit.proofs.exporting.ask_part.Goals as goal
 pub returns : goal.returns
 returns g c =
     let part = c.in_ok-part.part in
-    let waiting = c.args.window.now.waiting.items in
-    let after = c.ask.new.self.waiting.items in
-    subst (λ (frame : Frame). Waits g.C.Connection.does frame (replies.Part part.as_of part.total part.bytes) waiting after c.args.window.now.connection c.ask.new.self.connection) c.in_ok-frame.ensures
-    (subst (λ (reply : Reply). Waits g.C.Connection.does c.in_ok-frame.frame reply waiting after c.args.window.now.connection c.ask.new.self.connection) c.in_ok-part.ensures c.in_ok-reply.ensures)
+    let old = c.args.window.now in
+    let new = c.ask.new.self in
+    subst (λ (frame : Frame). Waits g.C.Connection.does frame (replies.Part part.as_of part.total part.bytes) old new) c.in_ok-frame.ensures
+    (subst (λ (reply : Reply). Waits g.C.Connection.does c.in_ok-frame.frame reply old new) c.in_ok-part.ensures c.in_ok-reply.ensures)

@@ -17,5 +17,5 @@ returns-in-Ok-end g c = λ new.
       whole_is = walks.whole_is;
       told = walks.told;
       heard = walks.heard;
-      submits = all_done does old.client old.numbers old.window.connection asked _ _ _ (asked_all does old.client old.numbers old.window.connection [] asked _ _ begun walks.asked) c.in-Ok-end.ensures;
+      submits = all_done does old.client old.numbers old.window.connection asked _ _ (asked_all does old.client old.numbers old.window.connection [] asked _ _ begun walks.asked) c.in-Ok-end.ensures;
     }

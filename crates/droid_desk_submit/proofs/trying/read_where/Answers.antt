@@ -1,12 +1,13 @@
+use Rattle.std.proofs.Common.{[]}
 use Rattle.droid_desk_submit.specs.Events.{Lost}
-use Rattle.droid_desk_submit.proofs.Going.{goes_nowhere, goes_one, receives_one}
+use Rattle.droid_desk_submit.proofs.Going.{goes_less, goes_nowhere, goes_one, none_in, receives_one}
 use Rattle.droid_desk_submit.proofs.trying.read_where.Goals as goal
 
-pub returns-then-is_nowhere : goal.returns-then-is_nowhere
-returns-then-is_nowhere g c = goes_nowhere g.C.Connection.does (λ frame. ⊥) _
+pub returns-then-is_nowhere-clause-read : goal.returns-then-is_nowhere-clause-read
+returns-then-is_nowhere-clause-read g c = λ out. goes_less g.C.Connection.does (λ frame. ⊥) out out [] _ _ (none_in out) (goes_nowhere g.C.Connection.does (λ frame. ⊥) out _)
 
-pub returns-in-Ok : goal.returns-in-Ok
-returns-in-Ok g c = receives_one g.C.Connection.does (λ frame. ⊥) c.in-Ok.frame _ _ c.in-Ok.ensures.came
+pub returns-in-Ok-clause-read : goal.returns-in-Ok-clause-read
+returns-in-Ok-clause-read g c = λ out. receives_one g.C.Connection.does (λ frame. ⊥) c.in-Ok.frame out _ _ c.in-Ok.ensures.came
 
-pub returns-in-Err : goal.returns-in-Err
-returns-in-Err g c = goes_one g.C.Connection.does (λ frame. ⊥) _ _ Lost c.in-Err.ensures.lost tt
+pub returns-in-Err-clause-read : goal.returns-in-Err-clause-read
+returns-in-Err-clause-read g c = λ out. goes_one g.C.Connection.does (λ frame. ⊥) out _ _ Lost c.in-Err.ensures.lost tt

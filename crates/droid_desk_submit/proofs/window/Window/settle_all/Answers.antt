@@ -3,4 +3,4 @@ use Rattle.droid_desk_submit.proofs.Waiting.{ends_all}
 use Rattle.droid_desk_submit.proofs.window.Window.settle_all.Goals as goal
 
 pub returns : goal.returns
-returns g c = ends_all g.C.Connection.does _ _ c.len-count.result _ _ (omega (arith, c.len-count.ensures, c.args.self.now.waiting.ok.0)) c.in_ok-settle.ensures
+returns g c = ends_all g.C.Connection.does c.len-count.result _ _ (omega (arith, c.len-count.ensures, c.args.self.now.waiting.ok.0)) c.in_ok-settle.ensures
