@@ -77,18 +77,15 @@ def told_of_each(lines, begun):
     return found
 
 
-def tried(wanted, room):
+def tried(wanted, tree):
     """Has rt go over these crates in a copy; gives what it said of each wrong body."""
-    tree, own = os.path.join(room, "tree"), os.path.join(room, "tmp")
     lay_out(tree, wanted)
-    os.mkdir(own)
-    # rt's own copies stand in the room, and go with it however rt ends
-    env = {**os.environ, "TMPDIR": own}
-    rt = subprocess.Popen([RT, "ci", *wanted], cwd=tree, env=env, stdin=subprocess.DEVNULL, stdout=subprocess.PIPE, stderr=subprocess.STDOUT, text=True)
+    rt = subprocess.Popen([RT, "ci", *wanted], cwd=tree, stdin=subprocess.DEVNULL, stdout=subprocess.PIPE, stderr=subprocess.STDOUT, text=True)
     try:
         return told_of_each(rt.stdout, time.time())
     finally:
-        # rt has a guard, by which all that it started ends with it
+        # It has a guard, by which all that it started ends with it. What it leaves among the temporary files, its next run
+        # removes.
         rt.kill()
         rt.wait()
 
