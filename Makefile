@@ -31,7 +31,7 @@ test: need_rt
 	sh tests/memory/run.sh
 
 # The prover refuses every wrong body, those of wrong-bodies/ too. All are tried, or those of CRATES="a b", or with
-# BASE=commit those of the crates that changed since and of those above. What the gate found on this machine it takes over.
+# BASE=commit those of the crates that changed since and of those above. What the gate found here it takes over.
 wrong: need_rt need_python
 	@RT=$(RT) python3 tools/wrong.py $(if $(BASE),--base $(BASE)) $(CRATES)
 
@@ -42,15 +42,7 @@ bench: build
 	@RT=$(RT) python3 tools/build.py droid_desk_bench
 	@$(BENCH) times
 	@$(BENCH) assembly
-	@$(BENCH) patterns
-	@$(BENCH) memory '*61(62' '|62' ')00'
-	@$(BENCH) memory '' 61 ''
-	@$(BENCH) memory '' '(61)' ''
-	@$(BENCH) memory 61 '{3}' ''
-	@$(BENCH) memory 61 '*' ''
-	@$(BENCH) service
-	@$(BENCH) commands
-	@$(BENCH) repeats
+	@python3 tests/bench/growth.py $(BENCH)
 	@python3 tests/bench/compare_export.py $(BENCH)
 	@python3 tests/bench/compare_folders_export.py $(PROGRAM)
 	@DROID_DESK=$(CURDIR)/$(PROGRAM) PYTHONPATH=tests/program/wire python3 tests/bench/compare_filters.py
@@ -60,6 +52,7 @@ bench: build
 	@python3 tests/bench/compare_profile.py $(PROGRAM)
 	@python3 tests/bench/memory_of_run.py $(PROGRAM)
 	@python3 tests/bench/compare_submit.py $(PROGRAM)
+	@DROID_DESK=$(CURDIR)/$(PROGRAM) PYTHONPATH=tests/program/wire python3 tests/bench/registries.py
 	@DROID_DESK=$(CURDIR)/$(PROGRAM) PYTHONPATH=tests/program/wire python3 tests/bench/attacks.py
 
 need_rt:

@@ -4,59 +4,30 @@ Usage: compare_run.py PROGRAM BENCH: the built droid_desk and droid_desk_bench. 
 kinds and for 256 pieces of 1 MiB, both times, their ratio and what is wanted. The shortest of some rounds counts.
 """
 import os
-import re
-import subprocess
 import sys
 import tempfile
-import time
 
-# what the frames are, how often each is measured, and the ratio that is wanted at most
-LOADS = [("folders", 3, 1.5), ("status", 5, 1.5), ("pieces", 3, 1.2)]
+from loads import count, create, file, folder, in_memory, status, through_program, whole_file, write
 
-HEADER = 18
-
-
-def count(path):
-    """How many whole frames a file has."""
-    frames = 0
-    left = os.path.getsize(path)
-    with open(path, "rb") as file:
-        while left:
-            header = file.read(HEADER)
-            length = int.from_bytes(header[14:18], "big")
-            left -= HEADER + length
-            if len(header) < HEADER or left < 0:
-                sys.exit("the replies end within a frame")
-            file.seek(length, os.SEEK_CUR)
-            frames += 1
-    return frames
-
-
-def through_program(program, source, target):
-    """The seconds that the program takes from a file to a file."""
-    with open(source, "rb") as frames, open(target, "wb") as replies:
-        start = time.perf_counter()
-        subprocess.run([program, "run"], stdin=frames, stdout=replies, check=True)
-        return time.perf_counter() - start
-
-
-def in_memory(bench, source):
-    """How many frames a service answers in memory, and in how many seconds."""
-    with open(source, "rb") as frames:
-        out = subprocess.run([bench, "answer"], stdin=frames, stdout=subprocess.PIPE, check=True, text=True).stdout
-    found = re.fullmatch(r"run: (\d+) frames in (\d+) microseconds\n", out)
-    return int(found.group(1)), int(found.group(2)) / 1e6
+SMALL = 100_000
+MIB = 1 << 20
+LOADS = {
+    "folders": lambda: [create(), *map(folder, range(1, SMALL))],
+    "status": lambda: [create(), file(1, 256 * MIB, MIB), *map(status, range(2, SMALL))],
+    "pieces": lambda: whole_file(bytes(range(256)) * MIB, MIB),
+}
+# how often each is measured, and the ratio that is wanted at most
+ROWS = [("folders", 3, 1.5), ("status", 5, 1.5), ("pieces", 3, 1.2)]
 
 
 def compare(program, bench, folder, load, rounds, wanted):
     source = os.path.join(folder, load)
     target = source + ".replies"
-    with open(source, "wb") as frames:
-        subprocess.run([bench, "frames", load], stdout=frames, check=True)
+    write(source, LOADS[load]())
+    frames = count(source)
     own, alone = [], []
     for _ in range(rounds):
-        frames, seconds = in_memory(bench, source)
-        alone.append(seconds)
+        alone.append(sum(in_memory(bench, source)))
         own.append(through_program(program, source, target))
         if count(target) != frames:
             sys.exit(f"{load}: the program answers {count(target)} frames of {frames}")
@@ -71,10 +42,9 @@ def compare(program, bench, folder, load, rounds, wanted):
 
 def main():
     program, bench = sys.argv[1:]
-    with tempfile.TemporaryDirectory() as folder:
-        for load, rounds, wanted in LOADS:
-            compare(program, bench, folder, load, rounds, wanted)
+    with tempfile.TemporaryDirectory() as place:
+        for load, rounds, wanted in ROWS:
+            compare(program, bench, place, load, rounds, wanted)
 
 
-if __name__ == "__main__":
-    main()
+main()

@@ -2,21 +2,26 @@
 has a service answer the same frames in memory.
 
 Usage: compare_versions.py PROGRAM BENCH: the built droid_desk and droid_desk_bench. Prints, for pieces of 1 MiB in version 1
-and of 4 MiB in version 2 with each hash and with none, both times, their ratios to another row's and what is wanted. All rows
-come in turn in each round, and the shortest time of each counts.
+and of 4 MiB in version 2 with each hash and with none, both times, their ratios to another row's and what is wanted; and
+those in memory of the first row beside MD5 alone, which goes over all bytes twice: each request has its mark, and the file
+its hash. All rows come in turn in each round, and the shortest time of each counts.
 """
 
 import hashlib
 import os
-import struct
+import re
+import subprocess
 import sys
 import tempfile
 from typing import NamedTuple
 
-from compare_run import in_memory, through_program
+from loads import MD5, frame, in_memory, through_program, whole_file, write
 
 SIZE = 256 << 20
+CONTENT = (bytes(range(251)) * (SIZE // 251 + 1))[:SIZE]
 ROUNDS = 5
+# how many times as long as MD5 alone the first row takes at most
+WANTED = 1.15
 
 
 class Row(NamedTuple):
@@ -30,59 +35,45 @@ class Row(NamedTuple):
     wanted: float = None
 
 
+FIRST = "version 1, MD5"
 ROWS = {
-    "version 1, MD5": Row(1, 1, 1 << 20),
-    "version 2, MD5": Row(2, 1, 4 << 20, "version 1, MD5", 1.0),
+    FIRST: Row(1, MD5, 1 << 20),
+    "version 2, MD5": Row(2, MD5, 4 << 20, FIRST, 1.0),
     "version 2, none": Row(2, 0, 4 << 20, "version 2, MD5", 0.6),
     "version 2, SHA-256": Row(2, 2, 4 << 20),
 }
-DIGESTS = {0: lambda content: b"", 1: lambda content: hashlib.md5(content).digest(), 2: lambda content: hashlib.sha256(content).digest()}
+DIGESTS = {0: b"", MD5: hashlib.md5(CONTENT).digest(), 2: hashlib.sha256(CONTENT).digest()}
 
 
-def frame(version, kind, number, *parts):
-    return struct.pack(">BBIQI", version, kind, 1, number, sum(map(len, parts))) + b"".join(parts)
-
-
-def write(row, path, block):
-    """Writes the frames that make a profile and a file, send its pieces, all the same, and finish it."""
-    piece = block[: row.piece]
+def check(row, target):
+    """The file was finished as it has to be, with nothing found."""
     named = bytes([row.hash]) if row.version == 2 else b""
-    with open(path, "wb") as frames:
-        frames.write(frame(row.version, 1, 0, struct.pack(">IB", 65_536, 0), named))
-        frames.write(frame(row.version, 3, 1, struct.pack(">IIqQI", 1, 0, 0, SIZE, row.piece), b"large.bin"))
-        for index in range(SIZE // row.piece):
-            frames.write(frame(row.version, 4, 2 + index, struct.pack(">III", 1, 1, index), piece))
-        frames.write(frame(row.version, 5, 2 + SIZE // row.piece, struct.pack(">II", 1, 1)))
-
-
-def last_reply(row, block):
-    """The reply to the last frame: nothing is found in the file."""
-    named = bytes([row.hash]) if row.version == 2 else b""
-    digest = DIGESTS[row.hash](block[: row.piece] * (SIZE // row.piece))
-    return frame(row.version, 132, 2 + SIZE // row.piece, b"\0\0", named, digest, b"\0\0")
-
-
-def check(row, target, block):
-    """The file was finished as it has to be."""
+    last = frame(132, 2 + SIZE // row.piece, b"\0\0", named, DIGESTS[row.hash], b"\0\0", version=row.version)
     with open(target, "rb") as replies:
-        if not replies.read().endswith(last_reply(row, block)):
+        if not replies.read().endswith(last):
             sys.exit(f"{row}: the file was not finished as it has to be")
+
+
+def md5_alone(bench):
+    """The seconds that MD5 alone takes for as many bytes, as droid_desk_bench tells it."""
+    out = subprocess.run([bench, "assembly"], stdout=subprocess.PIPE, check=True, text=True).stdout
+    found = re.search(r"in order, MD5 in \d+ microseconds, MD5 alone over the same 256 buffers in (\d+);", out)
+    return int(found[1]) / 1e6
 
 
 def measured(program, bench, folder):
     """The shortest times of each row, from file to file and in memory."""
-    block = bytes(range(251)) * ((4 << 20) // 251 + 1)
     own, alone = {name: [] for name in ROWS}, {name: [] for name in ROWS}
     sources = {name: os.path.join(folder, name) for name in ROWS}
     target = os.path.join(folder, "replies")
     for name, row in ROWS.items():
-        write(row, sources[name], block)
+        write(sources[name], whole_file(CONTENT, row.piece, row.version, row.hash))
         through_program(program, sources[name], target)
-        check(row, target, block)
+        check(row, target)
     for _ in range(ROUNDS):
         for name, source in sources.items():
             own[name].append(through_program(program, source, target))
-            alone[name].append(in_memory(bench, source)[1])
+            alone[name].append(sum(in_memory(bench, source)))
     return [{name: min(times[name]) for name in ROWS} for times in (own, alone)]
 
 
@@ -97,6 +88,8 @@ def main():
         if row.beside:
             ratios = " and ".join(f"{found[name] / found[row.beside]:.2f}" for found in times)
             print(f"  {ratios} times as long as {row.beside}, wanted at most {row.wanted:.2f}")
+    ratio = times[1][FIRST] / md5_alone(bench) / 2
+    print(f"  {FIRST}, in memory {ratio:.2f} times as long as MD5 alone over all bytes twice, wanted at most {WANTED}")
 
 
 main()

@@ -9,14 +9,14 @@ use sha2::{Digest as Sha2Digest, Sha256};
 use std::alloc::{AllocError, Global};
 
 /// A piece of a file.
-#[derive(Debug, Drop)]
+#[derive(Drop)]
 pub struct Piece {
     index: u32,
     bytes: Blob,
 }
 
 /// In which order the pieces of a file come.
-#[derive(Clone, Copy, Debug, PartialEq, Eq)]
+#[derive(Clone, Copy)]
 pub enum Order {
     /// The first one first.
     Rising,

@@ -24,7 +24,7 @@ const SMALL_PIECES: u32 = 1 << 20;
 const LARGE_PIECES: u32 = 256;
 
 /// What becomes of what an assembly hands back.
-#[derive(Clone, Copy, Debug, PartialEq, Eq)]
+#[derive(Clone, Copy)]
 enum Fate {
     /// It is dropped at once.
     Dropped,
@@ -238,12 +238,12 @@ fn small_pieces(alloc: Global, turn: u32, order: Order) -> Result<Vec<Piece>, Er
 }
 
 /// How many hundredths of the other one time is, to the nearest.
-pub fn percent(one: u128, other: u128) -> u128 {
+fn percent(one: u128, other: u128) -> u128 {
     one.saturating_mul(100).saturating_add(other / 2) / other.max(1)
 }
 
 /// What a hash is called.
-pub fn name_of(hash: HashKind) -> &'static str {
+fn name_of(hash: HashKind) -> &'static str {
     match hash {
         HashKind::Nothing => "no hash",
         HashKind::Md5 => "MD5",

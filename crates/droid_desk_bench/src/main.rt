@@ -1,28 +1,20 @@
 //! Measures what a large registry costs: reading it once, and identifying a file with it; what a large export
-//! costs; what one folder more costs in a store that has many; what a file costs piece by piece; and what a large
-//! file, many folders, very many commands and repeats cost a service.
+//! costs; what one folder more costs in a store that has many; what a file costs piece by piece; and what requests cost a
+//! service.
 //!
 //! Without a word on the command line it prints what came out; with the word `times` how long it took too; with the
-//! word `text` the text of the export alone; with the words `store`, `assembly`, `patterns`, `service`, `commands` and
-//! `repeats` the times of those alone; with the word `memory` and the three parts of a pattern, the memory of a registry
-//! of such patterns.
-//! With the words `frames folders`, `frames status` and `frames pieces` it writes such frames, and with the word
-//! `answer` it answers the frames on its input in memory, and prints how long that took.
+//! word `text` the text of the export alone; with the words `store` and `assembly` the times of those alone.
+//! With the word `answer` and a number it answers the frames on its input in memory, and prints how long the first so
+//! many took, and how long the others.
 #![tactic(auto)]
 
+mod answers;
 mod assembly;
 mod bytes;
-mod commands;
 mod export;
 mod files;
 mod generated;
-mod memory;
-mod patterns;
-mod repeats;
-mod requests;
-mod service;
 mod store;
-mod streams;
 mod tables;
 
 ghost use Rattle.std.specs.Prelude.{◌≤◌, length};
@@ -31,10 +23,9 @@ use anyhow::{Context, Error};
 use droid_frame::Method;
 use droid_pronom::{Found, Registry};
 use std::alloc::{AllocError, Global};
-use std::rt::{Clock, Env, Files};
+use std::rt::{Clock, Env};
 use std::time::Instant;
 use std::{env, io};
-use streams::Load;
 
 /// How often a file is identified in one measurement.
 const ROUNDS: u32 = 20;
@@ -46,51 +37,22 @@ fn main(rt: HostRuntime) -> Result<(), Error> {
     if wants(&rt, "assembly")? {
         return files::measure(&rt);
     }
-    if wants(&rt, "patterns")? {
-        return patterns::measure(&rt);
-    }
-    if wants(&rt, "memory")? {
-        return measure_memory(&rt);
-    }
-    if wants(&rt, "service")? {
-        return service::measure(&rt);
-    }
-    if wants(&rt, "commands")? {
-        return commands::measure(&rt);
-    }
-    if wants(&rt, "repeats")? {
-        return repeats::measure(&rt);
-    }
     if wants(&rt, "answer")? {
-        return streams::answer(&rt);
-    }
-    if wants(&rt, "frames")? {
-        return write_frames(&rt);
+        return measure_answers(&rt);
     }
     measure_registry(&rt)
 }
 
-/// Reads a registry of the patterns that the three words after the first one make.
-fn measure_memory<R: Env + Files + Print + AllocGlobal>(rt: &R) -> Result<(), Error> {
+/// Answers the frames on the input, the first so many as the word after the first one says and then the others.
+fn measure_answers<R: Env + Input + Print + Clock + AllocGlobal>(rt: &R) -> Result<(), Error> {
     let words: Vec<String> = env::args(rt)?.collect(rt.alloc())?;
     match words.as_slice() {
-        [_, _, first, unit, last] => {
-            memory::measure(rt, first.as_str(), unit.as_str(), last.as_str())
+        [_, _, first] => {
+            let first = first.parse::<u32>().ok();
+            answers::measure(rt, first.context("no number of frames")?)
         }
-        _ => None.context("a pattern's beginning, what repeats in it, and its end are wanted"),
+        _ => None.context("how many frames come first is wanted"),
     }
-}
-
-/// Writes the frames that the command line names.
-fn write_frames<R: Env + Print + AllocGlobal>(rt: &R) -> Result<(), Error> {
-    let load = if wants(rt, "pieces")? {
-        Load::Pieces
-    } else if wants(rt, "status")? {
-        Load::Status
-    } else {
-        Load::Folders
-    };
-    streams::write(rt, load)
 }
 
 /// Reads a large registry, identifies files with it, and makes an export; and prints what came out.

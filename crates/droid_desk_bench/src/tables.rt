@@ -1,12 +1,15 @@
 //! Measures a store that grows: a folder, a removal and the memory at several numbers of nodes.
 
-use crate::memory::resident;
 use crate::store;
 use anyhow::{Context, Error};
 use droid_store::Store;
 use std::alloc::Global;
+use std::fs;
 use std::rt::{Clock, Files};
 use std::time::Instant;
+
+/// How many bytes a page of memory has.
+const PAGE: usize = 4096;
 
 /// Prints what a store costs that has many nodes.
 pub fn measure<R: Files + Print + Clock + AllocGlobal>(rt: &R) -> Result<(), Error> {
@@ -75,4 +78,13 @@ fn add_files(alloc: Global, store: &mut Store) -> Result<Vec<u32>, Error> {
         files.push(store::add_file(alloc, store)?)?;
     }
     Ok(files)
+}
+
+/// How many bytes of the program are in memory, as Linux tells it.
+fn resident<R: Files + AllocGlobal>(rt: &R) -> Result<usize, Error> {
+    let told = fs::read_to_string(rt, "/proc/self/statm")?;
+    let (_, rest) = told.split_once(' ').context("no size is told")?;
+    let (pages, _) = rest.split_once(' ').context("no pages are told")?;
+    let pages = pages.parse::<usize>().ok().context("no number of pages")?;
+    Ok(pages.saturating_mul(PAGE))
 }
