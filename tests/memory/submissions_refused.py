@@ -2,12 +2,13 @@
 memory. Such a submission ends with status 0 and its export, or tells `fault: Memory` and leaves no file; and the same
 command with memory to spare goes on where it ended, to the same export.
 
-The paths are those of tests/program/submitting and tests/program/folders.
+As many services run at once as there are processors.
 """
-import itertools
 import os
 import subprocess
+import tempfile
 import unittest
+from concurrent.futures import ThreadPoolExecutor
 
 from submissions import PIECE, Service, WithTree
 from trees import PROGRAM
@@ -19,47 +20,43 @@ WANTED = (4, 6)
 
 
 class Refused(WithTree):
-    def setUp(self):
-        super().setUp()
-        self.counted = self.work + b"/counted"
-
     def submit(self, port, client, **more):
         """Runs `submit`, and gives its status, its standard error, and the export, where there is one."""
-        words = [PROGRAM, "submit", self.top, "--port", str(port), "--client", str(client), "--piece-size", str(PIECE)]
-        run = subprocess.run(
-            [*words, "--export", self.export, "--quiet"],
-            capture_output=True,
-            timeout=60,
-            env={**os.environ, **{name: str(value) for name, value in more.items()}},
-        )
-        self.assertEqual(self.beside(), [])
-        text = None
-        if os.path.exists(self.export):
-            text = self.exported()
-            os.remove(self.export)
-        return run.returncode, run.stderr, text
+        with tempfile.TemporaryDirectory(dir=self.work) as made:
+            export = os.path.join(made, b"export.csv")
+            words = [PROGRAM, "submit", self.top, "--port", str(port), "--client", str(client), "--piece-size", str(PIECE)]
+            run = subprocess.run(
+                [*words, "--export", export, "--quiet"],
+                capture_output=True,
+                timeout=120,
+                env={**os.environ, **{name: str(value) for name, value in more.items()}},
+            )
+            there = os.listdir(made)
+            self.assertIn(there, [[], [b"export.csv"]])
+            if not there:
+                return run.returncode, run.stderr, None
+            with open(export, "rb") as file:
+                return run.returncode, run.stderr, file.read()
 
-    def beside(self):
-        return [name for name in super().beside() if name != b"counted"]
-
-    def count(self, port, client):
+    def count(self):
         """How many allocations a whole submission makes, and its export."""
-        ended = self.submit(port, client, LD_PRELOAD=os.environ["REFUSING"], ALLOCATIONS=os.fsdecode(self.counted))
-        self.assertEqual(ended[:2], (0, b""))
-        with open(self.counted) as file:
-            return int(file.read()), ended[2]
+        with Service() as service, tempfile.NamedTemporaryFile("r") as counted:
+            ended = self.submit(service.port, 1, LD_PRELOAD=os.environ["REFUSING"], ALLOCATIONS=counted.name)
+            self.assertEqual(ended[:2], (0, b""))
+            return int(counted.read()), ended[2]
 
     def test_each_in_turn(self):
-        with Service() as service:
-            count, text = self.count(service.port, 1)
+        count, text = self.count()
         self.assertGreater(count, 100)
-        numbers = iter(range(1, count + 1))
-        ended = set()
-        while some := list(itertools.islice(numbers, PROFILES)):
-            with Service() as service:
-                for number in some:
-                    ended.add(self.one_refused(service.port, number, text))
-        self.assertEqual(ended, {0, *WANTED})
+        numbers = range(1, count + 1)
+        with ThreadPoolExecutor(len(os.sched_getaffinity(0))) as pool:
+            ended = pool.map(lambda at: self.some_refused(numbers[at : at + PROFILES], text), range(0, count, PROFILES))
+            self.assertEqual({status for statuses in ended for status in statuses}, {0, *WANTED})
+
+    def some_refused(self, numbers, text):
+        """Submits to one service, with each of these allocations refused: the statuses."""
+        with Service() as service:
+            return [self.one_refused(service.port, number, text) for number in numbers]
 
     def one_refused(self, port, number, text):
         """Submits with this allocation refused, and then the same with memory to spare; gives the first one's status."""
@@ -70,3 +67,7 @@ class Refused(WithTree):
             self.assertEqual((status, said, made), (0, b"", text), number)
         self.assertEqual(self.submit(port, number), (0, b"", text), number)
         return status
+
+
+if __name__ == "__main__":
+    unittest.main()

@@ -22,15 +22,17 @@ esac
 work=$(mktemp -d) || exit 1
 trap 'rm -rf "$work"' EXIT
 
-passed=0
-failed=0
+# Runs one part, and shows all that it says once it has ended, and whether it failed.
 part() {
-    if "$@"; then
-        passed=$((passed + 1))
+    said=$(mktemp "$work/said.XXXXXX")
+    if "$@" >"$said" 2>&1; then
+        ended=passed
     else
-        failed=$((failed + 1))
-        echo "$(basename "$2"): failed"
+        ended=failed
+        echo "$(basename "$2"): failed" >>"$said"
     fi
+    cat "$said"
+    echo "$ended" >>"$work/ended"
 }
 
 # the example's replies are the program's and the model's
@@ -38,6 +40,11 @@ example() {
     "$2" script <"$1/deposit.script" | cmp - "$1/deposit.replies"
 }
 
+# what uses ports comes one after the other, so that no test takes another's; beside it all the rest
+{
+    part sh "$tests/wire/run.sh" "$program"
+    part sh "$tests/submitting/run.sh" "$program"
+} &
 part sh "$tests/cases.sh" "$program"
 part example "$top/examples" "$program"
 part example "$top/examples" "$tests/model/main.py"
@@ -47,8 +54,8 @@ part sh "$tests/endings.sh" "$program"
 part sh "$tests/model.sh"
 part sh "$tests/random.sh" "$program"
 part sh "$tests/sizes.sh" "$program"
-part sh "$tests/wire/run.sh" "$program"
 part sh "$tests/folders/run.sh" "$program"
-part sh "$tests/submitting/run.sh" "$program"
-echo "$passed passed, $failed failed"
+wait
+failed=$(grep -c failed "$work/ended")
+echo "$(grep -c passed "$work/ended") passed, $failed failed"
 [ "$failed" -eq 0 ]

@@ -1,0 +1,100 @@
+"""The program's `script` over its stored script, in both versions, and its `profile` of a folder, again and again, each
+time with another of their allocations refused.
+
+As many run at once as there are processors. The program's path is in DROID_DESK, that of the built refuse.c in REFUSING.
+"""
+import os
+import subprocess
+import tempfile
+import unittest
+from concurrent.futures import ThreadPoolExecutor
+
+from trees import PROGRAM, InFolder
+
+TOP = os.path.join(os.path.dirname(os.path.abspath(__file__)), "..", "..")
+STORED = os.path.join(TOP, "crates", "droid_desk", "stdin")
+REGISTRY = os.path.join(TOP, "tests", "program", "sample_registry.csv")
+FAULT = b"fault: Memory\n"
+# how want of memory ends a command: 3 and 6 before it began, 4 within it, 0 where no more than a request was refused
+STATUSES = {0, 3, 4, 6}
+# fewer allocations would say that they aren't seen
+FEWEST = 20
+
+# the replies to the stored script's four requests, and those where one of the four is refused for memory
+REPLIES = b"made 1\nnode 1\nnode 1\nrefused 2\n"
+WANTING = [
+    b"refused 18\nrefused 3\nrefused 3\nrefused 3\n",
+    b"made 1\nrefused 18\nnode 1\nrefused 2\n",
+    b"made 1\nnode 1\nrefused 18\nrefused 2\n",
+    b"made 1\nnode 1\nnode 1\nrefused 18\n",
+]
+
+
+def run(*words, given=b"", **variables):
+    """Runs a command, its allocations counted or one of them refused: its status, what it wrote, and what it said."""
+    environment = {**os.environ, "LD_PRELOAD": os.environ["REFUSING"], **variables}
+    done = subprocess.run([PROGRAM, *words], input=given, capture_output=True, timeout=60, env=environment)
+    return done.returncode, done.stdout, done.stderr
+
+
+class Refused(InFolder):
+    def each_in_turn(self, command, is_right):
+        """Runs a command with each of its allocations refused. Each run has to be right, and some end with each status."""
+        with tempfile.NamedTemporaryFile("r") as file:
+            command(ALLOCATIONS=file.name)
+            numbers = range(1, int(file.read()) + 1)
+        self.assertGreaterEqual(len(numbers), FEWEST)
+        with ThreadPoolExecutor(len(os.sched_getaffinity(0))) as pool:
+            ended = list(pool.map(lambda number: command(REFUSE=str(number)), numbers))
+        wrong = [f"allocation {number} of {len(numbers)}: {told}" for number, told in zip(numbers, ended) if not is_right(*told)]
+        self.assertEqual(wrong, [], "\n".join(wrong))
+        self.assertEqual({told[0] for told in ended}, STATUSES)
+
+    def each_of_a_script(self, script):
+        self.each_in_turn(lambda **variables: run("script", given=script, **variables), script_is_right)
+
+    def test_script(self):
+        with open(STORED, "rb") as file:
+            self.each_of_a_script(file.read())
+
+    def test_script_of_version_2(self):
+        """It has the same replies."""
+        with open(STORED, "rb") as file:
+            lines = file.read().splitlines()
+        hashed = [line + b" md5" * (b" create " in line) for line in lines]
+        self.each_of_a_script(b"".join(b"v2 %s\n" % line for line in hashed))
+
+    def profile(self, **variables):
+        """Profiles the folder: the status, what was written and said of a fault, and the files that are there, by name."""
+        with tempfile.TemporaryDirectory(dir=self.work) as made:
+            path = os.path.join(made, b"profile.csv")
+            status, written, said = run("profile", self.top, "--registry", REGISTRY, "--output", path, **variables)
+            faults = b"".join(line for line in said.splitlines(True) if line.startswith(b"fault: "))
+            files = {}
+            for name in os.listdir(made):
+                with open(os.path.join(made, name), "rb") as file:
+                    files[name] = file.read()
+        return status, written + faults, files
+
+    def test_profile(self):
+        """Two folders and two files, of which one is named and one is not. The profile is there as it is with memory to
+        spare, or no file is, nor one that is unfinished."""
+        self.folder(b"/outer/inner")
+        self.file(b"/outer/first.msg", b"message of a file")
+        self.file(b"/outer/inner/second", b"nothing that is known")
+        whole = self.profile()
+        self.assertEqual((whole[0], whole[1], [*whole[2]]), (0, b"", [b"profile.csv"]))
+        self.assertTrue(whole[2][b"profile.csv"])
+        self.each_in_turn(self.profile, lambda *told: told == whole if told[0] == 0 else told[0] in STATUSES and told[1:] == (FAULT, {}))
+
+
+def script_is_right(status, written, said):
+    """With status 0 all replies were written, at most one of them as refused, with what follows from that; with 4 the
+    first ones; else none."""
+    if status == 0:
+        return not said and written in [REPLIES, *WANTING]
+    return status in STATUSES and said == FAULT and (REPLIES.startswith(written) if status == 4 else not written)
+
+
+if __name__ == "__main__":
+    unittest.main()

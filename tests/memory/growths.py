@@ -1,0 +1,75 @@
+"""Tests of the crates again and again, each time with another of their allocations refused (the preloaded library that
+REFUSING names, refuse.c). Such a test asks again where memory was refused, so it passes whichever allocation it was.
+
+The tests are those that `rt ci` or `rt test` left in the crates' out/. As many run at once as there are processors.
+"""
+import os
+import subprocess
+import tempfile
+import unittest
+from concurrent.futures import ThreadPoolExecutor
+
+CRATES = os.path.join(os.path.dirname(os.path.abspath(__file__)), "..", "..", "crates")
+# each crate with its tests of growths, which all of its calls that take memory are in
+TESTS = {
+    "droid_core_tests": [
+        "memory::one_after_the_other",
+        "memory::in_one_run",
+        "memory::in_one_run_of_version_2",
+        "scripts::each_growth_of_a_script",
+        "scripts::each_growth_of_version_2",
+    ],
+    "droid_core": ["service::tests::memory::each_growth_of_both"],
+    "droid_assembly_tests": ["memory::each_growth_refused"],
+    "droid_pronom_tests": ["memory::each_growth_of_a_registry", "memory::each_growth_of_a_search"],
+    "droid_frame_tests": ["memory::each_growth_of_a_request", "memory::each_growth_of_a_reply"],
+    "droid_frame_stream_tests": ["streams::growths_refused"],
+    "droid_wire_client_tests": ["memory::wanting_and_again"],
+    "droid_desk_sender_tests": ["memory::each_growth_of_a_sending"],
+    "droid_wire_tests": ["memory::each_growth_of_serving"],
+    "droid_export_tests": ["memory::each_growth_of_small_texts", "memory::each_growth_of_an_export"],
+    "droid_store_tests": ["memory::each_growth_of_the_store"],
+}
+# a test of none of whose allocations anything was seen would pass by that alone
+FEWEST = 3
+
+
+def run(crate, test, **variables):
+    """Runs one test, and gives its status and what it said."""
+    program = os.path.join(CRATES, crate, "out", f"{crate}_tests")
+    environment = {**os.environ, "LD_PRELOAD": os.environ["REFUSING"], **variables}
+    done = subprocess.run([program, test], stdout=subprocess.PIPE, stderr=subprocess.STDOUT, env=environment)
+    return done.returncode, done.stdout.decode(errors="replace")
+
+
+def count(crate, test):
+    """How many allocations it makes with memory to spare."""
+    with tempfile.NamedTemporaryFile("r") as file:
+        status, said = run(crate, test, ALLOCATIONS=file.name)
+        if status:
+            raise AssertionError(f"{test}, with memory to spare: {said}")
+        return int(file.read())
+
+
+class Growths(unittest.TestCase):
+    def test_each_in_turn(self):
+        rows = []
+        for crate, tests in TESTS.items():
+            for test in tests:
+                asked = count(crate, test)
+                self.assertGreaterEqual(asked, FEWEST, test)
+                rows += [(crate, test, number) for number in range(1, asked + 1)]
+        with ThreadPoolExecutor(len(os.sched_getaffinity(0))) as pool:
+            ended = list(pool.map(lambda row: run(*row[:2], REFUSE=str(row[2])), rows))
+        failed = [f"{test}, with allocation {number} refused: {said}" for (_, test, number), (status, said) in zip(rows, ended) if status]
+        self.assertEqual(failed, [], "\n".join(failed))
+        print(f"{len(rows)} allocations refused", flush=True)
+
+    def test_an_assembly_takes_none_once_it_was_made(self):
+        """The test that makes every call asks for memory as often as the one that makes none."""
+        with_calls, without = (count("droid_assembly_tests", f"memory::{test}") for test in ("each_growth_refused", "growths_without_calls"))
+        self.assertEqual(with_calls, without)
+
+
+if __name__ == "__main__":
+    unittest.main()
