@@ -1,7 +1,8 @@
-"""Tests of the crates again and again, each time with another of their allocations refused (the preloaded library that
-REFUSING names, refuse.c). Such a test asks again where memory was refused, so it passes whichever allocation it was.
+"""Runs tests of the crates again and again, each time with another of their allocations refused. Such a test asks again where
+memory was refused, so it passes whichever allocation it was.
 
-The tests are those that `rt ci` or `rt test` left in the crates' out/. As many run at once as there are processors.
+The tests are those that `rt ci` or `rt test` left in the crates' out/. As many run at once as there are processors. The path
+of the built refuse.c is in REFUSING.
 """
 import os
 import subprocess
@@ -10,7 +11,7 @@ import unittest
 from concurrent.futures import ThreadPoolExecutor
 
 CRATES = os.path.join(os.path.dirname(os.path.abspath(__file__)), "..", "..", "crates")
-# each crate with its tests of growths, which all of its calls that take memory are in
+# each crate with those of its tests that pass whichever allocation is refused
 TESTS = {
     "droid_core_tests": [
         "memory::one_after_the_other",
@@ -30,7 +31,7 @@ TESTS = {
     "droid_export_tests": ["memory::each_growth_of_small_texts", "memory::each_growth_of_an_export"],
     "droid_store_tests": ["memory::each_growth_of_the_store"],
 }
-# a test of none of whose allocations anything was seen would pass by that alone
+# fewer allocations would say that they aren't seen
 FEWEST = 3
 
 

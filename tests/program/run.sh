@@ -24,7 +24,7 @@ trap 'rm -rf "$work"' EXIT
 
 # Runs one part, and shows all that it says once it has ended, and whether it failed.
 part() {
-    said=$(mktemp "$work/said.XXXXXX")
+    said=$(mktemp -p "$work")
     if "$@" >"$said" 2>&1; then
         ended=passed
     else
@@ -55,7 +55,8 @@ part sh "$tests/model.sh"
 part sh "$tests/random.sh" "$program"
 part sh "$tests/sizes.sh" "$program"
 part sh "$tests/folders/run.sh" "$program"
-wait
+# (0 unless it was ended)
+wait "$!" || echo failed >>"$work/ended"
 failed=$(grep -c failed "$work/ended")
 echo "$(grep -c passed "$work/ended") passed, $failed failed"
 [ "$failed" -eq 0 ]
