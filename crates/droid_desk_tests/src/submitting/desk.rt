@@ -1,22 +1,17 @@
 //! A service behind a connection that breaks.
 
-use crate::small_tree::{Noting, OPTIONS, Row, SmallTree};
-use droid_core::{Limits, Service};
+use crate::memory_tree::{MemoryTree, Row};
+use crate::sample_service::sample_service;
+use crate::submitting::small_tree::OPTIONS;
+use crate::watching::Watching;
+use droid_core::Service;
 use droid_desk_submit::{Broken, Connection, Sender, SubmitFault, Window, submit};
 use droid_frame::{
     Blob, Criteria, Filter, Frame, Reply, Request, is_version, reply_body, request_frame,
 };
-use droid_pronom::Registry;
-use droid_pronom_sample::SAMPLE;
 use std::alloc::{AllocError, Global};
 use std::collections::VecDeque;
 use std::test::Fail;
-
-const LIMITS: Limits = Limits {
-    profiles: 64,
-    nodes: 100_000,
-    unfinished: 64,
-};
 
 /// The client.
 pub const CLIENT: u32 = 7;
@@ -58,9 +53,7 @@ pub struct Desk {
 
 impl Desk {
     pub fn new(alloc: Global, breaks_at: u32, way: Way) -> Result<Desk, Fail> {
-        let registry = Registry::parse(alloc, SAMPLE.as_bytes())?;
-        let service = Service::new(alloc, registry, LIMITS)?;
-        Ok(Desk::over(alloc, service, breaks_at, way))
+        Ok(Desk::over(alloc, sample_service(alloc)?, breaks_at, way))
     }
 
     pub fn over(alloc: Global, service: Service, breaks_at: u32, way: Way) -> Desk {
@@ -175,10 +168,10 @@ pub fn service_of(sender: Sender<Desk>) -> Service {
 pub fn submitted(
     alloc: Global,
     sender: &mut Sender<Desk>,
-    watcher: &mut Noting,
+    watcher: &mut Watching,
     rows: &[Row],
 ) -> Result<bool, SubmitFault> {
-    let mut tree = SmallTree { rows, read: 0 };
+    let mut tree = MemoryTree::of(rows);
     let walked = submit(alloc, &mut tree, sender, watcher, OPTIONS)?;
     Ok(walked.whole)
 }

@@ -1,7 +1,8 @@
 //! How much is under way, and how often it is tried.
 
-use crate::desk::{CLIENT, Desk, Way, submitted};
-use crate::small_tree::{Noting, ROWS};
+use crate::submitting::desk::{CLIENT, Desk, Way, submitted};
+use crate::submitting::small_tree::ROWS;
+use crate::watching::Watching;
 use droid_desk_submit::{SendFault, Sender, SubmitFault};
 use std::test::Fail;
 
@@ -10,7 +11,7 @@ fn sixteen_at_most(rt: HostRuntime) -> Result<(), Fail> {
     let alloc = rt.alloc();
     let desk = Desk::new(alloc, 0, Way::Unsent)?;
     let mut sender = Sender::new(alloc, desk, CLIENT, 1);
-    let mut watcher = Noting::new(alloc);
+    let mut watcher = Watching::new(alloc);
     assert!(rt; submitted(alloc, &mut sender, &mut watcher, &ROWS)?);
     assert!(rt; sender.window.connection.most == 16);
     Ok(())
@@ -23,7 +24,7 @@ fn one_frame_alone(rt: HostRuntime) -> Result<(), Fail> {
     let mut desk = Desk::new(alloc, 0, Way::Unsent)?;
     desk.lives = 2;
     let mut sender = Sender::new(alloc, desk, CLIENT, 1);
-    let mut watcher = Noting::new(alloc);
+    let mut watcher = Watching::new(alloc);
     let ended = submitted(alloc, &mut sender, &mut watcher, &ROWS);
     assert!(rt; matches!(&ended, Err(SubmitFault::Sending(SendFault::Broken))));
     assert!(rt; sender.window.connection.joins == 10);
@@ -35,7 +36,7 @@ fn ten_tries(rt: HostRuntime) -> Result<(), Fail> {
     let alloc = rt.alloc();
     let desk = Desk::new(alloc, 1, Way::Gone)?;
     let mut sender = Sender::new(alloc, desk, CLIENT, 1);
-    let mut watcher = Noting::new(alloc);
+    let mut watcher = Watching::new(alloc);
     let ended = submitted(alloc, &mut sender, &mut watcher, &ROWS);
     assert!(rt; matches!(&ended, Err(SubmitFault::Sending(SendFault::Broken))));
     assert!(rt; sender.window.connection.step == 10);

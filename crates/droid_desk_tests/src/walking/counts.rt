@@ -1,7 +1,7 @@
 //! What a first pass counts.
 
-use crate::leaving_out::ROWS;
 use crate::memory_tree::MemoryTree;
+use crate::walking::leaving_out::ROWS;
 use droid_desk_tree::{WalkFault, count};
 use std::test::Fail;
 
@@ -10,7 +10,7 @@ use std::test::Fail;
 #[test]
 fn counts(rt: HostRuntime) -> Result<(), Fail> {
     let alloc = rt.alloc();
-    let mut tree = MemoryTree { rows: &ROWS };
+    let mut tree = MemoryTree::of(&ROWS);
     let counted = count(alloc, &mut tree, 6)?;
     assert!(rt; counted.folders == 2 && counted.files == 4);
     assert!(rt; counted.bytes == 12 && counted.left_out == 3);
@@ -20,7 +20,7 @@ fn counts(rt: HostRuntime) -> Result<(), Fail> {
 #[test]
 fn one_more_than_the_limit(rt: HostRuntime) -> Result<(), Fail> {
     let alloc = rt.alloc();
-    let mut tree = MemoryTree { rows: &ROWS };
+    let mut tree = MemoryTree::of(&ROWS);
     let counted = count(alloc, &mut tree, 5);
     assert!(rt; matches!(&counted, Err(WalkFault::Entries)));
     Ok(())

@@ -1,7 +1,8 @@
 //! What lies in a folder comes after it, and siblings come in the order of their names' bytes.
 
 use crate::memory_tree::{MemoryTree, Row};
-use crate::notes::{Noting, OPTIONS, Watching};
+use crate::walking::notes::{Noting, OPTIONS};
+use crate::watching::Watching;
 use droid_desk_tree::{EntryKind, WalkFault, walk};
 use std::test::Fail;
 
@@ -23,7 +24,7 @@ const TWICE: [Row; 2] = [
 #[test]
 fn orders(rt: HostRuntime) -> Result<(), Fail> {
     let alloc = rt.alloc();
-    let mut tree = MemoryTree { rows: &ROWS };
+    let mut tree = MemoryTree::of(&ROWS);
     let mut service = Noting::new(alloc);
     let mut watcher = Watching::new(alloc);
     let walked = walk(alloc, &mut tree, &mut service, &mut watcher, OPTIONS)?;
@@ -37,7 +38,7 @@ fn orders(rt: HostRuntime) -> Result<(), Fail> {
 #[test]
 fn a_name_that_stands_twice(rt: HostRuntime) -> Result<(), Fail> {
     let alloc = rt.alloc();
-    let mut tree = MemoryTree { rows: &TWICE };
+    let mut tree = MemoryTree::of(&TWICE);
     let mut service = Noting::new(alloc);
     let mut watcher = Watching::new(alloc);
     let walked = walk(alloc, &mut tree, &mut service, &mut watcher, OPTIONS);

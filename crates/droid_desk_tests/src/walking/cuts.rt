@@ -1,7 +1,8 @@
 //! Files of no byte, of one, of a piece, and of one byte more.
 
 use crate::memory_tree::{MemoryTree, Row};
-use crate::notes::{Noting, OPTIONS, Watching};
+use crate::walking::notes::{Noting, OPTIONS};
+use crate::watching::Watching;
 use droid_desk_tree::{EntryKind, walk, walk_on};
 use std::test::Fail;
 
@@ -19,7 +20,7 @@ fn cuts(rt: HostRuntime) -> Result<(), Fail> {
     let alloc = rt.alloc();
     for (bytes, wanted) in &ROWS {
         let rows: [Row; 1] = [("", b"f", EntryKind::File, bytes.len() as u64, Some(bytes))];
-        let mut tree = MemoryTree { rows: &rows };
+        let mut tree = MemoryTree::of(&rows);
         let mut service = Noting::new(alloc);
         let mut watcher = Watching::new(alloc);
         let walked = walk(alloc, &mut tree, &mut service, &mut watcher, OPTIONS)?;
@@ -47,7 +48,7 @@ fn held(rt: HostRuntime) -> Result<(), Fail> {
     let alloc = rt.alloc();
     for (bytes, missing, wanted, held) in &HELD {
         let rows: [Row; 1] = [("", b"f", EntryKind::File, bytes.len() as u64, Some(bytes))];
-        let mut tree = MemoryTree { rows: &rows };
+        let mut tree = MemoryTree::of(&rows);
         let mut service = Noting::new(alloc);
         service.missing = Some(*missing);
         let mut watcher = Watching::new(alloc);

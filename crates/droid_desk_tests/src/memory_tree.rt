@@ -16,6 +16,14 @@ pub type Row<'a> = (&'a str, &'a [u8], EntryKind, u64, Option<&'a [u8]>);
 #[derive(Drop)]
 pub struct MemoryTree<'a> {
     pub rows: &'a [Row<'a>],
+    /// How many bytes were read.
+    pub read: u64,
+}
+
+impl<'a> MemoryTree<'a> {
+    pub fn of(rows: &'a [Row<'a>]) -> MemoryTree<'a> {
+        MemoryTree { rows, read: 0 }
+    }
 }
 
 impl Tree for MemoryTree<'_> {
@@ -44,7 +52,9 @@ impl Tree for MemoryTree<'_> {
         let Some(all) = bytes_of(self.rows, path) else {
             return Err(TreeFault::Unreadable);
         };
-        match bytes.extend_from_slice(cut(all, from, wanted)) {
+        let part = cut(all, from, wanted);
+        self.read = self.read.wrapping_add(part.len() as u64);
+        match bytes.extend_from_slice(part) {
             Ok(()) => Ok(()),
             Err(_) => Err(TreeFault::Memory),
         }

@@ -1,7 +1,8 @@
 //! What can't be taken is told, and the walk goes on.
 
 use crate::memory_tree::{MemoryTree, Row};
-use crate::notes::{Noting, OPTIONS, Watching};
+use crate::walking::notes::{Noting, OPTIONS};
+use crate::watching::Watching;
 use droid_desk_tree::{EntryKind, walk};
 use std::test::Fail;
 
@@ -22,7 +23,7 @@ const LEFT: &[u8] =
 #[test]
 fn left_out(rt: HostRuntime) -> Result<(), Fail> {
     let alloc = rt.alloc();
-    let mut tree = MemoryTree { rows: &ROWS };
+    let mut tree = MemoryTree::of(&ROWS);
     let mut service = Noting::new(alloc);
     let mut watcher = Watching::new(alloc);
     let walked = walk(alloc, &mut tree, &mut service, &mut watcher, OPTIONS)?;

@@ -1,21 +1,12 @@
 //! The profile of a small tree, as CSV. (The digests are those of RFC 1321's test suite.)
 
 use crate::memory_tree::{MemoryTree, Row};
-use crate::notes::Watching;
-use droid_core::{Limits, Service};
+use crate::sample_service::sample_service;
+use crate::watching::Watching;
 use droid_desk_profile::profile;
 use droid_desk_tree::{EntryKind, Options};
 use droid_frame::{HashKind, Noted};
-use droid_pronom::Registry;
-use droid_pronom_sample::SAMPLE;
-use std::alloc::Global;
 use std::test::Fail;
-
-const LIMITS: Limits = Limits {
-    profiles: 64,
-    nodes: 100_000,
-    unfinished: 64,
-};
 
 const OPTIONS: Options = Options {
     scan_limit: 65_536,
@@ -49,20 +40,15 @@ const TEXT: &str =
 \"4\",\"2\",\"file:/d/digest.msg\",\"/d/digest.msg\",\"digest.msg\",\"Signature\",\"Done\",\"14\",\"File\",\"msg\",\"1970-01-01T00:00:00\",\"false\",\"f96b697d7cb7938d525a2f31aaf161d0\",\"2\",\"dev/1\",\"\",\"Message\",\"1\"\n\
 \"4\",\"2\",\"file:/d/digest.msg\",\"/d/digest.msg\",\"digest.msg\",\"Signature\",\"Done\",\"14\",\"File\",\"msg\",\"1970-01-01T00:00:00\",\"false\",\"f96b697d7cb7938d525a2f31aaf161d0\",\"2\",\"dev/3\",\"\",\"Letters\",\"\"\n";
 
-fn service(alloc: Global) -> Result<Service, Fail> {
-    let registry = Registry::parse(alloc, SAMPLE.as_bytes())?;
-    Ok(Service::new(alloc, registry, LIMITS)?)
-}
-
 #[test]
 fn small_tree(rt: HostRuntime) -> Result<(), Fail> {
     let alloc = rt.alloc();
-    let mut tree = MemoryTree { rows: &ROWS };
+    let mut tree = MemoryTree::of(&ROWS);
     let mut watcher = Watching::new(alloc);
     let mut output = Noted::new(Vec::new(alloc));
     let whole = profile(
         alloc,
-        service(alloc)?,
+        sample_service(alloc)?,
         &mut tree,
         &mut watcher,
         OPTIONS,
@@ -79,12 +65,12 @@ fn names_of_255_and_256_bytes(rt: HostRuntime) -> Result<(), Fail> {
         ("", TOO_LONG, EntryKind::File, 0, Some(b"")),
         ("", LONG, EntryKind::Folder, 0, Some(b"")),
     ];
-    let mut tree = MemoryTree { rows: &rows };
+    let mut tree = MemoryTree::of(&rows);
     let mut watcher = Watching::new(alloc);
     let mut output = Noted::new(Vec::new(alloc));
     let whole = profile(
         alloc,
-        service(alloc)?,
+        sample_service(alloc)?,
         &mut tree,
         &mut watcher,
         OPTIONS,
@@ -115,7 +101,7 @@ fn hashes(rt: HostRuntime) -> Result<(), Fail> {
     let alloc = rt.alloc();
     let rows: [Row; 1] = [("", b"abc", EntryKind::File, 3, Some(b"abc"))];
     for (hash, column, digest) in &HASHES {
-        let mut tree = MemoryTree { rows: &rows };
+        let mut tree = MemoryTree::of(&rows);
         let mut watcher = Watching::new(alloc);
         let mut output = Noted::new(Vec::new(alloc));
         let options = Options {
@@ -124,7 +110,7 @@ fn hashes(rt: HostRuntime) -> Result<(), Fail> {
         };
         let whole = profile(
             alloc,
-            service(alloc)?,
+            sample_service(alloc)?,
             &mut tree,
             &mut watcher,
             options,

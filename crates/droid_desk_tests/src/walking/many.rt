@@ -1,6 +1,7 @@
 //! More entries than a profile has nodes.
 
-use crate::notes::{Noting, OPTIONS, Watching};
+use crate::walking::notes::{Noting, OPTIONS};
+use crate::watching::Watching;
 use droid_desk_tree::{Entry, EntryKind, Tree, TreeFault, WalkFault, count, walk};
 use droid_frame::Blob;
 use std::alloc::{AllocError, Global};

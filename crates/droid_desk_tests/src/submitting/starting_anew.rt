@@ -1,7 +1,9 @@
 //! A submission ends at each of its steps, and is started anew from its first number.
 
-use crate::desk::{CLIENT, Desk, Way, exported, service_of, submitted};
-use crate::small_tree::{BYTES, Noting, OPTIONS, PIECES, ROWS, SmallTree};
+use crate::memory_tree::MemoryTree;
+use crate::submitting::desk::{CLIENT, Desk, Way, exported, service_of, submitted};
+use crate::submitting::small_tree::{BYTES, OPTIONS, PIECES, ROWS};
+use crate::watching::Watching;
 use droid_desk_submit::{SendFault, Sender, SubmitFault, submit};
 use std::test::Fail;
 
@@ -13,7 +15,7 @@ fn at_each_step(rt: HostRuntime) -> Result<(), Fail> {
     let alloc = rt.alloc();
     let whole = Desk::new(alloc, 0, Way::Unsent)?;
     let mut sender = Sender::new(alloc, whole, CLIENT, 1);
-    let mut watcher = Noting::new(alloc);
+    let mut watcher = Watching::new(alloc);
     assert!(rt; submitted(alloc, &mut sender, &mut watcher, &ROWS)?);
     let text = exported(alloc, &mut sender.window.connection.service)?;
     let steps = sender.window.connection.step;
@@ -50,15 +52,12 @@ fn all_is_there(rt: HostRuntime) -> Result<(), Fail> {
     let alloc = rt.alloc();
     let desk = Desk::new(alloc, 0, Way::Unsent)?;
     let mut sender = Sender::new(alloc, desk, CLIENT, 1);
-    let mut watcher = Noting::new(alloc);
+    let mut watcher = Watching::new(alloc);
     assert!(rt; submitted(alloc, &mut sender, &mut watcher, &ROWS)?);
     let next = sender.numbers.next;
     let desk = Desk::over(alloc, service_of(sender), 0, Way::Unsent);
     let mut sender = Sender::new(alloc, desk, CLIENT, 1);
-    let mut tree = SmallTree {
-        rows: &ROWS,
-        read: 0,
-    };
+    let mut tree = MemoryTree::of(&ROWS);
     let walked = submit(alloc, &mut tree, &mut sender, &mut watcher, OPTIONS)?;
     assert!(rt; walked.whole);
     assert!(rt; sender.numbers.next == next && sender.window.connection.pieces == 0);

@@ -1,7 +1,8 @@
 //! The connection breaks at each step of a submission, before its frame arrives or behind it, and it goes on.
 
-use crate::desk::{CLIENT, Desk, Way, exported, submitted};
-use crate::small_tree::{Noting, PIECES, ROWS};
+use crate::submitting::desk::{CLIENT, Desk, Way, exported, submitted};
+use crate::submitting::small_tree::{PIECES, ROWS};
+use crate::watching::Watching;
 use droid_desk_submit::Sender;
 use droid_frame::Blob;
 use std::alloc::Global;
@@ -11,7 +12,7 @@ use std::test::Fail;
 fn run(alloc: Global, breaks_at: u32, way: Way) -> Result<(Blob, u32, u32), Fail> {
     let desk = Desk::new(alloc, breaks_at, way)?;
     let mut sender = Sender::new(alloc, desk, CLIENT, 1);
-    let mut watcher = Noting::new(alloc);
+    let mut watcher = Watching::new(alloc);
     let whole = submitted(alloc, &mut sender, &mut watcher, &ROWS)?;
     let steps = sender.window.connection.step;
     let joins = sender.window.connection.joins;
@@ -27,7 +28,7 @@ fn unbroken(rt: HostRuntime) -> Result<(), Fail> {
     let alloc = rt.alloc();
     let desk = Desk::new(alloc, 0, Way::Unsent)?;
     let mut sender = Sender::new(alloc, desk, CLIENT, 1);
-    let mut watcher = Noting::new(alloc);
+    let mut watcher = Watching::new(alloc);
     let whole = submitted(alloc, &mut sender, &mut watcher, &ROWS)?;
     assert!(rt; whole);
     // A profile, five files and a folder, their pieces, and the ends of five files.
@@ -46,7 +47,7 @@ fn short_lives(rt: HostRuntime) -> Result<(), Fail> {
         let mut desk = Desk::new(alloc, 0, Way::Unsent)?;
         desk.lives = lives;
         let mut sender = Sender::new(alloc, desk, CLIENT, 1);
-        let mut watcher = Noting::new(alloc);
+        let mut watcher = Watching::new(alloc);
         assert!(rt;
             submitted(alloc, &mut sender, &mut watcher, &ROWS)?,
             "{lives}"
