@@ -31,7 +31,7 @@ test: need_rt
 	sh tests/memory/run.sh
 
 # The prover refuses every wrong body, those of wrong-bodies/ too. All are tried, or those of CRATES="a b", or with
-# BASE=commit those of the crates that changed since and of those above. What the gate found here it takes over.
+# BASE=commit those of the crates that changed since and of those above, many in one check.
 wrong: need_rt need_python
 	@RT=$(RT) python3 tools/wrong.py $(if $(BASE),--base $(BASE)) $(CRATES)
 

@@ -215,13 +215,18 @@ def build_program(program):
     return (program, said) if status else None
 
 
-def build(program, is_program, sums):
-    libraries = below(program) if is_program else [*below(program), program]
+def prove(libraries, sums, what):
+    """Proves and builds libraries; gives the first that failed with what was said, or None."""
     for crate in libraries:
         bring_back(crate)
     if not all(stands(it, sums) for it in libraries):
-        print(f"proving {program} and what it stands on: on a fresh machine half an hour or more, later less", file=sys.stderr)
-    failed = Build(libraries, sums, len(os.sched_getaffinity(0))).all_built()
+        print(f"proving {what} and what it stands on: on a fresh machine half an hour or more, later less", file=sys.stderr)
+    return Build(libraries, sums, len(os.sched_getaffinity(0))).all_built()
+
+
+def build(program, is_program, sums):
+    libraries = below(program) if is_program else [*below(program), program]
+    failed = prove(libraries, sums, program)
     if is_program and not failed:
         failed = build_program(program)
     if failed:

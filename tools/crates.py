@@ -53,6 +53,11 @@ def lowest_first(crates):
     return sorted(crates, key=lambda crate: (len(below(crate)), crate))
 
 
+def with_below(crates):
+    """These and all that they stand on, lowest first."""
+    return lowest_first({*crates, *(low for crate in crates for low in below(crate))})
+
+
 @functools.lru_cache(None)
 def paths(crate):
     """How many paths lead from it down. `rt` sums up the sources of a crate once for each, at every call."""

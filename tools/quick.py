@@ -16,60 +16,14 @@ import sys
 import crates
 import map as the_map
 from build import RT
-from crates import TOP, edits_of, folder, listed, read, write
+from crates import edits_of, folder, listed, read, write
+from edits import Edit, Texts, all_applied
 
 
 def rt(crate_folder, *words):
     """Runs rt there; gives whether it succeeded, and what it said."""
     run = subprocess.run([RT, *words], cwd=crate_folder, capture_output=True, text=True)
     return run.returncode == 0, run.stdout + run.stderr
-
-
-class Texts(dict):
-    """Texts of a crate's files, by path. What nobody put there is read from the crate's folder."""
-
-    def __init__(self, at, texts=()):
-        super().__init__(texts)
-        self.at = at
-
-    def __missing__(self, file):
-        path = os.path.join(self.at, file)
-        return self.setdefault(file, read(path) if os.path.isfile(path) else "")
-
-
-class Edit:
-    """A wrong body: changes, each of a file, a text that stands there, and what takes its place."""
-
-    def __init__(self, path):
-        self.name = os.path.relpath(path, TOP)
-        self.changes = []
-        file = old = ""
-        for line in read(path).split("\n"):
-            key, text = line[:4], line[5:]
-            if line.startswith("file: "):
-                file = line[len("file: ") :].strip()
-            elif key == "old:":
-                old = text
-            elif key == "new:":
-                self.changes.append((file, old, text))
-
-    def files(self):
-        return {file for file, _, _ in self.changes}
-
-    def applied(self, texts):
-        """The texts with the edit made, or None where an old text doesn't stand in its file exactly once."""
-        made = Texts(texts.at, texts)
-        for file, old, new in self.changes:
-            if made[file].count(old) != 1:
-                return None
-            made[file] = made[file].replace(old, new)
-        return made if self.changes else None
-
-
-def all_applied(edits, texts):
-    for edit in edits:
-        texts = edit.applied(texts)
-    return texts
 
 
 def compiles(at, edits):

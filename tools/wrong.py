@@ -2,92 +2,177 @@
 """Tries wrong bodies, those of must-fail/ and those of wrong-bodies/: `make wrong`. The prover has to refuse each.
 
 It tries those of all crates, or of the ones named; with a base, of the crates that changed since that commit and of
-those above one whose sources did. In a copy of the repository they stand in must-fail/, and no others do, and there
-`rt ci` proves their crates and tries them, as many at once as processors and memory allow, or RT_JOBS says. What it,
-or the gate, found on this machine before, it only tells again while nothing changed that this rests on. Each wrong body
-that no clause refuses is printed, and the status is 0 where there is none.
+those above one whose sources did. First these crates are proved, as `make build` does it. Then each is checked in copies
+with many of its wrong bodies at once, in each copy one for a function: a proof uses of another function its contract
+alone, and the check tells of each function whether it is refused by itself. What a check with others leaves open is
+tried alone. So are changes outside of functions. Each wrong body that no clause refuses is printed, and the status is 0
+where there is none.
 """
 import argparse
 import collections
+import concurrent.futures
 import os
 import re
+import shutil
 import signal
-import subprocess
 import sys
+import threading
 import time
 
+import build
 import crates
-from crates import EDITS, SOURCES, TOP, edits_of, files_of, folder, listed, touched
-from standing import RT
+from crates import EDITS, SOURCES, edits_of, folder, listed, touched, write
+from edits import Edit, Texts
+from functions import OF_NAMES, Said, function_of, names_of
+from standing import RT, Sums
 
 REFUSED, BY_NAME, BY_LIMIT, MISSED, BAD = range(5)
-# How rt begins what it says of an edit, longer words first. Anything else says that the edit was not tried.
-BEGINS = [
-    ("refused, as it must be (only because a proof file names what the edit took away", BY_NAME),
-    ("refused, as it must be (only by a limit of the prover", BY_LIMIT),
-    ("refused, as it must be", REFUSED),
-    ("NOT REFUSED", MISSED),
-]
-NOT_TRIED = "NOT TRIED: its crate, or one below, is not proved, or rt was ended"
+# how many are tried in one check: more would leave processors idle at the end
+MOST = 24
+# the prover's words for a limit of its own
+LIMITS = re.compile(r"antt ran out of|outgrew the memory limit|stopped at the step limit|could not tell")
 
 
-def kind_of(told):
-    return next((kind for begin, kind in BEGINS if told.startswith(begin)), BAD)
+class Trial:
+    """Wrong bodies of one crate that are made in one copy of it. Of each: the patterns of its functions' names, by what
+    tells one function from another; or none, where it has to be tried alone."""
+
+    def __init__(self, crate):
+        self.crate, self.edits, self.texts = crate, {}, Texts(folder(crate))
+
+    def takes(self, edit, places):
+        """Adds the edit where it can be made with those here, and says whether it could."""
+        others = [it for known in self.edits.values() for it in known or [None]]
+        if self.edits and (len(self.edits) >= MOST or not places or None in others or set(places) & set(others)):
+            return False
+        made = edit.applied(self.texts)
+        if made is None and self.edits:
+            return False
+        self.edits[edit] = places
+        self.texts = made or self.texts
+        return True
 
 
-def link(path, to):
-    os.makedirs(os.path.dirname(to), exist_ok=True)
-    os.link(path, to)
-
-
-def lay_out(tree, wanted):
-    """Lays out all crates' sources in a tree of their own, and in must-fail/ all wrong bodies of the wanted ones."""
-    for path in [os.path.join(TOP, "crates.txt"), os.path.join(TOP, "HANDLES"), *(it for crate in listed() for it in files_of(crate))]:
-        link(path, os.path.join(tree, os.path.relpath(path, TOP)))
-    for crate in wanted:
-        for path in edits_of(crate):
-            link(path, os.path.join(folder(crate, tree), "must-fail", os.path.basename(path)))
-
-
-def tell(what):
-    print(what, file=sys.stderr, flush=True)
-
-
-def told_of_each(lines, begun):
-    """Goes through what rt says, as it comes. What it says of each wrong body it gives, by crate and file: the rest of
-    the line, and those up to the next of rt's own. Its other lines it prints, and of a crate that isn't proved what
-    the prover said."""
-    found, of, said = {}, None, []
-    for line in map(str.rstrip, lines):
-        at = re.match(r"rt: must-fail (\S+)/(\S+): (.*)", line)
-        if at:
-            of = at[1], at[2]
-            found[of] = at[3]
-        elif line.startswith("rt: "):
-            if "NOT PROVED" in line:
-                tell("\n".join(said))
-            tell(f"  {time.time() - begun:4.0f} s: {line[4:]}")
-            of = None
-        elif line.startswith("== "):
-            of, said = None, [line]
-        elif of:
-            found[of] += f"\n    {line}"
-        else:
-            said.append(line)
+def places_of(crate, edit):
+    """The functions that it changes, or none where it changes anything else."""
+    texts, found = Texts(folder(crate)), {}
+    for file, old, new in edit.changes:
+        place = texts[file].find(old)
+        function = function_of(texts[file], place) if place >= 0 else None
+        if not function:
+            return {}
+        found[file, *function] = names_of(crate, file, *function)
+        texts[file] = texts[file].replace(old, new)
     return found
 
 
-def tried(wanted, tree):
-    """Has rt go over these crates in a copy; gives what it said of each wrong body."""
-    lay_out(tree, wanted)
-    rt = subprocess.Popen([RT, "ci", *wanted], cwd=tree, stdin=subprocess.DEVNULL, stdout=subprocess.PIPE, stderr=subprocess.STDOUT, text=True)
+def trials_of(crate):
+    trials = []
+    for edit in map(Edit, edits_of(crate)):
+        places = places_of(crate, edit)
+        if not any(trial.takes(edit, places) for trial in trials):
+            trials.append(Trial(crate))
+            trials[-1].takes(edit, places)
+    return trials
+
+
+def parts_of(trial, left):
+    """What is left of a trial, each alone; or in halves, where nothing was told, as where one of them doesn't compile."""
+    size = (len(left) + 1) // 2 if len(left) == len(trial.edits) else 1
+    for at in range(0, len(left), size):
+        part = Trial(trial.crate)
+        for edit in left[at : at + size]:
+            part.takes(edit, trial.edits[edit])
+        yield part
+
+
+def link_kept(one, other):
+    """Lays out what `rt` kept of a crate for a copy of it: a check replaces a proved module's file and changes none."""
+    is_proved = one.endswith(".oantt")
+    return os.link(one, other) if is_proved else shutil.copy2(one, other)
+
+
+def checked(trial, tree):
+    """Checks the crate in a tree of its own with these wrong bodies; gives the status, and what was said."""
+    crate = trial.crate
+    crates.lay_out(tree, crate)
+    kept = os.path.join("out", "incremental")
+    shutil.copytree(os.path.join(folder(crate), kept), os.path.join(folder(crate, tree), kept), copy_function=link_kept)
+    for file, text in trial.texts.items():
+        write(os.path.join(folder(crate, tree), file), text)
     try:
-        return told_of_each(rt.stdout, time.time())
+        return build.run_in(folder(crate, tree), [RT, "check", "--jobs", "1"])[:2]
     finally:
-        # It has a guard, by which all that it started ends with it. What it leaves among the temporary files, its next run
-        # removes.
-        rt.kill()
-        rt.wait()
+        shutil.rmtree(tree, ignore_errors=True)
+
+
+def found_among_others(trial, said):
+    """What is told of each: that a function which it alone changes is refused by itself, and why. Nothing of the others."""
+    told, found = Said(said), {}
+    for edit, places in trial.edits.items():
+        paths = [[it for it in told.functions if names.fullmatch(it)] for names in (places or {}).values()]
+        reasons = [told.refused(them[0]) for them in paths if len(them) == 1]
+        reason = next(filter(None, reasons), None)
+        if reason:
+            found[edit] = REFUSED, reason
+    return found
+
+
+def found_alone(status, said):
+    """What the only wrong body of a trial came to, and what was said of it."""
+    lines = said.rstrip("\n").split("\n")
+    errors = [it for it in lines if re.match(r"(note: )?\S+:\d+:\d+:", it) and (": error" in it or it.startswith("note: "))]
+    by_clause = [it for it in errors if not OF_NAMES.search(it)]
+    if status == 0:
+        return MISSED, "NOT REFUSED"
+    if status == 3 and any(map(LIMITS.search, lines)):
+        return BY_LIMIT, "refused only by a limit of the prover"
+    if not any(it.startswith("logic=not-proved") for it in lines):
+        return BAD, "NOT TRIED:\n    " + "\n    ".join(lines[:12])
+    if errors and not by_clause:
+        return BY_NAME, f"refused only because a proof file names what it took away: {errors[0]}"
+    return REFUSED, (by_clause or [""])[0]
+
+
+class Trials:
+    """Trials, as many at once as processors and memory allow, and what each wrong body came to."""
+
+    def __init__(self, trials, room, most):
+        self.room, self.most, self.begun = room, most, time.time()
+        self.lock, self.number, self.running = threading.Lock(), 0, 0
+        self.found, self.waiting = {}, list(trials)
+
+    def tell(self, what):
+        print(f"  {time.time() - self.begun:4.0f} s: {what}", file=sys.stderr, flush=True)
+
+    def run(self, trial, number):
+        edits = list(trial.edits)
+        if edits[0].applied(Texts(folder(trial.crate))) is None:
+            return trial, {edits[0]: (BAD, "NOT TRIED: an old text doesn't stand in its file exactly once")}
+        status, said = checked(trial, os.path.join(self.room, str(number)))
+        found = found_among_others(trial, said)
+        if len(edits) == 1 and not found:
+            found = {edits[0]: found_alone(status, said)}
+        return trial, found
+
+    def end(self, trial, found):
+        """Takes what was found, and has what is left tried again, in smaller parts."""
+        self.found.update(found)
+        left = [edit for edit in trial.edits if edit not in found]
+        self.tell(f"{trial.crate}: {len(found)} of {len(trial.edits)} told" + f"; {len(left)} to be tried again" * bool(left))
+        self.waiting[:0] = parts_of(trial, left)
+
+    def all_run(self):
+        with concurrent.futures.ThreadPoolExecutor(self.most) as lanes:
+            running = set()
+            while self.waiting or running:
+                while self.waiting and len(running) < self.most and (not running or build.memory() > build.EACH):
+                    self.number += 1
+                    running.add(lanes.submit(self.run, self.waiting.pop(0), self.number))
+                ended, running = concurrent.futures.wait(running, timeout=5, return_when=concurrent.futures.FIRST_COMPLETED)
+                for it in ended:
+                    self.end(*it.result())
+        return self.found
 
 
 def wanted_crates():
@@ -102,17 +187,28 @@ def wanted_crates():
     return [crate for crate in found if edits_of(crate) and (not given.crates or crate in given.crates)]
 
 
+def tried(wanted):
+    """Proves the crates, and tries their wrong bodies; gives what each came to, by its name."""
+    failed = build.prove(crates.with_below(wanted), Sums(), "each crate")
+    if failed:
+        sys.exit(build.fail(*failed))
+    trials = [trial for crate in wanted for trial in trials_of(crate)]
+    seconds = build.seconds_of(wanted)
+    trials.sort(key=lambda trial: -len(trial.edits) * seconds[trial.crate])
+    with crates.room("wrong") as room:
+        found = Trials(trials, room, len(os.sched_getaffinity(0))).all_run()
+    return {edit.name: what for edit, what in found.items()}
+
+
 def main():
     for it in (signal.SIGINT, signal.SIGTERM, signal.SIGHUP):
         signal.signal(it, lambda number, _: sys.exit(128 + number))
     wanted, counts = wanted_crates(), collections.Counter()
-    with crates.room("wrong") as room:
-        told = tried(wanted, room) if wanted else {}
-    for path in [it for crate in wanted for it in edits_of(crate)]:
-        name = os.path.relpath(path, TOP)
-        text = told.get((name.split("/")[1], os.path.basename(path)), NOT_TRIED)
-        counts[kind_of(text)] += 1
-        if kind_of(text) != REFUSED:
+    with build.alone():
+        found = tried(wanted) if wanted else {}
+    for name, (kind, text) in sorted(found.items()):
+        counts[kind] += 1
+        if kind != REFUSED:
             print(f"{name}: {text}")
     by_limit = f", {counts[BY_LIMIT]} by a limit alone" * bool(counts[BY_LIMIT])
     print(f"{sum(counts.values())} wrong bodies: {counts[REFUSED]} refused, {counts[BY_NAME]} refused for a name alone{by_limit}, {counts[MISSED]} not refused, {counts[BAD]} bad")

@@ -1,0 +1,85 @@
+"""Functions, where they stand in a source file as `rt fmt` lays it out, and what a check says of each."""
+import re
+
+HEADER = re.compile(r"( *)(?:pub(?:\([^)]*\))? )?(?:const |unsafe )*fn (\w+)")
+CLAUSE = re.compile(r" *(?:requires|ensures|ghost)\b")
+# of a proof that names what an edit took away, or that cites one that is refused
+OF_NAMES = re.compile(r"proofs/.*(has no field|is not in scope|has no `|was not admitted)")
+
+
+def body_of(lines, at):
+    """The lines of the body of the function whose header begins at this one: behind the brace that opens it, up to the one
+    that closes it. With clauses the brace has a line of its own."""
+    indent, has_clauses = HEADER.match(lines[at])[1], False
+    for line in range(at, len(lines)):
+        has_clauses = has_clauses or bool(CLAUSE.match(lines[line]))
+        if lines[line] == indent + "{" or not has_clauses and lines[line].endswith("{"):
+            ends = (it for it in range(line + 1, len(lines)) if lines[it] == indent + "}")
+            return range(line + 1, next(ends, line + 1))
+        if lines[line].endswith(";") or lines[line] == indent + "}" or not has_clauses and lines[line].endswith("}"):
+            break
+    return range(0)
+
+
+def block_of(lines, at):
+    """The header of the block in which the line stands, as `impl Display for Fault`, or "" at the top."""
+    indent = len(lines[at]) - len(lines[at].lstrip())
+    for it in range(at, -1, -1):
+        line = lines[it]
+        if line.strip() and len(line) - len(line.lstrip()) < indent and re.match(r" *(impl|trait|mod|pub trait|pub mod)\b", line):
+            return " ".join(" ".join(lines[it : at]).split("{")[0].split())
+    return ""
+
+
+def function_of(text, place):
+    """Of the function in whose body this place of a text is the block and the name, or None where it is in none."""
+    lines, line = text.split("\n"), text.count("\n", 0, place)
+    headers = [it for it in range(line, -1, -1) if HEADER.match(lines[it]) and line in body_of(lines, it)]
+    return (block_of(lines, headers[0]), HEADER.match(lines[headers[0]])[2]) if headers else None
+
+
+def in_one_word(type, generics):
+    """A type or trait as a check writes it in the name of an impl: `&mut [u8]` is RefMutSliceU8."""
+    words = re.findall(r"&|\[|'\w+|\w+", type)
+    signs = {"&": "Ref", "[": "Slice"}
+    return "".join(signs.get(it, it[0].upper() + it[1:]) for it in words if it[0] != "'" and it not in generics)
+
+
+def names_of(crate, file, block, name):
+    """A pattern of the paths by which a check may call this function. A type's own functions it calls by the type's module,
+    and those of a trait by the type and the trait."""
+    modules = re.sub(r"(^|/)(mod|lib|main)$", "", file[len("src/") : -len(".rt")]).replace("/", "::")
+    header = re.match(r"impl(?:<(.*?)>)? (?:(.*) for )?(.*)", re.sub(r" where .*", "", block))
+    if not header:
+        return re.compile("::".join(filter(None, [crate, modules, name])))
+    generics = re.findall(r"(?:^|, )(\w+)", header[1] or "")
+    own = re.sub(r"(\w)<.*", r"\1", header[3])
+    of = in_one_word(own, generics) + (in_one_word(header[2], generics) + r"\w*" if header[2] else "")
+    return re.compile(rf"{crate}::(?:\w+::)*{of}::{name}")
+
+
+class Said:
+    """What a check said: of each function by its path the verdict, and the notes that came right before it."""
+
+    def __init__(self, said):
+        self.lines = said.split("\n")
+        self.functions, notes = {}, []
+        for line in self.lines:
+            at = re.match(r"(fn|impl|struct|enum|trait) (\S+): (.*)", line)
+            if at and at[1] == "fn":
+                self.functions[at[2]] = at[3], [it for it in notes if it.startswith("note: src/")]
+            notes = [] if at else [*notes, line]
+
+    def errors_of(self, path):
+        """The errors in the files of the function's own proof."""
+        at = "proofs/" + "/".join(path.split("::")[1:]) + "/"
+        return [it for it in self.lines if re.match(r"(\./)?" + re.escape(at) + r"[^/]+:\d+:\d+: error", it)]
+
+    def refused(self, path):
+        """Why the function is refused by itself, and not only since one that it calls is; None where that is not told."""
+        verdict, notes = self.functions[path]
+        if verdict == "proved":
+            return None
+        if "`search` did not prove" in verdict:
+            return (notes or [verdict])[0]
+        return next((it for it in self.errors_of(path) if not OF_NAMES.search(it)), None)
