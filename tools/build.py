@@ -78,11 +78,20 @@ def prove_library(crate, jobs, begun):
         bring_back(crate)
 
 
+def listed_seconds():
+    """The words of each line of the list of what libraries take."""
+    return [line.split() for line in read(SECONDS).split("\n") if line and not line.startswith("#")]
+
+
 def seconds_of(libraries):
     """What each library takes about, of a processor's time."""
-    lines = [line.split() for line in read(SECONDS).split("\n") if line and not line.startswith("#")]
-    known = {name: int(seconds) for name, seconds in lines}
+    known = {name: int(seconds) for name, seconds, *_ in listed_seconds()}
     return {crate: known.get(crate, statistics.median(known.values())) for crate in libraries}
+
+
+def with_one_job():
+    """The libraries that more than one job makes no faster."""
+    return {name for name, _, *jobs in listed_seconds() if jobs == ["1"]}
 
 
 class Work:
@@ -106,6 +115,7 @@ class Build:
         self.changed = threading.Condition()
         self.begun = time.time()
         self.seconds = seconds_of(libraries)
+        self.with_one_job = with_one_job()
         self.chains = self.chains_of(libraries)
 
     def chains_of(self, libraries):
@@ -146,6 +156,8 @@ class Build:
 
     def jobs_for(self, crate, ready):
         """A share of the processors: what the longest chain waits for shares them with its like alone."""
+        if crate in self.with_one_job:
+            return 1
         others = [*self.work, *(it for it in ready if it != crate)]
         if self.is_longest(crate):
             others = [it for it in others if self.left(it) >= NEAR_ALL * self.left(crate)]
