@@ -16,12 +16,11 @@ import re
 import shutil
 import signal
 import sys
-import threading
 import time
 
 import build
 import crates
-from crates import EDITS, SOURCES, edits_of, folder, listed, touched, write
+from crates import EDITS, SOURCES, TOP, edits_of, folder, listed, touched, write
 from edits import Edit, Texts
 from functions import OF_NAMES, Said, function_of, names_of
 from standing import RT, Sums
@@ -66,24 +65,25 @@ def places_of(crate, edit):
     return found
 
 
-def trials_of(crate):
+def trials_with(crate, places):
+    """Trials of these wrong bodies, of which each is in one."""
     trials = []
-    for edit in map(Edit, edits_of(crate)):
-        places = places_of(crate, edit)
-        if not any(trial.takes(edit, places) for trial in trials):
+    for edit, of in places.items():
+        if not any(trial.takes(edit, of) for trial in trials):
             trials.append(Trial(crate))
-            trials[-1].takes(edit, places)
+            trials[-1].takes(edit, of)
     return trials
+
+
+def trials_of(crate):
+    return trials_with(crate, {edit: places_of(crate, edit) for edit in map(Edit, edits_of(crate))})
 
 
 def parts_of(trial, left):
     """What is left of a trial, each alone; or in halves, where nothing was told, as where one of them doesn't compile."""
     size = (len(left) + 1) // 2 if len(left) == len(trial.edits) else 1
     for at in range(0, len(left), size):
-        part = Trial(trial.crate)
-        for edit in left[at : at + size]:
-            part.takes(edit, trial.edits[edit])
-        yield part
+        yield from trials_with(trial.crate, {edit: trial.edits[edit] for edit in left[at : at + size]})
 
 
 def link_kept(one, other):
@@ -97,7 +97,9 @@ def checked(trial, tree):
     crate = trial.crate
     crates.lay_out(tree, crate)
     kept = os.path.join("out", "incremental")
-    shutil.copytree(os.path.join(folder(crate), kept), os.path.join(folder(crate, tree), kept), copy_function=link_kept)
+    # (a library that `rt` took from another checkout has none, and is checked from nothing)
+    if os.path.isdir(os.path.join(folder(crate), kept)):
+        shutil.copytree(os.path.join(folder(crate), kept), os.path.join(folder(crate, tree), kept), copy_function=link_kept)
     for file, text in trial.texts.items():
         write(os.path.join(folder(crate, tree), file), text)
     try:
@@ -139,8 +141,7 @@ class Trials:
 
     def __init__(self, trials, room, most):
         self.room, self.most, self.begun = room, most, time.time()
-        self.lock, self.number, self.running = threading.Lock(), 0, 0
-        self.found, self.waiting = {}, list(trials)
+        self.number, self.found, self.waiting = 0, {}, list(trials)
 
     def tell(self, what):
         print(f"  {time.time() - self.begun:4.0f} s: {what}", file=sys.stderr, flush=True)
@@ -206,7 +207,8 @@ def main():
     wanted, counts = wanted_crates(), collections.Counter()
     with build.alone():
         found = tried(wanted) if wanted else {}
-    for name, (kind, text) in sorted(found.items()):
+    for name in [os.path.relpath(path, TOP) for crate in wanted for path in edits_of(crate)]:
+        kind, text = found.get(name, (BAD, "NOT TRIED"))
         counts[kind] += 1
         if kind != REFUSED:
             print(f"{name}: {text}")
