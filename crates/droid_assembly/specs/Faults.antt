@@ -5,7 +5,7 @@ use Rattle.droid_assembly.specs.declared.fault.PutFault.{PutFault}
 use Rattle.droid_assembly.specs.declared.fault.PutFault.TheVariants.{BadPiece, PieceHeld, TooFarAhead}
 
 -- why it was not taken, without its bytes
-abbrev pub told_as : PutFault → Refusal
-told_as (BadPiece bytes) = refusals.BadPiece
-told_as (PieceHeld bytes) = refusals.PieceHeld
-told_as (TooFarAhead missing bytes) = refusals.TooFarAhead missing
+abbrev pub reported_as : PutFault → Refusal
+reported_as (BadPiece bytes) = refusals.BadPiece
+reported_as (PieceHeld bytes) = refusals.PieceHeld
+reported_as (TooFarAhead missing bytes) = refusals.TooFarAhead missing

@@ -20,9 +20,9 @@ pub enum PutFault {
 }
 
 impl From<PutFault> for Refusal {
-    ghost use Rattle.droid_assembly.specs.Faults.{told_as};
+    ghost use Rattle.droid_assembly.specs.Faults.{reported_as};
 
-    ghost from_gives = { λ fault refusal. refusal ≡ told_as fault };
+    ghost from_gives = { λ fault refusal. refusal ≡ reported_as fault };
 
     /// What a client is told; the bytes of the piece are dropped.
     fn from(fault: PutFault) -> Refusal {

@@ -44,12 +44,12 @@ fn call_each(
     put(assembly, 0, again)?;
     let spent = settle(assembly);
     assert!(rt; spent.len() == 2 && spent.get(0).is_some() && spent.get(2).is_none());
-    let told = Views {
+    let reported = Views {
         held: 2,
         missing: 2,
         kept_bytes: 4,
     };
-    assert_eq!(rt; views_of(assembly), told);
+    assert_eq!(rt; views_of(assembly), reported);
     let sealed = Sealed {
         size: 3,
         hash: HashValue::Md5(SUITE[2].1),

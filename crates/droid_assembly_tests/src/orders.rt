@@ -15,7 +15,7 @@ use std::test::Fail;
 const FILES: usize = 2000;
 
 /// How a refusal of the assembly is told by the plain program.
-fn told(fault: &PutFault) -> Put {
+fn reported(fault: &PutFault) -> Put {
     match fault {
         PutFault::BadPiece { .. } => Put::BadPiece,
         PutFault::PieceHeld { .. } => Put::PieceHeld,
@@ -25,9 +25,11 @@ fn told(fault: &PutFault) -> Put {
 
 // What both answer to calls that change nothing.
 fn same_views(rt: &impl Abort, assembly: &Assembly, plain: &Plain) {
-    let told = views_of(assembly);
-    assert!(rt; told.held as usize == plain.held() && told.missing as usize == plain.missing());
-    assert_eq!(rt; told.kept_bytes, plain.kept_bytes() as u64);
+    let reported = views_of(assembly);
+    assert!(rt;
+        reported.held as usize == plain.held() && reported.missing as usize == plain.missing()
+    );
+    assert_eq!(rt; reported.kept_bytes, plain.kept_bytes() as u64);
 }
 
 // What was handed back, piece by piece.
@@ -59,7 +61,7 @@ fn turn(
     let wanted = plain.put(alloc, index as usize, bytes)?;
     match put(assembly, index, Blob::copy_of(alloc, bytes)?) {
         Err(fault) => {
-            assert_eq!(rt; told(&fault), wanted);
+            assert_eq!(rt; reported(&fault), wanted);
             same_views(rt, assembly, plain);
             return Ok(());
         }

@@ -122,12 +122,12 @@ fn take_step(
         Then::TakenBack(kept) => takes_back(rt, assembly, bytes, index, kept)?,
         _ => refuses(rt, assembly, index, bytes, step),
     }
-    let told = Views {
+    let reported = Views {
         held,
         missing,
         kept_bytes,
     };
-    assert_eq!(rt; views_of(assembly), told);
+    assert_eq!(rt; views_of(assembly), reported);
     Ok(())
 }
 

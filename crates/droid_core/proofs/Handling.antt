@@ -11,7 +11,7 @@ use Rattle.droid_frame.specs.Replies.{HasReplySpelling, SpellsReply}
 use Rattle.droid_core_spec.specs.Histories.{History, IsLegal, IsNext, New, command, kept, world_of, entry_of, history_with, verdict_reply, Handles}
 use Rattle.droid_core_spec.specs.Judging.{Verdict, Accepted, Answered, Refuses, judge}
 use Rattle.droid_core_spec.specs.Setting.{Setting}
-use Rattle.droid_core_spec.specs.Wants.{is_want, is_want_of}
+use Rattle.droid_core_spec.specs.MemoryFaults.{is_out_of_memory, is_out_of_memory_of}
 use Rattle.droid_core_spec.specs.World.{World}
 use Rattle.droid_core_spec.proofs.Asked.{asked_in_a_version}
 use Rattle.droid_core_spec.proofs.Legal.{world_next, GoesOn-push}
@@ -69,14 +69,14 @@ pub handles_malformed : (setting : Setting) (history : History) (frame : Frame) 
 handles_malformed setting history frame Stands malformed stands =
     (sym (answer_malformed setting history frame malformed), subst Stands (sym (next_malformed setting history frame malformed)) stands)
 
-wanting : (b : Bool) (P Q : Type 0) → b ≡ true → P → MatchBool b P Q
-wanting true P Q is it = it
-wanting false P Q is it = absurd cc
+out_of_memory : (b : Bool) (P Q : Type 0) → b ≡ true → P → MatchBool b P Q
+out_of_memory true P Q is it = it
+out_of_memory false P Q is it = absurd cc
 
 -- memory was refused, and nothing is changed
-pub handles_want : (setting : Setting) (service : Holdings) (history : History) (frame : Frame) (refusal : Refusal) → IsSome (command frame) → IsTrue (is_want_of refusal) → Stand setting service history
+pub handles_want : (setting : Setting) (service : Holdings) (history : History) (frame : Frame) (refusal : Refusal) → IsSome (command frame) → IsTrue (is_out_of_memory_of refusal) → Stand setting service history
     → Handles setting history frame (Refused refusal) (Stand setting service)
-handles_want setting service history frame refusal asked want stands = wanting (is_want_of refusal) _ _ want (asked, stands)
+handles_want setting service history frame refusal asked failure stands = out_of_memory (is_out_of_memory_of refusal) _ _ failure (asked, stands)
 
 -- that the database refused is no answer, and no want
 pub never_store : (setting : Setting) (history : History) (frame : Frame) (reply : Reply) (Stands : History → Type 0) → IsLegal setting history → Handles setting history frame reply Stands → reply ≢ Refused Store
@@ -86,12 +86,12 @@ never_store setting history frame reply Stands legal handled same =
 
 -- want of memory, or else what follows from an answer
 unless_wanting : (b : Bool) {P Q R : Type 0} → MatchBool b ⊤ P → Q → (P → R) → MatchBool b Q R
-unless_wanting true is wanting answered = wanting
-unless_wanting false is wanting answered = answered is
+unless_wanting true is out_of_memory answered = out_of_memory
+unless_wanting false is out_of_memory answered = answered is
 
 -- what a kept row answers is the answer, and the history stays
 pub handles_again : (setting : Setting) (service : Holdings) (history : History) (frame : Frame) (request : Request) (row : rows.Entry) (reply : Reply) → command frame ≡ Some request
-    → reply_for frame.client frame.number service.store ≡ Some row → ((kept : Reply) → SpellsReply row.version row.kind row.body kept → MatchBool (is_want reply) ⊤ (reply ≡ again row (stamp_of frame) kept))
+    → reply_for frame.client frame.number service.store ≡ Some row → ((kept : Reply) → SpellsReply row.version row.kind row.body kept → MatchBool (is_out_of_memory reply) ⊤ (reply ≡ again row (stamp_of frame) kept))
     → Stand setting service history → Handles setting history frame reply (Stand setting service)
 handles_again setting service history frame request row reply asked found answers stands =
     let there = entry_kept history service.store frame.client frame.number row stands.replies found in
@@ -99,12 +99,12 @@ handles_again setting service history frame request row reply asked found answer
     let is = answers there.0.reply (subst (λ (r : rows.Entry). SpellsReply r.version r.kind r.body there.0.reply) there.2 (record { version_is = spelled.version; kind_is = refl; body_is = refl; has_spelling = spelled.reply })) in
     let answer_is = answer_kept setting history frame request asked there.0 there.1 in
     let next_is = next_kept setting history frame request asked there.0 there.1 in
-    unless_wanting (is_want reply) is (some_is_some frame request asked, stands)
+    unless_wanting (is_out_of_memory reply) is (some_is_some frame request asked, stands)
     (λ same. (same ∙ (ap (λ (r : rows.Entry). again r (stamp_of frame) there.0.reply) (sym there.2) ∙ sym answer_is), subst (Stand setting service) (sym next_is) stands))
 
 by_wanting : (b : Bool) {P Q R S T U : Type 0} → MatchBool b P (Q × R) → (P → S) → (Q → T) → (Q → R → U) → MatchBool b S (T × U)
-by_wanting true came wanting answered left = wanting came
-by_wanting false came wanting answered left = (answered came.0, left came.0 came.1)
+by_wanting true came out_of_memory answered left = out_of_memory came
+by_wanting false came out_of_memory answered left = (answered came.0, left came.0 came.1)
 
 -- what its verdict says, under a new number
 pub handles_anew : (setting : Setting) (old new : Holdings) (history : History) (frame : Frame) (request : Request) (reply : Reply) → command frame ≡ Some request → Stand setting old history
@@ -115,7 +115,7 @@ handles_anew setting old new history frame request reply asked stands absent spe
     let verdict = judge setting (world_of setting history) frame.version request in
     let answer_is = answer_new setting history frame request asked is_new in
     let next_is = next_new setting history frame request asked is_new in
-    by_wanting (is_want reply) comes
+    by_wanting (is_out_of_memory reply) comes
     (λ same. (some_is_some frame request asked, same_stands setting old new history same stands))
     (λ is. is ∙ sym answer_is)
     (λ is leaves. subst (Stand setting new) (sym next_is) (leaves_next setting old new history frame request verdict asked is_new refl (subst (HasReplySpelling frame.version) is spelled) leaves stands))
@@ -123,12 +123,12 @@ handles_anew setting old new history frame request reply asked stands absent spe
 -- ---- the same, as the code has them
 
 pub answers_again : (setting : Setting) (service : Holdings) (history : History) (frame : Frame) (request : Request) (stamp : Stamp) (row : rows.Entry) (reply : Reply) → stamp ≡ stamp_of frame → command frame ≡ Some request
-    → reply_for stamp.client stamp.number service.store ≡ Some row → ((kept : Reply) → SpellsReply row.version row.kind row.body kept → MatchBool (is_want reply) ⊤ (reply ≡ again row stamp kept))
+    → reply_for stamp.client stamp.number service.store ≡ Some row → ((kept : Reply) → SpellsReply row.version row.kind row.body kept → MatchBool (is_out_of_memory reply) ⊤ (reply ≡ again row stamp kept))
     → Stand setting service history → Handles setting history frame reply (Stand setting service)
 answers_again setting service history frame request stamp row reply is asked found answers stands =
     handles_again setting service history frame request row reply asked
     (subst (λ (s : Stamp). reply_for s.client s.number service.store ≡ Some row) is found)
-    (subst (λ (s : Stamp). (kept : Reply) → SpellsReply row.version row.kind row.body kept → MatchBool (is_want reply) ⊤ (reply ≡ again row s kept)) is answers) stands
+    (subst (λ (s : Stamp). (kept : Reply) → SpellsReply row.version row.kind row.body kept → MatchBool (is_out_of_memory reply) ⊤ (reply ≡ again row s kept)) is answers) stands
 
 pub answers_anew : (setting : Setting) (old new : Holdings) (history : History) (frame : Frame) (request : Request) (stamp : Stamp) (reply : Reply) → stamp ≡ stamp_of frame → command frame ≡ Some request → Stand setting old history
     → reply_for stamp.client stamp.number old.store ≡ None → HasReplySpelling stamp.version reply → Comes setting (world_of setting history) old new stamp (judge setting (world_of setting history) stamp.version request) reply

@@ -12,7 +12,7 @@ use Rattle.droid_core_spec.specs.Histories.{Entry, History, New, command, is_und
 use Rattle.droid_core_spec.specs.Judging.{Verdict, Accepted, Answered, Refuses, judge}
 use Rattle.droid_core_spec.specs.Setting.{Setting}
 use Rattle.droid_core_spec.specs.Verdicts.{is_command, is_refused, MayCome}
-use Rattle.droid_core_spec.specs.Wants.{is_want}
+use Rattle.droid_core_spec.specs.MemoryFaults.{is_out_of_memory}
 use Rattle.droid_core_spec.specs.World.{World}
 use Rattle.droid_core_spec.proofs.Judged.{judged}
 use Rattle.droid_core_spec.proofs.Meetings.{next_kept, answer_new, next_new}
@@ -61,7 +61,7 @@ with_recent setting history frame request row reply before service asked found s
     let there = entry_kept history before.holdings.store frame.client frame.number row stands.holdings.replies found in
     let stays = next_kept setting history frame request asked there.0 there.1 in
     let last = subst (IsLastText setting (world_of setting history)) (sym same) stands.last in
-    each_way (is_want reply) (IsSome (command frame)) (reply ≡ answer setting history frame) handled (λ holdings. record { holdings = holdings; recent = all; last = last })
+    each_way (is_out_of_memory reply) (IsSome (command frame)) (reply ≡ answer setting history frame) handled (λ holdings. record { holdings = holdings; recent = all; last = last })
     (λ holdings. record {
       holdings = holdings;
       recent = rows_next setting history frame service.recent.rows.entries all;
@@ -92,7 +92,7 @@ answered_row setting history frame request reply asked is_new is commands unrefu
     subst (λ (r : Reply). IsKeptRow (next setting history frame) (frame.client, frame.number) (stamped (stamp_of frame) r)) its
     (accepted_row setting history frame request verdict is_new (judged setting (world_of setting history) frame.version request) (next_new setting history frame request asked is_new) commands (ap is_refused its ∙ unrefused))
 
-no_want : (reply : Reply) → is_refused reply ≡ false → is_want reply ≡ false
+no_want : (reply : Reply) → is_refused reply ≡ false → is_out_of_memory reply ≡ false
 no_want (Refused refusal) is = absurd cc
 no_want _ is = refl
 
@@ -120,14 +120,14 @@ last_next setting history frame request reply last asked is_new is forgets =
     subst (λ (h : History). IsLastText setting (world_of setting h) last) (sym (next_new setting history frame request asked is_new))
     (last_after setting history frame request verdict last (judged setting (world_of setting history) frame.version request) (subst (Forgets setting (world_of setting history) last (is_command request)) its forgets))
 
-kept_by : (b : Bool) (setting : Setting) (history : History) (frame : Frame) (request : Request) (reply : Reply) (old : List (Whose × rows.Entry)) (service : Service) → is_want reply ≡ b → command frame ≡ Some request
+kept_by : (b : Bool) (setting : Setting) (history : History) (frame : Frame) (request : Request) (reply : Reply) (old : List (Whose × rows.Entry)) (service : Service) → is_out_of_memory reply ≡ b → command frame ≡ Some request
     → kept history frame.client frame.number ≡ None → AreKept history old → Keeps old service.recent.rows.entries (is_command request) (stamp_of frame) reply
     → Forgets setting (world_of setting history) service.last (is_command request) reply
     → (P : Type 0) → MatchBool b (P × Stand setting service.holdings history) ((reply ≡ answer setting history frame) × Stand setting service.holdings (next setting history frame))
     → MatchBool b (P × StandsFor setting service history) ((reply ≡ answer setting history frame) × StandsFor setting service (next setting history frame))
-kept_by true setting history frame request reply old service want asked is_new all keeps forgets P handled =
+kept_by true setting history frame request reply old service failure asked is_new all keeps forgets P handled =
     (handled.0, record { holdings = handled.1; recent = keeps history all (λ commands unrefused. absurd (let wants_not = no_want reply unrefused in cc)); last = forgets.0 })
-kept_by false setting history frame request reply old service want asked is_new all keeps forgets P handled = (
+kept_by false setting history frame request reply old service failure asked is_new all keeps forgets P handled = (
   handled.0,
   record {
     holdings = handled.1;
@@ -146,5 +146,5 @@ with_new setting history frame request stamp reply commands before service is as
     let is_new = none_kept history before.holdings.store frame.client frame.number stands.holdings.replies (subst (λ (s : Stamp). reply_for s.client s.number before.holdings.store ≡ None) is absent) in
     let stamped_keeps = subst (λ (s : Stamp). Keeps before.recent.rows.entries service.recent.rows.entries commands s reply) is keeps in
     let all_keep = subst (λ (b : Bool). Keeps before.recent.rows.entries service.recent.rows.entries b (stamp_of frame) reply) commands_is stamped_keeps in
-    kept_by (is_want reply) setting history frame request reply before.recent.rows.entries service refl asked is_new stands.recent all_keep
+    kept_by (is_out_of_memory reply) setting history frame request reply before.recent.rows.entries service refl asked is_new stands.recent all_keep
     (subst (λ (b : Bool). Forgets setting (world_of setting history) service.last b reply) commands_is forgets) (IsSome (command frame)) handled

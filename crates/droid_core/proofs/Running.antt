@@ -8,9 +8,9 @@ use Rattle.std.proofs.lemmas.List.{length-append}
 use Rattle.droid_core.specs.declared.service.Service.{Service}
 use Rattle.droid_core_spec.specs.Setting.{Setting}
 use Rattle.droid_core_spec.specs.Histories.{History, command, answer, next, answers, history_from, Handles}
-use Rattle.droid_core.specs.Running.{AreSpelled, without_wants, other_replies, NoWantOfMalformed, Runs}
+use Rattle.droid_core.specs.Running.{AreSpelled, without_memory_faults, other_replies, NoMemoryFaultOfMalformed, Runs}
 use Rattle.droid_core.specs.Standing.{StandsFor}
-use Rattle.droid_core_spec.specs.Wants.{is_want}
+use Rattle.droid_core_spec.specs.MemoryFaults.{is_out_of_memory}
 
 -- ---- along a list and one request more
 
@@ -39,12 +39,12 @@ frames_either : (b : Bool) (frame : Frame) (left right more : List Frame) → le
 frames_either true frame left right more e = e
 frames_either false frame left right more e = ap (λ (rest : List Frame). frame ∷ rest) e
 
-without_wants-push : (frames : List Frame) (replies : List Reply) (frame : Frame) (reply : Reply) → length replies ≡ length frames → without_wants (frames ++ frame ∷ []) (replies ++ reply ∷ []) ≡ without_wants frames replies ++ more_frames (is_want reply) frame
-without_wants-push [] [] frame reply e = one_frame (is_want reply) frame
-without_wants-push [] (r ∷ replies) frame reply e = absurd (omega arith)
-without_wants-push (f ∷ frames) [] frame reply e = absurd (omega arith)
-without_wants-push (f ∷ frames) (r ∷ replies) frame reply e =
-    frames_either (is_want r) f (without_wants (frames ++ frame ∷ []) (replies ++ reply ∷ [])) (without_wants frames replies) (more_frames (is_want reply) frame) (without_wants-push frames replies frame reply (omega arith))
+without_memory_faults-push : (frames : List Frame) (replies : List Reply) (frame : Frame) (reply : Reply) → length replies ≡ length frames → without_memory_faults (frames ++ frame ∷ []) (replies ++ reply ∷ []) ≡ without_memory_faults frames replies ++ more_frames (is_out_of_memory reply) frame
+without_memory_faults-push [] [] frame reply e = one_frame (is_out_of_memory reply) frame
+without_memory_faults-push [] (r ∷ replies) frame reply e = absurd (omega arith)
+without_memory_faults-push (f ∷ frames) [] frame reply e = absurd (omega arith)
+without_memory_faults-push (f ∷ frames) (r ∷ replies) frame reply e =
+    frames_either (is_out_of_memory r) f (without_memory_faults (frames ++ frame ∷ []) (replies ++ reply ∷ [])) (without_memory_faults frames replies) (more_frames (is_out_of_memory reply) frame) (without_memory_faults-push frames replies frame reply (omega arith))
 
 one_reply : (b : Bool) (reply : Reply) → cond (not b) (reply ∷ []) [] ≡ more_replies b reply
 one_reply true reply = refl
@@ -54,16 +54,16 @@ replies_either : (b : Bool) (reply : Reply) (left right more : List Reply) → l
 replies_either true reply left right more e = ap (λ (rest : List Reply). reply ∷ rest) e
 replies_either false reply left right more e = e
 
-other_replies-push : (replies : List Reply) (reply : Reply) → other_replies (replies ++ reply ∷ []) ≡ other_replies replies ++ more_replies (is_want reply) reply
-other_replies-push [] reply = one_reply (is_want reply) reply
+other_replies-push : (replies : List Reply) (reply : Reply) → other_replies (replies ++ reply ∷ []) ≡ other_replies replies ++ more_replies (is_out_of_memory reply) reply
+other_replies-push [] reply = one_reply (is_out_of_memory reply) reply
 other_replies-push (r ∷ replies) reply =
-    replies_either (not (is_want r)) r (other_replies (replies ++ reply ∷ [])) (other_replies replies) (more_replies (is_want reply) reply) (other_replies-push replies reply)
+    replies_either (not (is_out_of_memory r)) r (other_replies (replies ++ reply ∷ [])) (other_replies replies) (more_replies (is_out_of_memory reply) reply) (other_replies-push replies reply)
 
-wants-push : (frames : List Frame) (replies : List Reply) (frame : Frame) (reply : Reply) → NoWantOfMalformed frames replies → MatchBool (is_want reply) (IsSome (command frame)) ⊤ → length replies ≡ length frames → NoWantOfMalformed (frames ++ frame ∷ []) (replies ++ reply ∷ [])
-wants-push [] [] frame reply wants last e = (last, tt)
-wants-push [] (r ∷ replies) frame reply wants last e = absurd (omega arith)
-wants-push (f ∷ frames) [] frame reply wants last e = absurd (omega arith)
-wants-push (f ∷ frames) (r ∷ replies) frame reply wants last e = (wants.0, wants-push frames replies frame reply wants.1 last (omega arith))
+memory_faults-push : (frames : List Frame) (replies : List Reply) (frame : Frame) (reply : Reply) → NoMemoryFaultOfMalformed frames replies → MatchBool (is_out_of_memory reply) (IsSome (command frame)) ⊤ → length replies ≡ length frames → NoMemoryFaultOfMalformed (frames ++ frame ∷ []) (replies ++ reply ∷ [])
+memory_faults-push [] [] frame reply memory_faults last e = (last, tt)
+memory_faults-push [] (r ∷ replies) frame reply memory_faults last e = absurd (omega arith)
+memory_faults-push (f ∷ frames) [] frame reply memory_faults last e = absurd (omega arith)
+memory_faults-push (f ∷ frames) (r ∷ replies) frame reply memory_faults last e = (memory_faults.0, memory_faults-push frames replies frame reply memory_faults.1 last (omega arith))
 
 spelled-push : (frames : List Frame) (replies : List Reply) (frame : Frame) (reply : Reply) → AreSpelled frames replies → HasReplySpelling frame.version reply → length replies ≡ length frames → AreSpelled (frames ++ frame ∷ []) (replies ++ reply ∷ [])
 spelled-push [] [] frame reply all last e = (last, tt)
@@ -87,17 +87,17 @@ goes_on false setting history frames replies frame reply after answered handled 
     (rw (answered, handled.0) (sym (answers-push setting history frames frame)), rw (history_from-push setting history frames frame) handled.1)
 
 pub Runs-push : (setting : Setting) (history : History) (frames : List Frame) (replies : List Reply) (before after : Service) (frame : Frame) (reply : Reply) → Runs setting history frames replies before
-    → Handles setting (history_from setting history (without_wants frames replies)) frame reply (StandsFor setting after) → HasReplySpelling frame.version reply → Runs setting history (frames ++ frame ∷ []) (replies ++ reply ∷ []) after
+    → Handles setting (history_from setting history (without_memory_faults frames replies)) frame reply (StandsFor setting after) → HasReplySpelling frame.version reply → Runs setting history (frames ++ frame ∷ []) (replies ++ reply ∷ []) after
 Runs-push setting history frames replies before after frame reply runs handled spelled =
-    let more = goes_on (is_want reply) setting history (without_wants frames replies) replies frame reply after runs.answered handled in
-    let kept = without_wants-push frames replies frame reply runs.count in
+    let more = goes_on (is_out_of_memory reply) setting history (without_memory_faults frames replies) replies frame reply after runs.answered handled in
+    let kept = without_memory_faults-push frames replies frame reply runs.count in
     record {
       count = omega (arith, runs.count, length-append replies (reply ∷ []), length-append frames (frame ∷ []));
       spelled = spelled-push frames replies frame reply runs.spelled spelled runs.count;
-      wants = wants-push frames replies frame reply runs.wants (last_want (is_want reply) _ _ _ _ handled) runs.count;
+      memory_faults = memory_faults-push frames replies frame reply runs.memory_faults (last_want (is_out_of_memory reply) _ _ _ _ handled) runs.count;
       answered = other_replies-push replies reply ∙ (more.0 ∙ ap (answers setting history) (sym kept));
       stands = rw kept more.1;
     }
 
 pub Runs-none : (setting : Setting) (history : History) (service : Service) → StandsFor setting service history → Runs setting history [] [] service
-Runs-none setting history service stands = record { count = refl; spelled = tt; wants = tt; answered = refl; stands = stands }
+Runs-none setting history service stands = record { count = refl; spelled = tt; memory_faults = tt; answered = refl; stands = stands }

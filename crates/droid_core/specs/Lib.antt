@@ -8,7 +8,7 @@ pub use Rattle.droid_core_spec.specs.Limits
 pub use Rattle.droid_core_spec.specs.Records
 pub use Rattle.droid_core_spec.specs.Setting
 pub use Rattle.droid_core_spec.specs.Verdicts
-pub use Rattle.droid_core_spec.specs.Wants
+pub use Rattle.droid_core_spec.specs.MemoryFaults
 pub use Rattle.droid_core_spec.specs.Whole
 pub use Rattle.droid_core_spec.specs.World
 -- Which setting a registry makes.

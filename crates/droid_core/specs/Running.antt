@@ -7,23 +7,23 @@ use Rattle.droid_core.specs.declared.service.Service.{Service}
 use Rattle.droid_core_spec.specs.Histories.{History, command, answers, history_from}
 use Rattle.droid_core.specs.Standing.{StandsFor}
 use Rattle.droid_core_spec.specs.Setting.{Setting}
-use Rattle.droid_core_spec.specs.Wants.{is_want}
+use Rattle.droid_core_spec.specs.MemoryFaults.{is_out_of_memory}
 
 -- the requests, without those that were refused for want of memory
-abbrev pub without_wants : List Frame → List Reply → List Frame
-without_wants [] replies = []
-without_wants (frame ∷ frames) [] = []
-without_wants (frame ∷ frames) (reply ∷ replies) = if is_want reply then without_wants frames replies else frame ∷ without_wants frames replies
+abbrev pub without_memory_faults : List Frame → List Reply → List Frame
+without_memory_faults [] replies = []
+without_memory_faults (frame ∷ frames) [] = []
+without_memory_faults (frame ∷ frames) (reply ∷ replies) = if is_out_of_memory reply then without_memory_faults frames replies else frame ∷ without_memory_faults frames replies
 
 -- the replies, without the refusals for want of memory
 abbrev pub other_replies : List Reply → List Reply
-other_replies replies = filter (λ reply. not (is_want reply)) replies
+other_replies replies = filter (λ reply. not (is_out_of_memory reply)) replies
 
 -- want of memory is never said of a malformed request
-abbrev pub NoWantOfMalformed : List Frame → List Reply → Type 0
-NoWantOfMalformed [] replies = Unit {0}
-NoWantOfMalformed (frame ∷ frames) [] = Unit {0}
-NoWantOfMalformed (frame ∷ frames) (reply ∷ replies) = MatchBool (is_want reply) (IsSome (command frame)) ⊤ × NoWantOfMalformed frames replies
+abbrev pub NoMemoryFaultOfMalformed : List Frame → List Reply → Type 0
+NoMemoryFaultOfMalformed [] replies = Unit {0}
+NoMemoryFaultOfMalformed (frame ∷ frames) [] = Unit {0}
+NoMemoryFaultOfMalformed (frame ∷ frames) (reply ∷ replies) = MatchBool (is_out_of_memory reply) (IsSome (command frame)) ⊤ × NoMemoryFaultOfMalformed frames replies
 
 -- each reply has a spelling in the version of the request that it answers
 abbrev pub AreSpelled : List Frame → List Reply → Type 0
@@ -36,6 +36,6 @@ AreSpelled (frame ∷ frames) (reply ∷ replies) = HasReplySpelling frame.versi
 pub record Runs (setting : Setting) (history : History) (frames : List Frame) (replies : List Reply) (after : Service) : Type 0 where
   pub count : length replies ≡ length frames
   pub spelled : AreSpelled frames replies
-  pub wants : NoWantOfMalformed frames replies
-  pub answered : other_replies replies ≡ answers setting history (without_wants frames replies)
-  pub stands : StandsFor setting after (history_from setting history (without_wants frames replies))
+  pub memory_faults : NoMemoryFaultOfMalformed frames replies
+  pub answered : other_replies replies ≡ answers setting history (without_memory_faults frames replies)
+  pub stands : StandsFor setting after (history_from setting history (without_memory_faults frames replies))

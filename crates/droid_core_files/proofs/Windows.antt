@@ -20,11 +20,11 @@ Tells registry name match_all size first last found =
 pub found_in_whole : {E : Type 0} (result : Result Found E) (registry : Contents) (name : List ℕ) (match_all : Bool) (file : List ℕ) (scan_limit size : ℕ) (first last : List ℕ)
     → size ≡ length file → first ≡ first_window scan_limit file → last ≡ last_window scan_limit file
     → IfOk result (Tells registry name match_all size first last) → IfOk result (λ found. IsFound registry name file scan_limit match_all found)
-found_in_whole (Ok found) registry name match_all file scan_limit size first last whole begun ended tells =
+found_in_whole (Ok found) registry name match_all file scan_limit size first last whole begun ended reports =
     let width : length first ≡ min scan_limit (length file) = ap length begun ∙ length-take scan_limit file in
     let reached : min scan_limit size ≡ length first = ap (min scan_limit) whole ∙ sym width in
     let begins : take (length first) file ≡ first = ap (λ (xs : List ℕ). take (length xs) file) begun ∙ take_own scan_limit file ∙ sym begun in
     let left : size - length first ≡ length file - scan_limit = omega (arith, whole, width) in
     let ends : drop (size - length first) file ≡ last = ap (λ (n : ℕ). drop n file) left ∙ sym ended in
-    tells file scan_limit (sym whole) reached begins ends
-found_in_whole (Err e) registry name match_all file scan_limit size first last whole begun ended tells = tt
+    reports file scan_limit (sym whole) reached begins ends
+found_in_whole (Err e) registry name match_all file scan_limit size first last whole begun ended reports = tt

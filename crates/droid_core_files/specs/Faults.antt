@@ -5,6 +5,6 @@ use Rattle.droid_core_files.specs.declared.fault.IdentifyFault.{IdentifyFault}
 use Rattle.droid_core_files.specs.declared.fault.IdentifyFault.TheVariants.{Incomplete, Memory}
 
 -- the first piece that is missing, or that memory was refused
-abbrev pub told_as : IdentifyFault → Refusal
-told_as (Incomplete missing) = refusals.Incomplete missing
-told_as Memory = refusals.Memory
+abbrev pub reported_as : IdentifyFault → Refusal
+reported_as (Incomplete missing) = refusals.Incomplete missing
+reported_as Memory = refusals.Memory

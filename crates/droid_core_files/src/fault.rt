@@ -41,9 +41,9 @@ impl From<AllocError> for IdentifyFault {
 }
 
 impl From<IdentifyFault> for Refusal {
-    ghost use Rattle.droid_core_files.specs.Faults.{told_as};
+    ghost use Rattle.droid_core_files.specs.Faults.{reported_as};
 
-    ghost from_gives = { λ fault refusal. refusal ≡ told_as fault };
+    ghost from_gives = { λ fault refusal. refusal ≡ reported_as fault };
 
     /// What a client is told.
     fn from(fault: IdentifyFault) -> Refusal {

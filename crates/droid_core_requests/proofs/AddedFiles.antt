@@ -10,7 +10,7 @@ use Rattle.droid_core_spec.specs.Conditions.{is_moment, is_piece_size, is_too_la
 use Rattle.droid_core_spec.specs.Files.{unfinished_in}
 use Rattle.droid_core_spec.specs.Judging.{refusal_of, file_checks, judge_file, Verdict, Accepted, Refuses, world_set, with_node as with_node_in}
 use Rattle.droid_core_spec.specs.Setting.{Setting}
-use Rattle.droid_core_spec.specs.Wants.{is_want_of}
+use Rattle.droid_core_spec.specs.MemoryFaults.{is_out_of_memory_of}
 use Rattle.droid_core_spec.specs.World.{Node, File, Profile, World, numbered, path}
 use Rattle.droid_store.specs.Changes.{with_reply, with_node, new_file}
 use Rattle.droid_store.specs.Rows.{Rows}
@@ -36,8 +36,8 @@ module _ (setting : Setting) (world : World) (version number parent : ℕ) (modi
   nowhere refusal none = rw (none.1, none.0) refl
 
   -- there is no such profile
-  pub file_nowhere : (refusal : Refusal) → FindsProfile world number (Err refusal) → MatchBool (is_want_of refusal) ⊤ (verdict ≡ Refuses refusal)
-  file_nowhere refusal finds = if_refused (is_want_of refusal) (nowhere refusal) finds
+  pub file_nowhere : (refusal : Refusal) → FindsProfile world number (Err refusal) → MatchBool (is_out_of_memory_of refusal) ⊤ (verdict ≡ Refuses refusal)
+  file_nowhere refusal finds = if_refused (is_out_of_memory_of refusal) (nowhere refusal) finds
 
   module _ (profile : Profile) (found : numbered world.profiles number ≡ Some profile) where
     abbrev first_refusal : Option Refusal
@@ -48,9 +48,9 @@ module _ (setting : Setting) (world : World) (version number parent : ℕ) (modi
     file_refused refusal is = rw (found, is) refl
 
     -- its place is refused
-    pub file_misplaced : (refusal : Refusal) → FindsPlace profile parent name (Err refusal) → MatchBool (is_want_of refusal) ⊤ (verdict ≡ Refuses refusal)
+    pub file_misplaced : (refusal : Refusal) → FindsPlace profile parent name (Err refusal) → MatchBool (is_out_of_memory_of refusal) ⊤ (verdict ≡ Refuses refusal)
     file_misplaced refusal finds =
-        if_refused (is_want_of refusal)
+        if_refused (is_out_of_memory_of refusal)
         (λ first. file_refused refusal (first (
         (not (is_moment modified) || not (is_piece_size version piece_size), BadOption)
         ∷ (is_too_large size piece_size, TooLarge)

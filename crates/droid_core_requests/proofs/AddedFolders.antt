@@ -8,7 +8,7 @@ use Rattle.droid_frame.specs.types.reply.Reply.TheVariants as replies
 use Rattle.droid_core_spec.specs.Conditions.{is_moment}
 use Rattle.droid_core_spec.specs.Judging.{refusal_of, folder_checks, judge_folder, Verdict, Accepted, Refuses, world_set, with_node as with_node_in}
 use Rattle.droid_core_spec.specs.Setting.{Setting}
-use Rattle.droid_core_spec.specs.Wants.{is_want_of}
+use Rattle.droid_core_spec.specs.MemoryFaults.{is_out_of_memory_of}
 use Rattle.droid_core_spec.specs.World.{Folder, Profile, World, numbered, path}
 use Rattle.droid_store.specs.Changes.{with_reply, with_node, new_folder}
 use Rattle.droid_store.specs.Rows.{Rows}
@@ -33,8 +33,8 @@ module _ (setting : Setting) (world : World) (number parent : ℕ) (modified : �
   nowhere refusal none = rw (none.1, none.0) refl
 
   -- there is no such profile
-  pub folder_nowhere : (refusal : Refusal) → FindsProfile world number (Err refusal) → MatchBool (is_want_of refusal) ⊤ (verdict ≡ Refuses refusal)
-  folder_nowhere refusal finds = if_refused (is_want_of refusal) (nowhere refusal) finds
+  pub folder_nowhere : (refusal : Refusal) → FindsProfile world number (Err refusal) → MatchBool (is_out_of_memory_of refusal) ⊤ (verdict ≡ Refuses refusal)
+  folder_nowhere refusal finds = if_refused (is_out_of_memory_of refusal) (nowhere refusal) finds
 
   module _ (profile : Profile) (found : numbered world.profiles number ≡ Some profile) where
     pub folder_refused : (refusal : Refusal) → refusal_of (folder_checks setting.limits profile.nodes parent modified name) ≡ Some refusal → verdict ≡ Refuses refusal
@@ -42,9 +42,9 @@ module _ (setting : Setting) (world : World) (number parent : ℕ) (modified : �
     folder_refused refusal is = rw (found, is) refl
 
     -- its place is refused
-    pub folder_misplaced : (refusal : Refusal) → FindsPlace profile parent name (Err refusal) → MatchBool (is_want_of refusal) ⊤ (verdict ≡ Refuses refusal)
+    pub folder_misplaced : (refusal : Refusal) → FindsPlace profile parent name (Err refusal) → MatchBool (is_out_of_memory_of refusal) ⊤ (verdict ≡ Refuses refusal)
     folder_misplaced refusal finds =
-        if_refused (is_want_of refusal)
+        if_refused (is_out_of_memory_of refusal)
         (λ first. folder_refused refusal (first ((not (is_moment modified), BadOption) ∷ (nat_le setting.limits.nodes (length profile.nodes), LimitReached reached.Nodes) ∷ []))) finds
 
     folder_accepted : refusal_of (folder_checks setting.limits profile.nodes parent modified name) ≡ None

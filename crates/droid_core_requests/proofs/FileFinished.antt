@@ -9,12 +9,12 @@ use Rattle.droid_frame.specs.types.refusal.Refusal.TheVariants.{AlreadyFinished,
 use Rattle.droid_frame.specs.types.reply.Reply.{Reply}
 use Rattle.droid_frame.specs.types.reply.Reply.TheVariants as replies
 use Rattle.droid_frame.specs.Hashes.{hash_value_kind}
-use Rattle.droid_core_spec.specs.Conditions.{is_told}
+use Rattle.droid_core_spec.specs.Conditions.{is_carried}
 use Rattle.droid_core_spec.specs.Files.{Finding, as_finished, bytes_of, digest_of, found_as, identified, finding_of, finished_reply}
 use Rattle.droid_core_state.specs.Identified.{as_identification, found_in}
 use Rattle.droid_core_spec.specs.Judging.{Verdict, Accepted, Refuses, unless_refused, refusal_of, finish_checks, judge_finish, world_set, node_set}
 use Rattle.droid_core_spec.specs.Setting.{Setting}
-use Rattle.droid_core_spec.specs.Wants.{is_want, is_want_of}
+use Rattle.droid_core_spec.specs.MemoryFaults.{is_out_of_memory, is_out_of_memory_of}
 use Rattle.droid_core_spec.specs.World.{Content, File, Profile, World}
 use Rattle.droid_pronom.specs.Found.{Hits, IsFound}
 use Rattle.droid_pronom.specs.types.found.Found.{Found}
@@ -67,11 +67,11 @@ only_looked setting world old place store files same alike unchanged is_in = rw 
   replies = refl;
 })
 
-wanting_or : (wanting : Bool) (P Q R : Type 0) → MatchBool wanting ⊤ P → Q → (P → MatchBool wanting Q R) → MatchBool wanting Q R
-wanting_or true P Q R it wants turn = wants
-wanting_or false P Q R it wants turn = turn it
+wanting_or : (out_of_memory : Bool) (P Q R : Type 0) → MatchBool out_of_memory ⊤ P → Q → (P → MatchBool out_of_memory Q R) → MatchBool out_of_memory Q R
+wanting_or true P Q R it memory_faults turn = memory_faults
+wanting_or false P Q R it memory_faults turn = turn it
 
-unwanted : (wanting : Bool) (P Q : Type 0) → wanting ≡ false → Q → MatchBool wanting P Q
+unwanted : (out_of_memory : Bool) (P Q : Type 0) → out_of_memory ≡ false → Q → MatchBool out_of_memory P Q
 unwanted true P Q is it = absurd cc
 unwanted false P Q is it = it
 
@@ -97,13 +97,13 @@ module _ (setting : Setting) (world : World) (version number id : ℕ) (row : Fi
   reply_and_world = Accepted (finished_reply (finding_of setting has.profile has.name has.content)) (world_set world number (node_set has.profile id (File has.parent has.modified has.name (as_finished has.content))))
 
   -- of a hash that no reply of its version can tell
-  pub refused_untold : is_unfinished row.node.state ≡ true → is_told version row.profile.hash ≡ false → judge_finish setting world version number id ≡ Refuses BadOption
-  refused_untold is untold =
-      let of_profile = ap (λ (p : ProfileRow). is_told version p.hash) (sym has.profile_is) ∙ untold in
+  pub refused_untold : is_unfinished row.node.state ≡ true → is_carried version row.profile.hash ≡ false → judge_finish setting world version number id ≡ Refuses BadOption
+  refused_untold is unreported =
+      let of_profile = ap (λ (p : ProfileRow). is_carried version p.hash) (sym has.profile_is) ∙ unreported in
       judged ∙ ap (λ found. unless_refused found reply_and_world) (hash_untold version has.profile.hash has.content (unfinished_there world number id row has is) of_profile)
 
-  pub told_there : is_told version row.profile.hash ≡ true → is_told version has.profile.hash ≡ true
-  told_there told = ap (λ (p : ProfileRow). is_told version p.hash) (sym has.profile_is) ∙ told
+  pub told_there : is_carried version row.profile.hash ≡ true → is_carried version has.profile.hash ≡ true
+  told_there reported = ap (λ (p : ProfileRow). is_carried version p.hash) (sym has.profile_is) ∙ reported
 
   refused : (refusal : Refusal) → refusal_of (finish_checks version has.profile.hash has.content) ≡ Some refusal → judge_finish setting world version number id ≡ Refuses refusal
   refused refusal is = judged ∙ ap (λ found. unless_refused found reply_and_world) is
@@ -112,7 +112,7 @@ module _ (setting : Setting) (world : World) (version number id : ℕ) (row : Fi
   accepted is = judged ∙ ap (λ found. unless_refused found reply_and_world) is
 
   module _ (old : Holdings) (place : ℕ) (is_in : IsIn setting world old) (is : is_unfinished row.node.state ≡ true) (at_place : slice_get old.files.files place ≡ open_at number id old.files.files)
-      (told : is_told version has.profile.hash ≡ true) where
+      (reported : is_carried version has.profile.hash ≡ true) where
     unfinished : has.content.finished ≡ false
     unfinished = unfinished_there world number id row has is
 
@@ -121,10 +121,10 @@ module _ (setting : Setting) (world : World) (version number id : ℕ) (row : Fi
 
     -- it is not identified
     pub comes_unfinished : (stamp : Stamp) (new : Holdings) (refusal : Refusal) → Stays setting world old new
-        → At old.files place (λ file. (version : ℕ) (profile : Profile) (content : Content) → IsAssemblyOf profile content file → content.finished ≡ false → is_told version profile.hash ≡ true → MatchBool (is_want_of refusal) ⊤ (refusal_of (finish_checks version profile.hash content) ≡ Some refusal))
+        → At old.files place (λ file. (version : ℕ) (profile : Profile) (content : Content) → IsAssemblyOf profile content file → content.finished ≡ false → is_carried version profile.hash ≡ true → MatchBool (is_out_of_memory_of refusal) ⊤ (refusal_of (finish_checks version profile.hash content) ≡ Some refusal))
         → Comes setting world old new stamp (judge_finish setting world version number id) (replies.Refused refusal)
     comes_unfinished stamp new refusal stays said =
-        wanting_or (is_want_of refusal) _ _ _ (said its.file (at_place ∙ its.there) version has.profile has.content its.assembled unfinished told) stays
+        wanting_or (is_out_of_memory_of refusal) _ _ _ (said its.file (at_place ∙ its.there) version has.profile has.content its.assembled unfinished reported) stays
         (λ refuses. comes_refused setting world old new stamp (judge_finish setting world version number id) refusal (of_any _ (refused refusal refuses)) stays)
 
     -- the finding is one of the file at the place
@@ -135,9 +135,9 @@ module _ (setting : Setting) (world : World) (version number id : ℕ) (row : Fi
     pub finds : (seen : files.Finding) → IsSeen seen → seen.found ≡ found_in (identified setting has.profile has.name has.content)
     finds seen said =
         let made = said its.file (at_place ∙ its.there) has.content.pieces its.assembled.pieces in
-        let told : IsFound old.registry row.node.item.name (bytes_of has.content) has.profile.scan_limit row.profile.match_all seen.found =
+        let reported : IsFound old.registry row.node.item.name (bytes_of has.content) has.profile.scan_limit row.profile.match_all seen.found =
         rw (its.assembled.size, its.assembled.piece_size, its.assembled.scan_limit) at made.found in
-        let named = subst (λ (name : List ℕ). IsFound old.registry name (bytes_of has.content) has.profile.scan_limit row.profile.match_all seen.found) has.name_is told in
+        let named = subst (λ (name : List ℕ). IsFound old.registry name (bytes_of has.content) has.profile.scan_limit row.profile.match_all seen.found) has.name_is reported in
         let of_profile = subst (λ (p : ProfileRow). IsFound old.registry has.name (bytes_of has.content) has.profile.scan_limit p.match_all seen.found) has.profile_is named in
         found_is setting world old has.name (bytes_of has.content) has.profile.scan_limit has.profile.match_all seen.found is_in of_profile
 
@@ -153,8 +153,8 @@ module _ (setting : Setting) (world : World) (version number id : ℕ) (row : Fi
         ∙ kind_of_hash has.profile.hash (bytes_of has.content)
         ∙ ap (λ (p : ProfileRow). p.hash) (sym has.profile_is)
 
-    pub allowed_there : At old.files place (λ file. (version : ℕ) (profile : Profile) (content : Content) → IsAssemblyOf profile content file → content.finished ≡ false → is_told version profile.hash ≡ true → refusal_of (finish_checks version profile.hash content) ≡ None) → refusal_of (finish_checks version has.profile.hash has.content) ≡ None
-    allowed_there said = said its.file (at_place ∙ its.there) version has.profile has.content its.assembled unfinished told
+    pub allowed_there : At old.files place (λ file. (version : ℕ) (profile : Profile) (content : Content) → IsAssemblyOf profile content file → content.finished ≡ false → is_carried version profile.hash ≡ true → refusal_of (finish_checks version profile.hash content) ≡ None) → refusal_of (finish_checks version has.profile.hash has.content) ≡ None
+    allowed_there said = said its.file (at_place ∙ its.there) version has.profile has.content its.assembled unfinished reported
 
     -- the finding, the reply, and the rows with it, as the verdict has them
     abbrev finding : Finding
@@ -190,7 +190,7 @@ module _ (setting : Setting) (world : World) (version number id : ℕ) (row : Fi
         let rows = file_finished setting world old.store (stamped stamp reply) number has.profile id has.parent has.modified has.name has.content is_in.rows has.there has.at unfinished in
         let looked = assemblies_unchanged world old.files mid place is_in.files alike unchanged in
         let still = place_still world old.files mid place is_in.files alike unchanged number id at_place in
-        unwanted (is_want given) _ _ (ap is_want gives) (rw (accepted allowed) (
+        unwanted (is_out_of_memory given) _ _ (ap is_out_of_memory gives) (rw (accepted allowed) (
           replied,
           record {
             world_is = record {

@@ -9,7 +9,7 @@ use Rattle.droid_core_spec.specs.Files.{progress_of}
 use Rattle.droid_core_spec.specs.Histories.{verdict_reply}
 use Rattle.droid_core_spec.specs.Judging.{Verdict, Answered, judge_status}
 use Rattle.droid_core_spec.specs.Setting.{Setting}
-use Rattle.droid_core_spec.specs.Wants.{is_want}
+use Rattle.droid_core_spec.specs.MemoryFaults.{is_out_of_memory}
 use Rattle.droid_core_spec.specs.World.{Content, File, Profile, World, numbered, node_at}
 use Rattle.droid_store.specs.Rows.{is_unfinished}
 use Rattle.droid_core_files.specs.Files.{OpenFiles}
@@ -22,7 +22,7 @@ use Rattle.droid_core_requests.specs.LookUps.{HasFile, for_file}
 use Rattle.droid_core_requests.proofs.FileVerdicts.{judged_there, unfinished_there, finished_there}
 
 -- a call that tells nothing only where something is so that isn't
-pub told_at_all : {P : Type 0} (told : Result Reply Refusal) → OnErr told P → (P → ⊥) → IsOk told
+pub told_at_all : {P : Type 0} (reported : Result Reply Refusal) → OnErr reported P → (P → ⊥) → IsOk reported
 told_at_all (Ok reply) none isnt = refl
 told_at_all (Err refusal) none isnt = absurd (isnt none)
 
@@ -35,14 +35,14 @@ unfolding judge_status
 status_for_file world number id = refl
 
 module _ (setting : Setting) (world : World) (old new : Holdings) (stamp : Stamp) (verdict : Verdict) (stays : Stays setting world old new) where
-  one_of : (wanting : Bool) (P Q : Type 0) → P → Q → MatchBool wanting P Q
+  one_of : (out_of_memory : Bool) (P Q : Type 0) → P → Q → MatchBool out_of_memory P Q
   one_of true P Q p q = p
   one_of false P Q p q = q
 
   -- the verdict's answer, where there is one
-  comes_told : (told : Result Reply Refusal) → IfOk told (λ reply. verdict ≡ Answered reply) → IsOk told → Comes setting world old new stamp verdict (answered told)
-  comes_told (Ok reply) is told = one_of (is_want reply) _ _ stays (rw is (refl, stays))
-  comes_told (Err refusal) is told = absurd cc
+  comes_told : (reported : Result Reply Refusal) → IfOk reported (λ reply. verdict ≡ Answered reply) → IsOk reported → Comes setting world old new stamp verdict (answered reported)
+  comes_told (Ok reply) is reported = one_of (is_out_of_memory reply) _ _ stays (rw is (refl, stays))
+  comes_told (Err refusal) is reported = absurd cc
 
 module _ (setting : Setting) (world : World) (number id : ℕ) (row : FileRow) (has : HasFile world number id row) where
   told_there : judge_status world number id ≡ Answered (progress_of has.content)
@@ -53,17 +53,17 @@ module _ (setting : Setting) (world : World) (number id : ℕ) (row : FileRow) (
       → numbered world.profiles number ≡ Some profile → node_at profile.nodes id ≡ Some (File parent modified name content) → content.finished ≡ false
       → reply ≡ progress_of content
 
-  of_progress : (files : OpenFiles) → HasAssemblies world files → is_unfinished row.node.state ≡ true → (told : Result Reply Refusal) → IfOk told (TellsProgress files)
-      → IfOk told (λ reply. judge_status world number id ≡ Answered reply)
-  of_progress files assembled is (Ok reply) tells =
-      told_there ∙ ap Answered (sym (tells world has.profile has.parent has.modified has.name has.content assembled has.there has.at (unfinished_there world number id row has is)))
-  of_progress files assembled is (Err refusal) tells = tt
+  of_progress : (files : OpenFiles) → HasAssemblies world files → is_unfinished row.node.state ≡ true → (reported : Result Reply Refusal) → IfOk reported (TellsProgress files)
+      → IfOk reported (λ reply. judge_status world number id ≡ Answered reply)
+  of_progress files assembled is (Ok reply) reports =
+      told_there ∙ ap Answered (sym (reports world has.profile has.parent has.modified has.name has.content assembled has.there has.at (unfinished_there world number id row has is)))
+  of_progress files assembled is (Err refusal) reports = tt
 
   -- of an unfinished file its assembly tells
   pub unfinished_told : (old new : Holdings) (stamp : Stamp) → Stays setting world old new → HasAssemblies world old.files → is_unfinished row.node.state ≡ true
-      → (told : Result Reply Refusal) → IfOk told (TellsProgress old.files) → IsOk told
-      → Comes setting world old new stamp (judge_status world number id) (answered told)
-  unfinished_told old new stamp stays assembled is told tells tells_it = comes_told setting world old new stamp _ stays told (of_progress old.files assembled is told tells) tells_it
+      → (reported : Result Reply Refusal) → IfOk reported (TellsProgress old.files) → IsOk reported
+      → Comes setting world old new stamp (judge_status world number id) (answered reported)
+  unfinished_told old new stamp stays assembled is reported reports tells_it = comes_told setting world old new stamp _ stays reported (of_progress old.files assembled is reported reports) tells_it
 
   finished_progress : (content : Content) → content.finished ≡ true → progress_of content ≡ Progress (piece_count content.size content.piece_size) (piece_count content.size content.piece_size)
   finished_progress content finished = rw finished refl

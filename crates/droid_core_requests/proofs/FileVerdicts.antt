@@ -6,7 +6,7 @@ use Rattle.droid_frame.specs.types.refusal.Refusal.{Refusal}
 use Rattle.droid_frame.specs.types.reply.Reply.TheVariants.{Refused}
 use Rattle.droid_core_spec.specs.Judging.{Verdict}
 use Rattle.droid_core_spec.specs.Setting.{Setting}
-use Rattle.droid_core_spec.specs.Wants.{is_want_of}
+use Rattle.droid_core_spec.specs.MemoryFaults.{is_out_of_memory_of}
 use Rattle.droid_core_spec.specs.World.{Content, Profile, World}
 use Rattle.droid_store.specs.declared.rows.NodeState.{NodeState}
 use Rattle.droid_store.specs.declared.rows.NodeState.TheVariants.{Folder, Unfinished, Finished}
@@ -24,7 +24,7 @@ use Rattle.droid_core_state.proofs.Staying.{if_refused, comes_refused}
 pub comes_nowhere : (setting : Setting) (world : World) (old new : Holdings) (stamp : Stamp) (number id : ℕ) (judge_there : Profile → ℕ → ℤ → List ℕ → Content → Verdict) (verdict : Verdict) (refusal : Refusal)
     → verdict ≡ for_file world number id judge_there → FindsFile world number id (Err refusal) → Stays setting world old new → Comes setting world old new stamp verdict (Refused refusal)
 comes_nowhere setting world old new stamp number id judge_there verdict refusal judged found stays =
-    comes_refused setting world old new stamp verdict refusal (if_refused (is_want_of refusal) (λ refuses. judged ∙ refuses judge_there) found) stays
+    comes_refused setting world old new stamp verdict refusal (if_refused (is_out_of_memory_of refusal) (λ refuses. judged ∙ refuses judge_there) found) stays
 
 -- ---- where the file was found
 

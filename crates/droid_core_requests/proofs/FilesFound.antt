@@ -7,7 +7,7 @@ use Rattle.droid_frame.specs.types.refusal.Refusal.{Refusal}
 use Rattle.droid_frame.specs.types.refusal.Refusal.TheVariants.{NoSuchNode, NotAFile}
 use Rattle.droid_core_spec.specs.Judging.{Verdict, Refuses, in_file}
 use Rattle.droid_core_spec.specs.Setting.{Setting}
-use Rattle.droid_core_spec.specs.Wants.{is_want_of}
+use Rattle.droid_core_spec.specs.MemoryFaults.{is_out_of_memory_of}
 use Rattle.droid_core_spec.specs.World.{Content, Node, File, Abandoned, Profile, World, numbered, unless_abandoned, path}
 use Rattle.droid_core_spec.specs.World as nodes
 use Rattle.droid_core_state.specs.Rows.{KeepsWorld, file_row, profile_row, stored, stored_in}
@@ -26,7 +26,7 @@ use Rattle.droid_core_state.proofs.Staying.{if_refused}
 
 -- the profile's refusal is that of what is asked of its file
 pub nowhere_found : (world : World) (number id : ℕ) (refusal : Refusal) → FindsProfile world number (Err refusal) → FindsFile world number id (Err refusal)
-nowhere_found world number id refusal found = if_refused (is_want_of refusal) (λ it judge_there. rw it.1 (ap Refuses (sym it.0))) found
+nowhere_found world number id refusal found = if_refused (is_out_of_memory_of refusal) (λ it judge_there. rw it.1 (ap Refuses (sym it.0))) found
 
 some_same : {X : Type 0} {x y : X} → Some x ≡ Some y → x ≡ y
 some_same is = cc
@@ -39,8 +39,8 @@ of_no_row (Some node) is = absurd cc
 
 module _ (number id : ℕ) (store : Rows) where
   pub no_node_there : (found : Result (Option NodeRow) StoreFault) (refusal : Refusal) → IfOk found (λ row. row ≡ option_map row_of (node_at number id store))
-      → MatchBool (is_want_of refusal) ⊤ ((refusal ≡ NoSuchNode) × (found ≡ Ok None)) → MatchBool (is_want_of refusal) ⊤ ((refusal ≡ NoSuchNode) × (node_at number id store ≡ None))
-  no_node_there found refusal answered none = if_refused (is_want_of refusal)
+      → MatchBool (is_out_of_memory_of refusal) ⊤ ((refusal ≡ NoSuchNode) × (found ≡ Ok None)) → MatchBool (is_out_of_memory_of refusal) ⊤ ((refusal ≡ NoSuchNode) × (node_at number id store ≡ None))
+  no_node_there found refusal answered none = if_refused (is_out_of_memory_of refusal)
       (λ (it : (refusal ≡ NoSuchNode) × (found ≡ Ok None)). (it.0, of_no_row (node_at number id store) (IfOk-at_ok (λ (row : Option NodeRow). row ≡ option_map row_of (node_at number id store)) it.1 answered))) none
 
   pub node_there : (found : Result (Option NodeRow) StoreFault) (row : NodeRow) → IfOk found (λ row. row ≡ option_map row_of (node_at number id store)) → found ≡ Ok (Some row)
@@ -105,8 +105,8 @@ module _ (setting : Setting) (world : World) (store : Rows) (number id : ℕ) (r
   stored_there : node_at number id store ≡ stored_in setting number has.profile id (numbered has.profile.nodes id)
   stored_there = node_found setting world store number id keeps.nodes ∙ ap (stored setting number id) has.there
 
-  pub no_node_found : (refusal : Refusal) → MatchBool (is_want_of refusal) ⊤ ((refusal ≡ NoSuchNode) × (node_at number id store ≡ None)) → FindsFile world number id (Err refusal)
-  no_node_found refusal found = if_refused (is_want_of refusal)
+  pub no_node_found : (refusal : Refusal) → MatchBool (is_out_of_memory_of refusal) ⊤ ((refusal ≡ NoSuchNode) × (node_at number id store ≡ None)) → FindsFile world number id (Err refusal)
+  no_node_found refusal found = if_refused (is_out_of_memory_of refusal)
       (λ it judge_there. rw has.there (no_row setting number has.profile id (numbered has.profile.nodes id) (judge_there has.profile) (sym stored_there ∙ it.1) ∙ ap Refuses (sym it.0))) found
 
   pub folder_found : (node : NodeRow) → option_map row_of (node_at number id store) ≡ Some node → node.state ≡ Folder → FindsFile world number id (Err NotAFile)

@@ -6,7 +6,7 @@ use Rattle.droid_frame.specs.types.refusal.Refusal.{Refusal}
 use Rattle.droid_frame.specs.types.refusal.Refusal.TheVariants.{NoSuchNode, NotAFolder}
 use Rattle.droid_core_spec.specs.Conditions.{is_missing, is_file}
 use Rattle.droid_core_spec.specs.Setting.{Setting}
-use Rattle.droid_core_spec.specs.Wants.{is_want_of}
+use Rattle.droid_core_spec.specs.MemoryFaults.{is_out_of_memory_of}
 use Rattle.droid_core_spec.specs.World.{Content, Node, Folder, File, Abandoned, Profile, World, numbered, unless_abandoned, path}
 use Rattle.droid_store.specs.Changes.{new_file, new_folder}
 use Rattle.droid_store.specs.declared.rows.NodeRow.{NodeRow}
@@ -82,6 +82,6 @@ module _ (setting : Setting) (world : World) (rows : Rows) (number : ℕ) (profi
       λ more. rw missing refl
 
   -- the row is missing, or memory was refused
-  pub nothing_finds : (id : ℕ) (refusal : Refusal) → id ≢ 0 → MatchBool (is_want_of refusal) ⊤ ((refusal ≡ NoSuchNode) × (node_at number id rows ≡ None)) → FindsFolder profile id (Err refusal)
-  nothing_finds id refusal below none = if_refused (is_want_of refusal)
+  pub nothing_finds : (id : ℕ) (refusal : Refusal) → id ≢ 0 → MatchBool (is_out_of_memory_of refusal) ⊤ ((refusal ≡ NoSuchNode) × (node_at number id rows ≡ None)) → FindsFolder profile id (Err refusal)
+  nothing_finds id refusal below none = if_refused (is_out_of_memory_of refusal)
       (λ (it : (refusal ≡ NoSuchNode) × (node_at number id rows ≡ None)) more. no_row_finds id below (ap (option_map row_of) (sym it.1)) more ∙ ap Some (sym it.0)) none

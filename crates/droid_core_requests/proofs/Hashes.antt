@@ -6,7 +6,7 @@ use Rattle.droid_frame.specs.Replies.{IsSpelledHash}
 use Rattle.droid_frame.specs.types.hash_kind.HashKind.{HashKind}
 use Rattle.droid_frame.specs.types.hash_kind.HashKind.TheVariants as kinds
 use Rattle.droid_frame.specs.types.hash_value.HashValue.{HashValue}
-use Rattle.droid_core_spec.specs.Conditions.{is_md5, is_told}
+use Rattle.droid_core_spec.specs.Conditions.{is_md5, is_carried}
 use Rattle.droid_store.specs.declared.fault.StoreFault.{StoreFault}
 use Rattle.droid_store.specs.declared.rows.ProfileRow.{ProfileRow}
 
@@ -17,13 +17,13 @@ kind_of_hash kinds.Sha256 bytes = refl
 
 -- a kind that the version's Finished can tell is one that the version tells of
 told_as_md5 : (first : Bool) (kind : HashKind) → cond first (is_md5 kind) true ≡ true → MatchBool first (kind ≡ kinds.Md5) (Unit {0})
-told_as_md5 true kinds.Nothing told = absurd cc
-told_as_md5 true kinds.Md5 told = refl
-told_as_md5 true kinds.Sha256 told = absurd cc
-told_as_md5 false kind told = tt
+told_as_md5 true kinds.Nothing reported = absurd cc
+told_as_md5 true kinds.Md5 reported = refl
+told_as_md5 true kinds.Sha256 reported = absurd cc
+told_as_md5 false kind reported = tt
 
-pub spelled_hash : (version : ℕ) (value : HashValue) → IsHashValue value → is_told version (hash_value_kind value) ≡ true → IsSpelledHash version value
-spelled_hash version value is told = (told_as_md5 (version == 1) (hash_value_kind value) told, is)
+pub spelled_hash : (version : ℕ) (value : HashValue) → IsHashValue value → is_carried version (hash_value_kind value) ≡ true → IsSpelledHash version value
+spelled_hash version value is reported = (told_as_md5 (version == 1) (hash_value_kind value) reported, is)
 
 pub of_spelled : (version : ℕ) (value : HashValue) → IsSpelledHash version value → IsHashValue value
 of_spelled version value is = is.1

@@ -5,7 +5,7 @@ use Rattle.droid_frame.specs.types.refusal.Refusal.{Refusal}
 use Rattle.droid_frame.specs.types.refusal.Refusal.TheVariants.{BadName, PathTooLong, NameTaken}
 use Rattle.droid_core_spec.specs.Conditions.{is_bad_name, is_too_deep}
 use Rattle.droid_core_spec.specs.Judging.{Check, refusal_of, place_checks}
-use Rattle.droid_core_spec.specs.Wants.{is_want_of}
+use Rattle.droid_core_spec.specs.MemoryFaults.{is_out_of_memory_of}
 use Rattle.droid_core_spec.specs.World.{Profile, is_taken}
 use Rattle.droid_store.specs.declared.fault.StoreFault.{StoreFault}
 use Rattle.droid_store.specs.Rows.{Node}
@@ -19,8 +19,8 @@ of_child None = refl
 of_child (Some node) = refl
 
 pub child_told : (found : Result (Option ℕ) StoreFault) (node : Option Node) (there : Bool) → IfOk found (λ id. id ≡ option_map (λ (n : Node). n.id) node) → Ok there ≡ taken_in found → there ≡ is_some node
-child_told (Ok id) node there is told = (let same : there ≡ is_some id = cc in same) ∙ ap is_some is ∙ of_child node
-child_told (Err fault) node there is told = absurd cc
+child_told (Ok id) node there is reported = (let same : there ≡ is_some id = cc in same) ∙ ap is_some is ∙ of_child node
+child_told (Err fault) node there is reported = absurd cc
 
 pub no_child : (node : Option Node) → is_some node ≡ false → node ≡ None
 no_child None isnt = refl
@@ -31,7 +31,7 @@ no_child (Some node) isnt = absurd cc
 -- what is refused for the folder is refused for the place
 pub folder_refused : (profile : Profile) (parent : ℕ) (name : List ℕ) (refusal : Refusal) → FindsFolder profile parent (Err refusal) → FindsPlace profile parent name (Err refusal)
 folder_refused profile parent name refusal finds =
-    if_refused (is_want_of refusal)
+    if_refused (is_out_of_memory_of refusal)
     (λ first more. first ((is_bad_name name, BadName) ∷ (is_too_deep profile.nodes parent name, PathTooLong) ∷ (is_taken profile.nodes parent name, NameTaken) ∷ more)) finds
 
 module _ (profile : Profile) (parent : ℕ) (name found : List ℕ) (folder : IsFolderPath profile parent found) where

@@ -9,12 +9,12 @@ use Rattle.droid_frame.specs.types.refusal.Refusal.{Refusal}
 use Rattle.droid_core_spec.specs.Files.{is_due, missing_of}
 use Rattle.droid_core_spec.specs.Judging.{refusal_of, piece_checks}
 use Rattle.droid_core_spec.specs.World.{Content}
-use Rattle.droid_assembly.specs.Faults.{told_as}
+use Rattle.droid_assembly.specs.Faults.{reported_as}
 
 -- the refusal that comes of the fault
 abbrev pub fault_refusal : {T : Type 0} → Result T PutFault → Option Refusal
 fault_refusal (Ok value) = None
-fault_refusal (Err fault) = Some (told_as fault)
+fault_refusal (Err fault) = Some (reported_as fault)
 
 due_or_not : (content : Content) (index : ℕ) (bytes : List ℕ) → ((is_due content index bytes ≡ true) × IsDue content.size content.piece_size (index, bytes))
     ⊎ ((is_due content index bytes ≡ false) × (IsDue content.size content.piece_size (index, bytes) → ⊥))

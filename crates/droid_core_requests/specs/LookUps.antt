@@ -3,7 +3,7 @@ use Rattle.std.specs.Prelude.{◌≡◌, ℕ, ℤ, if◌then◌else◌, List, Op
 use Rattle.droid_frame.specs.types.refusal.Refusal.{Refusal}
 use Rattle.droid_frame.specs.types.refusal.Refusal.TheVariants.{Memory, NoSuchNode}
 use Rattle.droid_core_spec.specs.Judging.{Verdict, Refuses, in_profile, in_file}
-use Rattle.droid_core_spec.specs.Wants.{is_want_of}
+use Rattle.droid_core_spec.specs.MemoryFaults.{is_out_of_memory_of}
 use Rattle.droid_core_spec.specs.World.{Content, File, Profile, World, numbered, node_at}
 use Rattle.droid_core_state.specs.Rows.{profile_row}
 use Rattle.droid_store.specs.declared.fault.StoreFault.{StoreFault}
@@ -44,4 +44,4 @@ for_file world profile id judge_there = in_profile (numbered world.profiles prof
 abbrev pub FindsFile : World → ℕ → ℕ → Result FileRow Refusal → Type 0
 FindsFile world profile id (Ok row) = HasFile world profile id row
 FindsFile world profile id (Err refusal) =
-    MatchBool (is_want_of refusal) ⊤ ((judge_there : Profile → ℕ → ℤ → List ℕ → Content → Verdict) → for_file world profile id judge_there ≡ Refuses refusal)
+    MatchBool (is_out_of_memory_of refusal) ⊤ ((judge_there : Profile → ℕ → ℤ → List ℕ → Content → Verdict) → for_file world profile id judge_there ≡ Refuses refusal)

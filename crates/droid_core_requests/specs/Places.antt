@@ -4,7 +4,7 @@ use Rattle.droid_frame.specs.types.refusal.Refusal.{Refusal}
 use Rattle.droid_frame.specs.types.refusal.Refusal.TheVariants.{Memory, NoSuchNode, NotAFolder}
 use Rattle.droid_core_spec.specs.Conditions.{is_missing, is_file}
 use Rattle.droid_core_spec.specs.Judging.{Check, refusal_of, place_checks}
-use Rattle.droid_core_spec.specs.Wants.{is_want_of}
+use Rattle.droid_core_spec.specs.MemoryFaults.{is_out_of_memory_of}
 use Rattle.droid_core_spec.specs.World.{Profile, node_at, path}
 use Rattle.droid_store.specs.declared.fault.StoreFault.{StoreFault}
 
@@ -23,7 +23,7 @@ taken_in (Err fault) = Err Memory
 abbrev pub FindsFolder : Profile → ℕ → Result (List ℕ) Refusal → Type 0
 FindsFolder profile parent (Ok found) = IsFolderPath profile parent found
 FindsFolder profile parent (Err refusal) =
-    MatchBool (is_want_of refusal) ⊤ ((more : List Check) →
+    MatchBool (is_out_of_memory_of refusal) ⊤ ((more : List Check) →
     refusal_of ((is_missing profile.nodes parent, NoSuchNode) ∷ (is_file (node_at profile.nodes parent), NotAFolder) ∷ more) ≡ Some refusal)
 
 -- the path of a new node that its place and name allow; or its first refusal, whatever else is checked after
@@ -31,4 +31,4 @@ FindsFolder profile parent (Err refusal) =
 abbrev pub FindsPlace : Profile → ℕ → List ℕ → Result (List ℕ) Refusal → Type 0
 FindsPlace profile parent name (Ok found) = (refusal_of (place_checks profile.nodes parent name) ≡ None) × (found ≡ path profile.nodes parent ++ 47 ∷ name)
 FindsPlace profile parent name (Err refusal) =
-    MatchBool (is_want_of refusal) ⊤ ((more : List Check) → refusal_of (place_checks profile.nodes parent name ++ more) ≡ Some refusal)
+    MatchBool (is_out_of_memory_of refusal) ⊤ ((more : List Check) → refusal_of (place_checks profile.nodes parent name ++ more) ≡ Some refusal)

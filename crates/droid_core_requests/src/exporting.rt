@@ -71,7 +71,7 @@ fn with_moments(records: Vec<Record>) -> Result<Vec<Record>, Refusal>
     ensures same { IfOk result (λ written. written.items ≡ records.items) }
     ensures moments { IfOk result (λ written. HaveMoments written.items) }
     ensures written { HaveMoments records.items → IsOk result }
-    ensures want { IfErr result (λ refusal. refusal ≡ Refusal.Store) }
+    ensures failure { IfErr result (λ refusal. refusal ≡ Refusal.Store) }
 {
     if !have_moments(records.as_slice()) {
         return Err(Refusal::Store);
@@ -105,7 +105,7 @@ fn accepted_by(store: &mut Store) -> u64
 fn part_of(alloc: Global, accepted: u64, text: &Blob, from: u64, max: u32) -> Result<Reply, Refusal>
     ensures part { IfOk result (λ reply. reply ≡ part accepted text.now from max) }
     ensures spelled { (version : ℕ) → max ≤ 1048576 → HasReplySpelling version (answered result) }
-    ensures want { IfErr result (λ refusal. refusal ≡ Refusal.Memory) }
+    ensures failure { IfErr result (λ refusal. refusal ≡ Refusal.Memory) }
 {
     let bytes = text.as_slice();
     let start = bytes.len().min(from as usize);

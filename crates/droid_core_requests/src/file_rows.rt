@@ -4,7 +4,7 @@ ghost use Rattle.std.specs.Prelude.{◌≡◌, ◌<◌, length, false, Ok, Some,
 ghost use Rattle.std.specs.List.{slice_get};
 ghost use Rattle.droid_core_requests.specs.LookUps.{FindsFile, node_in};
 ghost use Rattle.droid_core_spec.specs.Setting.{Setting};
-ghost use Rattle.droid_core_spec.specs.Wants.{is_want_of};
+ghost use Rattle.droid_core_spec.specs.MemoryFaults.{is_out_of_memory_of};
 ghost use Rattle.droid_core_spec.specs.World.{World};
 ghost use Rattle.droid_core_state.specs.Rows.{KeepsWorld};
 ghost use Rattle.droid_store.specs.Changes.{IsOpen};
@@ -61,9 +61,9 @@ pub fn file_of(store: &mut Store, profile: u32, file: u32) -> Result<FileRow, Re
 /// there, or was abandoned, is refused.
 pub fn node_of(found: Result<Option<NodeRow>, StoreFault>) -> Result<NodeRow, Refusal>
     requires memory { IfErr found (λ fault. fault ≡ StoreFault.Memory) }
-    ensures told { result ≡ node_in found }
+    ensures reported { result ≡ node_in found }
     ensures found { IfOk result (λ row. found ≡ Ok (Some row)) }
-    ensures none { IfErr result (λ refusal. MatchBool (is_want_of refusal) ⊤ ((refusal ≡ Refusal.NoSuchNode) × (found ≡ Ok None))) }
+    ensures none { IfErr result (λ refusal. MatchBool (is_out_of_memory_of refusal) ⊤ ((refusal ≡ Refusal.NoSuchNode) × (found ≡ Ok None))) }
 {
     match found? {
         Some(row) => Ok(row),
@@ -76,7 +76,7 @@ pub fn place_of_file(files: &UnfinishedFiles, profile: u32, file: u32) -> Result
     ensures place { IfOk result (λ place. slice_get files.now.files place ≡ open_at profile file files.now.files) }
     ensures within { IfOk result (λ place. place < length files.now.files) }
     ensures none { OnErr result (open_at profile file files.now.files ≡ None) }
-    ensures want { IfErr result (λ refusal. refusal ≡ Refusal.Store) }
+    ensures failure { IfErr result (λ refusal. refusal ≡ Refusal.Store) }
 {
     match files.place_of(profile, file) {
         Some(place) => Ok(place),
@@ -89,7 +89,7 @@ pub fn none_is_pending(files: &UnfinishedFiles, place: usize) -> Result<(), Refu
     requires { place < length files.now.files }
     ensures none_pending { OnOk result (At files.now place (λ file. file.pending ≡ None)) }
     ensures pending { OnErr result (At files.now place (λ file. IsSome file.pending)) }
-    ensures want { IfErr result (λ refusal. refusal ≡ Refusal.Store) }
+    ensures failure { IfErr result (λ refusal. refusal ≡ Refusal.Store) }
 {
     if files.has_pending(place) {
         return Err(Refusal::Store);

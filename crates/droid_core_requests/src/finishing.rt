@@ -12,10 +12,10 @@ ghost use Rattle.droid_core_requests.specs.Causes.{says_store};
 ghost use Rattle.droid_core_requests.specs.Findings.{finding_in};
 ghost use Rattle.droid_frame.specs.Hashes.{hash_value_kind};
 ghost use Rattle.droid_frame.specs.Replies.{HasRefusalSpelling, HasReplySpelling, IsSpelledHash};
-ghost use Rattle.droid_core_spec.specs.Conditions.{is_told};
+ghost use Rattle.droid_core_spec.specs.Conditions.{is_carried};
 ghost use Rattle.droid_core_spec.specs.Files.{finished_reply};
 ghost use Rattle.droid_core_spec.specs.Judging.{judge_finish, refusal_of, finish_checks};
-ghost use Rattle.droid_core_spec.specs.Wants.{is_want_of};
+ghost use Rattle.droid_core_spec.specs.MemoryFaults.{is_out_of_memory_of};
 ghost use Rattle.droid_core_spec.specs.World.{Content, Profile};
 ghost use Rattle.droid_frame.specs.Versions.{IsVersion};
 ghost use Rattle.droid_store.specs.Changes.{IsOfKind, IsOpen, with_reply};
@@ -25,7 +25,7 @@ ghost use Rattle.droid_core_files.specs.Identifying.{IsFindingOf, IsWellFormed};
 
 use crate::file_rows::{FileRow, file_of, none_is_pending, place_of_file};
 use droid_core_files::{Finding, UnfinishedFiles};
-use droid_core_state::{Holdings, Stamp, entry_of, is_told};
+use droid_core_state::{Holdings, Stamp, entry_of, is_carried};
 use droid_frame::{HashKind, HashValue, Refusal, Reply};
 use droid_pronom::Registry;
 use droid_store::Store;
@@ -47,7 +47,7 @@ pub fn finish(
     if !row.is_unfinished() {
         return Err(Refusal::AlreadyFinished);
     }
-    if !is_told(stamp.version, row.profile.hash) {
+    if !is_carried(stamp.version, row.profile.hash) {
         return Err(Refusal::BadOption);
     }
     let place = place_of_file(&holdings.files, profile, file)?;
@@ -84,9 +84,9 @@ fn identify_file(
     requires within { place < length files.old.files }
     requires none_pending { At files.old place (λ file. file.pending ≡ None) }
     ensures refused { IfErr result (λ refusal. At files.old place (λ file. (version : ℕ) (profile : Profile) (content : Content) → IsAssemblyOf profile content file
-        → content.finished ≡ false → is_told version profile.hash ≡ true → MatchBool (is_want_of refusal) ⊤ (refusal_of (finish_checks version profile.hash content) ≡ Some refusal))) }
+        → content.finished ≡ false → is_carried version profile.hash ≡ true → MatchBool (is_out_of_memory_of refusal) ⊤ (refusal_of (finish_checks version profile.hash content) ≡ Some refusal))) }
     ensures allowed { OnOk result (At files.old place (λ file. (version : ℕ) (profile : Profile) (content : Content) → IsAssemblyOf profile content file
-        → content.finished ≡ false → is_told version profile.hash ≡ true → refusal_of (finish_checks version profile.hash content) ≡ None)) }
+        → content.finished ≡ false → is_carried version profile.hash ≡ true → refusal_of (finish_checks version profile.hash content) ≡ None)) }
     ensures finding { IfOk result (λ finding. At files.old place (λ file. (pieces : List Piece) → StandsFor file pieces
         → IsFindingOf registry.now row.now.node.item.name row.now.profile.match_all file pieces finding)) }
     ensures well_formed { IfOk result IsWellFormed }
@@ -107,7 +107,7 @@ fn identify_file(
 fn is_of_kind(hash: HashValue, kind: HashKind) -> Result<(), Refusal>
     ensures kind { OnOk result (hash_value_kind hash ≡ kind) }
     ensures its { hash_value_kind hash ≡ kind → IsOk result }
-    ensures want { IfErr result (λ refusal. refusal ≡ Refusal.Store) }
+    ensures failure { IfErr result (λ refusal. refusal ≡ Refusal.Store) }
 {
     if hash.kind() != kind {
         return Err(Refusal::Store);
@@ -168,7 +168,7 @@ fn finished_reply(alloc: Global, finding: &Finding) -> Result<Reply, Refusal>
     requires well_formed { IsWellFormed finding.now }
     ensures reply { IfOk result (λ reply. reply ≡ finished_reply (finding_in finding.now)) }
     ensures spelled { IfOk result (λ reply. (version : ℕ) → IsSpelledHash version finding.now.sealed.hash → HasReplySpelling version reply) }
-    ensures want { IfErr result (λ refusal. refusal ≡ Refusal.Memory) }
+    ensures failure { IfErr result (λ refusal. refusal ≡ Refusal.Memory) }
 {
     let found = &finding.found;
     let puids = found.puids.try_clone(alloc)?;

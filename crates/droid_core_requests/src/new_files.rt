@@ -112,7 +112,7 @@ fn has_room(files: &UnfinishedFiles, profile: u32, file: u32) -> Result<(), Refu
     ensures room { OnOk result (length files.now.files < files.now.limit) }
     ensures fresh { OnOk result (open_at profile file files.now.files ≡ None) }
     ensures fits { length files.now.files < files.now.limit → open_at profile file files.now.files ≡ None → IsOk result }
-    ensures want { IfErr result (λ refusal. refusal ≡ Refusal.Store) }
+    ensures failure { IfErr result (λ refusal. refusal ≡ Refusal.Store) }
 {
     if files.is_full() {
         return Err(Refusal::Store);

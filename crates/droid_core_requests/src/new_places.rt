@@ -69,7 +69,7 @@ fn path_of(row: NodeRow) -> Result<Text, Refusal>
 /// Whether the node that was looked up in the store, which gives up for want of memory alone, is there.
 fn is_taken(found: Result<Option<u32>, StoreFault>) -> Result<bool, Refusal>
     requires memory { IfErr found (λ fault. fault ≡ StoreFault.Memory) }
-    ensures told { result ≡ taken_in found }
+    ensures reported { result ≡ taken_in found }
     ensures memory { IfErr result (λ refusal. refusal ≡ Refusal.Memory) }
 {
     Ok(found?.is_some())

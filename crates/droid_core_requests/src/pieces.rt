@@ -56,7 +56,7 @@ fn held_with_one_more(files: &UnfinishedFiles, place: usize) -> Result<u32, Refu
     ensures held { IfOk result (λ held. At files.now place (λ file. (pieces : List Piece) → StandsFor file pieces → held ≡ length pieces + 1)) }
     ensures none_pending { OnOk result (At files.now place (λ file. file.pending ≡ None)) }
     ensures pending { OnErr result (At files.now place (λ file. IsSome file.pending)) }
-    ensures want { IfErr result (λ refusal. refusal ≡ Refusal.Store) }
+    ensures failure { IfErr result (λ refusal. refusal ≡ Refusal.Store) }
 {
     none_is_pending(files, place)?;
     Ok(files.held(place) + 1)

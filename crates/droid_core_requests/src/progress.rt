@@ -40,7 +40,7 @@ fn progress_of(files: &UnfinishedFiles, profile: u32, file: u32) -> Result<Reply
         → reply ≡ progress_of content) }
     ensures spelled { (version : ℕ) → HasReplySpelling version (answered result) }
     ensures none { OnErr result (open_at profile file files.now.files ≡ None) }
-    ensures want { IfErr result (λ refusal. refusal ≡ Refusal.Store) }
+    ensures failure { IfErr result (λ refusal. refusal ≡ Refusal.Store) }
 {
     let place = place_of_file(files, profile, file)?;
     Ok(Reply::Progress {
@@ -54,7 +54,7 @@ fn progress_of(files: &UnfinishedFiles, profile: u32, file: u32) -> Result<Reply
 fn count_of(size: u64, piece_size: u32) -> Result<u32, Refusal>
     ensures count { IfOk result (λ count. count ≡ piece_count size piece_size) }
     ensures fits { 0 < piece_size → piece_count size piece_size < 2 ^ 32 → IsOk result }
-    ensures want { IfErr result (λ refusal. refusal ≡ Refusal.Store) }
+    ensures failure { IfErr result (λ refusal. refusal ≡ Refusal.Store) }
 {
     if piece_size == 0 {
         return Err(Refusal::Store);

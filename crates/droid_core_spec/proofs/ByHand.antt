@@ -6,7 +6,7 @@ use Rattle.md5.specs.Md5.{md5, block_words, rounds, compress, hash_after, digest
 use Rattle.sha2.specs.Sha256.{sha256}
 use Rattle.droid_core_spec.specs.Records.{records}
 use Rattle.droid_frame.specs.Reading.{truth_at, whole}
-use Rattle.droid_frame.specs.HashFields.{hash_kind_at, told_kind_at}
+use Rattle.droid_frame.specs.HashFields.{hash_kind_at, carried_kind_at}
 use Rattle.droid_frame.specs.Values.{abandon_value, any_value, create_profile_value, file_value, plain_value, request_value, request_in}
 use Rattle.droid_frame.specs.types.filter.Filter.{Filter}
 use Rattle.droid_frame.specs.types.frame.Frame.{Frame}
@@ -274,7 +274,7 @@ create client number all = record { version = 1; kind = 1; client = client; numb
 -- sent again; another request under the same number; that number of another client; the first again after all that
 pub repeats : answers usual [] (create 7 1 0 ∷ create 7 1 0 ∷ create 7 1 1 ∷ create 8 1 1 ∷ create 7 1 0 ∷ [])
     ≡ replies.Made 1 ∷ replies.Made 1 ∷ replies.Refused refusals.NumberReused ∷ replies.Made 2 ∷ replies.Made 1 ∷ []
-unfolding answer next meeting command request_in request_value any_value plain_value create_profile_value told_kind_at truth_at whole world_of judge judge_create is_scan_limit md5 digest_bytes hash_after compress rounds block_words
+unfolding answer next meeting command request_in request_value any_value plain_value create_profile_value carried_kind_at truth_at whole world_of judge judge_create is_scan_limit md5 digest_bytes hash_after compress rounds block_words
 repeats = refl
 
 -- no truth value, a byte past the end, a kind that is none, a number of 2^63: also under a number that is kept
@@ -286,7 +286,7 @@ pub malformed : answers usual [] (
     ∷ create 7 9223372036854775808 0
     ∷ []
     ) ≡ replies.Made 1 ∷ replies.Refused refusals.Malformed ∷ replies.Refused refusals.Malformed ∷ replies.Refused refusals.Malformed ∷ replies.Refused refusals.Malformed ∷ []
-unfolding answer next meeting command request_in request_value any_value plain_value create_profile_value told_kind_at truth_at whole world_of judge judge_create is_scan_limit md5 digest_bytes hash_after compress rounds block_words
+unfolding answer next meeting command request_in request_value any_value plain_value create_profile_value carried_kind_at truth_at whole world_of judge judge_create is_scan_limit md5 digest_bytes hash_after compress rounds block_words
 malformed = refl
 
 -- under a kept number the same bytes in the other version are another request; a body of version 1 may spell nothing in
@@ -301,5 +301,5 @@ pub versions_apart : answers usual (entry_of (abandoning 2) replies.Abandoned �
     ∷ record (create 7 1 0) { version = 2 }
     ∷ []
     ) ≡ replies.Abandoned ∷ replies.Refused refusals.NumberReused ∷ replies.Refused refusals.Malformed ∷ replies.Refused refusals.Malformed ∷ []
-unfolding answer next meeting command request_in request_value any_value plain_value create_profile_value abandon_value file_value told_kind_at hash_kind_at truth_at whole md5 digest_bytes hash_after compress rounds block_words
+unfolding answer next meeting command request_in request_value any_value plain_value create_profile_value abandon_value file_value carried_kind_at hash_kind_at truth_at whole md5 digest_bytes hash_after compress rounds block_words
 versions_apart = refl

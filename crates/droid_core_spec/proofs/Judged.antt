@@ -19,9 +19,9 @@ AreOfJudging [] = Unit {0}
 AreOfJudging (check ∷ checks) = (is_of_judging check.1 ≡ true) × AreOfJudging checks
 
 -- of two replies that are no refusals either is none
-told : (first : Bool) (one two : Reply) → is_refused one ≡ false → is_refused two ≡ false → is_refused (cond first one two) ≡ false
-told true one two is_told other_told = is_told
-told false one two is_told other_told = other_told
+reported : (first : Bool) (one two : Reply) → is_refused one ≡ false → is_refused two ≡ false → is_refused (cond first one two) ≡ false
+reported true one two is_carried other_told = is_carried
+reported false one two is_carried other_told = other_told
 
 module _ (world : World) (request : Request) where
   refused_by : (b : Bool) (refusal : Refusal) (rest : Option Refusal) (verdict : Verdict) → is_of_judging refusal ≡ true → MayCome world request (unless_refused rest verdict) → MayCome world request (unless_refused (cond b (Some refusal) rest) verdict)
@@ -99,7 +99,7 @@ judged setting world version (Status number file) =
     (λ profile parent modified name content. tt)
     (λ profile parent modified name content. record {
       query = refl;
-      no_refusal = told content.finished (replies.Progress (count_of content) (count_of content)) (replies.Progress (length content.pieces) (missing_of content)) refl refl;
+      no_refusal = reported content.finished (replies.Progress (count_of content) (count_of content)) (replies.Progress (length content.pieces) (missing_of content)) refl refl;
     })
 judged setting world version (Export number from max filter) =
     let request = Export number from max filter in
@@ -131,7 +131,7 @@ unfolding judge judge_export
 exported_as_of setting world version number from max as_of total filter bytes is = by (numbered world.profiles number) is
   where
     by : (found : Option Profile) → in_profile found (λ profile. unless_refused (refusal_of (export_checks max)) (Answered (part_of setting world.accepted profile from max filter))) ≡ Answered (replies.Part as_of total bytes) → as_of ≡ world.accepted
-    by None told = absurd cc
-    by (Some profile) told =
+    by None reported = absurd cc
+    by (Some profile) reported =
         let text = setting.export_text (records setting profile) filter profile.hash in
-        number_unless (refusal_of (export_checks max)) as_of total world.accepted (length text) bytes (take max (drop from text)) told
+        number_unless (refusal_of (export_checks max)) as_of total world.accepted (length text) bytes (take max (drop from text)) reported

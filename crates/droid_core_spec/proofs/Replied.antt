@@ -15,7 +15,7 @@ use Rattle.droid_core_spec.specs.Histories.{Entry, History, IsLegal, HasReply, c
 use Rattle.droid_core_spec.specs.Judging.{Verdict, Accepted, Answered, Refuses, judge}
 use Rattle.droid_core_spec.specs.Setting.{Setting}
 use Rattle.droid_core_spec.specs.Verdicts.{is_command, is_refused, is_of_judging, MayCome}
-use Rattle.droid_core_spec.specs.Wants.{is_want, is_want_of}
+use Rattle.droid_core_spec.specs.MemoryFaults.{is_out_of_memory, is_out_of_memory_of}
 use Rattle.droid_core_spec.specs.World.{World}
 use Rattle.droid_core_spec.proofs.Asked.{asks_something}
 use Rattle.droid_core_spec.proofs.Judged.{judged, judged_as}
@@ -24,16 +24,16 @@ use Rattle.droid_core_spec.proofs.Meetings.{answer_kept, next_kept, answer_new, 
 
 -- ---- no want
 
-no_want_of : (refusal : Refusal) → is_of_judging refusal ≡ true → is_want_of refusal ≡ false
+no_want_of : (refusal : Refusal) → is_of_judging refusal ≡ true → is_out_of_memory_of refusal ≡ false
 no_want_of Memory is = absurd cc
 no_want_of Store is = absurd cc
 no_want_of _ is = refl
 
-no_want : (reply : Reply) → is_refused reply ≡ false → is_want reply ≡ false
+no_want : (reply : Reply) → is_refused reply ≡ false → is_out_of_memory reply ≡ false
 no_want (Refused refusal) is = absurd cc
 no_want _ is = refl
 
-no_verdict_wants : (world : World) (request : Request) (verdict : Verdict) → MayCome world request verdict → is_want (verdict_reply verdict) ≡ false
+no_verdict_wants : (world : World) (request : Request) (verdict : Verdict) → MayCome world request verdict → is_out_of_memory (verdict_reply verdict) ≡ false
 no_verdict_wants world request (Accepted reply after) may = no_want reply may.no_refusal
 no_verdict_wants world request (Answered reply) may = no_want reply may.no_refusal
 no_verdict_wants world request (Refuses refusal) may = no_want_of refusal may
@@ -61,10 +61,10 @@ kept_unrefused setting history client number entry legal there =
     let came = kept_came setting history client number entry legal there in
     (judged_as setting (world_of setting came.past) entry.frame.version came.may.request (Accepted entry.reply came.may.after) came.may.accepted).no_refusal
 
-pub answer_no_want : (setting : Setting) (history : History) (frame : Frame) → IsLegal setting history → is_want (answer setting history frame) ≡ false
+pub answer_no_want : (setting : Setting) (history : History) (frame : Frame) → IsLegal setting history → is_out_of_memory (answer setting history frame) ≡ false
 unfolding answer
 answer_no_want setting history frame legal =
-    whatever_meets setting history frame (λ (met : Meeting). is_want (reply_to met) ≡ false) refl
+    whatever_meets setting history frame (λ (met : Meeting). is_out_of_memory (reply_to met) ≡ false) refl
     (λ entry there. no_want entry.reply (kept_unrefused setting history frame.client frame.number entry legal there)) refl
     (λ request asked is_new. no_verdict_wants (world_of setting history) request (judge setting (world_of setting history) frame.version request) (judged setting (world_of setting history) frame.version request))
 

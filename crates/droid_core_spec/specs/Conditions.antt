@@ -62,5 +62,5 @@ is_md5 hashes.Md5 = true
 is_md5 hashes.Sha256 = false
 
 -- a Finished of this version can tell a file's hash of this kind: in version 1 it has the bytes of an MD5 and no others
-abbrev pub is_told : ℕ → HashKind → Bool
-is_told version hash = if version == 1 then is_md5 hash else true
+abbrev pub is_carried : ℕ → HashKind → Bool
+is_carried version hash = if version == 1 then is_md5 hash else true

@@ -13,7 +13,7 @@ use Rattle.droid_frame.specs.Frames.{mark_of}
 use Rattle.droid_frame.specs.Values.{request_in}
 use Rattle.droid_core_spec.specs.Judging.{Verdict, Accepted, Answered, Refuses, judge}
 use Rattle.droid_core_spec.specs.Setting.{Setting}
-use Rattle.droid_core_spec.specs.Wants.{is_want}
+use Rattle.droid_core_spec.specs.MemoryFaults.{is_out_of_memory}
 use Rattle.droid_core_spec.specs.World.{World, empty_world}
 
 -- an accepted request whole, with its mark and its reply
@@ -176,6 +176,6 @@ answers setting history (frame ∷ frames) = answer setting history frame ∷ an
 -- request, and the same of this history
 abbrev pub Handles : Setting → History → Frame → Reply → (History → Type 0) → Type 0
 Handles setting history frame reply Stands =
-    MatchBool (is_want reply)
+    MatchBool (is_out_of_memory reply)
     (IsSome (command frame) × Stands history)
     ((reply ≡ answer setting history frame) × Stands (next setting history frame))

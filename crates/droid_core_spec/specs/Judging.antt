@@ -11,7 +11,7 @@ use Rattle.droid_frame.specs.types.reply.Reply.TheVariants as replies
 use Rattle.droid_frame.specs.types.request.Request.{Request}
 use Rattle.droid_frame.specs.types.request.Request.TheVariants.{CreateProfile, AddFolder, AddFile, Piece, Finish, Abandon, Status, Export}
 use Rattle.droid_core_spec.specs.Limits.{Limits}
-use Rattle.droid_core_spec.specs.Conditions.{is_scan_limit, is_piece_size, is_part_size, is_too_large, is_moment, is_bad_name, is_missing, is_file, is_too_deep, is_told}
+use Rattle.droid_core_spec.specs.Conditions.{is_scan_limit, is_piece_size, is_part_size, is_too_large, is_moment, is_bad_name, is_missing, is_file, is_too_deep, is_carried}
 use Rattle.droid_core_spec.specs.Exported.{part_of}
 use Rattle.droid_core_spec.specs.Files.{count_of, missing_of, has_piece, is_due, is_too_far, with_piece, as_finished, finding_of, finished_reply, progress_of, unfinished_in}
 use Rattle.droid_core_spec.specs.Setting.{Setting}
@@ -113,7 +113,7 @@ piece_checks content index bytes =
 abbrev pub finish_checks : ℕ → HashKind → Content → List Check
 finish_checks version hash content =
     (content.finished, AlreadyFinished)
-    ∷ (not (is_told version hash), BadOption)
+    ∷ (not (is_carried version hash), BadOption)
     ∷ (nat_lt (missing_of content) (count_of content), Incomplete (missing_of content))
     ∷ []
 

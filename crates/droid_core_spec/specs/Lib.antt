@@ -8,6 +8,6 @@ pub mod Limits
 pub mod Records
 pub mod Setting
 pub mod Verdicts
-pub mod Wants
+pub mod MemoryFaults
 pub mod Whole
 pub mod World

@@ -33,12 +33,12 @@ pub record MayBeAccepted (world : World) (request : Request) (reply : Reply) (af
   pub one_more : after.accepted ≡ world.accepted + 1
 
 -- what is told is asked by a query, and no refusal
-pub record MayBeTold (request : Request) (reply : Reply) : Type 0 where
+pub record MayAnswer (request : Request) (reply : Reply) : Type 0 where
   pub query : is_command request ≡ false
   pub no_refusal : is_refused reply ≡ false
 
 -- the verdict is one that may come of the request in the world
 abbrev pub MayCome : World → Request → Verdict → Type 0
 MayCome world request (Accepted reply after) = MayBeAccepted world request reply after
-MayCome world request (Answered reply) = MayBeTold request reply
+MayCome world request (Answered reply) = MayAnswer request reply
 MayCome world request (Refuses refusal) = is_of_judging refusal ≡ true

@@ -20,7 +20,7 @@ ghost use Rattle.droid_core_spec.specs.Judging.{Answered, Refuses, judge};
 ghost use Rattle.droid_core_spec.specs.Records.{records, IsRecordIn};
 ghost use Rattle.droid_core_spec.specs.Setting.{Setting};
 ghost use Rattle.droid_core_spec.specs.Verdicts.{is_command, is_refused, MayCome};
-ghost use Rattle.droid_core_spec.specs.Wants.{is_want};
+ghost use Rattle.droid_core_spec.specs.MemoryFaults.{is_out_of_memory};
 ghost use Rattle.droid_core_spec.specs.Whole.{FinishedAreWhole};
 ghost use Rattle.droid_core_spec.specs.World.{Profile, World};
 
@@ -59,8 +59,8 @@ pub fn version_1_stands_alone()
 {}
 
 /// After a legal history no answer is want of memory, and none is that the database refused.
-pub fn answers_are_no_wants()
-    ensures memory { (setting : Setting) (history : History) (frame : Frame) → IsLegal setting history → is_want (answer setting history frame) ≡ false }
+pub fn answers_are_no_memory_faults()
+    ensures memory { (setting : Setting) (history : History) (frame : Frame) → IsLegal setting history → is_out_of_memory (answer setting history frame) ≡ false }
     ensures store { (setting : Setting) (history : History) (frame : Frame) → IsLegal setting history → answer setting history frame ≢ Refused Store }
 {}
 

@@ -6,7 +6,7 @@ use Rattle.droid_frame.specs.types.reply.Reply.TheVariants.{Refused}
 use Rattle.droid_core_spec.specs.Histories.{verdict_reply}
 use Rattle.droid_core_spec.specs.Judging.{Verdict, Refuses}
 use Rattle.droid_core_spec.specs.Setting.{Setting}
-use Rattle.droid_core_spec.specs.Wants.{is_want_of}
+use Rattle.droid_core_spec.specs.MemoryFaults.{is_out_of_memory_of}
 use Rattle.droid_core_spec.specs.World.{World}
 use Rattle.droid_store.specs.Rows.{Rows}
 use Rattle.droid_core_state.specs.declared.holdings.Holdings.{Holdings}
@@ -53,6 +53,6 @@ refused_or_wanting true setting world old new stamp verdict refusal is same = sa
 refused_or_wanting false setting world old new stamp verdict refusal is same = rw is (refl, same)
 
 -- the refusal is the verdict's, or memory was refused
-pub comes_refused : (setting : Setting) (world : World) (old new : Holdings) (stamp : Stamp) (verdict : Verdict) (refusal : Refusal) → MatchBool (is_want_of refusal) ⊤ (verdict ≡ Refuses refusal) → Stays setting world old new
+pub comes_refused : (setting : Setting) (world : World) (old new : Holdings) (stamp : Stamp) (verdict : Verdict) (refusal : Refusal) → MatchBool (is_out_of_memory_of refusal) ⊤ (verdict ≡ Refuses refusal) → Stays setting world old new
     → Comes setting world old new stamp verdict (Refused refusal)
-comes_refused setting world old new stamp verdict refusal is same = refused_or_wanting (is_want_of refusal) setting world old new stamp verdict refusal is same
+comes_refused setting world old new stamp verdict refusal is same = refused_or_wanting (is_out_of_memory_of refusal) setting world old new stamp verdict refusal is same

@@ -9,7 +9,7 @@ use Rattle.droid_frame.specs.types.reply.Reply.TheVariants.{Refused}
 use Rattle.droid_core_spec.specs.Histories.{frame_mark, is_same_request, verdict_reply}
 use Rattle.droid_core_spec.specs.Judging.{Verdict, Accepted, Answered, Refuses}
 use Rattle.droid_core_spec.specs.Setting.{Setting}
-use Rattle.droid_core_spec.specs.Wants.{is_want}
+use Rattle.droid_core_spec.specs.MemoryFaults.{is_out_of_memory}
 use Rattle.droid_core_spec.specs.World.{World}
 use Rattle.droid_store.specs.declared.rows.Entry as rows
 use Rattle.droid_core_state.specs.declared.holdings.Holdings.{Holdings}
@@ -55,4 +55,4 @@ Leaves setting world old new stamp (Refuses refusal) = Stays setting world old n
 -- what a request under a new number makes of the service: what its verdict says, or want of memory and no change
 abbrev pub Comes : Setting → World → Holdings → Holdings → Stamp → Verdict → Reply → Type 0
 Comes setting world old new stamp verdict reply =
-    MatchBool (is_want reply) (Stays setting world old new) ((reply ≡ verdict_reply verdict) × Leaves setting world old new stamp verdict)
+    MatchBool (is_out_of_memory reply) (Stays setting world old new) ((reply ≡ verdict_reply verdict) × Leaves setting world old new stamp verdict)

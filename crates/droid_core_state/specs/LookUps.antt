@@ -2,7 +2,7 @@
 use Rattle.std.specs.Prelude.{◌≡◌, ℕ, Option, Some, None, MatchBool, ⊤, Result, Ok, Err}
 use Rattle.droid_frame.specs.types.refusal.Refusal.{Refusal}
 use Rattle.droid_frame.specs.types.refusal.Refusal.TheVariants.{Memory, NoSuchProfile}
-use Rattle.droid_core_spec.specs.Wants.{is_want_of}
+use Rattle.droid_core_spec.specs.MemoryFaults.{is_out_of_memory_of}
 use Rattle.droid_core_spec.specs.World.{Profile, World, numbered}
 use Rattle.droid_core_state.specs.Rows.{profile_row}
 use Rattle.droid_store.specs.declared.fault.StoreFault.{StoreFault}
@@ -23,4 +23,4 @@ pub record HasProfile (world : World) (which : ℕ) (row : ProfileRow) : Type 0 
 -- the profile's row; or it is missing, or memory was refused
 abbrev pub FindsProfile : World → ℕ → Result ProfileRow Refusal → Type 0
 FindsProfile world profile (Ok row) = HasProfile world profile row
-FindsProfile world profile (Err refusal) = MatchBool (is_want_of refusal) ⊤ ((refusal ≡ NoSuchProfile) × (numbered world.profiles profile ≡ None))
+FindsProfile world profile (Err refusal) = MatchBool (is_out_of_memory_of refusal) ⊤ ((refusal ≡ NoSuchProfile) × (numbered world.profiles profile ≡ None))

@@ -20,7 +20,7 @@ pub use holdings::Holdings;
 pub use limits::Limits;
 pub use look_ups::profile_of;
 pub use names::is_bad_name;
-pub use options::{is_moment, is_scan_limit, is_told};
+pub use options::{is_carried, is_moment, is_scan_limit};
 pub use paths::{is_too_deep_below, new_path};
 pub use replies::{answer_again, entry_of, reply_from};
 pub use room::Room;

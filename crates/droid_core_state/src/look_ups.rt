@@ -16,7 +16,7 @@ use droid_store::{ProfileRow, StoreFault};
 /// there is refused.
 pub fn profile_of(found: Result<Option<ProfileRow>, StoreFault>) -> Result<ProfileRow, Refusal>
     requires memory { IfErr found (λ fault. fault ≡ Memory) }
-    ensures told { result ≡ profile_in found }
+    ensures reported { result ≡ profile_in found }
     ensures row { IfOk result (λ row. found ≡ Ok (Some row)) }
     ensures found { (setting : Setting) (world : World) (number : ℕ) (rows : Rows) → KeepsWorld setting world rows
         → IfOk found (λ row. row ≡ profile_at number rows) → FindsProfile world number result }

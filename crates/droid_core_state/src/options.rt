@@ -1,7 +1,7 @@
 //! Which numbers a request may have, and which hash a reply can tell.
 
 ghost use Rattle.std.specs.Prelude.{◌≡◌, ◌<◌, IsTrue};
-ghost use Rattle.droid_core_spec.specs.Conditions.{is_scan_limit, is_piece_size, piece_size_limit, is_part_size, is_too_large, is_moment, is_md5, is_told};
+ghost use Rattle.droid_core_spec.specs.Conditions.{is_scan_limit, is_piece_size, piece_size_limit, is_part_size, is_too_large, is_moment, is_md5, is_carried};
 
 use droid_frame::HashKind;
 
@@ -56,8 +56,8 @@ pub fn is_moment(seconds: i64) -> bool
 }
 
 /// Whether a reply of this version can tell a file's hash of this kind.
-pub fn is_told(version: u8, hash: HashKind) -> bool
-    ensures { result ≡ is_told version hash }
+pub fn is_carried(version: u8, hash: HashKind) -> bool
+    ensures { result ≡ is_carried version hash }
 {
     if version != 1 {
         return true;

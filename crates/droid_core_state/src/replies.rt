@@ -6,7 +6,7 @@ ghost use Rattle.droid_frame.specs.Replies.{HasReplySpelling, SpellsReply};
 ghost use Rattle.droid_frame.specs.types.refusal.Refusal.TheVariants as refusals;
 ghost use Rattle.droid_frame.specs.types.reply.Reply.TheVariants.{Refused};
 ghost use Rattle.droid_frame.specs.Versions.{IsVersion};
-ghost use Rattle.droid_core_spec.specs.Wants.{is_want};
+ghost use Rattle.droid_core_spec.specs.MemoryFaults.{is_out_of_memory};
 ghost use Rattle.droid_store.specs.Sizes.{entry_size, FitsARow};
 
 use crate::stamps::Stamp;
@@ -20,7 +20,7 @@ pub fn entry_of(alloc: Global, stamp: Stamp, reply: &Reply) -> Result<Entry, Ref
     requires spelling { HasReplySpelling stamp.version reply.now }
     ensures row { IfOk result (λ entry. entry ≡ stamped stamp reply.now) }
     ensures fits { IfOk result (λ entry. FitsARow (entry_size entry)) }
-    ensures want { IfErr result (λ refusal. refusal ≡ Refusal.Memory) }
+    ensures failure { IfErr result (λ refusal. refusal ≡ Refusal.Memory) }
 {
     let body = reply_body(alloc, stamp.version, reply)?;
     let mark = stamp.mark;
@@ -38,7 +38,7 @@ pub fn entry_of(alloc: Global, stamp: Stamp, reply: &Reply) -> Result<Entry, Ref
 /// where the versions and the marks are equal. Only the list of a `Finished` takes memory.
 pub fn answer_again(alloc: Global, entry: Entry, stamp: Stamp) -> Reply
     ensures kept { (kept : Reply) → SpellsReply entry.version entry.kind entry.body kept
-        → MatchBool (is_want result) ⊤ (result ≡ again entry stamp kept) }
+        → MatchBool (is_out_of_memory result) ⊤ (result ≡ again entry stamp kept) }
     // Another version or mark is never a want, and neither is any reply but a Finished.
     ensures reused { is_row_of entry stamp ≡ false → result ≡ Refused refusals.NumberReused }
     ensures exact { (kept : Reply) → SpellsReply entry.version entry.kind entry.body kept → entry.kind ≢ 132 → result ≡ again entry stamp kept }

@@ -1,8 +1,8 @@
 //! Lines of scripts as requests to a service, and its replies as they are printed. Each is asked once.
 
 use droid_core::{Limits, Service};
-use droid_desk_lines::{parse_line, print_answer};
 use droid_frame::{Frame, Reply, request_frame};
+use droid_lines::{parse_line, print_answer};
 use droid_pronom::Registry;
 use droid_pronom_sample::SAMPLE;
 use std::alloc::{AllocError, Global};

@@ -2,8 +2,8 @@
 
 use crate::asking::{LARGEST, Step, frame};
 use droid_core::Service;
-use droid_desk_lines::print_answer;
 use droid_frame::{Frame, Refusal, Reply};
+use droid_lines::print_answer;
 use droid_pronom::Registry;
 use droid_pronom_sample::SAMPLE;
 use std::alloc::{AllocError, Global};
@@ -38,7 +38,7 @@ pub fn printed_again(alloc: Global, reply: Reply) -> Result<Vec<u8>, AllocError>
 }
 
 /// Whether memory was refused.
-fn is_wanting(reply: &Reply) -> bool {
+fn is_out_of_memory(reply: &Reply) -> bool {
     matches!(reply, Reply::Refused(Refusal::Memory))
 }
 
@@ -50,7 +50,7 @@ pub fn ask_again(
     line: &str,
 ) -> Result<Vec<u8>, AllocError> {
     let reply = service.handle(frame_again(rt, alloc, line)?);
-    if !is_wanting(&reply) {
+    if !is_out_of_memory(&reply) {
         return printed_again(alloc, reply);
     }
     let again = service.handle(frame_again(rt, alloc, line)?);

@@ -1,7 +1,7 @@
 //! What the faults say: that of a script its name, which the program prints.
 
 use droid_core_files::IdentifyFault;
-use droid_desk_script::ScriptFault;
+use droid_lines_script::ScriptFault;
 use std::alloc::Global;
 use std::fmt::Display;
 use std::test::Fail;

@@ -3,8 +3,8 @@
 
 use crate::asking_again::{ask_again, place_of, service_again};
 use droid_core::Service;
-use droid_desk_lines::Tally;
-use droid_desk_script::{ScriptFault, script};
+use droid_lines::Tally;
+use droid_lines_script::{ScriptFault, script};
 use std::alloc::Global;
 use std::process::Abort;
 use std::test::Fail;
@@ -105,7 +105,7 @@ fn is_whole(ended: &Result<Tally, ScriptFault>, printed: &[u8], shown: &[u8]) ->
 }
 
 /// Whether the first lines were handled, and then there was no memory; or all were, and it was refused to one.
-fn is_wanting(ended: &Result<Tally, ScriptFault>, printed: &[u8], shown: &[u8]) -> bool {
+fn is_out_of_memory(ended: &Result<Tally, ScriptFault>, printed: &[u8], shown: &[u8]) -> bool {
     match ended {
         Ok(tally) => *tally == TALLY && place_of(&WANTING, printed, shown).is_some(),
         Err(ScriptFault::Memory) => (0..5).any(|done| is_front(done, printed, shown)),
@@ -124,7 +124,7 @@ fn is_run(rt: &impl Abort, alloc: Global, lines: &[u8]) -> Result<(), Fail> {
         return Ok(());
     }
     assert!(rt;
-        is_wanting(&ended, printed, shown.as_slice()),
+        is_out_of_memory(&ended, printed, shown.as_slice()),
         "{ended:?} {printed:?} {shown:?}"
     );
     if ended.is_ok() {

@@ -5,5 +5,5 @@ use std::io::IsTerminal;
 use std::process::ExitCode;
 
 fn main(rt: HostRuntime) -> ExitCode {
-    droid_desk_commands::run(&rt, rt.stderr().is_terminal())
+    droid_desk_service::run(&rt, rt.stderr().is_terminal())
 }

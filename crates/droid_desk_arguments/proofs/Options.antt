@@ -8,33 +8,33 @@ use Rattle.droid_desk_arguments.specs.Asking.{IsFlag, IsNumber, IsNumberOr, numb
 given : {E : Type 0} (gives : List ℕ → Result ℕ E → Type 0) → ((text : Text) (x : ℕ) → gives text (Ok x) → x ≡ number_of text)
     → (o : Option Text) (n : ℕ) → (o ≡ None → Some n ≡ None) → ((text : Text) → o ≡ Some text → ReadsOne gives text (Some n))
     → option_map number_of o ≡ Some n
-given gives told None n none value = absurd (let bad = none refl in cc)
-given gives told (Some text) n none value = ap (λ (k : ℕ). Some k) (sym (told text n (value text refl)))
+given gives reported None n none value = absurd (let bad = none refl in cc)
+given gives reported (Some text) n none value = ap (λ (k : ℕ). Some k) (sym (reported text n (value text refl)))
 
 -- an option that has a number
 pub number_given : {E : Type 0} (gives : List ℕ → Result ℕ E → Type 0) → ((text : Text) (x : ℕ) → gives text (Ok x) → x ≡ number_of text)
     → (f : Found) (id : Text) (n : ℕ) → (one_text f id ≡ None → Some n ≡ None) → ((text : Text) → one_text f id ≡ Some text → ReadsOne gives text (Some n))
     → option_map number_of (one_of id (rows_of f)) ≡ Some n
-number_given gives told f id n none value =
-    ap (option_map number_of) (sym (one_text-rows f id)) ∙ given gives told (one_text f id) n none value
+number_given gives reported f id n none value =
+    ap (option_map number_of) (sym (one_text-rows f id)) ∙ given gives reported (one_text f id) n none value
 
 given_or : {E : Type 0} (gives : List ℕ → Result ℕ E → Type 0) (bits otherwise : ℕ) → ((text : Text) (x : ℕ) → gives text (Ok x) → x ≡ number_of text)
     → ((text : Text) (e : E) → gives text (Err e) → IsNumber bits text → ⊥)
     → (o : Option Text) (r : Option ℕ) (n : ℕ) → (o ≡ None → r ≡ None) → ((text : Text) → o ≡ Some text → ReadsOne gives text r)
     → n ≡ unwrap_or r otherwise → IsNumberOr bits otherwise o n
-given_or gives bits otherwise told refused None None n none value is = is
-given_or gives bits otherwise told refused None (Some m) n none value is = absurd (let bad = none refl in cc)
-given_or gives bits otherwise told refused (Some text) None n none value is =
+given_or gives bits otherwise reported refused None None n none value is = is
+given_or gives bits otherwise reported refused None (Some m) n none value is = absurd (let bad = none refl in cc)
+given_or gives bits otherwise reported refused (Some text) None n none value is =
     inr (is, refused text (value text refl).0 (value text refl).1)
-given_or gives bits otherwise told refused (Some text) (Some m) n none value is = inl (is ∙ told text m (value text refl))
+given_or gives bits otherwise reported refused (Some text) (Some m) n none value is = inl (is ∙ reported text m (value text refl))
 
 -- an option that has a number, or the one that stands for none
 pub number_or : {E : Type 0} (gives : List ℕ → Result ℕ E → Type 0) (bits otherwise : ℕ) → ((text : Text) (x : ℕ) → gives text (Ok x) → x ≡ number_of text)
     → ((text : Text) (e : E) → gives text (Err e) → IsNumber bits text → ⊥)
     → (f : Found) (id : Text) (r : Option ℕ) (n : ℕ) → (one_text f id ≡ None → r ≡ None) → ((text : Text) → one_text f id ≡ Some text → ReadsOne gives text r)
     → n ≡ unwrap_or r otherwise → IsNumberOr bits otherwise (one_of id (rows_of f)) n
-number_or gives bits otherwise told refused f id r n none value is =
-    subst (λ (o : Option Text). IsNumberOr bits otherwise o n) (one_text-rows f id) (given_or gives bits otherwise told refused (one_text f id) r n none value is)
+number_or gives bits otherwise reported refused f id r n none value is =
+    subst (λ (o : Option Text). IsNumberOr bits otherwise o n) (one_text-rows f id) (given_or gives bits otherwise reported refused (one_text f id) r n none value is)
 
 set_or_not : (o : Option Text) (flag : Bool) → (o ≡ None → flag ≡ false) → (o ≡ Some (codes "true") → flag ≡ true) → (o ≡ Some (codes "false") → flag ≡ false) → IsFlag o flag
 set_or_not None flag none on off = none refl

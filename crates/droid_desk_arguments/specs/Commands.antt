@@ -93,8 +93,8 @@ abbrev pub send_command : App
 send_command = with_rule (with_rule (with_rule (new_app (codes "send")) port_option) client_option) first_option
 
 -- one of the commands must be named
-abbrev pub wanting_command : App → App
-wanting_command a = record a { top = record a.top { subcommand_required = true } }
+abbrev pub requiring_command : App → App
+requiring_command a = record a { top = record a.top { subcommand_required = true } }
 
 -- the program with its six commands
 abbrev pub program : App
@@ -104,7 +104,7 @@ program =
     (with_subcommand
     (with_subcommand
     (with_subcommand
-    (with_subcommand (wanting_command (new_app (codes "droid_desk"))) profile_command.top)
+    (with_subcommand (requiring_command (new_app (codes "droid_desk"))) profile_command.top)
     submit_command.top)
     script_command.top)
     run_command.top)

@@ -4,7 +4,7 @@ ghost use Rattle.std.specs.Prelude.{◌≡◌, [], IfOk, IfSome, codes, false, m
 ghost use Rattle.clap.specs.Words.{app_of, fault_of, found_of, is_simple, is_simple_and_free, new_app, rows_of, rule_of, subcommand_of, subcommand_rows_of};
 ghost use Rattle.clap.specs.declared.builder.command.Command.TheViews.{out-Command};
 ghost use Rattle.droid_desk_arguments.specs.Asking.{IsAsked, IsAskedBy, WordsAsk};
-ghost use Rattle.droid_desk_arguments.specs.Commands.{client_option, connections_option, first_option, number_named, port_option, profile_command, program, registry_option, run_command, script_command, send_command, serve_command, wanting_command};
+ghost use Rattle.droid_desk_arguments.specs.Commands.{client_option, connections_option, first_option, number_named, port_option, profile_command, program, registry_option, run_command, script_command, send_command, serve_command, requiring_command};
 
 use crate::help::{ABOUT, HELP, REGISTRY_HELP, SCRIPT_ABOUT, SCRIPT_HELP};
 use crate::no_command::{NoCommand, unused_words};
@@ -206,7 +206,7 @@ fn command<'a>(alloc: Global) -> Result<Command<'a>, AllocError>
 
 /// The program's command without the commands below it.
 fn top<'a>(alloc: Global) -> Command<'a>
-    ensures { app_of result ≡ wanting_command (new_app (codes "droid_desk")) }
+    ensures { app_of result ≡ requiring_command (new_app (codes "droid_desk")) }
 {
     Command::new(alloc, "droid_desk")
         .about(ABOUT)

@@ -36,7 +36,7 @@ Each line is one request to a service that starts empty:
       digits for each, or - for no bytes; pieces may come in any order, each less than
       16 places past the first missing one
   CLIENT NUMBER finish PROFILE FILE
-      finish a file that has every piece: it is identified, and its hash is told; without
+      finish a file that has every piece: it is identified, and its hash is reported; without
       `v2 ` that of an MD5 alone can be, and other profiles refuse it (10)
   CLIENT NUMBER abandon PROFILE FILE
       give up an unfinished file; its number is not used again
@@ -80,7 +80,7 @@ The numbers of refusals:
   13 BadPiece       14 PieceHeld      15 TooFarAhead     16 Incomplete
   17 LimitReached   18 Memory         19 Store
 
-15 and 16 tell the first missing index too, 17 which limit: profiles, nodes or unfinished.
+15 and 16 report the first missing index too, 17 which limit: profiles, nodes or unfinished.
 
 Example:
 

@@ -28,13 +28,13 @@ the ID of the folder that it lies in, or nothing at the top; METHOD is Signature
 nothing, and LAST_MODIFIED is in UTC. Folders come before what lies in them, and what is in a folder
 in the order of the names' bytes.
 
-Symbolic links below DIR are never followed. What can't be taken is told on standard error with its
+Symbolic links below DIR are never followed. What can't be taken is reported on standard error with its
 path and why, and the rest is profiled: links, sockets and devices, names that are no UTF-8 or that
 a profile can't have, what can't be opened or read, and files that change in length while they are
-read. Which registry was taken is told there too where none is named, and how far it is: every ten
+read. Which registry was taken is reported there too where none is named, and how far it is: every ten
 seconds, or on a terminal in one line that is written anew. At the end come how many files were
 found by signature, by extension and not at all, mismatches, the ten most frequent formats, what
-was left out, bytes and seconds. A path that is no text, or has control characters, is told with
+was left out, bytes and seconds. A path that is no text, or has control characters, is reported with
 escapes.
 
 FILE may lie below DIR: what is written there isn't in the CSV. What stood there before is.

@@ -38,7 +38,7 @@ pub const CONNECTIONS_HELP: &str =
 pub const SERVE_HELP: &str = "\
 Once it listens, `listening P` is written to standard output. The connections are answered as
 `droid_desk run` answers its input, 1,000,000 frames each, over one service: what one connection
-has sent is there for the next. What ends a connection ends that one alone and is not told; a
+has sent is there for the next. What ends a connection ends that one alone and is not reported; a
 client that lost its connection sends its requests again under the same numbers.
 
 Exit status:

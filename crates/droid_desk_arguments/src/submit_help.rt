@@ -32,7 +32,7 @@ Up to sixteen requests are sent ahead of their replies.
 Two submissions need two clients, or numbers that are far apart. A folder that has changed since it
 was submitted is another submission: give it a client or a first number that wasn't used.
 
-What can't be taken is told on standard error, and how far it is, as by `profile`.
+What can't be taken is reported on standard error, and how far it is, as by `profile`.
 
 Exit status:
 

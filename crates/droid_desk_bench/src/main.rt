@@ -31,13 +31,13 @@ use std::{env, io};
 const ROUNDS: u32 = 20;
 
 fn main(rt: HostRuntime) -> Result<(), Error> {
-    if wants(&rt, "store")? {
+    if is_asked_for(&rt, "store")? {
         return tables::measure(&rt);
     }
-    if wants(&rt, "assembly")? {
+    if is_asked_for(&rt, "assembly")? {
         return files::measure(&rt);
     }
-    if wants(&rt, "answer")? {
+    if is_asked_for(&rt, "answer")? {
         return measure_answers(&rt);
     }
     measure_registry(&rt)
@@ -57,12 +57,12 @@ fn measure_answers<R: Env + Input + Print + Clock + AllocGlobal>(rt: &R) -> Resu
 
 /// Reads a large registry, identifies files with it, and makes an export; and prints what came out.
 fn measure_registry<R: Env + Print + Clock + AllocGlobal>(rt: &R) -> Result<(), Error> {
-    let with_times = wants(rt, "times")?;
+    let with_times = is_asked_for(rt, "times")?;
     let text = generated::registry_text(rt.alloc())?;
     let start = Instant::now(rt)?;
     let registry = Registry::parse(rt.alloc(), text.as_str().as_bytes()).context("the registry")?;
     let read = start.elapsed(rt)?;
-    if wants(rt, "text")? {
+    if is_asked_for(rt, "text")? {
         return print_export(rt, &registry);
     }
     println!(rt;
@@ -106,7 +106,7 @@ fn print_export<R: Print + AllocGlobal>(rt: &R, registry: &Registry) -> Result<(
 }
 
 /// Whether the command line has this word.
-fn wants<R: Env + AllocGlobal>(rt: &R, wanted: &str) -> io::Result<bool> {
+fn is_asked_for<R: Env + AllocGlobal>(rt: &R, wanted: &str) -> io::Result<bool> {
     let words: Vec<String> = env::args(rt)?.collect(rt.alloc())?;
     Ok(words.iter().any(|word| word.as_str() == wanted))
 }

@@ -82,9 +82,9 @@ fn add_files(alloc: Global, store: &mut Store) -> Result<Vec<u32>, Error> {
 
 /// How many bytes of the program are in memory, as Linux tells it.
 fn resident<R: Files + AllocGlobal>(rt: &R) -> Result<usize, Error> {
-    let told = fs::read_to_string(rt, "/proc/self/statm")?;
-    let (_, rest) = told.split_once(' ').context("no size is told")?;
-    let (pages, _) = rest.split_once(' ').context("no pages are told")?;
+    let reported = fs::read_to_string(rt, "/proc/self/statm")?;
+    let (_, rest) = reported.split_once(' ').context("no size is reported")?;
+    let (pages, _) = rest.split_once(' ').context("no pages are reported")?;
     let pages = pages.parse::<usize>().ok().context("no number of pages")?;
     Ok(pages.saturating_mul(PAGE))
 }

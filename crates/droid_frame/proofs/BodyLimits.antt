@@ -27,5 +27,5 @@ pub version_small : (version : ℕ) → IsVersion version → version < 2 ^ 8
 version_small version is = small_where version (eqb version 1) (eqb version 2) (eqb-true version 1) (eqb-true version 2) is
 
 -- no version both is one and isn't
-pub version_not : (told : Bool) → told ≡ false → told ≡ true → ⊥
-version_not told not is = cc
+pub version_not : (reported : Bool) → reported ≡ false → reported ≡ true → ⊥
+version_not reported not is = cc

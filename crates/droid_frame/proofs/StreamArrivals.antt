@@ -175,8 +175,8 @@ accepted None new r frame rest arrives readable e = absurd cc
 accepted (Some input) None (Ok (arrivals.Frame other)) frame rest arrives readable e = absurd arrives.1
 accepted (Some input) (Some left) (Ok (arrivals.Frame other)) frame rest arrives readable e =
     let at_front : input ≡ frame_bytes frame ++ rest = cc in
-    let told = told_frame frame other rest left readable.is_frame arrives.0.is_frame (sym at_front ∙ arrives.1) in
-    (ap (λ (f : Frame). Ok (arrivals.Frame f)) (sym told.0), ap (λ (l : List ℕ). Some l) (sym told.1))
+    let reported = told_frame frame other rest left readable.is_frame arrives.0.is_frame (sym at_front ∙ arrives.1) in
+    (ap (λ (f : Frame). Ok (arrivals.Frame f)) (sym reported.0), ap (λ (l : List ℕ). Some l) (sym reported.1))
 accepted (Some input) new (Ok arrivals.End) frame rest arrives readable e =
     let at_front : input ≡ frame_bytes frame ++ rest = cc in
     absurd (let size : length (frame_bytes frame ++ rest) ≡ 0 = ap length (sym at_front ∙ arrives.0) in omega arith)

@@ -3,7 +3,7 @@ use Rattle.std.proofs.Common.{◌≡◌, ℕ, ◌+◌, ◌-◌, ◌<◌, ◌≤�
 use Rattle.std.specs.Prelude.{IsErrAnd}
 use Rattle.droid_frame_stream.specs.declared.fault.WriteFault.{WriteFault}
 use Rattle.droid_frame_stream.specs.declared.seen.Seen.{Seen}
-use Rattle.droid_frame_stream.specs.Writes.{StopsWithin, Takes, TellsWrite, WriterStops, WritesOn}
+use Rattle.droid_frame_stream.specs.Writes.{StopsWithin, Takes, ReportsWrite, WriterStops, WritesOn}
 use Rattle.droid_frame_stream.proofs.Stopping.{takes_more, told_all, told_stop}
 
 -- some bytes went out before a fault
@@ -15,7 +15,7 @@ takes_before before mid after sent written first next within =
 -- the last part of a frame: all went out, or the writer stopped within it
 pub told_last : {T : Type 0} (start : ℕ) (seen : Seen) (before mid after : Option ℕ) (sent part size count : ℕ) (r : Result T WriteFault)
     → Takes before mid sent → size ≡ sent + part → OnOk r (Takes mid after part) → IfErr r (λ f. Takes mid after (f.written - sent)) → IfErr r (λ f. (sent ≤ f.written) × (f.written < size))
-    → WritesOn start seen after count r → TellsWrite start seen before size (IsErr r)
+    → WritesOn start seen after count r → ReportsWrite start seen before size (IsErr r)
 told_last start seen before mid after sent part size count (Ok value) first whole all some within on =
     told_all start seen before after size count _ (λ e. absurd cc) (subst (λ (n : ℕ). Takes before after n) (sym whole) (takes_more before mid after sent part first all)) on
 told_last start seen before mid after sent part size count (Err fault) first whole all some within on =

@@ -33,11 +33,11 @@ one_way stream (frame ∷ frames) [] rest more reads other =
 one_way stream (frame ∷ frames) (frame' ∷ frames') rest more reads other =
     let same : frame_bytes frame ++ (flat_map frame_bytes frames ++ rest) ≡ frame_bytes frame' ++ (flat_map frame_bytes frames' ++ more) =
     sym (append_assoc (frame_bytes frame) (flat_map frame_bytes frames) rest) ∙ (sym reads.joined ∙ (other.joined ∙ append_assoc (frame_bytes frame') (flat_map frame_bytes frames') more)) in
-    let told = told_frame frame frame' _ _ reads.readable.0.is_frame other.readable.0.is_frame same in
+    let reported = told_frame frame frame' _ _ reads.readable.0.is_frame other.readable.0.is_frame same in
     let behind = one_way (flat_map frame_bytes frames ++ rest) frames frames' rest more
     (record { readable = reads.readable.1; joined = refl; none_more = reads.none_more })
-    (record { readable = other.readable.1; joined = told.1; none_more = other.none_more }) in
-    (ap (λ (f : Frame). f ∷ frames) told.0 ∙ ap (λ (l : List Frame). frame' ∷ l) behind.0, behind.1)
+    (record { readable = other.readable.1; joined = reported.1; none_more = other.none_more }) in
+    (ap (λ (f : Frame). f ∷ frames) reported.0 ∙ ap (λ (l : List Frame). frame' ∷ l) behind.0, behind.1)
 
 -- ---- one way at least: the header that stands at the front
 

@@ -27,9 +27,9 @@ some_request None is = absurd (let impossible = is in cc)
 some_request (Some request) is = (request, refl)
 
 pub wanted_is_spelled : (result : Result Request BodyFault) (version kind : ℕ) (body : List ℕ) {P Q : Type 0} → P → Q → IsBytes body → IsAnswer result (request_value version kind body) → IsErrOf result Memory → P × Q × (request : Request) × SpellsRequest version kind body request
-wanted_is_spelled (Ok it) version kind body p q are answer wanting = absurd (let impossible = wanting in cc)
-wanted_is_spelled (Err Malformed) version kind body p q are answer wanting = absurd (let impossible = wanting in cc)
-wanted_is_spelled (Err Memory) version kind body p q are answer wanting =
+wanted_is_spelled (Ok it) version kind body p q are answer out_of_memory = absurd (let impossible = out_of_memory in cc)
+wanted_is_spelled (Err Malformed) version kind body p q are answer out_of_memory = absurd (let impossible = out_of_memory in cc)
+wanted_is_spelled (Err Memory) version kind body p q are answer out_of_memory =
     let some = some_request (request_value version kind body) answer in
     (p, q, some.0, value_is_spelled version kind body some.0 are some.1)
 

@@ -8,9 +8,9 @@ use Rattle.droid_frame_values.specs.declared.hash_kind.HashKind.TheVariants as k
 use Rattle.droid_frame_values.specs.declared.hash_value.HashValue.{HashValue}
 use Rattle.droid_frame_values.specs.declared.hash_value.HashValue.TheVariants as values
 use Rattle.droid_frame_values.specs.Fields.{IsBytes}
-use Rattle.droid_frame_values.specs.Hashes.{IsHashValue, TellsHash, hash_bytes, hash_field, hash_kind_bytes, hash_value_kind}
+use Rattle.droid_frame_values.specs.Hashes.{IsHashValue, CarriesHash, hash_bytes, hash_field, hash_kind_bytes, hash_value_kind}
 use Rattle.droid_frame_values.specs.Replies.{IsSpelledHash, digest_bytes}
-use Rattle.droid_frame_bodies.specs.fields.Hashes.{hash_kind_at, told_kind_at, run_at, hash_value_at, digest_at}
+use Rattle.droid_frame_bodies.specs.fields.Hashes.{hash_kind_at, carried_kind_at, run_at, hash_value_at, digest_at}
 use Rattle.droid_frame_bodies.specs.fields.Reading.{◌>>=◌}
 use Rattle.droid_frame_bodies.proofs.FieldLaws.{IsBytes-drop, IsBytes-take, IsBytes-rest, IsField, IsFront, bind_some, some_is, unless_some}
 use Rattle.droid_frame_bodies.proofs.SequenceLaws.{front_then}
@@ -57,18 +57,18 @@ reads_where true bytes x are e =
 reads_where false bytes x are e = (kind_reads bytes x are e, tt)
 
 again_where : (first : Bool) (kind : HashKind) (rest : List ℕ) → tells_where first kind → at_where first (bytes_where first kind ++ rest) ≡ Some (kind, rest)
-again_where true kind rest tells = ap (λ (k : HashKind). Some (k, rest)) (sym tells)
-again_where false kind rest tells = kind_again kind rest
+again_where true kind rest reports = ap (λ (k : HashKind). Some (k, rest)) (sym reports)
+again_where false kind rest reports = kind_again kind rest
 
-told_reads : (version : ℕ) (bytes : List ℕ) (x : HashKind × List ℕ) → IsBytes bytes → told_kind_at version bytes ≡ Some x → IsFront bytes (hash_field version x.0) x.1 × TellsHash version x.0
-unfolding told_kind_at
+told_reads : (version : ℕ) (bytes : List ℕ) (x : HashKind × List ℕ) → IsBytes bytes → carried_kind_at version bytes ≡ Some x → IsFront bytes (hash_field version x.0) x.1 × CarriesHash version x.0
+unfolding carried_kind_at
 told_reads version bytes x are e = reads_where (eqb version 1) bytes x are e
 
-told_again : (version : ℕ) (kind : HashKind) (rest : List ℕ) → TellsHash version kind → told_kind_at version (hash_field version kind ++ rest) ≡ Some (kind, rest)
-unfolding told_kind_at
-told_again version kind rest tells = again_where (eqb version 1) kind rest tells
+told_again : (version : ℕ) (kind : HashKind) (rest : List ℕ) → CarriesHash version kind → carried_kind_at version (hash_field version kind ++ rest) ≡ Some (kind, rest)
+unfolding carried_kind_at
+told_again version kind rest reports = again_where (eqb version 1) kind rest reports
 
-pub told_kind_field : (version : ℕ) → IsField (told_kind_at version) (hash_field version) (TellsHash version)
+pub told_kind_field : (version : ℕ) → IsField (carried_kind_at version) (hash_field version) (CarriesHash version)
 told_kind_field version = record { reads = told_reads version; again = told_again version }
 
 -- ---- a run of bytes
@@ -128,21 +128,21 @@ LeavesDigest version bytes x = IsFront bytes (digest_bytes version x.0) x.1 × I
 digest_reads : (version : ℕ) (bytes : List ℕ) (x : HashValue × List ℕ) → IsBytes bytes → digest_at version bytes ≡ Some x → LeavesDigest version bytes x
 unfolding digest_at
 digest_reads version bytes x are e =
-    let kind = bind_some (told_kind_at version bytes) (λ k. hash_value_at k.0 k.1) x e in
+    let kind = bind_some (carried_kind_at version bytes) (λ k. hash_value_at k.0 k.1) x e in
     let k = kind.0 in
-    let told = told_reads version bytes k are kind.1 in
-    let value = value_reads k.0 k.1 x told.0.bytes_follow kind.2 in
+    let reported = told_reads version bytes k are kind.1 in
+    let value = value_reads k.0 k.1 x reported.0.bytes_follow kind.2 in
     let of_kind : k.0 ≡ hash_value_kind x.0 = sym value.of_kind in
-    let front : IsFront bytes (hash_field version (hash_value_kind x.0)) k.1 = subst (λ (one : HashKind). IsFront bytes (hash_field version one) k.1) of_kind told.0 in
-    (front_then bytes (hash_field version (hash_value_kind x.0)) k.1 (hash_bytes x.0) x.1 front value.front, (subst (TellsHash version) of_kind told.1, value.is_value))
+    let front : IsFront bytes (hash_field version (hash_value_kind x.0)) k.1 = subst (λ (one : HashKind). IsFront bytes (hash_field version one) k.1) of_kind reported.0 in
+    (front_then bytes (hash_field version (hash_value_kind x.0)) k.1 (hash_bytes x.0) x.1 front value.front, (subst (CarriesHash version) of_kind reported.1, value.is_value))
 
 digest_again : (version : ℕ) (value : HashValue) (rest : List ℕ) → IsSpelledHash version value → digest_at version (digest_bytes version value ++ rest) ≡ Some (value, rest)
 unfolding digest_at
 digest_again version value rest is =
     let field = hash_field version (hash_value_kind value) in
-    let told : told_kind_at version ((field ++ hash_bytes value) ++ rest) ≡ Some (hash_value_kind value, hash_bytes value ++ rest) =
-    ap (told_kind_at version) (append_assoc field (hash_bytes value) rest) ∙ told_again version (hash_value_kind value) (hash_bytes value ++ rest) is.0 in
-    ap (λ (o : Option (HashKind × List ℕ)). o >>= λ k. hash_value_at k.0 k.1) told ∙ value_again value rest is.1
+    let reported : carried_kind_at version ((field ++ hash_bytes value) ++ rest) ≡ Some (hash_value_kind value, hash_bytes value ++ rest) =
+    ap (carried_kind_at version) (append_assoc field (hash_bytes value) rest) ∙ told_again version (hash_value_kind value) (hash_bytes value ++ rest) is.0 in
+    ap (λ (o : Option (HashKind × List ℕ)). o >>= λ k. hash_value_at k.0 k.1) reported ∙ value_again value rest is.1
 
 pub digest_field : (version : ℕ) → IsField (digest_at version) (digest_bytes version) (IsSpelledHash version)
 digest_field version = record { reads = digest_reads version; again = digest_again version }

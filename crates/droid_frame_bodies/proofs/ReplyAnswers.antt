@@ -27,9 +27,9 @@ some_value None is = absurd (let impossible = is in cc)
 some_value (Some reply) is = (reply, refl)
 
 pub memory : (version kind : ℕ) (body : List ℕ) (result : Result Reply BodyFault) → IsBytes body → IsReplyAnswer kind (reply_value version kind body) result → IsErrOf result Memory → (kind ≡ 132) × (reply : Reply) × SpellsReply version kind body reply
-memory version kind body (Ok it) are answer wanting = absurd (let impossible = wanting in cc)
-memory version kind body (Err Malformed) are answer wanting = absurd (let impossible = wanting in cc)
-memory version kind body (Err Memory) are answer wanting =
+memory version kind body (Ok it) are answer out_of_memory = absurd (let impossible = out_of_memory in cc)
+memory version kind body (Err Malformed) are answer out_of_memory = absurd (let impossible = out_of_memory in cc)
+memory version kind body (Err Memory) are answer out_of_memory =
     let some = some_value (reply_value version kind body) answer.1 in
     (answer.0, some.0, value_is_spelled version kind body some.0 are some.1)
 

@@ -10,7 +10,7 @@ use Rattle.droid_frame_values.specs.Fields.{IsBytes, IsU32, u32_bytes, u64_bytes
 use Rattle.droid_frame_values.specs.Filters.{filter_bytes}
 use Rattle.droid_frame_values.specs.Hashes.{hash_field}
 use Rattle.droid_frame_values.specs.Versions.{IsVersion, is_version}
-use Rattle.droid_frame_bodies.specs.fields.Hashes.{told_kind_at}
+use Rattle.droid_frame_bodies.specs.fields.Hashes.{carried_kind_at}
 use Rattle.droid_frame_bodies.specs.filters.Values.{filter_value}
 use Rattle.droid_frame_values.specs.Bodies.{SpellsRequest, HasSpelling, request_kind, request_body}
 use Rattle.droid_frame_bodies.specs.requests.NodeHeads.{node_head_at}
@@ -27,9 +27,9 @@ use Rattle.droid_frame_bodies.proofs.Utf8.{text_at-utf8}
 create_profile_reads : (version : ℕ) (body : List ℕ) (request : Request) → IsVersion version → IsBytes body → create_profile_value version body ≡ Some request → SpellsRequest version 1 body request
 unfolding create_profile_value
 create_profile_reads version body request is are e =
-    let limit = bind_some (number_at w32 body) (λ n. truth_at n.1 >>= λ all. told_kind_at version all.1 >>= λ h. whole h.1 (CreateProfile n.0 all.0 h.0)) request e in
-    let all = bind_some (truth_at limit.0.1) (λ all. told_kind_at version all.1 >>= λ h. whole h.1 (CreateProfile limit.0.0 all.0 h.0)) request limit.2 in
-    let hash = bind_some (told_kind_at version all.0.1) (λ h. whole h.1 (CreateProfile limit.0.0 all.0.0 h.0)) request all.2 in
+    let limit = bind_some (number_at w32 body) (λ n. truth_at n.1 >>= λ all. carried_kind_at version all.1 >>= λ h. whole h.1 (CreateProfile n.0 all.0 h.0)) request e in
+    let all = bind_some (truth_at limit.0.1) (λ all. carried_kind_at version all.1 >>= λ h. whole h.1 (CreateProfile limit.0.0 all.0 h.0)) request limit.2 in
+    let hash = bind_some (carried_kind_at version all.0.1) (λ h. whole h.1 (CreateProfile limit.0.0 all.0.0 h.0)) request all.2 in
     let end = whole_reads hash.0.1 (CreateProfile limit.0.0 all.0.0 hash.0.0) request hash.2 in
     let limit_front = u32_field.reads body limit.0 are limit.1 in
     let all_front = truth_field.reads limit.0.1 all.0 limit_front.0.bytes_follow all.1 in
@@ -207,7 +207,7 @@ again : (version : ℕ) (request : Request) → HasSpelling version request → 
 unfolding any_value plain_value create_profile_value add_folder_value add_file_value piece_value finish_value abandon_value status_value export_value
 again version (CreateProfile limit all hash) fits =
     let field = hash_field version hash in
-    rw (u32_field.again limit (truth_bytes all ++ field) fits.0, truth_field.again all field tt, ap (told_kind_at version) (sym (append-nil field)) ∙ (told_kind_field version).again hash [] fits.1, whole_again (CreateProfile limit all hash)) refl
+    rw (u32_field.again limit (truth_bytes all ++ field) fits.0, truth_field.again all field tt, ap (carried_kind_at version) (sym (append-nil field)) ∙ (told_kind_field version).again hash [] fits.1, whole_again (CreateProfile limit all hash)) refl
 again version (AddFolder profile parent modified name) fits =
     rw (node_head_field.again (head_of (AddFolder profile parent modified name)) name (fits.0, fits.1, fits.2), text_at-utf8 name fits.3) refl
 again version (AddFile profile parent modified size piece_size name) fits =

@@ -2,7 +2,7 @@
 use Rattle.std.proofs.Common.{◌≡◌, ℕ, Result, Ok, Err, sym, ap, subst, arith}
 use Rattle.std.specs.Prelude.{IsErrAnd, IsErrOf}
 use Rattle.droid_frame_stream.specs.declared.seen.Seen.{Seen}
-use Rattle.droid_frame_stream.specs.Seen.{IsSound, Lasts, GivesUp, TellsFault, Counts, CountsOn}
+use Rattle.droid_frame_stream.specs.Seen.{IsSound, Lasts, GivesUp, ReportsFault, Counts, CountsOn}
 
 -- none so far
 pub counts_none : (seen : Seen) → IsSound seen → Counts seen.interruptions seen 0
@@ -23,10 +23,10 @@ given_up start seen count (Ok value) P is up = absurd is
 given_up start seen count (Err fault) P is up = up
 
 -- the fault of the stream is told where it is given up, and no other answer is that fault
-pub told_fault : (start : ℕ) (seen : Seen) (is_fault : Type 0) → is_fault → GivesUp start seen → TellsFault start seen is_fault
+pub told_fault : (start : ℕ) (seen : Seen) (is_fault : Type 0) → is_fault → GivesUp start seen → ReportsFault start seen is_fault
 told_fault start seen is_fault is up = record { fault = λ _. up; otherwise = λ not. absurd (not is) }
 
-pub told_none : (start : ℕ) (seen : Seen) (count : ℕ) (is_fault : Type 0) → (is_fault → ⊥) → Counts start seen count → TellsFault start seen is_fault
+pub told_none : (start : ℕ) (seen : Seen) (count : ℕ) (is_fault : Type 0) → (is_fault → ⊥) → Counts start seen count → ReportsFault start seen is_fault
 told_none start seen count is_fault not counts = record { fault = λ is. absurd (not is); otherwise = λ _. lasts start seen count counts }
 
 -- the error that `?` passes on

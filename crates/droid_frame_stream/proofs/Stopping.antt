@@ -3,7 +3,7 @@ use Rattle.std.proofs.Common.{◌≡◌, ℕ, zero, suc, ◌+◌, ◌<◌, Optio
 use Rattle.droid_frame_stream.specs.declared.seen.Seen.{Seen}
 use Rattle.droid_frame_stream.specs.Seen.{Counts, GivesUp}
 use Rattle.droid_frame_stream.proofs.Scopes.{lasts}
-use Rattle.droid_frame_stream.specs.Writes.{AddsTaken, HasRoom, TellsWrite, Takes, WriterStops}
+use Rattle.droid_frame_stream.specs.Writes.{AddsTaken, HasRoom, ReportsWrite, Takes, WriterStops}
 
 pub takes_none : (room : Option ℕ) → Takes room room 0
 takes_none None = tt
@@ -46,7 +46,7 @@ given_up_only start seen room (inr full) none = absurd (let same = sym none ∙ 
 
 -- some bytes were left where the writer stopped
 pub told_stop : (start : ℕ) (seen : Seen) (before after : Option ℕ) (written size : ℕ) (is_fault : Type 0)
-    → is_fault → Takes before after written → written < size → WriterStops start seen after → TellsWrite start seen before size is_fault
+    → is_fault → Takes before after written → written < size → WriterStops start seen after → ReportsWrite start seen before size is_fault
 told_stop start seen before after written size is_fault is takes less (inl up) = record { fault = λ _. inl up; otherwise = λ not. absurd (not is) }
 told_stop start seen None after written size is_fault is takes less (inr full) =
     absurd (let none = room_stays after written takes in let same = sym none ∙ full.full in cc)
@@ -62,6 +62,6 @@ has_room (Some room) (Some left) size takes = omega (arith, takes)
 
 -- all went out
 pub told_all : (start : ℕ) (seen : Seen) (before after : Option ℕ) (size count : ℕ) (is_fault : Type 0)
-    → (is_fault → ⊥) → Takes before after size → Counts start seen count → TellsWrite start seen before size is_fault
+    → (is_fault → ⊥) → Takes before after size → Counts start seen count → ReportsWrite start seen before size is_fault
 told_all start seen before after size count is_fault not takes counts =
     record { fault = λ is. absurd (not is); otherwise = λ _. (lasts start seen count counts, has_room before after size takes) }

@@ -51,7 +51,7 @@ abbrev pub GivesUp : ℕ → Seen → Type 0
 GivesUp start seen = Fails start seen ⊎ IsInterruptedTooOften start seen
 
 -- a fault of the stream comes exactly where the stream is given up; with any other answer it lasts
-pub record TellsFault (start : ℕ) (seen : Seen) (is_fault : Type 0) : Type 0 where
+pub record ReportsFault (start : ℕ) (seen : Seen) (is_fault : Type 0) : Type 0 where
   pub fault : is_fault → GivesUp start seen
   pub otherwise : (is_fault → ⊥) → Lasts start seen
 

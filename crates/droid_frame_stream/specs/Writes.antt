@@ -63,6 +63,6 @@ pub record StopsWithin (old new : Option (List ℕ)) (bytes : List ℕ) (before 
 
 -- a fault comes exactly where the writer is given up, or lasts and had less room than for so many bytes; where all went out,
 -- it lasts and had room for them
-pub record TellsWrite (start : ℕ) (seen : Seen) (room : Option ℕ) (size : ℕ) (is_fault : Type 0) : Type 0 where
+pub record ReportsWrite (start : ℕ) (seen : Seen) (room : Option ℕ) (size : ℕ) (is_fault : Type 0) : Type 0 where
   pub fault : is_fault → GivesUp start seen ⊎ (Lasts start seen × LacksRoom room size)
   pub otherwise : (is_fault → ⊥) → Lasts start seen × HasRoom room size

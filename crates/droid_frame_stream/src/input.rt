@@ -2,7 +2,7 @@
 
 ghost use Rattle.std.specs.Prelude.{◌≡◌, ◌+◌, ◌<◌, ◌≤◌, ◌^◌, IfOk, OnOk, IfErr, IfSome, IsErrOf, length};
 ghost use Rattle.std.specs.Io.KnownBytes.{IsAtEnd};
-ghost use Rattle.droid_frame_stream.specs.Seen.{IsSound, TellsFault};
+ghost use Rattle.droid_frame_stream.specs.Seen.{IsSound, ReportsFault};
 ghost use Rattle.droid_frame_stream.specs.Reads.{ReadsNoInput};
 
 use crate::fault::InputFault;
@@ -29,7 +29,7 @@ pub fn read_to_end<R: SteadyRead>(
     // Where it is too long, one byte more than the limit was read; on another fault no more than the limit.
     ensures err { IfErr result (λ fault. ReadsNoInput fault (R.remaining reader.old) (R.remaining reader.new) limit) }
     // `Read` comes exactly where the reader failed or was interrupted for the 65th time.
-    ensures fault { IsSound (R.seen reader.old) → TellsFault (R.seen reader.old).interruptions (R.seen reader.new) (IsErrOf result InputFault.Read) }
+    ensures fault { IsSound (R.seen reader.old) → ReportsFault (R.seen reader.old).interruptions (R.seen reader.new) (IsErrOf result InputFault.Read) }
 {
     let mut input = Vec::new(alloc);
     let mut chunk = [0u8; CHUNK];

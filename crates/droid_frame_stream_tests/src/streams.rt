@@ -152,11 +152,11 @@ fn growths_refused(rt: HostRuntime) {
 
 fn each_growth_refused(rt: &impl Abort, alloc: Global, vectors: &[Vector]) {
     for vector in vectors {
-        assert!(rt; comes_or_wants(alloc, vector), "{}", vector.kind);
+        assert!(rt; comes_or_is_out_of_memory(alloc, vector), "{}", vector.kind);
     }
 }
 
-fn comes_or_wants(alloc: Global, vector: &Vector) -> bool {
+fn comes_or_is_out_of_memory(alloc: Global, vector: &Vector) -> bool {
     let mut reader = reader_of(vector.bytes, STEADY);
     match read_frame(alloc, &mut reader) {
         Err(FrameFault::Memory) => {

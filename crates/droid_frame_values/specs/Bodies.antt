@@ -6,7 +6,7 @@ use Rattle.droid_frame_values.specs.declared.request.Request.{Request}
 use Rattle.droid_frame_values.specs.declared.request.Request.TheVariants.{CreateProfile, AddFolder, AddFile, Piece, Finish, Abandon, Status, Export}
 use Rattle.droid_frame_values.specs.Fields.{IsBytes, u32_bytes, u64_bytes, i64_bytes, truth_bytes, IsU32, IsU64, IsI64}
 use Rattle.droid_frame_values.specs.Filters.{filter_bytes, IsFilter, FilterFits}
-use Rattle.droid_frame_values.specs.Hashes.{TellsHash, hash_field}
+use Rattle.droid_frame_values.specs.Hashes.{CarriesHash, hash_field}
 use Rattle.droid_frame_values.specs.Versions.{IsVersion}
 
 -- the kind of a request
@@ -35,7 +35,7 @@ request_body version (Export profile from max filter) = u32_bytes profile ++ (u6
 -- each number is in its field's range, each text is UTF-8, and each list is short enough for its count; and the
 -- version tells of the profile's hash
 abbrev pub HasSpelling : ℕ → Request → Type 0
-HasSpelling version (CreateProfile scan_limit match_all hash) = IsU32 scan_limit × TellsHash version hash
+HasSpelling version (CreateProfile scan_limit match_all hash) = IsU32 scan_limit × CarriesHash version hash
 HasSpelling version (AddFolder profile parent modified name) = IsU32 profile × IsU32 parent × IsI64 modified × IsUtf8 name
 HasSpelling version (AddFile profile parent modified size piece_size name) = IsU32 profile × IsU32 parent × IsI64 modified × IsU64 size × IsU32 piece_size × IsUtf8 name
 HasSpelling version (Piece profile file index bytes) = IsU32 profile × IsU32 file × IsU32 index × IsBytes bytes
@@ -58,7 +58,7 @@ ListsFit _ = Unit {0}
 
 -- a profile has a hash that the version tells of
 abbrev pub HashFits : ℕ → Request → Type 0
-HashFits version (CreateProfile scan_limit match_all hash) = TellsHash version hash
+HashFits version (CreateProfile scan_limit match_all hash) = CarriesHash version hash
 HashFits version _ = Unit {0}
 
 -- short enough to be sent in this version, and with a hash that it tells of

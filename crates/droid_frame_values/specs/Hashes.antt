@@ -23,8 +23,8 @@ abbrev pub hash_field : ℕ → HashKind → List ℕ
 hash_field version kind = if version == 1 then [] else hash_kind_bytes kind
 
 -- version 1 tells of MD5 alone, and version 2 of each kind
-abbrev pub TellsHash : ℕ → HashKind → Type 0
-TellsHash version kind = MatchBool (version == 1) (kind ≡ kinds.Md5) (Unit {0})
+abbrev pub CarriesHash : ℕ → HashKind → Type 0
+CarriesHash version kind = MatchBool (version == 1) (kind ≡ kinds.Md5) (Unit {0})
 
 -- which hash a value is of
 abbrev pub hash_value_kind : HashValue → HashKind

@@ -4,7 +4,7 @@ use Rattle.std.specs.List.{AllByRecursion}
 use Rattle.droid_frame_values.specs.declared.hash_value.HashValue.{HashValue}
 use Rattle.droid_frame_values.specs.declared.refusal.Refusal.{Refusal}
 use Rattle.droid_frame_values.specs.declared.refusal.Refusal.TheVariants as refusals
-use Rattle.droid_frame_values.specs.Hashes.{IsHashValue, TellsHash, hash_bytes, hash_field, hash_value_kind}
+use Rattle.droid_frame_values.specs.Hashes.{IsHashValue, CarriesHash, hash_bytes, hash_field, hash_value_kind}
 use Rattle.droid_frame_values.specs.Limits.{puids_limit, puid_limit, part_limit}
 use Rattle.droid_frame_values.specs.declared.reply.Reply.{Reply}
 use Rattle.droid_frame_values.specs.declared.reply.Reply.TheVariants.{Made, Node, Taken, Finished, Abandoned, Progress, Part, Refused}
@@ -58,7 +58,7 @@ HasRefusalSpelling _ = Unit {0}
 
 -- a hash that a Finished can tell: its version tells of the kind, and the digest is as long as one of it
 abbrev pub IsSpelledHash : ℕ → HashValue → Type 0
-IsSpelledHash version hash = TellsHash version (hash_value_kind hash) × IsHashValue hash
+IsSpelledHash version hash = CarriesHash version (hash_value_kind hash) × IsHashValue hash
 
 -- the identifier of a format: UTF-8, of 1 to 32 bytes
 abbrev pub IsPuidText : List ℕ → Type 0

@@ -4,7 +4,7 @@ ghost use Rattle.std.specs.Prelude.{◌≡◌, ◌↔◌, ◌<◌, ◌≤◌, �
 ghost use Rattle.droid_frame_values.specs.Bodies.{Fits, request_body};
 ghost use Rattle.droid_frame_values.specs.Filters.{ListFits, CriterionFits, FilterFits, list_bytes, criterion_bytes, filter_bytes};
 ghost use Rattle.droid_frame_values.specs.Fields.{truth_bytes};
-ghost use Rattle.droid_frame_values.specs.Hashes.{TellsHash, hash_field};
+ghost use Rattle.droid_frame_values.specs.Hashes.{CarriesHash, hash_field};
 
 use crate::criterion::Criterion;
 use crate::filter::Filter;
@@ -51,8 +51,8 @@ impl Request {
 
 /// The length of the body of a profile's options, or `None` where the version doesn't tell of the hash.
 fn options_len(version: u8, hash: HashKind) -> Option<usize>
-    ensures { MatchOption result (¬ TellsHash version hash)
-        (λ len. TellsHash version hash × ((match_all : Bool) → len ≡ 4 + length (truth_bytes match_all ++ hash_field version hash))) }
+    ensures { MatchOption result (¬ CarriesHash version hash)
+        (λ len. CarriesHash version hash × ((match_all : Bool) → len ≡ 4 + length (truth_bytes match_all ++ hash_field version hash))) }
 {
     if version != 1 {
         return Some(6);

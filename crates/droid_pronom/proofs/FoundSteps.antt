@@ -86,18 +86,18 @@ pub tell_mismatch : (H : ByteSequence → Type 0) (registry : Contents) (extensi
     → Tell left (IsLeft H registry)
     → (IsTrue mismatch ↔ ((wanted ≢ []) × AnyOf (λ row. Stands left row.place) registry.extensions × (AnyOf (λ row. Stands left row.place × (row.extension ≡ wanted)) registry.extensions → ⊥)))
     → (IsTrue mismatch ↔ IsMismatch H registry extension)
-tell_mismatch H registry extension wanted left mismatch e tells says = (
+tell_mismatch H registry extension wanted left mismatch e reports says = (
   λ t.
       let parts = rw e at (says.0 t) in
       record {
         some = lower_some extension parts.0;
-        lists_one = any_more (λ (row : ListedExtension). Stands left row.place) (λ (row : ListedExtension). IsLeft H registry row.place) (λ row s. (tells row.place).0 s) registry.extensions parts.1;
-        lists_other = λ a. parts.2 (any_more (λ (row : ListedExtension). IsLeft H registry row.place × (row.extension ≡ str_to_ascii_lowercase extension)) (λ (row : ListedExtension). Stands left row.place × (row.extension ≡ str_to_ascii_lowercase extension)) (λ row p. ((tells row.place).1 p.0, p.1)) registry.extensions a);
+        lists_one = any_more (λ (row : ListedExtension). Stands left row.place) (λ (row : ListedExtension). IsLeft H registry row.place) (λ row s. (reports row.place).0 s) registry.extensions parts.1;
+        lists_other = λ a. parts.2 (any_more (λ (row : ListedExtension). IsLeft H registry row.place × (row.extension ≡ str_to_ascii_lowercase extension)) (λ (row : ListedExtension). Stands left row.place × (row.extension ≡ str_to_ascii_lowercase extension)) (λ row p. ((reports row.place).1 p.0, p.1)) registry.extensions a);
       },
   λ m. says.1 (rw e (
     some_lower extension m.some,
-    any_more (λ (row : ListedExtension). IsLeft H registry row.place) (λ (row : ListedExtension). Stands left row.place) (λ row l. (tells row.place).1 l) registry.extensions m.lists_one,
-    λ a. m.lists_other (any_more (λ (row : ListedExtension). Stands left row.place × (row.extension ≡ str_to_ascii_lowercase extension)) (λ (row : ListedExtension). IsLeft H registry row.place × (row.extension ≡ str_to_ascii_lowercase extension)) (λ row p. ((tells row.place).0 p.0, p.1)) registry.extensions a),
+    any_more (λ (row : ListedExtension). IsLeft H registry row.place) (λ (row : ListedExtension). Stands left row.place) (λ row l. (reports row.place).1 l) registry.extensions m.lists_one,
+    λ a. m.lists_other (any_more (λ (row : ListedExtension). Stands left row.place × (row.extension ≡ str_to_ascii_lowercase extension)) (λ (row : ListedExtension). IsLeft H registry row.place × (row.extension ≡ str_to_ascii_lowercase extension)) (λ row p. ((reports row.place).0 p.0, p.1)) registry.extensions a),
   )),
 )
 
@@ -128,18 +128,18 @@ module _ (H : ByteSequence → Type 0) (registry : Contents) (name : List ℕ) (
       → wanted ≡ str_to_ascii_lowercase (extension_of name)
       → (IsTrue mismatch ↔ ((wanted ≢ []) × AnyOf (λ row. Stands left row.place) registry.extensions × (AnyOf (λ row. Stands left row.place × (row.extension ≡ wanted)) registry.extensions → ⊥)))
       → IsFoundBy H registry name match_all (record { method = methods.Signature; mismatch = mismatch; puids = puids })
-  found_signature left puids mismatch wanted tells are some e says = inl (record {
-    left = chosen_same (Stands left) (IsLeft H registry) 0 registry.formats puids tells are;
+  found_signature left puids mismatch wanted reports are some e says = inl (record {
+    left = chosen_same (Stands left) (IsLeft H registry) 0 registry.formats puids reports are;
     some = some;
     method = refl;
-    mismatch = tell_mismatch H registry (extension_of name) wanted left mismatch e tells says;
+    mismatch = tell_mismatch H registry (extension_of name) wanted left mismatch e reports says;
   })
 
   pub found_extension : (left named : List Bool) (puids : List (List ℕ)) → Tell left (IsLeft H registry) → Chosen (Stands left) 0 registry.formats []
       → Tell named (IsNamed registry (extension_of name) match_all) → Chosen (Stands named) 0 registry.formats puids → puids ≢ []
       → IsFoundBy H registry name match_all (record { method = methods.Extension; mismatch = false; puids = puids })
-  found_extension left named puids tells none names are some = inr (inl (record {
-    left = chosen_same (Stands left) (IsLeft H registry) 0 registry.formats [] tells none;
+  found_extension left named puids reports none names are some = inr (inl (record {
+    left = chosen_same (Stands left) (IsLeft H registry) 0 registry.formats [] reports none;
     named = chosen_same (Stands named) (IsNamed registry (extension_of name) match_all) 0 registry.formats puids names are;
     some = some;
     method = refl;
@@ -149,8 +149,8 @@ module _ (H : ByteSequence → Type 0) (registry : Contents) (name : List ℕ) (
   pub found_nothing : (left named : List Bool) (puids : List (List ℕ)) → Tell left (IsLeft H registry) → Chosen (Stands left) 0 registry.formats []
       → Tell named (IsNamed registry (extension_of name) match_all) → Chosen (Stands named) 0 registry.formats puids → puids ≡ []
       → IsFoundBy H registry name match_all (record { method = methods.Unidentified; mismatch = false; puids = puids })
-  found_nothing left named puids tells none names are e = inr (inr (record {
-    left = chosen_same (Stands left) (IsLeft H registry) 0 registry.formats [] tells none;
+  found_nothing left named puids reports none names are e = inr (inr (record {
+    left = chosen_same (Stands left) (IsLeft H registry) 0 registry.formats [] reports none;
     named = chosen_same (Stands named) (IsNamed registry (extension_of name) match_all) 0 registry.formats [] names (rw e at are);
     none = e;
     method = refl;

@@ -62,8 +62,8 @@ outcome_faulty a b y fields n draft fault step = faulty n.is (rw (← n.fields) 
 pub outcome_refused : (a b : Reader (Bor (List ℕ))) (y : List ℕ) (fields : List (List ℕ)) (n : IsNext a b y fields) (draft new : Draft) (refusal : Refusal)
     → Tells {X = Unit {0}} (Err refusal) new (Step draft fields) → ◌≢◌ {A = Result Contents RegistryFault} (Err (refusal_at refusal (taken_count draft + 1))) (Err registry_faults.Memory)
     → Outcome draft a.state y (Err (refusal_at refusal (taken_count draft + 1)))
-outcome_refused a b y fields n draft new refusals.Memory tells some = absurd (some refl)
-outcome_refused a b y fields n draft new (refusals.Fault fault) tells some = outcome_faulty a b y fields n draft (fault_of fault) tells
+outcome_refused a b y fields n draft new refusals.Memory reports some = absurd (some refl)
+outcome_refused a b y fields n draft new (refusals.Fault fault) reports some = outcome_faulty a b y fields n draft (fault_of fault) reports
 
 -- no record is left
 pub outcome_end : (a b : Reader (Bor (List ℕ))) (y : List ℕ) (fields : List (List ℕ)) (draft : Draft) → a.config ≡ default_config → source_of rest_of a ≡ Some y → ReadRecord rest_of a b false fields

@@ -25,5 +25,5 @@ tells_step (Err refusals.Memory) new draft fields kind a b c d e is text judges 
 tells_step (Err (refusals.Fault fault)) new draft fields kind a b c d e is text judges = rw is (judged (rw is at text) judges)
 
 -- a record with a field that is no text
-pub untold : {A E : Type 0} (draft : Draft) (fields : List (List ℕ)) (r : Result A E) (x : E) → length fields ≡ 6 → (AllText fields → IsOk r) → r ≡ Err x → Step draft fields (Err faults.NotUtf8)
-untold draft fields r x six text is = no_text six (λ all. let ok = text all in let bad : false ≡ true = rw is at ok in cc)
+pub unreported : {A E : Type 0} (draft : Draft) (fields : List (List ℕ)) (r : Result A E) (x : E) → length fields ≡ 6 → (AllText fields → IsOk r) → r ≡ Err x → Step draft fields (Err faults.NotUtf8)
+unreported draft fields r x six text is = no_text six (λ all. let ok = text all in let bad : false ≡ true = rw is at ok in cc)

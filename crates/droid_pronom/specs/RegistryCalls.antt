@@ -54,10 +54,10 @@ Tells (Err refusals.Memory) new P = ⊤
 Tells (Err (refusals.Fault fault)) new P = P (Err (fault_of fault))
 
 -- what a call says of a pattern's text
-abbrev pub TellsPattern : Result (List Element) Refusal → List ℕ → Type 0
-TellsPattern (Ok elements) text = Spells text elements
-TellsPattern (Err refusals.Memory) text = ⊤
-TellsPattern (Err (refusals.Fault fault)) text = (fault ≡ faults.BadPattern) × ReadsAs text None
+abbrev pub ReportsPattern : Result (List Element) Refusal → List ℕ → Type 0
+ReportsPattern (Ok elements) text = Spells text elements
+ReportsPattern (Err refusals.Memory) text = ⊤
+ReportsPattern (Err (refusals.Fault fault)) text = (fault ≡ faults.BadPattern) × ReadsAs text None
 
 -- why a file is not read, where this is why the record with that number was not taken
 abbrev pub refusal_at : Refusal → ℕ → RegistryFault

@@ -9,7 +9,7 @@ use crate::cell::Cell;
 
 /// Whether the cells match from this position on, where those up to the first one that fails are one byte each;
 /// `None` where rows have to tell.
-pub(crate) fn told_at(cells: &[Cell], pool: &[u8], bytes: &[u8], at: usize) -> Option<bool>
+pub(crate) fn settled_at(cells: &[Cell], pool: &[u8], bytes: &[u8], at: usize) -> Option<bool>
     requires { at ≤ length bytes.now }
     ensures { IfSome result (λ found. IsTrue found ↔ ((q : ℕ) × Path (flat_map (elements_at pool.now) cells.now) bytes.now at q)) }
 {

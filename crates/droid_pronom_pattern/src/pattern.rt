@@ -6,7 +6,7 @@ ghost use Rattle.droid_pronom_pattern.specs.PatternText.{Spells};
 ghost use Rattle.droid_pronom_pattern.specs.Classes.{AreOf};
 
 use crate::fault::PatternFault;
-use crate::head::told_at;
+use crate::head::settled_at;
 use crate::packed::{Packed, pack};
 use crate::reading::tokens_of;
 use crate::token::any_byte;
@@ -99,7 +99,7 @@ impl Pattern {
         ensures found { IfOk result (λ found. IsTrue found ↔ BeginsWithin self.now bytes.now low high) }
     {
         if low == high {
-            if let Some(found) = self.told_from(bytes, low) {
+            if let Some(found) = self.settled_from(bytes, low) {
                 return Ok(found);
             }
         }
@@ -107,13 +107,13 @@ impl Pattern {
     }
 
     /// Whether a match begins at this offset, where the bytes there tell it; `None` where rows have to.
-    fn told_from(&self, bytes: &[u8], at: usize) -> Option<bool>
+    fn settled_from(&self, bytes: &[u8], at: usize) -> Option<bool>
         ensures { IfSome result (λ found. IsTrue found ↔ BeginsWithin self.now bytes.now at at) }
     {
         if bytes.len() < at {
             return Some(false);
         }
-        told_at(&self.packed.cells, &self.packed.pool, bytes, at)
+        settled_at(&self.packed.cells, &self.packed.pool, bytes, at)
     }
 
     /// The same as `begins_with`, by rows of places.

@@ -4,7 +4,7 @@ use droid_pronom::extension;
 
 #[test]
 fn extensions(rt: HostRuntime) {
-    for (name, want) in &[
+    for (name, expected) in &[
         ("a.txt", "txt"),
         ("a.tar.gz", "gz"),
         (".profile", ""),
@@ -14,6 +14,6 @@ fn extensions(rt: HostRuntime) {
         ("", ""),
         ("ä.öé", "öé"),
     ] {
-        assert_eq!(rt; extension(name), *want, "of {name}");
+        assert_eq!(rt; extension(name), *expected, "of {name}");
     }
 }

@@ -165,12 +165,12 @@ fn longest_text(rt: HostRuntime) -> Result<(), Fail> {
 
 #[test]
 fn texts_of_faults(rt: HostRuntime) -> Result<(), Fail> {
-    for (fault, want) in &[
+    for (fault, expected) in &[
         (PatternFault::BadPattern, "the text is no pattern"),
         (PatternFault::Memory, "memory was refused"),
     ] {
         let text = format!(in rt.alloc(); "{fault}")?;
-        assert_eq!(rt; text.as_str(), *want);
+        assert_eq!(rt; text.as_str(), *expected);
     }
     Ok(())
 }

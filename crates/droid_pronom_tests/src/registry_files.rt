@@ -97,14 +97,14 @@ fn is_judged(outcome: &str) -> bool {
 #[test]
 fn registry_faults(rt: HostRuntime) -> Result<(), Fail> {
     let alloc = rt.alloc();
-    for (bytes, want) in &FIRST_RECORDS {
-        assert_eq!(rt; outcome(alloc, bytes)?.as_str(), *want);
+    for (bytes, expected) in &FIRST_RECORDS {
+        assert_eq!(rt; outcome(alloc, bytes)?.as_str(), *expected);
     }
-    for (records, want) in &RECORDS {
+    for (records, expected) in &RECORDS {
         let text = format!(in alloc; "F,dev/1,A,,,\n{records}")?;
         assert_eq!(rt;
             outcome(alloc, text.as_str().as_bytes())?.as_str(),
-            *want,
+            *expected,
             "after {records:?}"
         );
     }
@@ -241,7 +241,7 @@ const READERS: [(u32, Option<usize>, &str); 6] = [
 #[test]
 fn readers(rt: HostRuntime) -> Result<(), Fail> {
     let alloc = rt.alloc();
-    for (interruptions, fails_at, want) in &READERS {
+    for (interruptions, fails_at, expected) in &READERS {
         let mut reader = Noted::new(Halting {
             bytes: SAMPLE.as_bytes(),
             interruptions: *interruptions,
@@ -255,7 +255,11 @@ fn readers(rt: HostRuntime) -> Result<(), Fail> {
             }
             Err(fault) => format!(in alloc; "{fault}")?,
         };
-        assert_eq!(rt; text.as_str(), *want, "after {interruptions} interruptions");
+        assert_eq!(rt;
+            text.as_str(),
+            *expected,
+            "after {interruptions} interruptions"
+        );
     }
     Ok(())
 }

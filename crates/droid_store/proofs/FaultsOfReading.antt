@@ -12,7 +12,7 @@ use Rattle.droid_store.specs.declared.rows.NodeState.{NodeState}
 use Rattle.droid_store.specs.declared.rows.NodeState.TheVariants.{Folder, Unfinished, Finished}
 use Rattle.droid_frame.specs.Fields.{method_number}
 use Rattle.droid_store.specs.Encoded.{number, state_number}
-use Rattle.droid_store.proofs.ToldFaults.{IsShort}
+use Rattle.droid_store.proofs.ReportedFaults.{IsShort}
 
 -- a fault that `?` hands on
 pub still_memory : {T : Type 0} (r : Result T StoreFault) (fault : StoreFault) → IsErrAnd r (λ f. f ≡ fault) → fault ≡ Memory → IfErr r (λ f. f ≡ Memory)
@@ -22,8 +22,8 @@ still_memory (Err other) fault same is = same ∙ is
 -- what a look-up by a key found
 pub found_fits : {X : Type 0} (shown : X → Row) (Fits : X → Type 0) (found : Option X) (row : Row) (P : Type 0) → Some row ≡ option_map shown found → ((x : X) → found ≡ Some x → Fits x)
     → ((x : X) → row ≡ shown x → Fits x → P) → P
-found_fits shown Fits None row P is fits told = absurd cc
-found_fits shown Fits (Some x) row P is fits told = let at : row ≡ shown x = cc in told x at (fits x refl)
+found_fits shown Fits None row P is fits reported = absurd cc
+found_fits shown Fits (Some x) row P is fits reported = let at : row ≡ shown x = cc in reported x at (fits x refl)
 
 -- ---- numbers in place of names
 

@@ -14,9 +14,9 @@ use Rattle.droid_frame.specs.types.record.Record.{Record}
 use Rattle.droid_store_trees.specs.declared.store.TreeStore.{TreeStore}
 use Rattle.droid_store_trees.specs.Over.{over_trees}
 use Rattle.droid_store_sql.specs.Transactions.{Settled}
-use Rattle.droid_store_sql.specs.Wants.{IsWant}
+use Rattle.droid_store_sql.specs.MemoryFaults.{IsOutOfMemory}
 use Rattle.droid_store_sql.proofs.Transactions.{settled_unchanged, query_failed}
-use Rattle.droid_store_sql.proofs.Wants.{in_memory}
+use Rattle.droid_store_sql.proofs.MemoryFaults.{in_memory}
 use Rattle.droid_store.specs.declared.statements.TheConstants.{LIST_RECORDS}
 use Rattle.droid_store.specs.Changes.{IsWord}
 use Rattle.droid_store.specs.Encoded.{number}
@@ -28,7 +28,7 @@ use Rattle.droid_store.proofs.Closed.{kept_is, kept_still}
 use Rattle.droid_store.proofs.ListsRecords.{lists_records}
 use Rattle.droid_store.proofs.Meanings.{records_is, records_plain}
 use Rattle.droid_store.proofs.ReadableAfter.{all_readable}
-use Rattle.droid_store.proofs.WantingLookUps.{records_wants}
+use Rattle.droid_store.proofs.MemoryFaultsOfLookUps.{records_wants}
 
 -- the connection is in the listing and has changed nothing, and each row that it gave was read
 pub record HaveRead (old new : Held TreeStore) (profile : ℕ) (records : List Record) : Type 0 where
@@ -53,12 +53,12 @@ module _ {X Y Z : Type 0} (shown : X → Y) (made : X → Z) (P : X → Type 0) 
 
   -- it shows one of them
   shows_one : (xs : List X) (given : List Y) (y : Y) (tail : List Y) (Q : Type 0) → AllByRecursion P xs → (given ++ y ∷ []) ++ tail ≡ map shown xs → ((x : X) → y ≡ shown x → P x → Q) → Q
-  shows_one [] [] y tail Q all is told = absurd cc
-  shows_one [] (g ∷ given) y tail Q all is told = absurd cc
-  shows_one (x ∷ xs) [] y tail Q all is told = let first : y ≡ shown x = cc in told x first all.0
-  shows_one (x ∷ xs) (g ∷ given) y tail Q all is told =
+  shows_one [] [] y tail Q all is reported = absurd cc
+  shows_one [] (g ∷ given) y tail Q all is reported = absurd cc
+  shows_one (x ∷ xs) [] y tail Q all is reported = let first : y ≡ shown x = cc in reported x first all.0
+  shows_one (x ∷ xs) (g ∷ given) y tail Q all is reported =
       let rest : (given ++ y ∷ []) ++ tail ≡ map shown xs = cc in
-      shows_one xs given y tail Q all.1 rest told
+      shows_one xs given y tail Q all.1 rest reported
 
   made_of_all : (xs : List X) → map made (take (length (map shown xs)) xs) ≡ map made xs
   made_of_all [] = refl
@@ -102,7 +102,7 @@ module _ (old : Held TreeStore) (profile : ℕ) (has : Settled (state over_trees
   settled_on mid new records so_far same = settled_unchanged (state over_trees mid) (state over_trees new) (Holds (kept old)) (settled_there mid records so_far) same
 
   pub gave_up : (new : Held TreeStore) (e : Error) → old.step_limit ≡ None → FailsToQuery LIST_RECORDS.now (number profile ∷ []) (state over_trees old) (state over_trees new) e
-      → Settled (state over_trees new) (Holds (kept old)) × IsWant e
+      → Settled (state over_trees new) (Holds (kept old)) × IsOutOfMemory e
   gave_up new e none fails = (
     query_failed LIST_RECORDS.now (number profile ∷ []) (state over_trees old) (state over_trees new) e (Holds (kept old)) refl plain has fails,
     records_wants (state over_trees old) (state over_trees new) profile (kept old) e (in_memory old new none) has.holds fails,
@@ -141,11 +141,11 @@ module _ (old : Held TreeStore) (profile : ℕ) (has : Settled (state over_trees
       -- a row that was given can be read
       pub given_fits : (row : Row) (Q : Type 0) → AreReadable (kept old) → Advances over_trees mid new (Some row) → IsUnchanged (state over_trees mid) (state over_trees new)
           → ((n : Node) → row ≡ shown_node n → NodeFits n → Q) → Q
-      given_fits row Q readable moved same told =
+      given_fits row Q readable moved same reported =
           let gives = moved LIST_RECORDS.now (number profile ∷ []) so_far.given so_far.gives in
           let unchanged = unchanged_then (state over_trees old) (state over_trees mid) (state over_trees new) so_far.same same in
           let first = front new (so_far.given ++ row ∷ []) gives unchanged in
-          shows_one shown_node record_of NodeFits listed_nodes so_far.given row first.0 Q (all_readable (is_listed profile) (kept old) readable) first.1 told
+          shows_one shown_node record_of NodeFits listed_nodes so_far.given row first.0 Q (all_readable (is_listed profile) (kept old) readable) first.1 reported
 
       -- no row is left
       pub read_all : Advances over_trees mid new None → Settled (state over_trees new) (Holds (kept old)) × (before ≡ records_of profile (kept old))
@@ -156,7 +156,7 @@ module _ (old : Held TreeStore) (profile : ℕ) (has : Settled (state over_trees
           (all.0, so_far.read ∙ ap (λ (rows : List Row). map record_of (take (length rows) listed_nodes)) all.1 ∙ made_of_all shown_node record_of NodeFits listed_nodes)
 
       -- the next row wasn't given
-      pub read_no_more : (e : Error) → mid.step_limit ≡ None → FailsToAdvance over_trees mid new e → Settled (state over_trees new) (Holds (kept old)) × IsWant e
+      pub read_no_more : (e : Error) → mid.step_limit ≡ None → FailsToAdvance over_trees mid new e → Settled (state over_trees new) (Holds (kept old)) × IsOutOfMemory e
       read_no_more e none fails =
           let there = settled_there mid before so_far in
           let failed = fails LIST_RECORDS.now (number profile ∷ []) so_far.given so_far.gives in

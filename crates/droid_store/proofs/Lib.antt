@@ -21,9 +21,9 @@ pub mod NodeOrder
 pub mod Opened
 pub mod ReadableAfter
 pub mod Started
-pub mod ToldFaults
+pub mod ReportedFaults
 pub mod Unique
-pub mod Wanting
-pub mod WantingChanges
-pub mod WantingLookUps
-pub mod WantingTables
+pub mod MemoryFaultsIn
+pub mod MemoryFaultsOfChanges
+pub mod MemoryFaultsOfLookUps
+pub mod MemoryFaultsOfTables

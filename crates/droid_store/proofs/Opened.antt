@@ -17,7 +17,7 @@ use Rattle.sqlite.proofs.ListingLemmas.{empty_is_sound}
 use Rattle.droid_store_trees.specs.declared.store.TreeStore.{TreeStore}
 use Rattle.droid_store_trees.specs.Over.{over_trees}
 use Rattle.droid_store_sql.specs.Transactions.{Settled}
-use Rattle.droid_store_sql.specs.Wants.{IsWant}
+use Rattle.droid_store_sql.specs.MemoryFaults.{IsOutOfMemory}
 use Rattle.droid_store.specs.Kept.{HasEmpty}
 use Rattle.droid_store.specs.Tables.{no_schema}
 
@@ -39,6 +39,6 @@ excused Full h = absurd (omega arith)
 excused Broken h = absurd h
 excused Unstorable h = absurd h
 
-pub opening_wants : (db : Trees) (e : Error) → db catalog_tree ≡ [] → FailsToOpen db (MoreFaults 0 0) e → IsWant e
+pub opening_wants : (db : Trees) (e : Error) → db catalog_tree ≡ [] → FailsToOpen db (MoreFaults 0 0) e → IsOutOfMemory e
 opening_wants db e none (inl refused) = absurd (refused.1 no_schema (empty_is_sound db none))
 opening_wants db e none (inr failed) = inl (failed.1 ∙ excused failed.0 failed.2)

@@ -14,6 +14,6 @@ fault_of (SqliteFailure NoRowid) = Memory
 fault_of _ = Refused
 
 -- the refusal that a client is told where a call of the store gave up
-abbrev pub told_as : StoreFault → Refusal
-told_as Memory = refusals.Memory
-told_as Refused = refusals.Store
+abbrev pub reported_as : StoreFault → Refusal
+reported_as Memory = refusals.Memory
+reported_as Refused = refusals.Store

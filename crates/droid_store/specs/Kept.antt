@@ -11,7 +11,7 @@ use Rattle.droid_store_trees.specs.declared.store.TreeStore.{TreeStore}
 use Rattle.droid_store.specs.Changes.{IsWord}
 use Rattle.droid_store_sql.specs.KeyedRows.{numbered_from, AreRising}
 use Rattle.droid_store_sql.specs.Transactions.{Within}
-use Rattle.droid_store_sql.specs.Wants.{IsWant}
+use Rattle.droid_store_sql.specs.MemoryFaults.{IsOutOfMemory}
 use Rattle.droid_store.specs.Encoded.{profile_row, node_row, reply_row, rows_in}
 use Rattle.droid_store.specs.Rows.{Node, Rows, is_child, is_for, profile_at}
 use Rattle.droid_store.specs.Tables.{store_schema}
@@ -66,5 +66,5 @@ abbrev pub Saves : {U : Type 0} → State → State → Result U Error → Rows 
 Saves old new r before = (saved : Rows) → Within old (Holds before) (Holds saved) → OnErr r (Holds saved new.committed)
 
 -- and where it fails, it does so for want alone
-abbrev pub Wants : {U : Type 0} → State → State → Result U Error → Rows → Type 0
-Wants old new r before = (saved : Rows) → Within old (Holds before) (Holds saved) → old.step_limit ≡ None → IfErr r IsWant
+abbrev pub FailsForMemory : {U : Type 0} → State → State → Result U Error → Rows → Type 0
+FailsForMemory old new r before = (saved : Rows) → Within old (Holds before) (Holds saved) → old.step_limit ≡ None → IfErr r IsOutOfMemory

@@ -7,7 +7,7 @@ ghost use Rattle.std.specs.List.{AllByRecursion};
 ghost use Rattle.droid_store.specs.Changes.{with_profile, with_reply, with_node, with_finished, finished, without_node, counted, IsWord};
 ghost use Rattle.droid_frame.specs.Fields.{method_number};
 ghost use Rattle.droid_store.specs.Encoded.{joined};
-ghost use Rattle.droid_store.specs.Kept.{AreApart, HasKeys, Steps, Saves, Wants};
+ghost use Rattle.droid_store.specs.Kept.{AreApart, HasKeys, Steps, Saves, FailsForMemory};
 ghost use Rattle.droid_store.specs.Ranges.{EntryFits};
 ghost use Rattle.droid_store.specs.Rows.{Rows, Node, node_at};
 ghost use Rattle.droid_store.specs.Sizes.{entry_size, node_size, FitsARow};
@@ -52,7 +52,7 @@ pub(crate) fn insert_profile(
     ensures ok { (rows : Rows) → profile ≡ length rows.profiles + 1 → Steps (state over_trees tx.old.conn.now) (state over_trees tx.new.conn.now) result rows (with_profile scan_limit match_all hash rows) }
     ensures err { (rows : Rows) → Saves (state over_trees tx.old.conn.now) (state over_trees tx.new.conn.now) result rows }
     ensures limit { tx.new.conn.now.step_limit ≡ tx.old.conn.now.step_limit }
-    ensures want { (rows : Rows) → profile ≡ length rows.profiles + 1 → HasKeys rows → Wants (state over_trees tx.old.conn.now) (state over_trees tx.new.conn.now) result rows }
+    ensures failure { (rows : Rows) → profile ≡ length rows.profiles + 1 → HasKeys rows → FailsForMemory (state over_trees tx.old.conn.now) (state over_trees tx.new.conn.now) result rows }
 {
     tx.execute(
         ADD_PROFILE,
@@ -70,7 +70,7 @@ pub(crate) fn insert_reply(
     ensures err { (rows : Rows) → Saves (state over_trees tx.old.conn.now) (state over_trees tx.new.conn.now) result rows }
     ensures limit { tx.new.conn.now.step_limit ≡ tx.old.conn.now.step_limit }
     ensures fits { EntryFits entry.now }
-    ensures want { (rows : Rows) → HasKeys (with_reply entry.now rows) → FitsARow (entry_size entry.now) → Wants (state over_trees tx.old.conn.now) (state over_trees tx.new.conn.now) result rows }
+    ensures failure { (rows : Rows) → HasKeys (with_reply entry.now rows) → FitsARow (entry_size entry.now) → FailsForMemory (state over_trees tx.old.conn.now) (state over_trees tx.new.conn.now) result rows }
 {
     let mark = entry.mark.as_slice();
     let body = entry.body.as_slice();
@@ -97,7 +97,7 @@ fn insert_node(
     ensures ok { (rows : Rows) → Steps (state over_trees tx.old.conn.now) (state over_trees tx.new.conn.now) result rows (record rows { nodes = rows.nodes ++ node_of node.now modified ∷ [] }) }
     ensures err { (rows : Rows) → Saves (state over_trees tx.old.conn.now) (state over_trees tx.new.conn.now) result rows }
     ensures limit { tx.new.conn.now.step_limit ≡ tx.old.conn.now.step_limit }
-    ensures want { (rows : Rows) → HasKeys (record rows { nodes = rows.nodes ++ node_of node.now modified ∷ [] }) → FitsARow (node_size (node_of node.now modified)) → Wants (state over_trees tx.old.conn.now) (state over_trees tx.new.conn.now) result rows }
+    ensures failure { (rows : Rows) → HasKeys (record rows { nodes = rows.nodes ++ node_of node.now modified ∷ [] }) → FitsARow (node_size (node_of node.now modified)) → FailsForMemory (state over_trees tx.old.conn.now) (state over_trees tx.new.conn.now) result rows }
 {
     tx.execute(
         ADD_NODE,
@@ -124,7 +124,7 @@ fn count_nodes(
     ensures ok { (rows : Rows) → Steps (state over_trees tx.old.conn.now) (state over_trees tx.new.conn.now) result rows (record rows { profiles = counted profile nodes rows.profiles }) }
     ensures err { (rows : Rows) → Saves (state over_trees tx.old.conn.now) (state over_trees tx.new.conn.now) result rows }
     ensures limit { tx.new.conn.now.step_limit ≡ tx.old.conn.now.step_limit }
-    ensures want { (rows : Rows) → HasKeys rows → Wants (state over_trees tx.old.conn.now) (state over_trees tx.new.conn.now) result rows }
+    ensures failure { (rows : Rows) → HasKeys rows → FailsForMemory (state over_trees tx.old.conn.now) (state over_trees tx.new.conn.now) result rows }
 {
     tx.execute(COUNT_NODES, params![profile, nodes])
 }
@@ -140,7 +140,7 @@ pub(crate) fn add_node(
     ensures ok { (rows : Rows) → Steps (state over_trees tx.old.conn.now) (state over_trees tx.new.conn.now) result rows (with_node (node_of node.now modified) rows) }
     ensures err { (rows : Rows) → Saves (state over_trees tx.old.conn.now) (state over_trees tx.new.conn.now) result rows }
     ensures limit { tx.new.conn.now.step_limit ≡ tx.old.conn.now.step_limit }
-    ensures want { (rows : Rows) → HasKeys (record rows { nodes = rows.nodes ++ node_of node.now modified ∷ [] }) → FitsARow (node_size (node_of node.now modified)) → Wants (state over_trees tx.old.conn.now) (state over_trees tx.new.conn.now) result rows }
+    ensures failure { (rows : Rows) → HasKeys (record rows { nodes = rows.nodes ++ node_of node.now modified ∷ [] }) → FitsARow (node_size (node_of node.now modified)) → FailsForMemory (state over_trees tx.old.conn.now) (state over_trees tx.new.conn.now) result rows }
 {
     insert_node(tx, node, modified)?;
     count_nodes(tx, node.profile, node.id)
@@ -167,7 +167,7 @@ pub(crate) fn finish_node(
         → Steps (state over_trees tx.old.conn.now) (state over_trees tx.new.conn.now) result rows (with_finished profile file findings.now.method findings.now.mismatch findings.now.hash puids rows) }
     ensures err { (rows : Rows) → Saves (state over_trees tx.old.conn.now) (state over_trees tx.new.conn.now) result rows }
     ensures limit { tx.new.conn.now.step_limit ≡ tx.old.conn.now.step_limit }
-    ensures want { (rows : Rows) → HasKeys rows → (puids : List (List ℕ)) → findings.now.formats.now ≡ joined puids → HasKeys (with_finished profile file findings.now.method findings.now.mismatch findings.now.hash puids rows) → ((n : Node) → node_at profile file rows ≡ Some n → FitsARow (node_size (finished findings.now.method findings.now.mismatch findings.now.hash puids n))) → Wants (state over_trees tx.old.conn.now) (state over_trees tx.new.conn.now) result rows }
+    ensures failure { (rows : Rows) → HasKeys rows → (puids : List (List ℕ)) → findings.now.formats.now ≡ joined puids → HasKeys (with_finished profile file findings.now.method findings.now.mismatch findings.now.hash puids rows) → ((n : Node) → node_at profile file rows ≡ Some n → FitsARow (node_size (finished findings.now.method findings.now.mismatch findings.now.hash puids n))) → FailsForMemory (state over_trees tx.old.conn.now) (state over_trees tx.new.conn.now) result rows }
 {
     tx.execute(
         FINISH_NODE,
@@ -198,7 +198,7 @@ pub(crate) fn delete_node(
     ensures ok { (rows : Rows) → AreApart rows → Steps (state over_trees tx.old.conn.now) (state over_trees tx.new.conn.now) result rows (without_node profile file rows) }
     ensures err { (rows : Rows) → Saves (state over_trees tx.old.conn.now) (state over_trees tx.new.conn.now) result rows }
     ensures limit { tx.new.conn.now.step_limit ≡ tx.old.conn.now.step_limit }
-    ensures want { (rows : Rows) → HasKeys rows → HasKeys (without_node profile file rows) → Wants (state over_trees tx.old.conn.now) (state over_trees tx.new.conn.now) result rows }
+    ensures failure { (rows : Rows) → HasKeys rows → HasKeys (without_node profile file rows) → FailsForMemory (state over_trees tx.old.conn.now) (state over_trees tx.new.conn.now) result rows }
 {
     tx.execute(REMOVE_NODE, params![profile, file])
 }

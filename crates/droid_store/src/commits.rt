@@ -5,7 +5,7 @@ ghost use Rattle.std.specs.List.{AllByRecursion};
 ghost use Rattle.sqlite.specs.Held.{state};
 ghost use Rattle.droid_store_trees.specs.Over.{over_trees};
 ghost use Rattle.droid_store_sql.specs.Transactions.{Settled};
-ghost use Rattle.droid_store_sql.specs.Wants.{IsWant};
+ghost use Rattle.droid_store_sql.specs.MemoryFaults.{IsOutOfMemory};
 ghost use Rattle.droid_store.specs.Changes.{with_node, with_profile, with_reply, finished, with_finished, without_node, IsWord};
 ghost use Rattle.droid_store.specs.Encoded.{joined};
 ghost use Rattle.droid_store.specs.Kept.{kept, Holds, AreApart, HasKeys};
@@ -30,7 +30,7 @@ pub(crate) fn write_reply(conn: &mut Connection<TreeStore>, entry: &Entry) -> Re
     ensures err { OnErr result (Settled (state over_trees conn.new) (Holds (kept conn.old))) }
     ensures limit { conn.new.step_limit ≡ conn.old.step_limit }
     ensures fits { OnOk result (EntryFits entry.now) }
-    ensures want { HasKeys (with_reply entry.now (kept conn.old)) → FitsARow (entry_size entry.now) → conn.old.step_limit ≡ None → IfErr result IsWant }
+    ensures failure { HasKeys (with_reply entry.now (kept conn.old)) → FitsARow (entry_size entry.now) → conn.old.step_limit ≡ None → IfErr result IsOutOfMemory }
 {
     let mut tx = conn.transaction();
     insert_reply(&mut tx, entry)?;
@@ -52,7 +52,7 @@ pub(crate) fn write_profile(
     ensures err { OnErr result (Settled (state over_trees conn.new) (Holds (kept conn.old))) }
     ensures limit { conn.new.step_limit ≡ conn.old.step_limit }
     ensures fits { OnOk result (EntryFits entry.now) }
-    ensures want { HasKeys (kept conn.old) → HasKeys (with_reply entry.now (with_profile scan_limit match_all hash (kept conn.old))) → FitsARow (entry_size entry.now) → conn.old.step_limit ≡ None → IfErr result IsWant }
+    ensures failure { HasKeys (kept conn.old) → HasKeys (with_reply entry.now (with_profile scan_limit match_all hash (kept conn.old))) → FitsARow (entry_size entry.now) → conn.old.step_limit ≡ None → IfErr result IsOutOfMemory }
 {
     let mut tx = conn.transaction();
     insert_profile(&mut tx, profile, scan_limit, match_all, hash)?;
@@ -73,7 +73,7 @@ pub(crate) fn write_node(
     ensures err { OnErr result (Settled (state over_trees conn.new) (Holds (kept conn.old))) }
     ensures limit { conn.new.step_limit ≡ conn.old.step_limit }
     ensures fits { OnOk result (EntryFits entry.now) }
-    ensures want { HasKeys (kept conn.old) → HasKeys (with_reply entry.now (with_node (node_of node.now modified) (kept conn.old))) → FitsARow (entry_size entry.now) → FitsARow (node_size (node_of node.now modified)) → conn.old.step_limit ≡ None → IfErr result IsWant }
+    ensures failure { HasKeys (kept conn.old) → HasKeys (with_reply entry.now (with_node (node_of node.now modified) (kept conn.old))) → FitsARow (entry_size entry.now) → FitsARow (node_size (node_of node.now modified)) → conn.old.step_limit ≡ None → IfErr result IsOutOfMemory }
 {
     let mut tx = conn.transaction();
     add_node(&mut tx, node, modified)?;
@@ -96,7 +96,7 @@ pub(crate) fn write_finish(
     ensures err { (puids : List (List ℕ)) → AllByRecursion IsWord puids → findings.now.formats.now ≡ joined puids → OnErr result (Settled (state over_trees conn.new) (Holds (kept conn.old))) }
     ensures limit { conn.new.step_limit ≡ conn.old.step_limit }
     ensures fits { OnOk result (EntryFits entry.now) }
-    ensures want { (puids : List (List ℕ)) → AllByRecursion IsWord puids → findings.now.formats.now ≡ joined puids → HasKeys (kept conn.old) → HasKeys (with_reply entry.now (with_finished profile file findings.now.method findings.now.mismatch findings.now.hash puids (kept conn.old))) → FitsARow (entry_size entry.now) → ((n : Node) → node_at profile file (kept conn.old) ≡ Some n → FitsARow (node_size (finished findings.now.method findings.now.mismatch findings.now.hash puids n))) → conn.old.step_limit ≡ None → IfErr result IsWant }
+    ensures failure { (puids : List (List ℕ)) → AllByRecursion IsWord puids → findings.now.formats.now ≡ joined puids → HasKeys (kept conn.old) → HasKeys (with_reply entry.now (with_finished profile file findings.now.method findings.now.mismatch findings.now.hash puids (kept conn.old))) → FitsARow (entry_size entry.now) → ((n : Node) → node_at profile file (kept conn.old) ≡ Some n → FitsARow (node_size (finished findings.now.method findings.now.mismatch findings.now.hash puids n))) → conn.old.step_limit ≡ None → IfErr result IsOutOfMemory }
 {
     let mut tx = conn.transaction();
     finish_node(&mut tx, profile, file, findings)?;
@@ -117,7 +117,7 @@ pub(crate) fn write_abandon(
     ensures err { OnErr result (Settled (state over_trees conn.new) (Holds (kept conn.old))) }
     ensures limit { conn.new.step_limit ≡ conn.old.step_limit }
     ensures fits { OnOk result (EntryFits entry.now) }
-    ensures want { HasKeys (kept conn.old) → HasKeys (with_reply entry.now (without_node profile file (kept conn.old))) → FitsARow (entry_size entry.now) → conn.old.step_limit ≡ None → IfErr result IsWant }
+    ensures failure { HasKeys (kept conn.old) → HasKeys (with_reply entry.now (without_node profile file (kept conn.old))) → FitsARow (entry_size entry.now) → conn.old.step_limit ≡ None → IfErr result IsOutOfMemory }
 {
     let mut tx = conn.transaction();
     delete_node(&mut tx, profile, file)?;

@@ -43,9 +43,9 @@ impl From<AllocError> for StoreFault {
 }
 
 impl From<StoreFault> for Refusal {
-    ghost use Rattle.droid_store.specs.Faults.{told_as};
+    ghost use Rattle.droid_store.specs.Faults.{reported_as};
 
-    ghost from_gives = { λ fault refusal. refusal ≡ told_as fault };
+    ghost from_gives = { λ fault refusal. refusal ≡ reported_as fault };
 
     /// What a client is told: Memory, or Store where the database refused for another cause.
     fn from(fault: StoreFault) -> Refusal {

@@ -5,7 +5,7 @@ ghost use Rattle.sqlite.specs.Held.{state};
 ghost use Rattle.droid_store_trees.specs.Over.{over_trees};
 ghost use Rattle.sqlite.specs.declared.error.Error.TheVariants.{QueryReturnedNoRows};
 ghost use Rattle.droid_store_sql.specs.Transactions.{Settled};
-ghost use Rattle.droid_store_sql.specs.Wants.{IsWant};
+ghost use Rattle.droid_store_sql.specs.MemoryFaults.{IsOutOfMemory};
 ghost use Rattle.droid_store.specs.Kept.{kept, Holds, AreApart};
 ghost use Rattle.droid_store.specs.Rows.{profile_at, node_at, child_at, reply_for};
 ghost use Rattle.droid_store.specs.Shown.{shown_profile, shown_node, shown_id, shown_reply};
@@ -36,7 +36,7 @@ pub(crate) fn find_profile(
     ensures holds { Settled (state over_trees conn.new) (Holds (kept conn.new)) }
     ensures found { IfOk result (λ found. found ≡ option_map shown_profile (profile_at profile (kept conn.old))) }
     ensures limit { conn.new.step_limit ≡ conn.old.step_limit }
-    ensures want { conn.old.step_limit ≡ None → IfErr result IsWant }
+    ensures failure { conn.old.step_limit ≡ None → IfErr result IsOutOfMemory }
 {
     let answer = conn.query_row(FIND_PROFILE, params![profile]);
     or_none(answer)
@@ -53,7 +53,7 @@ pub(crate) fn find_node(
     ensures holds { Settled (state over_trees conn.new) (Holds (kept conn.new)) }
     ensures found { IfOk result (λ found. found ≡ option_map shown_node (node_at profile id (kept conn.old))) }
     ensures limit { conn.new.step_limit ≡ conn.old.step_limit }
-    ensures want { conn.old.step_limit ≡ None → IfErr result IsWant }
+    ensures failure { conn.old.step_limit ≡ None → IfErr result IsOutOfMemory }
 {
     let answer = conn.query_row(FIND_NODE, params![profile, id]);
     or_none(answer)
@@ -71,7 +71,7 @@ pub(crate) fn find_child(
     ensures holds { Settled (state over_trees conn.new) (Holds (kept conn.new)) }
     ensures found { IfOk result (λ found. found ≡ option_map shown_id (child_at profile parent name.now (kept conn.old))) }
     ensures limit { conn.new.step_limit ≡ conn.old.step_limit }
-    ensures want { conn.old.step_limit ≡ None → IfErr result IsWant }
+    ensures failure { conn.old.step_limit ≡ None → IfErr result IsOutOfMemory }
 {
     let answer = conn.query_row(FIND_CHILD, params![profile, parent, name]);
     or_none(answer)
@@ -89,7 +89,7 @@ pub(crate) fn find_reply(
     ensures holds { Settled (state over_trees conn.new) (Holds (kept conn.new)) }
     ensures found { IfOk result (λ found. found ≡ option_map shown_reply (reply_for client number (kept conn.old))) }
     ensures limit { conn.new.step_limit ≡ conn.old.step_limit }
-    ensures want { conn.old.step_limit ≡ None → IfErr result IsWant }
+    ensures failure { conn.old.step_limit ≡ None → IfErr result IsOutOfMemory }
 {
     let answer = conn.query_row(FIND_REPLY, params![client, signed(number)]);
     or_none(answer)

@@ -4,7 +4,7 @@ ghost use Rattle.std.specs.Prelude.{◌≡◌, None, OnOk, IfOk, IfErr, [], ◌�
 ghost use Rattle.sqlite.specs.Held.{state};
 ghost use Rattle.droid_store_trees.specs.Over.{over_trees};
 ghost use Rattle.droid_store_sql.specs.Transactions.{Settled};
-ghost use Rattle.droid_store_sql.specs.Wants.{IsWant};
+ghost use Rattle.droid_store_sql.specs.MemoryFaults.{IsOutOfMemory};
 ghost use Rattle.droid_store.specs.Kept.{Holds, HasEmpty};
 ghost use Rattle.droid_store.specs.Rows.{no_rows};
 ghost use Rattle.droid_store.specs.Tables.{no_schema, first_schema, second_schema};
@@ -18,7 +18,7 @@ use std::alloc::Global;
 pub(crate) fn open_empty(alloc: Global) -> Result<Connection<TreeStore>, Error>
     ensures empty { IfOk result (λ conn. Settled (state over_trees conn) (HasEmpty no_schema [])) }
     ensures limit { IfOk result (λ conn. conn.step_limit ≡ None) }
-    ensures want { IfErr result IsWant }
+    ensures failure { IfErr result IsOutOfMemory }
 {
     match Connection::over(alloc, TreeStore::new(alloc)) {
         Ok(conn) => Ok(conn),
@@ -31,7 +31,7 @@ pub(crate) fn make_tables(conn: &mut Connection<TreeStore>) -> Result<(), Error>
     requires { Settled (state over_trees conn.old) (HasEmpty no_schema []) }
     ensures made { OnOk result (Settled (state over_trees conn.new) (Holds no_rows)) }
     ensures limit { conn.new.step_limit ≡ conn.old.step_limit }
-    ensures want { conn.old.step_limit ≡ None → IfErr result IsWant }
+    ensures failure { conn.old.step_limit ≡ None → IfErr result IsOutOfMemory }
 {
     make_profiles(conn)?;
     make_nodes(conn)?;
@@ -43,7 +43,7 @@ fn make_profiles(conn: &mut Connection<TreeStore>) -> Result<usize, Error>
     requires { Settled (state over_trees conn.old) (HasEmpty no_schema []) }
     ensures made { OnOk result (Settled (state over_trees conn.new) (HasEmpty first_schema (0 ∷ []))) }
     ensures limit { conn.new.step_limit ≡ conn.old.step_limit }
-    ensures want { conn.old.step_limit ≡ None → IfErr result IsWant }
+    ensures failure { conn.old.step_limit ≡ None → IfErr result IsOutOfMemory }
 {
     conn.execute(MAKE_PROFILES, &[])
 }
@@ -52,7 +52,7 @@ fn make_nodes(conn: &mut Connection<TreeStore>) -> Result<usize, Error>
     requires { Settled (state over_trees conn.old) (HasEmpty first_schema (0 ∷ [])) }
     ensures made { OnOk result (Settled (state over_trees conn.new) (HasEmpty second_schema (0 ∷ 1 ∷ []))) }
     ensures limit { conn.new.step_limit ≡ conn.old.step_limit }
-    ensures want { conn.old.step_limit ≡ None → IfErr result IsWant }
+    ensures failure { conn.old.step_limit ≡ None → IfErr result IsOutOfMemory }
 {
     conn.execute(MAKE_NODES, &[])
 }
@@ -61,7 +61,7 @@ fn make_replies(conn: &mut Connection<TreeStore>) -> Result<usize, Error>
     requires { Settled (state over_trees conn.old) (HasEmpty second_schema (0 ∷ 1 ∷ [])) }
     ensures made { OnOk result (Settled (state over_trees conn.new) (Holds no_rows)) }
     ensures limit { conn.new.step_limit ≡ conn.old.step_limit }
-    ensures want { conn.old.step_limit ≡ None → IfErr result IsWant }
+    ensures failure { conn.old.step_limit ≡ None → IfErr result IsOutOfMemory }
 {
     conn.execute(MAKE_REPLIES, &[])
 }

@@ -23,7 +23,7 @@ use Rattle.sqlite.specs.Term.{Term}
 use Rattle.sqlite.specs.Tree.{Trees, with_tree, has_rowid, without_rowid}
 use Rattle.sqlite.specs.View.{IsStorable}
 use Rattle.droid_store_sql.specs.KeyedRows.{AreBelow, next_key}
-use Rattle.droid_store_sql.specs.Wants.{IsFree}
+use Rattle.droid_store_sql.specs.MemoryFaults.{IsFree}
 use Rattle.droid_store_sql.proofs.Inserts.{insert_edit}
 use Rattle.droid_store_sql.proofs.RowOrder.{lower, next_is}
 

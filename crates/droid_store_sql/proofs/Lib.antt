@@ -3,7 +3,7 @@ pub mod Inserts
 pub mod Creates
 pub mod Changes
 pub mod Transactions
-pub mod Wants
+pub mod MemoryFaults
 pub mod SureEdits
 pub mod FreeEdits
 pub mod Clashes

@@ -19,7 +19,7 @@ use Rattle.sqlite.specs.Table.{Table}
 use Rattle.sqlite.specs.Term.{Term}
 use Rattle.sqlite.specs.Tree.{Trees, with_tree}
 use Rattle.droid_store_sql.specs.Queries.{select}
-use Rattle.droid_store_sql.specs.Wants.{IsSure}
+use Rattle.droid_store_sql.specs.MemoryFaults.{IsSure}
 use Rattle.droid_store_sql.proofs.FreeEdits.{free_by, small_one, fresh_again}
 use Rattle.droid_store_sql.proofs.SureEdits.{edit_sure}
 

@@ -91,19 +91,19 @@ module _ {X : Type 0} (key : X → ℕ) where
 
   -- ---- and a key has one element
 
-  abbrev IsTold : List X → X → Type 0
-  IsTold all z = (x : X) → Has all x → key x ≡ key z → x ≡ z
+  abbrev IsReported : List X → X → Type 0
+  IsReported all z = (x : X) → Has all x → key x ≡ key z → x ≡ z
 
-  told_more : (z : X) (zs ws : List X) → AllByRecursion (λ w. key z < key w) ws → AllByRecursion (IsTold zs) ws → AllByRecursion (IsTold (z ∷ zs)) ws
-  told_more z zs [] above told = tt
-  told_more z zs (w ∷ ws) above told = (λ x here same. elim here [ inl is ↦ absurd (omega (arith, above.0, same, ap key is)) | inr more ↦ told.0 x more same ], told_more z zs ws above.1 told.1)
+  told_more : (z : X) (zs ws : List X) → AllByRecursion (λ w. key z < key w) ws → AllByRecursion (IsReported zs) ws → AllByRecursion (IsReported (z ∷ zs)) ws
+  told_more z zs [] above reported = tt
+  told_more z zs (w ∷ ws) above reported = (λ x here same. elim here [ inl is ↦ absurd (omega (arith, above.0, same, ap key is)) | inr more ↦ reported.0 x more same ], told_more z zs ws above.1 reported.1)
 
   no_higher : (z x : X) (zs : List X) → AllByRecursion (λ w. key z < key w) zs → Has zs x → key x ≡ key z → ⊥
   no_higher z x [] above here same = here
   no_higher z x (w ∷ ws) above (inl is) same = omega (arith, above.0, same, ap key is)
   no_higher z x (w ∷ ws) above (inr more) same = no_higher z x ws above.1 more same
 
-  are_told : (zs : List X) → AreRising key zs → AllByRecursion (IsTold zs) zs
+  are_told : (zs : List X) → AreRising key zs → AllByRecursion (IsReported zs) zs
   are_told [] rise = tt
   are_told (z ∷ zs) rise = (λ x here same. elim here [ inl is ↦ is | inr more ↦ absurd (no_higher z x zs rise.0 more same) ], told_more z zs zs rise.0 (are_told zs rise.1))
 
@@ -115,14 +115,14 @@ module _ {X : Type 0} (key : X → ℕ) where
   has_itself [] = tt
   has_itself (z ∷ zs) = (inl refl, has_more z zs zs (has_itself zs))
 
-  matched : (all xs ys : List X) → AllByRecursion (Has all) xs → AllByRecursion (IsTold all) ys → map key ys ≡ map key xs → ys ≡ xs
-  matched all [] [] here told same = refl
-  matched all [] (y ∷ ys) here told same = absurd cc
-  matched all (x ∷ xs) [] here told same = absurd cc
-  matched all (x ∷ xs) (y ∷ ys) here told same =
+  matched : (all xs ys : List X) → AllByRecursion (Has all) xs → AllByRecursion (IsReported all) ys → map key ys ≡ map key xs → ys ≡ xs
+  matched all [] [] here reported same = refl
+  matched all [] (y ∷ ys) here reported same = absurd cc
+  matched all (x ∷ xs) [] here reported same = absurd cc
+  matched all (x ∷ xs) (y ∷ ys) here reported same =
       let first : key x ≡ key y = cc in
       let rest : map key ys ≡ map key xs = cc in
-      ap (λ z. z ∷ ys) (sym (told.0 x here.0 first)) ∙ ap (λ zs. x ∷ zs) (matched all xs ys here.1 told.1 rest)
+      ap (λ z. z ∷ ys) (sym (reported.0 x here.0 first)) ∙ ap (λ zs. x ∷ zs) (matched all xs ys here.1 reported.1 rest)
 
   in_order : (ys : List X) → IsNonDecreasingBy key ys → IsRising ys
   in_order [] up = tt
@@ -131,4 +131,4 @@ module _ {X : Type 0} (key : X → ℕ) where
   pub sorted_once : (xs ys : List X) → AreRising key xs → IsSortedByKey key nat_cmp ys → IsPermutation xs ys → ys ≡ xs
   sorted_once xs ys rise sorted same =
       let keys = same_keys xs ys rise (in_order ys (IsNonDecreasingBy-from_sort key ys sorted)) (length_permutation xs ys same) (λ t. sum_by-IsPermutation (one t) xs ys same) in
-      matched xs xs ys (has_itself xs) (recursion_from_All (IsTold xs) ys (All-permutation (IsTold xs) xs ys same (All-from_recursion (IsTold xs) xs (are_told xs rise)))) keys
+      matched xs xs ys (has_itself xs) (recursion_from_All (IsReported xs) ys (All-permutation (IsReported xs) xs ys same (All-from_recursion (IsReported xs) xs (are_told xs rise)))) keys

@@ -24,7 +24,7 @@ use Rattle.sqlite.specs.Source.TheVariants.{Values}
 use Rattle.sqlite.specs.Table.{Table}
 use Rattle.sqlite.specs.Term.{Term}
 use Rattle.sqlite.specs.Tree.{Trees}
-use Rattle.droid_store_sql.specs.Wants.{IsSure, IsFree}
+use Rattle.droid_store_sql.specs.MemoryFaults.{IsSure, IsFree}
 use Rattle.droid_store_sql.proofs.Inserts.{insert_edit}
 use Rattle.droid_store_sql.proofs.Parts.{same_error}
 
@@ -49,12 +49,12 @@ module _ (schema : Schema) (db : Trees) (edit : Edit) (still : works schema Enfo
   settled (suc n) next why h = absurd (omega (arith, ap length h.2, length-append h.0 (h.1 ∷ [])))
 
   stops : (why : Option Refusal) → Writes schema Enforced db edit (Err why) → why ≡ Some NoRowid
-  stops why (inl (reason, refuses, told)) = same_error told ∙ ap Some (refused reason refuses)
-  stops why (inr (inl (row, there, big, told))) = absurd (small row there big)
+  stops why (inl (reason, refuses, reported)) = same_error reported ∙ ap Some (refused reason refuses)
+  stops why (inr (inl (row, there, big, reported))) = absurd (small row there big)
   stops why (inr (inr (next, done, run))) = absurd (settled run.0 next why (rw still at run.1))
 
   pub edit_sure : IsSure (Edited schema Enforced db edit)
-  edit_sure stop (why, writes, told) = told ∙ ap (option_map edit_error) (stops why writes)
+  edit_sure stop (why, writes, reported) = reported ∙ ap (option_map edit_error) (stops why writes)
 
 -- ---- the end of a statement
 

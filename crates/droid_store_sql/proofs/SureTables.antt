@@ -17,7 +17,7 @@ use Rattle.sqlite.specs.Schema.{Schema}
 use Rattle.sqlite.specs.Table.{Table}
 use Rattle.sqlite.specs.Tree.{Trees}
 use Rattle.droid_store_sql.specs.NewTables.{IsNewTable}
-use Rattle.droid_store_sql.specs.Wants.{IsSure}
+use Rattle.droid_store_sql.specs.MemoryFaults.{IsSure}
 
 has_all : {X : Type 0} (P : X → Type 0) (xs : List X) (x : X) → AllByRecursion P xs → Has xs x → P x
 has_all P [] x all there = absurd there
@@ -49,7 +49,7 @@ module _ (schema : Schema) (text : List ℕ) (made : Table) (defined : table_def
   never_made : (trees : Trees) (stop : Option Error) → ¬ MakesTable text (record { schema = schema; trees = trees }) (Err stop)
   never_made trees None h = never_long h
   never_made trees (Some e) (inl h) = h.0 new.utf8
-  never_made trees (Some e) (inr (why, refused, told)) = never_refused why refused
+  never_made trees (Some e) (inr (why, refused, reported)) = never_refused why refused
 
   pub create_sure : (params : Row) (trees : Trees) → lacks_sequence (created schema made) ≡ false
       → IsSure (Does None (record { keys = Enforced; in_doubt = false; may_wait = false }) params (record { schema = schema; trees = trees }) text None CreateTable)

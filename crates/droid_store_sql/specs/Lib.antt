@@ -2,4 +2,4 @@ pub mod KeyedRows
 pub mod NewTables
 pub mod Queries
 pub mod Transactions
-pub mod Wants
+pub mod MemoryFaults

@@ -88,7 +88,7 @@ impl TreeStore {
         requires { Fits edit ((view self.old).shape tree) }
         ensures ok { OnOk result (SetsTree (view self.old) (view self.new) tree (edited edit.entry)) }
         ensures err { OnErr result (IsStill (view self.old) (view self.new)) }
-        ensures want { IfErr result (λ e. e ≡ OutOfMemory) }
+        ensures failure { IfErr result (λ e. e ≡ OutOfMemory) }
     {
         let mut forest = self.take_changed()?;
         let done = forest.edit(self.alloc, tree, edit);
@@ -101,7 +101,7 @@ impl TreeStore {
         ensures ok { OnOk result (Replaces (current self.old) (current self.new) tree new) }
         ensures err { OnErr result (IsStill (view self.old) (view self.new)) }
         ensures rest { (self.new.base ≡ self.old.base) × (self.new.marks ≡ self.old.marks) }
-        ensures want { IfErr result (λ e. e ≡ OutOfMemory) }
+        ensures failure { IfErr result (λ e. e ≡ OutOfMemory) }
     {
         let mut forest = self.take_changed()?;
         let done = forest.replace(self.alloc, tree, new);

@@ -11,7 +11,7 @@ use Rattle.droid_frame.specs.types.request.Request.{Request}
 use Rattle.droid_wire_client.specs.declared.slot.Slot.{Slot}
 use Rattle.droid_wire_client.specs.Cores.{Core, core_hearing, core_submitting, new_core, new_slot, next_frame, next_number, slot_at, slot_hearing, slots_hearing}
 use Rattle.droid_wire.specs.Desks.{Desk}
-use Rattle.droid_wire.specs.Schedules.{AreApart, AreOnes, Event, Submits, Arrives, Wants, Replies, Drops, Moment, Sent, Want, arrived, happens, replied, run, start, submitted, wanted}
+use Rattle.droid_wire.specs.Schedules.{AreApart, AreOnes, Event, Submits, Arrives, FailsForMemory, Replies, Drops, Moment, Sent, Want, arrived, happens, replied, run, start, submitted, wanted}
 use Rattle.droid_wire_client.proofs.Elements.{set_cases, set_here, set_stays}
 
 -- a core of the frame's client has passed its number
@@ -168,9 +168,9 @@ by_arrived : (clients : List (ℕ × ℕ)) (desk : Desk) (moment : Moment) (o : 
 by_arrived clients desk moment None is = is
 by_arrived clients desk moment (Some frame) is = same_distinct clients moment _ refl refl is
 
-by_wanted : (clients : List (ℕ × ℕ)) (desk : Desk) (moment : Moment) (want : Want) (o : Option Frame) → Distinct clients moment → Distinct clients (wanted desk moment want o)
-by_wanted clients desk moment want None is = is
-by_wanted clients desk moment want (Some frame) is = if_distinct (desk.is_spelled frame) clients moment _ is (same_distinct clients moment _ refl refl is)
+by_wanted : (clients : List (ℕ × ℕ)) (desk : Desk) (moment : Moment) (failure : Want) (o : Option Frame) → Distinct clients moment → Distinct clients (wanted desk moment failure o)
+by_wanted clients desk moment failure None is = is
+by_wanted clients desk moment failure (Some frame) is = if_distinct (desk.is_spelled frame) clients moment _ is (same_distinct clients moment _ refl refl is)
 
 by_replied : (clients : List (ℕ × ℕ)) (moment : Moment) (at : ℕ) (o : Option Core) (s : Option Sent) → slice_get moment.cores at ≡ o → Distinct clients moment → Distinct clients (replied moment at o s)
 by_replied clients moment at None s there is = is
@@ -180,7 +180,7 @@ by_replied clients moment at (Some core) (Some sent) there is = hears clients mo
 step : (clients : List (ℕ × ℕ)) (desk : Desk) (moment : Moment) (event : Event) → AreApart clients → Distinct clients moment → Distinct clients (happens desk moment event)
 step clients desk moment (Submits at version request) apart is = by_submitted clients moment at version request (slice_get moment.cores at) refl apart is
 step clients desk moment (Arrives at) apart is = by_arrived clients desk moment (slice_get moment.frames at) is
-step clients desk moment (Wants at want) apart is = by_wanted clients desk moment want (slice_get moment.frames at) is
+step clients desk moment (FailsForMemory at failure) apart is = by_wanted clients desk moment failure (slice_get moment.frames at) is
 step clients desk moment (Replies at sent) apart is = by_replied clients moment at (slice_get moment.cores at) (slice_get moment.replies sent) refl is
 step clients desk moment (Drops at sent) apart is = is
 

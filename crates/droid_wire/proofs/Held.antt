@@ -15,10 +15,10 @@ use Rattle.droid_wire_client.specs.declared.slot.State.{State}
 use Rattle.droid_wire_client.specs.declared.slot.State.TheVariants.{Pending, Answered}
 use Rattle.droid_wire_client.specs.Cores.{Core, answer_in, new_core, next_frame, next_number, slot_answer, slot_at}
 use Rattle.droid_wire.specs.Desks.{Desk, IsDesk, is_command, is_refused}
-use Rattle.droid_wire.specs.Schedules.{AreHeld, AreOnce, AreOnes, Event, Submits, Arrives, Wants, Replies, Drops, IsOnlyEntry, Moment, NoneReused, Sent, Want, WasAnswer, arrived, happens, replied, run, start, submitted, wanted}
+use Rattle.droid_wire.specs.Schedules.{AreHeld, AreOnce, AreOnes, Event, Submits, Arrives, FailsForMemory, Replies, Drops, IsOnlyEntry, Moment, NoneReused, Sent, Want, WasAnswer, arrived, happens, replied, run, start, submitted, wanted}
 use Rattle.droid_wire_client.proofs.Elements.{counted}
 use Rattle.droid_wire_client.proofs.Numbers.{slot_found}
-use Rattle.droid_wire.proofs.Invariant.{Within, Says, Refusing, Kept, Told, IsSlot, IsState, Holds, same_within}
+use Rattle.droid_wire.proofs.Invariant.{Within, Says, Refusing, Kept, Reported, IsSlot, IsState, Holds, same_within}
 use Rattle.droid_wire.proofs.Steps.{Marks, keeps}
 
 -- ---- frames are never taken back
@@ -35,9 +35,9 @@ within_arrived : (desk : Desk) (moment : Moment) (o : Option Frame) → Within m
 within_arrived desk moment None = same_within moment.frames
 within_arrived desk moment (Some frame) = same_within moment.frames
 
-within_wanted : (desk : Desk) (moment : Moment) (want : Want) (o : Option Frame) → Within moment.frames (wanted desk moment want o).frames
-within_wanted desk moment want None = same_within moment.frames
-within_wanted desk moment want (Some frame) = within_if (desk.is_spelled frame) moment _ (same_within moment.frames)
+within_wanted : (desk : Desk) (moment : Moment) (failure : Want) (o : Option Frame) → Within moment.frames (wanted desk moment failure o).frames
+within_wanted desk moment failure None = same_within moment.frames
+within_wanted desk moment failure (Some frame) = within_if (desk.is_spelled frame) moment _ (same_within moment.frames)
 
 within_replied : (moment : Moment) (which : ℕ) (o : Option Core) (s : Option Sent) → Within moment.frames (replied moment which o s).frames
 within_replied moment which None s = same_within moment.frames
@@ -47,7 +47,7 @@ within_replied moment which (Some core) (Some sent) = same_within moment.frames
 within_step : (desk : Desk) (moment : Moment) (event : Event) → Within moment.frames (happens desk moment event).frames
 within_step desk moment (Submits which version request) = within_submitted moment which version request (slice_get moment.cores which)
 within_step desk moment (Arrives which) = within_arrived desk moment (slice_get moment.frames which)
-within_step desk moment (Wants which want) = within_wanted desk moment want (slice_get moment.frames which)
+within_step desk moment (FailsForMemory which failure) = within_wanted desk moment failure (slice_get moment.frames which)
 within_step desk moment (Replies which at) = within_replied moment which (slice_get moment.cores which) (slice_get moment.replies at)
 within_step desk moment (Drops which at) = same_within moment.frames
 
@@ -76,7 +76,7 @@ record At (desk : Desk) (from : Moment) (events : List Event) (past : History) (
 marks : (desk : Desk) (from : Moment) (all done rest : List Event) (event : Event) → done ++ event ∷ rest ≡ all → Marks (At desk from all) (run desk done from) event
 marks desk from all done rest (Submits which version request) parts = tt
 marks desk from all done rest (Arrives which) parts = λ frame is. record { before = done; which = which; after = rest; parts = parts; arriving = is; past_is = refl }
-marks desk from all done rest (Wants which want) parts = tt
+marks desk from all done rest (FailsForMemory which failure) parts = tt
 marks desk from all done rest (Replies which at) parts = tt
 marks desk from all done rest (Drops which at) parts = tt
 
@@ -125,7 +125,7 @@ under_itself frame = rw (same_number frame.client, same_number frame.number) ref
 only_entry : (desk : Desk) (from moment : Moment) (events : List Event) (frame : Frame) (reply : Reply) → Holds (At desk from events) desk moment → Says (At desk from events) desk moment.history frame reply → is_refused reply ≡ false → is_command frame ≡ true
     → IsOnlyEntry moment.history frame reply
 only_entry desk from moment events frame reply holds (Refusing refusal other is) answered command = let refused = ap is_refused is in absurd cc
-only_entry desk from moment events frame reply holds (Told past was query is told) answered command = absurd cc
+only_entry desk from moment events frame reply holds (Reported past was query is reported) answered command = absurd cc
 only_entry desk from moment events frame reply holds (Kept entry there own is accepted) answered command =
     let passes : is_under frame.client frame.number entry ≡ true = ap (λ (f : Frame). (f.client == frame.client) && (f.number == frame.number)) own ∙ under_itself frame in
     let some = counted (is_under frame.client frame.number) moment.history entry there passes in
@@ -139,7 +139,7 @@ was_answer desk from moment events frame reply holds (Kept entry there own is ac
     let command = (holds.entries entry there).command in
     let same = ap is_command own in
     absurd cc
-was_answer desk from moment events frame reply holds (Told past was query is told) answered query_too = record {
+was_answer desk from moment events frame reply holds (Reported past was query is reported) answered query_too = record {
   before = was.before;
   which = was.which;
   after = was.after;
@@ -183,7 +183,7 @@ all_once desk clients events can ones frame there = (ends desk clients events ca
 reused : (Was : History → Frame → Type 0) (desk : Desk) (history : History) (frame : Frame) (reply : Reply) → Says Was desk history frame reply → reply ≢ Refused NumberReused
 reused Was desk history frame reply (Refusing refusal other is) same = other cc
 reused Was desk history frame reply (Kept entry there own is accepted) same = let refused = ap is_refused same in absurd cc
-reused Was desk history frame reply (Told past was query is told) same = let refused = ap is_refused same in absurd cc
+reused Was desk history frame reply (Reported past was query is reported) same = let refused = ap is_refused same in absurd cc
 
 pub none_reused : (desk : Desk) (clients : List (ℕ × ℕ)) (events : List Event) → IsDesk desk → AreOnes (run desk events (start clients)).frames → NoneReused (run desk events (start clients))
 none_reused desk clients events can ones sent there same =

@@ -28,7 +28,7 @@ pub record IsEntry (desk : Desk) (frames : List Frame) (entry : Entry) : Type 0 
 pub data Says (Was : History → Frame → Type 0) (desk : Desk) (history : History) (frame : Frame) (reply : Reply) : Type 0 where
   Refusing : (refusal : Refusal) → refusal ≢ NumberReused → reply ≡ Refused refusal → Says Was desk history frame reply
   Kept : (entry : Entry) → Contains history entry → entry.frame ≡ frame → entry.reply ≡ reply → is_refused reply ≡ false → Says Was desk history frame reply
-  Told : (past : History) → Was past frame → is_command frame ≡ false → reply ≡ desk.answer past frame → is_refused reply ≡ false → Says Was desk history frame reply
+  Reported : (past : History) → Was past frame → is_command frame ≡ false → reply ≡ desk.answer past frame → is_refused reply ≡ false → Says Was desk history frame reply
 
 -- a request that was submitted under this client and number
 pub record IsRequest (frames : List Frame) (frame : Frame) (client number : ℕ) : Type 0 where
@@ -70,7 +70,7 @@ same_within xs x there = there
 says_more : (Was : History → Frame → Type 0) (desk : Desk) (history later : History) (frame : Frame) (reply : Reply) → Within history later → Says Was desk history frame reply → Says Was desk later frame reply
 says_more Was desk history later frame reply more (Refusing refusal other is) = Refusing refusal other is
 says_more Was desk history later frame reply more (Kept entry there own is accepted) = Kept entry (more entry there) own is accepted
-says_more Was desk history later frame reply more (Told past was query is told) = Told past was query is told
+says_more Was desk history later frame reply more (Reported past was query is reported) = Reported past was query is reported
 
 request_more : (frames more : List Frame) (frame : Frame) (client number : ℕ) → Within frames more → IsRequest frames frame client number → IsRequest more frame client number
 request_more frames more frame client number within is = record { submitted = within frame is.submitted; client_is = is.client_is; number_is = is.number_is }

@@ -5,7 +5,7 @@ use Rattle.droid_frame.specs.StreamWrites.{Stops}
 use Rattle.droid_frame.proofs.StreamEnds.{first_room, told_last, within_part}
 use Rattle.droid_frame.specs.stream_types.fault.WriteFault.{WriteFault}
 use Rattle.droid_frame.specs.stream_types.seen.Seen.{Seen}
-use Rattle.droid_frame.specs.Writes.{StopsWithin, Takes, TellsWrite, WritesOn}
+use Rattle.droid_frame.specs.Writes.{StopsWithin, Takes, ReportsWrite, WritesOn}
 use Rattle.droid_frame.proofs.Stopping.{takes_none}
 
 -- these bytes are the frame's, and nothing went out before them
@@ -29,7 +29,7 @@ whole_room before after none (Err fault) first room = first_room before after no
 
 pub whole_told : {T : Type 0} (start : ℕ) (seen : Seen) (before after : Option ℕ) (known later : Option (List ℕ)) (bytes frame : List ℕ) (none count : ℕ) (r : Result T WriteFault)
     → bytes ≡ frame → none ≡ 0 → OnOk r (Takes before after (length bytes)) → IfErr r (λ f. Takes before after (f.written - none))
-    → IfErr r (λ f. StopsWithin known later bytes none f.written) → WritesOn start seen after count r → TellsWrite start seen before (length frame) (IsErr r)
+    → IfErr r (λ f. StopsWithin known later bytes none f.written) → WritesOn start seen after count r → ReportsWrite start seen before (length frame) (IsErr r)
 whole_told start seen before after known later bytes frame none count r is first all some stops on =
     told_last start seen before before after none (length bytes) (length frame) count r
     (subst (λ (n : ℕ). Takes before before n) (sym first) (takes_none before)) (omega (arith, first, ap length is)) all some

@@ -9,7 +9,7 @@ use Rattle.droid_frame.specs.ReplyFrames.{reply_frame}
 use Rattle.droid_frame.specs.Streams.{IsReadable}
 use Rattle.droid_frame.specs.types.frame.Frame.{Frame}
 use Rattle.droid_frame.specs.types.reply.Reply.{Reply}
-use Rattle.droid_core.specs.Running.{without_wants}
+use Rattle.droid_core.specs.Running.{without_memory_faults}
 use Rattle.droid_core.specs.Standing.{StandsFor}
 use Rattle.droid_core.specs.declared.service.Service.{Service}
 use Rattle.droid_core.proofs.Running.{Runs-none, Runs-push}
@@ -45,7 +45,7 @@ joined_more input rest after frames frame first next =
 
 -- the history after these requests
 abbrev pub history_after : Setting → History → List Frame → List Reply → History
-history_after setting history frames replies = history_from setting history (without_wants frames replies)
+history_after setting history frames replies = history_from setting history (without_memory_faults frames replies)
 
 -- a frame more was handled
 pub handled_more : (setting : Setting) (history : History) (input rest : List ℕ) (left : Option (List ℕ)) (frames : List Frame) (replies : List Reply) (before after : Service) (frame : Frame) (reply : Reply)

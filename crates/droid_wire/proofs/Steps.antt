@@ -18,10 +18,10 @@ use Rattle.droid_wire_client.specs.declared.slot.State.{State}
 use Rattle.droid_wire_client.specs.declared.slot.State.TheVariants.{Pending, Answered}
 use Rattle.droid_wire_client.specs.Cores.{Core, belongs_at, core_hearing, core_submitting, heard_at, heard_in, new_slot, next_frame, next_number, slot_after, slot_at, slot_hearing, slots_hearing}
 use Rattle.droid_wire.specs.Desks.{Desk, Answering, Again, Accepts, Refuses, Tells, IsDesk, IsItsOwn, entry_at, is_command, is_refused}
-use Rattle.droid_wire.specs.Schedules.{AreOnes, Event, Submits, Arrives, Wants, Replies, Drops, Moment, Sent, Want, OfMemory, OfStore, arrived, happens, refusal_for, replied, reply_to, submitted, wanted}
+use Rattle.droid_wire.specs.Schedules.{AreOnes, Event, Submits, Arrives, FailsForMemory, Replies, Drops, Moment, Sent, Want, OfMemory, OfStore, arrived, happens, refusal_for, replied, reply_to, submitted, wanted}
 use Rattle.droid_wire_client.proofs.Elements.{contains_got, count_push, found_in, none_there, push_cases, set_cases}
 use Rattle.droid_wire_client.proofs.Numbers.{slot_found}
-use Rattle.droid_wire.proofs.Invariant.{Within, IsEntry, Says, Refusing, Kept, Told, IsRequest, IsReply, IsSlot, IsCore, Holds, same_within, reply_more, slot_more, core_more, entry_more}
+use Rattle.droid_wire.proofs.Invariant.{Within, IsEntry, Says, Refusing, Kept, Reported, IsRequest, IsReply, IsSlot, IsCore, Holds, same_within, reply_more, slot_more, core_more, entry_more}
 
 -- ---- a core submits
 
@@ -144,10 +144,10 @@ arrives Was desk moment frame holds own there was (Refuses refusal other answere
     let reply = desk.answer moment.history frame in
     subst (λ (h : History). Holds Was desk (record { history = h; cores = moment.cores; frames = moment.frames; replies = moment.replies ++ reply_to frame reply ∷ [] })) (sym goes)
     (says Was desk moment frame reply holds there (Refusing refusal other answered))
-arrives Was desk moment frame holds own there was (Tells query told goes) =
+arrives Was desk moment frame holds own there was (Tells query reported goes) =
     let reply = desk.answer moment.history frame in
     subst (λ (h : History). Holds Was desk (record { history = h; cores = moment.cores; frames = moment.frames; replies = moment.replies ++ reply_to frame reply ∷ [] })) (sym goes)
-    (says Was desk moment frame reply holds there (Told moment.history was query refl told))
+    (says Was desk moment frame reply holds there (Reported moment.history was query refl reported))
 
 keeps_arrived : (Was : History → Frame → Type 0) (desk : Desk) (moment : Moment) (which : ℕ) (o : Option Frame) → slice_get moment.frames which ≡ o → IsDesk desk → Holds Was desk moment → AreOnes moment.frames
     → ((frame : Frame) → slice_get moment.frames which ≡ Some frame → Was moment.history frame) → Holds Was desk (arrived desk moment o)
@@ -157,15 +157,15 @@ keeps_arrived Was desk moment which (Some frame) is can holds ones was =
     let own = its_own Was desk moment frame holds ones there in
     arrives Was desk moment frame holds own there (was frame is) (can.comes moment.history frame own)
 
-wants_other : (want : Want) → refusal_for want ≢ refusals.NumberReused
+wants_other : (failure : Want) → refusal_for failure ≢ refusals.NumberReused
 wants_other OfMemory same = cc
 wants_other OfStore same = cc
 
-keeps_wanted : (Was : History → Frame → Type 0) (desk : Desk) (moment : Moment) (which : ℕ) (want : Want) (o : Option Frame) → slice_get moment.frames which ≡ o → Holds Was desk moment → Holds Was desk (wanted desk moment want o)
-keeps_wanted Was desk moment which want None is holds = holds
-keeps_wanted Was desk moment which want (Some frame) is holds =
+keeps_wanted : (Was : History → Frame → Type 0) (desk : Desk) (moment : Moment) (which : ℕ) (failure : Want) (o : Option Frame) → slice_get moment.frames which ≡ o → Holds Was desk moment → Holds Was desk (wanted desk moment failure o)
+keeps_wanted Was desk moment which failure None is holds = holds
+keeps_wanted Was desk moment which failure (Some frame) is holds =
     submits_if (desk.is_spelled frame) Was desk moment _ holds
-    (says Was desk moment frame (Refused (refusal_for want)) holds (contains_got moment.frames which frame is) (Refusing (refusal_for want) (wants_other want) refl))
+    (says Was desk moment frame (Refused (refusal_for failure)) holds (contains_got moment.frames which frame is) (Refusing (refusal_for failure) (wants_other failure) refl))
 
 -- ---- a core hears a reply
 
@@ -243,13 +243,13 @@ keeps_replied Was desk moment which at (Some core) (Some sent) there sent_is hol
 abbrev pub Marks : (History → Frame → Type 0) → Moment → Event → Type 0
 Marks Was moment (Submits which version request) = Unit {0}
 Marks Was moment (Arrives which) = (frame : Frame) → slice_get moment.frames which ≡ Some frame → Was moment.history frame
-Marks Was moment (Wants which want) = Unit {0}
+Marks Was moment (FailsForMemory which failure) = Unit {0}
 Marks Was moment (Replies which at) = Unit {0}
 Marks Was moment (Drops which at) = Unit {0}
 
 pub keeps : (Was : History → Frame → Type 0) (desk : Desk) (moment : Moment) (event : Event) → IsDesk desk → AreOnes moment.frames → Marks Was moment event → Holds Was desk moment → Holds Was desk (happens desk moment event)
 keeps Was desk moment (Submits which version request) can ones marks holds = keeps_submitted Was desk moment which version request (slice_get moment.cores which) refl holds
 keeps Was desk moment (Arrives which) can ones marks holds = keeps_arrived Was desk moment which (slice_get moment.frames which) refl can holds ones marks
-keeps Was desk moment (Wants which want) can ones marks holds = keeps_wanted Was desk moment which want (slice_get moment.frames which) refl holds
+keeps Was desk moment (FailsForMemory which failure) can ones marks holds = keeps_wanted Was desk moment which failure (slice_get moment.frames which) refl holds
 keeps Was desk moment (Replies which at) can ones marks holds = keeps_replied Was desk moment which at (slice_get moment.cores which) (slice_get moment.replies at) refl refl holds ones
 keeps Was desk moment (Drops which at) can ones marks holds = holds

@@ -41,12 +41,12 @@ begins [] (f ∷ front) rest left all some none same =
 begins (g ∷ frames) (f ∷ front) rest left all some none same =
     let whole : frame_bytes g ++ (flat_map frame_bytes frames ++ rest) ≡ frame_bytes f ++ (flat_map frame_bytes front ++ left) =
     sym (append_assoc (frame_bytes g) (flat_map frame_bytes frames) rest) ∙ (same ∙ append_assoc (frame_bytes f) (flat_map frame_bytes front) left) in
-    let told = told_frame g f (flat_map frame_bytes frames ++ rest) (flat_map frame_bytes front ++ left) all.0.is_frame some.0.is_frame whole in
-    let after = begins frames front rest left all.1 some.1 none told.1 in
+    let reported = told_frame g f (flat_map frame_bytes frames ++ rest) (flat_map frame_bytes front ++ left) all.0.is_frame some.0.is_frame whole in
+    let after = begins frames front rest left all.1 some.1 none reported.1 in
     record {
       others = after.others;
       readable = after.readable;
-      cut = subst (λ (h : Frame). h ∷ frames ≡ f ∷ (front ++ after.others)) (sym told.0) (ap (λ (fs : List Frame). f ∷ fs) after.cut);
+      cut = subst (λ (h : Frame). h ∷ frames ≡ f ∷ (front ++ after.others)) (sym reported.0) (ap (λ (fs : List Frame). f ∷ fs) after.cut);
       joined = after.joined;
     }
 

@@ -38,7 +38,7 @@ pub data Event : Type 0 where
   -- a frame that was submitted arrives at the service, which answers it
   Arrives : (frame : ℕ) → Event
   -- the same, and the service is wanting
-  Wants : (frame : ℕ) (want : Want) → Event
+  FailsForMemory : (frame : ℕ) (failure : Want) → Event
   -- a reply that was sent arrives at a core, which hears it
   Replies : (core : ℕ) (reply : ℕ) → Event
   -- the same, and the core refuses it for want of memory
@@ -81,14 +81,14 @@ refusal_for OfStore = Store
 
 -- a request that isn't spelled is never answered so
 abbrev pub wanted : Desk → Moment → Want → Option Frame → Moment
-wanted desk moment want None = moment
-wanted desk moment want (Some frame) =
+wanted desk moment failure None = moment
+wanted desk moment failure (Some frame) =
     if desk.is_spelled frame
     then record {
       history = moment.history;
       cores = moment.cores;
       frames = moment.frames;
-      replies = moment.replies ++ reply_to frame (Refused (refusal_for want)) ∷ [];
+      replies = moment.replies ++ reply_to frame (Refused (refusal_for failure)) ∷ [];
     }
     else moment
 
@@ -106,7 +106,7 @@ replied moment which (Some core) (Some sent) =
 abbrev pub happens : Desk → Moment → Event → Moment
 happens desk moment (Submits core version request) = submitted moment core version request (slice_get moment.cores core)
 happens desk moment (Arrives frame) = arrived desk moment (slice_get moment.frames frame)
-happens desk moment (Wants frame want) = wanted desk moment want (slice_get moment.frames frame)
+happens desk moment (FailsForMemory frame failure) = wanted desk moment failure (slice_get moment.frames frame)
 happens desk moment (Replies core reply) = replied moment core (slice_get moment.cores core) (slice_get moment.replies reply)
 happens desk moment (Drops core reply) = moment
 

@@ -3,7 +3,7 @@
 ghost use Rattle.std.specs.Prelude.{◌≡◌, OnOk, IfErr, IfSome, IsErr, length};
 ghost use Rattle.std.specs.Io.KnownBytes.{Appends};
 ghost use Rattle.droid_frame.specs.Seen.{IsSound};
-ghost use Rattle.droid_frame.specs.Writes.{Takes, TellsWrite};
+ghost use Rattle.droid_frame.specs.Writes.{Takes, ReportsWrite};
 ghost use Rattle.droid_frame.specs.Replies.{HasReplySpelling};
 ghost use Rattle.droid_frame.specs.ReplyFrames.{reply_frame};
 ghost use Rattle.droid_frame.specs.StreamWrites.{Stops};
@@ -33,7 +33,7 @@ pub(crate) fn send_reply<W: SteadyWrite>(
     ensures ok { OnOk result (Appends (W.contents writer.old) (W.contents writer.new) (reply_frame version client number reply.now)) }
     ensures err { IfErr result (λ fault. Stops (W.contents writer.old) (W.contents writer.new) (reply_frame version client number reply.now) fault.written) }
     ensures failed { IsSound (W.seen writer.old) →
-        TellsWrite (W.seen writer.old).interruptions (W.seen writer.new) (W.room writer.old) (length (reply_frame version client number reply.now)) (IsErr result) }
+        ReportsWrite (W.seen writer.old).interruptions (W.seen writer.new) (W.room writer.old) (length (reply_frame version client number reply.now)) (IsErr result) }
     ensures room_ok { OnOk result (Takes (W.room writer.old) (W.room writer.new) (length (reply_frame version client number reply.now))) }
     ensures room_err { IfErr result (λ fault. Takes (W.room writer.old) (W.room writer.new) fault.written) }
 {

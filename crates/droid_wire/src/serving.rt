@@ -3,11 +3,11 @@
 ghost use Rattle.std.specs.Prelude.{◌≡◌, ◌+◌, ◌*◌, ◌≤◌, ℕ, None, IfSome, IfOk, IsErrOf, IsErrAnd};
 ghost use Rattle.droid_frame.specs.types.frame.Frame.{Frame};
 ghost use Rattle.droid_frame.specs.types.reply.Reply.{Reply};
-ghost use Rattle.droid_frame.specs.Seen.{IsSound, TellsFault};
+ghost use Rattle.droid_frame.specs.Seen.{IsSound, ReportsFault};
 ghost use Rattle.droid_core.specs.Standing.{StandsFor, limits_of, registry_of};
 ghost use Rattle.droid_core.specs.Histories.{History};
 ghost use Rattle.droid_core.specs.Setting.{Setting};
-ghost use Rattle.droid_frame.specs.InTurn.{TellsFaultInTurn};
+ghost use Rattle.droid_frame.specs.InTurn.{ReportsFaultInTurn};
 ghost use Rattle.droid_wire.specs.Turns.{ReadsFrame, WritesReply};
 ghost use Rattle.droid_wire.specs.Serving.{GoesOnFrom, Outcome};
 ghost use Rattle.droid_wire.specs.Steps.{TurnGives};
@@ -36,10 +36,10 @@ pub fn serve<R: SteadyRead, W: SteadyWrite>(
     // Frame after frame, the reader is said to have failed exactly where it did, or was interrupted for the 65th time
     // since that frame began.
     ensures read_fault { IsSound (R.seen reader.old) →
-        TellsFaultInTurn R.seen (ReadsFrame R.remaining) (λ count. count ≤ turns) reader.old reader.new (IsErrOf result (ServeFault.Frame FrameFault.Read)) }
+        ReportsFaultInTurn R.seen (ReadsFrame R.remaining) (λ count. count ≤ turns) reader.old reader.new (IsErrOf result (ServeFault.Frame FrameFault.Read)) }
     // So is a writer with no end of room, reply after reply.
     ensures write_fault { IsSound (W.seen writer.old) → W.room writer.old ≡ None →
-        TellsFaultInTurn W.seen (WritesReply W.contents) (λ count. count ≤ turns) writer.old writer.new (IsErrAnd result (λ fault. (written : ℕ) × (fault ≡ ServeFault.Write written))) }
+        ReportsFaultInTurn W.seen (WritesReply W.contents) (λ count. count ≤ turns) writer.old writer.new (IsErrAnd result (λ fault. (written : ℕ) × (fault ≡ ServeFault.Write written))) }
     // Whatever comes, also of an input that isn't known, the service goes on from its history by at most so many requests.
     ensures goes_on { (setting : Setting) (history : History) → StandsFor setting service.old history → GoesOnFrom setting history turns service.new }
     ensures limits { limits_of service.new ≡ limits_of service.old }
@@ -69,9 +69,9 @@ fn answer_next<R: SteadyRead, W: SteadyWrite>(
         TurnGives setting history input (R.remaining reader.new) (W.contents writer.old) (W.contents writer.new) service.old service.new written result) }
     ensures size { IfOk result (λ answered. IfSome answered (λ size. size ≤ 1048658)) }
     ensures read_fault { IsSound (R.seen reader.old) →
-        TellsFault (R.seen reader.old).interruptions (R.seen reader.new) (IsErrOf result (ServeFault.Frame FrameFault.Read)) }
+        ReportsFault (R.seen reader.old).interruptions (R.seen reader.new) (IsErrOf result (ServeFault.Frame FrameFault.Read)) }
     ensures write_fault { IsSound (W.seen writer.old) → W.room writer.old ≡ None →
-        TellsFault (W.seen writer.old).interruptions (W.seen writer.new) (IsErrAnd result (λ fault. (cut : ℕ) × (fault ≡ ServeFault.Write cut))) × (W.room writer.new ≡ None) }
+        ReportsFault (W.seen writer.old).interruptions (W.seen writer.new) (IsErrAnd result (λ fault. (cut : ℕ) × (fault ≡ ServeFault.Write cut))) × (W.room writer.new ≡ None) }
     ensures read { IfOk result (λ answered. IfSome answered (λ _. (frame : Frame) × ReadsFrame R.remaining frame reader.old reader.new)) }
     ensures wrote { IfOk result (λ answered. IfSome answered (λ _. (sent : Frame × Reply) × WritesReply W.contents sent writer.old writer.new)) }
     ensures goes_on { (setting : Setting) (history : History) → StandsFor setting service.old history → GoesOnFrom setting history 1 service.new }

@@ -109,7 +109,7 @@ fn is_answered_in(rt: &impl Abort, alloc: Global, version: u8) -> Result<(), Fai
 }
 
 #[test]
-fn wanting_and_again(rt: HostRuntime) -> Result<(), Fail> {
+fn short_and_again(rt: HostRuntime) -> Result<(), Fail> {
     for version in [1, 2] {
         is_answered_in(&rt, rt.alloc(), version)?;
     }

@@ -46,7 +46,7 @@ fn are_joined(bytes: &[u8], frames: &[&[u8]]) -> bool {
 }
 
 /// Whether memory (18) was refused to one of the requests; without a profile the others find none (3).
-fn are_wanting(bytes: &[u8]) -> bool {
+fn are_out_of_memory(bytes: &[u8]) -> bool {
     let (first, second, no_profile) = (refused(1, 18), refused(2, 18), refused(2, 3));
     let rows: [[&[u8]; 4]; 4] = [
         [&first, &no_profile, &no_profile, &no_profile],
@@ -58,9 +58,9 @@ fn are_wanting(bytes: &[u8]) -> bool {
 }
 
 /// Whether serving ended early for want of memory, or one request was refused for it.
-fn wants(ended: Result<Ended, ServeFault>, written: &[u8]) -> bool {
+fn is_out_of_memory(ended: Result<Ended, ServeFault>, written: &[u8]) -> bool {
     match ended {
-        Ok(Ended::Closed) => are_wanting(written),
+        Ok(Ended::Closed) => are_out_of_memory(written),
         Err(ServeFault::Frame(FrameFault::Memory)) => {
             (0..4).any(|count| are_joined(written, &ANSWERS[..count.min(4)]))
         }
@@ -92,7 +92,7 @@ fn each_growth_of_serving(rt: HostRuntime) -> Result<(), Fail> {
         if ended == Ok(Ended::Closed) && are_joined(written, &ANSWERS) {
             return Ok(());
         }
-        assert!(rt; wants(ended, written), "{ended:?} {written:?}");
+        assert!(rt; is_out_of_memory(ended, written), "{ended:?} {written:?}");
     }
     panic!(rt; "memory was refused twice");
 }

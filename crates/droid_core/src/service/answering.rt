@@ -73,7 +73,7 @@ fn answer_found(
     requires version { IsVersion stamp.version }
     requires found { IfOk found (λ entry. entry ≡ reply_for stamp.client stamp.number service.old.holdings.store) }
     requires memory { IfErr found (λ fault. fault ≡ StoreFault.Memory) }
-    ensures told { IfErr found (λ fault. result ≡ Refused Memory) }
+    ensures reported { IfErr found (λ fault. result ≡ Refused Memory) }
     ensures handles { (setting : Setting) (history : History) (frame : Frame) → stamp ≡ stamp_of frame → command frame ≡ Some request
         → StandsFor setting service.old history → Handles setting history frame result (StandsFor setting service.new) }
     ensures spelled { HasReplySpelling stamp.version result }
@@ -116,7 +116,7 @@ fn answer_new(service: &mut Service, stamp: Stamp, request: Request) -> Reply
 {
     let commands = asks_command(&request);
     let outcome = apply(&mut service.holdings, &mut service.last, stamp, request);
-    tell_new(
+    report_new(
         &mut service.recent,
         &mut service.last,
         stamp,
@@ -127,7 +127,7 @@ fn answer_new(service: &mut Service, stamp: Stamp, request: Request) -> Reply
 
 /// The reply that the outcome of a new request comes to. That of an accepted command, and no other, is
 /// put at hand. No want of that is told. The text of the last export is forgotten with the world that it shows.
-fn tell_new(
+fn report_new(
     recent: &mut RecentReplies,
     last: &mut Option<KeptText>,
     stamp: Stamp,
@@ -136,7 +136,7 @@ fn tell_new(
 ) -> Reply
     requires version { IsVersion stamp.version }
     requires spelled { HasReplySpelling stamp.version (answered outcome) }
-    ensures told { result ≡ answered outcome }
+    ensures reported { result ≡ answered outcome }
     ensures kept { (history : History) → AreKept history recent.old.rows.entries
         → (commands ≡ true → is_refused (answered outcome) ≡ false → IsKeptRow history (stamp.client, stamp.number) (stamped stamp (answered outcome)))
         → AreKept history recent.new.rows.entries }

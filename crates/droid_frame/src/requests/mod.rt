@@ -8,7 +8,7 @@ ghost use Rattle.droid_frame_values.specs.Bodies.{Fits, HasSpelling, ListsFit, H
 ghost use Rattle.droid_frame_values.specs.Fields.{IsBytes, u32_bytes, u64_bytes, i64_bytes, truth_bytes, IsU32, IsU64, IsI64};
 ghost use Rattle.droid_frame_values.specs.Filters.{FilterFits, IsFilter, filter_bytes};
 ghost use Rattle.droid_frame_values.specs.Frames.{frame_bytes, spelling};
-ghost use Rattle.droid_frame_values.specs.Hashes.{TellsHash, hash_field};
+ghost use Rattle.droid_frame_values.specs.Hashes.{CarriesHash, hash_field};
 
 use self::filters::append_filter;
 use droid_frame_values::{Blob, Filter, Frame, HashKind, Request, Text};
@@ -101,10 +101,10 @@ fn append_options(
     match_all: bool,
     hash: HashKind,
 ) -> Result<(), AllocError>
-    requires { TellsHash version hash }
+    requires { CarriesHash version hash }
     ensures added { OnOk result (out.new.items ≡ out.old.items
         ++ (u32_bytes scan_limit ++ (truth_bytes match_all ++ hash_field version hash))) }
-    ensures spelled { OnOk result (IsU32 scan_limit × TellsHash version hash) }
+    ensures spelled { OnOk result (IsU32 scan_limit × CarriesHash version hash) }
 {
     append_u32(out, scan_limit)?;
     out.push(u8::from(match_all))?;

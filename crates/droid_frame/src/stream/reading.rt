@@ -3,7 +3,7 @@
 ghost use Rattle.std.specs.Prelude.{◌≡◌, ◌++◌, ℕ, List, Some, Err, IfOk, IfErr, OnErr, IfSome, IsErrOf};
 ghost use Rattle.droid_frame_values.specs.Frames.{frame_bytes};
 ghost use Rattle.droid_frame.specs.Streams.{IsReadable, BeginsNoFrame, why};
-ghost use Rattle.droid_frame_stream.specs.Seen.{Counts, IsSound, TellsFault};
+ghost use Rattle.droid_frame_stream.specs.Seen.{Counts, IsSound, ReportsFault};
 ghost use Rattle.droid_frame.specs.StreamReads.{Arrives, BodyCame, Brings, HeaderCame, ReadsGoodHeader, ReadsNoFrame, ReadsOn, Tells, UnlessRefused, judged};
 
 use super::arrival::Arrival;
@@ -24,14 +24,14 @@ pub fn read_frame<R: SteadyRead>(alloc: Global, reader: &mut R) -> Result<Arriva
     // Where it begins with no frame, this says why.
     ensures ended { (input : List ℕ) → R.remaining reader.old ≡ Some input → BeginsNoFrame input → UnlessRefused result (result ≡ why input) }
     // So each fault comes exactly where it is why; memory is only asked for behind a good header.
-    ensures told { IfErr result (λ fault. IfSome (R.remaining reader.old) (Tells fault)) }
+    ensures reported { IfErr result (λ fault. IfSome (R.remaining reader.old) (Tells fault)) }
     // What a fault has read begins with no frame: at most a header, or a good header and less than the body
     // that it names. Want of memory has read a good header, and the body isn't empty.
     ensures fault { OnErr result (ReadsNoFrame (R.remaining reader.old) (R.remaining reader.new)) }
     ensures memory { IsErrOf result FrameFault.Memory → ReadsGoodHeader (R.remaining reader.old) (R.remaining reader.new) }
     // `Read` comes exactly where the reader failed or was interrupted for the 65th time in this call.
     ensures failed { IsSound (R.seen reader.old) →
-        TellsFault (R.seen reader.old).interruptions (R.seen reader.new) (IsErrOf result FrameFault.Read) }
+        ReportsFault (R.seen reader.old).interruptions (R.seen reader.new) (IsErrOf result FrameFault.Read) }
 {
     let mut retries = Retries::new();
     next_arrival(alloc, reader, &mut retries)

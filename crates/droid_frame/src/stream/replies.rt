@@ -8,7 +8,7 @@ ghost use Rattle.droid_frame.specs.ReplyFrames.{reply_frame};
 ghost use Rattle.droid_frame.specs.ReplyFronts.{HasRestSpelling, reply_rest};
 ghost use Rattle.droid_frame.specs.StreamWrites.{Stops};
 ghost use Rattle.droid_frame_stream.specs.Seen.{Counts, IsSound};
-ghost use Rattle.droid_frame_stream.specs.Writes.{StopsWithin, Takes, TellsWrite, WritesOn};
+ghost use Rattle.droid_frame_stream.specs.Writes.{StopsWithin, Takes, ReportsWrite, WritesOn};
 ghost use Rattle.droid_frame_values.specs.TextLists.{texts_bytes};
 ghost use Rattle.droid_frame_values.specs.Versions.{IsVersion};
 
@@ -38,7 +38,7 @@ pub fn write_reply<W: SteadyWrite>(
     ensures err { IfErr result (λ fault. Stops (W.contents writer.old) (W.contents writer.new) (reply_frame version client number reply.now) fault.written) }
     // A fault comes exactly where the writer failed or was interrupted for the 65th time in this call, or had no room.
     ensures failed { IsSound (W.seen writer.old) →
-        TellsWrite (W.seen writer.old).interruptions (W.seen writer.new) (W.room writer.old) (length (reply_frame version client number reply.now)) (IsErr result) }
+        ReportsWrite (W.seen writer.old).interruptions (W.seen writer.new) (W.room writer.old) (length (reply_frame version client number reply.now)) (IsErr result) }
     // What went out is taken from the room; where there is no end of it, it stays so.
     ensures room_ok { OnOk result (Takes (W.room writer.old) (W.room writer.new) (length (reply_frame version client number reply.now))) }
     ensures room_err { IfErr result (λ fault. Takes (W.room writer.old) (W.room writer.new) fault.written) }

@@ -5,7 +5,7 @@ ghost use Rattle.std.specs.Io.KnownBytes.{Appends};
 ghost use Rattle.droid_frame_values.specs.Frames.{frame_bytes};
 ghost use Rattle.droid_frame_values.specs.Limits.{body_limit};
 ghost use Rattle.droid_frame_stream.specs.Seen.{IsSound};
-ghost use Rattle.droid_frame_stream.specs.Writes.{Takes, TellsWrite};
+ghost use Rattle.droid_frame_stream.specs.Writes.{Takes, ReportsWrite};
 ghost use Rattle.droid_frame.specs.StreamWrites.{Stops};
 
 use super::header::Header;
@@ -23,7 +23,7 @@ pub fn write_frame<W: SteadyWrite>(frame: &Frame, writer: &mut W) -> Result<(), 
     ensures err { IfErr result (λ fault. Stops (W.contents writer.old) (W.contents writer.new) (frame_bytes frame.now) fault.written) }
     // A fault comes exactly where the writer failed or was interrupted for the 65th time in this call, or had no room.
     ensures failed { IsSound (W.seen writer.old) →
-        TellsWrite (W.seen writer.old).interruptions (W.seen writer.new) (W.room writer.old) (length (frame_bytes frame.now)) (IsErr result) }
+        ReportsWrite (W.seen writer.old).interruptions (W.seen writer.new) (W.room writer.old) (length (frame_bytes frame.now)) (IsErr result) }
     // What went out is taken from the room; where there is no end of it, it stays so.
     ensures room_ok { OnOk result (Takes (W.room writer.old) (W.room writer.new) (length (frame_bytes frame.now))) }
     ensures room_err { IfErr result (λ fault. Takes (W.room writer.old) (W.room writer.new) fault.written) }

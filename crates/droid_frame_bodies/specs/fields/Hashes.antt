@@ -15,8 +15,8 @@ hash_kind_at (suc (suc zero) ∷ rest) = Some (kinds.Sha256, rest)
 hash_kind_at (suc (suc (suc b)) ∷ rest) = None
 
 -- the same where the version has a field for it: version 1 has none, and means MD5
-unfoldable pub told_kind_at : ℕ → List ℕ → Option (HashKind × List ℕ)
-told_kind_at version bytes = if version == 1 then Some (kinds.Md5, bytes) else hash_kind_at bytes
+unfoldable pub carried_kind_at : ℕ → List ℕ → Option (HashKind × List ℕ)
+carried_kind_at version bytes = if version == 1 then Some (kinds.Md5, bytes) else hash_kind_at bytes
 
 -- so many bytes, and the bytes after them
 unfoldable pub run_at : ℕ → List ℕ → Option (List ℕ × List ℕ)
@@ -35,5 +35,5 @@ hash_value_at kinds.Sha256 bytes = do
 -- a kind that the version tells, and the digest of a hash of that kind
 unfoldable pub digest_at : ℕ → List ℕ → Option (HashValue × List ℕ)
 digest_at version bytes = do
-  kind ← told_kind_at version bytes
+  kind ← carried_kind_at version bytes
   hash_value_at kind.0 kind.1

@@ -5,7 +5,7 @@ use Rattle.droid_frame_values.specs.declared.frame.Frame.{Frame}
 use Rattle.droid_frame_values.specs.declared.request.Request.{Request}
 use Rattle.droid_frame_values.specs.declared.request.Request.TheVariants.{CreateProfile, AddFolder, AddFile, Piece, Finish, Abandon, Status, Export}
 use Rattle.droid_frame_values.specs.Versions.{is_version}
-use Rattle.droid_frame_bodies.specs.fields.Hashes.{told_kind_at}
+use Rattle.droid_frame_bodies.specs.fields.Hashes.{carried_kind_at}
 use Rattle.droid_frame_bodies.specs.filters.Values.{filter_value}
 use Rattle.droid_frame_bodies.specs.requests.NodeHeads.{node_head_at}
 use Rattle.droid_frame_bodies.specs.fields.Reading.{◌>>=◌, number_at, truth_at, text_at, whole}
@@ -14,7 +14,7 @@ unfoldable pub create_profile_value : ℕ → List ℕ → Option Request
 create_profile_value version body = do
   scan_limit ← number_at w32 body
   match_all ← truth_at scan_limit.1
-  hash ← told_kind_at version match_all.1
+  hash ← carried_kind_at version match_all.1
   whole hash.1 (CreateProfile scan_limit.0 match_all.0 hash.0)
 
 unfoldable pub add_folder_value : List ℕ → Option Request

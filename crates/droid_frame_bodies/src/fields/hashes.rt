@@ -2,14 +2,14 @@
 
 ghost use Rattle.std.specs.Prelude.{◌≡◌};
 ghost use Rattle.std.specs.Option.{option_map};
-ghost use Rattle.droid_frame_bodies.specs.fields.Hashes.{digest_at, hash_kind_at, hash_value_at, run_at, told_kind_at};
+ghost use Rattle.droid_frame_bodies.specs.fields.Hashes.{digest_at, hash_kind_at, hash_value_at, run_at, carried_kind_at};
 
 use droid_frame_values::{HashKind, HashValue};
 
 /// The kind of a hash where the version has a field for it. Version 1 has none, and means MD5.
-#[tactic(auto, unfolding(crate::specs::fields::Hashes::told_kind_at))]
-pub(crate) fn told_kind_at(version: u8, bytes: &[u8]) -> Option<(HashKind, &[u8])>
-    ensures { option_map (λ x. (x.0, x.1.now)) result ≡ told_kind_at version bytes.now }
+#[tactic(auto, unfolding(crate::specs::fields::Hashes::carried_kind_at))]
+pub(crate) fn carried_kind_at(version: u8, bytes: &[u8]) -> Option<(HashKind, &[u8])>
+    ensures { option_map (λ x. (x.0, x.1.now)) result ≡ carried_kind_at version bytes.now }
 {
     if version == 1 {
         return Some((HashKind::Md5, bytes));
@@ -22,7 +22,7 @@ pub(crate) fn told_kind_at(version: u8, bytes: &[u8]) -> Option<(HashKind, &[u8]
 pub(crate) fn digest_at(version: u8, bytes: &[u8]) -> Option<(HashValue, &[u8])>
     ensures { option_map (λ x. (x.0, x.1.now)) result ≡ digest_at version bytes.now }
 {
-    let (kind, rest) = told_kind_at(version, bytes)?;
+    let (kind, rest) = carried_kind_at(version, bytes)?;
     hash_value_at(kind, rest)
 }
 

@@ -47,7 +47,7 @@ pub fn request_of(alloc: Global, frame: Frame) -> Result<Request, BodyFault>
 fn value_of(alloc: Global, version: u8, kind: u8, body: Blob) -> Result<Request, BodyFault>
     ensures answer { IsAnswer result (request_value version kind body) }
     ensures exact { ¬ (kind ≡ 8) → result ≡ ok_or (request_value version kind body) BodyFault.Malformed }
-    ensures wanting { IsErrOf result BodyFault.Memory → kind ≡ 8 }
+    ensures out_of_memory { IsErrOf result BodyFault.Memory → kind ≡ 8 }
     ensures bytes { IsBytes body }
 {
     if !is_version(version) {
@@ -61,7 +61,7 @@ fn value_of(alloc: Global, version: u8, kind: u8, body: Blob) -> Result<Request,
 fn any_value(alloc: Global, version: u8, kind: u8, body: Blob) -> Result<Request, BodyFault>
     ensures answer { IsAnswer result (any_value version kind body) }
     ensures exact { ¬ (kind ≡ 8) → result ≡ ok_or (any_value version kind body) BodyFault.Malformed }
-    ensures wanting { IsErrOf result BodyFault.Memory → kind ≡ 8 }
+    ensures out_of_memory { IsErrOf result BodyFault.Memory → kind ≡ 8 }
     ensures bytes { IsBytes body }
 {
     let bytes = body.as_slice();

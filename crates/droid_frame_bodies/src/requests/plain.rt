@@ -5,7 +5,7 @@ ghost use Rattle.droid_frame_bodies.specs.fields.Reading.{text_at};
 ghost use Rattle.droid_frame_bodies.specs.requests.Values.{create_profile_value, add_folder_value, add_file_value, piece_value, file_value, plain_value};
 
 use super::node_head::node_head_at;
-use crate::fields::hashes::told_kind_at;
+use crate::fields::hashes::carried_kind_at;
 use crate::fields::{bool_at, bytes_after, text_of, u32_at, u64_at};
 use droid_frame_values::{Blob, Request, Text};
 
@@ -43,7 +43,7 @@ fn create_profile(version: u8, body: &[u8]) -> Option<Request>
 {
     let (scan_limit, rest) = u32_at(body)?;
     let (match_all, rest) = bool_at(rest)?;
-    let (hash, rest) = told_kind_at(version, rest)?;
+    let (hash, rest) = carried_kind_at(version, rest)?;
     if !rest.is_empty() {
         return None;
     }

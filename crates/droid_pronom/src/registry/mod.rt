@@ -6,7 +6,7 @@ ghost use Rattle.std.specs.List.{AllByRecursion};
 ghost use Rattle.droid_pronom_formats.specs.Found.{IsFound};
 ghost use Rattle.droid_pronom_formats.specs.RegistryFields.{is_puid};
 ghost use Rattle.droid_pronom.specs.RegistryFile.{File};
-ghost use Rattle.droid_frame.specs.Seen.{IsSound, TellsFault};
+ghost use Rattle.droid_frame.specs.Seen.{IsSound, ReportsFault};
 
 mod draft;
 pub mod fault;
@@ -94,7 +94,7 @@ impl Registry {
         // Where the reader tells its bytes: what they come to.
         ensures reads { (bytes : List ℕ) → R.remaining reader.old ≡ Some bytes → result ≢ Err RegistryFault.Memory → result ≢ Err RegistryFault.Read → File bytes result }
         // `Read` comes exactly where the reader failed or was interrupted for the 65th time.
-        ensures fault { IsSound (R.seen reader.old) → TellsFault (R.seen reader.old).interruptions (R.seen reader.new) (IsErrOf result RegistryFault.Read) }
+        ensures fault { IsSound (R.seen reader.old) → ReportsFault (R.seen reader.old).interruptions (R.seen reader.new) (IsErrOf result RegistryFault.Read) }
     {
         match read_to_end(alloc, reader, BYTES_LIMIT) {
             Ok(bytes) => Registry::parse(alloc, bytes.as_slice()),

@@ -2,7 +2,7 @@
 
 ghost use Rattle.std.specs.Prelude.{◌≡◌, [], ◌∷◌, length};
 ghost use Rattle.csv.specs.Records.{fields_of};
-ghost use Rattle.droid_pronom.specs.RegistryCalls.{TellsPattern};
+ghost use Rattle.droid_pronom.specs.RegistryCalls.{ReportsPattern};
 
 use crate::registry::fault::{Fault, Refusal};
 use csv::StringRecord;
@@ -39,7 +39,7 @@ impl<'a> RowText<'a> {
 
 /// The pattern of a byte sequence.
 pub(crate) fn pattern_of(alloc: Global, text: &str) -> Result<Pattern, Refusal>
-    ensures { TellsPattern result text.now }
+    ensures { ReportsPattern result text.now }
 {
     match Pattern::read(alloc, text) {
         Ok(pattern) => Ok(pattern),

@@ -4,7 +4,7 @@ use crate::service::tests::scripts::CREATE;
 use crate::service::tests::steps::Ask::{
     Abandon, Create, Export, File, Finish, Folder, Piece, Spelled, Status,
 };
-use crate::service::tests::steps::Due::{Made, Node, Part, Refused, Taken, Told};
+use crate::service::tests::steps::Due::{Made, Node, Part, Refused, Replied, Taken};
 use crate::service::tests::steps::{ABANDONED, FINISHED, PROGRESS, REFUSED, Step};
 use crate::service::tests::texts::{
     ALPHABET, ALPHABET_BY_NAME, ALPHABET_NOT_FOUND, BOTH, BOTH_MISMATCHED, ESCAPED, HEADER,
@@ -15,7 +15,7 @@ use crate::service::tests::{LARGEST, ask};
 const EMPTY_FILE: &[Step] = &[
     CREATE,
     (1, 1, 2, File(1, 0, 0, 0, 4, "e.txt"), Node(1)),
-    (1, 1, 3, Finish(1, 1), Told(FINISHED, PLAIN)),
+    (1, 1, 3, Finish(1, 1), Replied(FINISHED, PLAIN)),
     (
         1,
         1,
@@ -33,7 +33,7 @@ pub const PIECES_OUT_OF_ORDER: &[Step] = &[
     (1, 1, 4, Piece(1, 1, 1, b"age "), Taken(2)),
     (1, 1, 5, Piece(1, 1, 0, b"mess"), Taken(3)),
     (1, 1, 6, Piece(1, 1, 2, b"dige"), Taken(4)),
-    (1, 1, 7, Finish(1, 1), Told(FINISHED, BOTH)),
+    (1, 1, 7, Finish(1, 1), Replied(FINISHED, BOTH)),
     (
         1,
         1,
@@ -49,9 +49,9 @@ pub const PIECES_OUT_OF_ORDER: &[Step] = &[
         1,
         8,
         Status(1, 1),
-        Told(PROGRESS, b"\0\0\0\x04\0\0\0\x04"),
+        Replied(PROGRESS, b"\0\0\0\x04\0\0\0\x04"),
     ),
-    (1, 1, 7, Finish(1, 1), Told(FINISHED, BOTH)),
+    (1, 1, 7, Finish(1, 1), Replied(FINISHED, BOTH)),
     (1, 1, 8, Folder(1, 0, 0, "in"), Node(2)),
     (
         1,
@@ -86,21 +86,21 @@ const MISMATCH_AND_LIMITS: &[Step] = &[
     CREATE,
     (1, 2, 1, File(1, 0, 0, 14, 14, "m.txt"), Node(1)),
     (1, 2, 2, Piece(1, 1, 0, b"message digest"), Taken(1)),
-    (1, 2, 3, Finish(1, 1), Told(FINISHED, BOTH_MISMATCHED)),
+    (1, 2, 3, Finish(1, 1), Replied(FINISHED, BOTH_MISMATCHED)),
     (1, 2, 4, File(1, 0, 0, 14, 14, "m"), Node(2)),
     (1, 2, 5, Piece(1, 2, 0, b"message digest"), Taken(1)),
-    (1, 2, 6, Finish(1, 2), Told(FINISHED, BOTH)),
+    (1, 2, 6, Finish(1, 2), Replied(FINISHED, BOTH)),
     (1, 2, 7, File(1, 0, 0, 14, 14, "m.MSG"), Node(3)),
     (1, 2, 8, Piece(1, 3, 0, b"message digest"), Taken(1)),
-    (1, 2, 9, Finish(1, 3), Told(FINISHED, BOTH)),
+    (1, 2, 9, Finish(1, 3), Replied(FINISHED, BOTH)),
     (1, 1, 2, Create(9, false), Made(2)),
     (1, 3, 1, File(2, 0, 0, 14, 14, "m.msg"), Node(1)),
     (1, 3, 2, Piece(2, 1, 0, b"message digest"), Taken(1)),
-    (1, 3, 3, Finish(2, 1), Told(FINISHED, BOTH)),
+    (1, 3, 3, Finish(2, 1), Replied(FINISHED, BOTH)),
     (1, 1, 3, Create(8, false), Made(3)),
     (1, 3, 4, File(3, 0, 0, 14, 14, "m.msg"), Node(1)),
     (1, 3, 5, Piece(3, 1, 0, b"message digest"), Taken(1)),
-    (1, 3, 6, Finish(3, 1), Told(FINISHED, MESSAGE)),
+    (1, 3, 6, Finish(3, 1), Replied(FINISHED, MESSAGE)),
 ];
 
 const PRIORITY: &[Step] = &[
@@ -113,7 +113,7 @@ const PRIORITY: &[Step] = &[
         Piece(1, 1, 0, b"abcdefghijklmnopqrstuvwxyz"),
         Taken(1),
     ),
-    (1, 1, 4, Finish(1, 1), Told(FINISHED, ALPHABET)),
+    (1, 1, 4, Finish(1, 1), Replied(FINISHED, ALPHABET)),
 ];
 
 const LIMIT_SPARES_THE_HIGHER: &[Step] = &[
@@ -126,7 +126,7 @@ const LIMIT_SPARES_THE_HIGHER: &[Step] = &[
         Piece(1, 1, 0, b"abcdefghijklmnopqrstuvwxyz"),
         Taken(1),
     ),
-    (1, 1, 4, Finish(1, 1), Told(FINISHED, ALPHABET)),
+    (1, 1, 4, Finish(1, 1), Replied(FINISHED, ALPHABET)),
 ];
 
 const NOTHING_FOUND: &[Step] = &[
@@ -139,7 +139,7 @@ const NOTHING_FOUND: &[Step] = &[
         Piece(1, 1, 0, b"abcdefghijklmnopqrstuvwxyz"),
         Taken(1),
     ),
-    (1, 1, 4, Finish(1, 1), Told(FINISHED, ALPHABET_NOT_FOUND)),
+    (1, 1, 4, Finish(1, 1), Replied(FINISHED, ALPHABET_NOT_FOUND)),
 ];
 
 const MATCH_ALL: &[Step] = &[
@@ -152,7 +152,7 @@ const MATCH_ALL: &[Step] = &[
         Piece(1, 1, 0, b"abcdefghijklmnopqrstuvwxyz"),
         Taken(1),
     ),
-    (1, 1, 4, Finish(1, 1), Told(FINISHED, ALPHABET_BY_NAME)),
+    (1, 1, 4, Finish(1, 1), Replied(FINISHED, ALPHABET_BY_NAME)),
 ];
 
 const INCOMPLETE_THEN_FINISHED: &[Step] = &[
@@ -161,9 +161,9 @@ const INCOMPLETE_THEN_FINISHED: &[Step] = &[
     (1, 1, 3, Piece(1, 1, 3, b"st"), Taken(1)),
     (1, 1, 5, Piece(1, 1, 0, b"mess"), Taken(2)),
     (1, 1, 6, Piece(1, 1, 2, b"dige"), Taken(3)),
-    (1, 1, 9, Finish(1, 1), Told(REFUSED, b"\x10\0\0\0\x01")),
+    (1, 1, 9, Finish(1, 1), Replied(REFUSED, b"\x10\0\0\0\x01")),
     (1, 1, 4, Piece(1, 1, 1, b"age "), Taken(4)),
-    (1, 1, 9, Finish(1, 1), Told(FINISHED, BOTH)),
+    (1, 1, 9, Finish(1, 1), Replied(FINISHED, BOTH)),
 ];
 
 const TOO_FAR_AHEAD: &[Step] = &[
@@ -175,7 +175,7 @@ const TOO_FAR_AHEAD: &[Step] = &[
         1,
         4,
         Piece(1, 1, 16, b"q"),
-        Told(REFUSED, b"\x0f\0\0\0\0"),
+        Replied(REFUSED, b"\x0f\0\0\0\0"),
     ),
     (1, 1, 5, Piece(1, 1, 0, b"a"), Taken(2)),
     (1, 1, 4, Piece(1, 1, 16, b"q"), Taken(3)),
@@ -184,7 +184,7 @@ const TOO_FAR_AHEAD: &[Step] = &[
         1,
         6,
         Status(1, 1),
-        Told(PROGRESS, b"\0\0\0\x03\0\0\0\x01"),
+        Replied(PROGRESS, b"\0\0\0\x03\0\0\0\x01"),
     ),
 ];
 
@@ -202,7 +202,7 @@ const BAD_AND_HELD_PIECES: &[Step] = &[
 const ABANDON: &[Step] = &[
     CREATE,
     (1, 1, 2, File(1, 0, 0, 4, 4, "x"), Node(1)),
-    (1, 1, 3, Abandon(1, 1), Told(ABANDONED, b"")),
+    (1, 1, 3, Abandon(1, 1), Replied(ABANDONED, b"")),
     (1, 1, 2, File(1, 0, 0, 4, 4, "x"), Node(1)),
     (1, 1, 4, Piece(1, 1, 0, b"aaaa"), Refused(4)),
     (1, 1, 5, File(1, 0, 0, 4, 4, "x"), Node(2)),
@@ -211,7 +211,7 @@ const ABANDON: &[Step] = &[
 const ESCAPES_AND_QUOTES: &[Step] = &[
     CREATE,
     (1, 1, 2, File(1, 0, 0, 0, 4, "a \"b\" c%.txt"), Node(1)),
-    (1, 1, 3, Finish(1, 1), Told(FINISHED, PLAIN)),
+    (1, 1, 3, Finish(1, 1), Replied(FINISHED, PLAIN)),
     (
         1,
         1,

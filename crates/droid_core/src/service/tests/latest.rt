@@ -13,7 +13,7 @@ use std::alloc::{AllocError, Global};
 use std::num::NonZeroUsize;
 
 /// Whether the row under this number is at hand, and none of another client.
-fn is_at_hand(recent: &mut RecentReplies, number: u64) -> bool {
+fn is_cached(recent: &mut RecentReplies, number: u64) -> bool {
     let other = recent.find(2, number).is_some();
     match recent.find(1, number) {
         Some(row) => (row.number == number) & !other,
@@ -22,10 +22,10 @@ fn is_at_hand(recent: &mut RecentReplies, number: u64) -> bool {
 }
 
 /// How many of these are at hand.
-fn count_at_hand(recent: &mut RecentReplies, numbers: &[u64]) -> usize {
+fn count_cached(recent: &mut RecentReplies, numbers: &[u64]) -> usize {
     let mut count = 0usize;
     for number in numbers {
-        if is_at_hand(recent, *number) {
+        if is_cached(recent, *number) {
             count = count.saturating_add(1);
         }
     }
@@ -34,7 +34,7 @@ fn count_at_hand(recent: &mut RecentReplies, numbers: &[u64]) -> usize {
 
 /// Uses the row under this number: puts it at hand, unless it is there.
 fn use_row(alloc: Global, recent: &mut RecentReplies, number: u64) {
-    if is_at_hand(recent, number) {
+    if is_cached(recent, number) {
         return;
     }
     if let Ok(body) = Blob::copy_of(alloc, b"node") {
@@ -68,8 +68,8 @@ fn are_used(alloc: Global, recent: &mut RecentReplies, used: &Use<'_>) -> bool {
     for number in numbers {
         use_row(alloc, recent, *number);
     }
-    let gone = count_at_hand(recent, far) == 0;
-    let there = count_at_hand(recent, near) == near.len();
+    let gone = count_cached(recent, far) == 0;
+    let there = count_cached(recent, near) == near.len();
     gone & there
 }
 
@@ -100,14 +100,14 @@ const TURNS: &[Turn] = &[
 fn is_put(alloc: Global, service: &mut Service, turn: &Turn<'_>) -> bool {
     let (step, near, far) = *turn;
     let right = is_answered(alloc, service, &step);
-    let there = is_at_hand(&mut service.recent, near);
-    let gone = !is_at_hand(&mut service.recent, far);
+    let there = is_cached(&mut service.recent, near);
+    let gone = !is_cached(&mut service.recent, far);
     right & there & gone
 }
 
 /// A reply is put at hand where its request was accepted, and where it was read from the store.
 #[test]
-fn put_at_hand(rt: HostRuntime) {
+fn cache(rt: HostRuntime) {
     let mut service = service(rt.alloc(), LARGEST, 1).expect(&rt, "a service");
     for turn in TURNS {
         assert!(rt; is_put(rt.alloc(), &mut service, turn));
@@ -149,7 +149,7 @@ fn are_answered(alloc: Global, service: &mut Service) -> bool {
 }
 
 #[test]
-fn more_than_are_at_hand(rt: HostRuntime) {
+fn more_than_are_cached(rt: HostRuntime) {
     for places in [1usize, 256] {
         let mut service = service(rt.alloc(), LARGEST, places).expect(&rt, "a service");
         assert!(rt; are_answered(rt.alloc(), &mut service));

@@ -3,7 +3,7 @@
 use crate::service::tests::steps::Ask::{
     Abandon, Create, Export, File, Finish, Folder, Spelled, Status,
 };
-use crate::service::tests::steps::Due::{Made, Node, Part, Refused, Told};
+use crate::service::tests::steps::Due::{Made, Node, Part, Refused, Replied};
 use crate::service::tests::steps::{ABANDONED, FINISHED, REFUSED, Step};
 use crate::service::tests::texts::{FOLDER, HEADER, LONGEST, PLAIN};
 use crate::service::tests::{LARGEST, ask};
@@ -61,7 +61,13 @@ const ONE_NODE: Limits = Limits {
 const LIMIT_OF_NODES: &[Step] = &[
     CREATE,
     (1, 1, 2, Folder(1, 0, 0, "in"), Node(1)),
-    (1, 1, 3, Folder(1, 0, 0, "out"), Told(REFUSED, b"\x11\x02")),
+    (
+        1,
+        1,
+        3,
+        Folder(1, 0, 0, "out"),
+        Replied(REFUSED, b"\x11\x02"),
+    ),
     (1, 1, 2, Folder(1, 0, 0, "in"), Node(1)),
 ];
 
@@ -72,7 +78,13 @@ const ONE_PROFILE: Limits = Limits {
 
 const LIMIT_OF_PROFILES: &[Step] = &[
     CREATE,
-    (1, 2, 1, Create(65_536, false), Told(REFUSED, b"\x11\x01")),
+    (
+        1,
+        2,
+        1,
+        Create(65_536, false),
+        Replied(REFUSED, b"\x11\x01"),
+    ),
     (1, 1, 1, Create(65_536, false), Made(1)),
 ];
 
@@ -90,18 +102,18 @@ const LIMIT_OF_UNFINISHED: &[Step] = &[
         1,
         3,
         File(1, 0, 0, 0, 4, "y.txt"),
-        Told(REFUSED, b"\x11\x03"),
+        Replied(REFUSED, b"\x11\x03"),
     ),
-    (1, 1, 4, Abandon(1, 1), Told(ABANDONED, b"")),
+    (1, 1, 4, Abandon(1, 1), Replied(ABANDONED, b"")),
     (1, 1, 3, File(1, 0, 0, 0, 4, "y.txt"), Node(2)),
     (
         1,
         1,
         5,
         File(1, 0, 0, 4, 4, "z"),
-        Told(REFUSED, b"\x11\x03"),
+        Replied(REFUSED, b"\x11\x03"),
     ),
-    (1, 1, 6, Finish(1, 2), Told(FINISHED, PLAIN)),
+    (1, 1, 6, Finish(1, 2), Replied(FINISHED, PLAIN)),
     (1, 1, 5, File(1, 0, 0, 4, 4, "z"), Node(3)),
 ];
 

@@ -46,7 +46,7 @@ pub enum Due<'a> {
     /// How many commands were accepted, the length of the whole text, and the part, cut in pieces.
     Part(u64, u64, &'a [&'a str]),
     /// The kind and the body.
-    Told(u8, &'a [u8]),
+    Replied(u8, &'a [u8]),
 }
 
 /// A frame's version, its client, one of the client's numbers, what it asks and what is due.
@@ -160,7 +160,7 @@ fn kind_of(due: Due<'_>) -> u8 {
         Due::Taken(_) => 131,
         Due::Refused(_) => REFUSED,
         Due::Part(..) => 135,
-        Due::Told(kind, _) => kind,
+        Due::Replied(kind, _) => kind,
     }
 }
 
@@ -171,7 +171,7 @@ fn is_body(body: &[u8], due: Due<'_>) -> bool {
         }
         Due::Refused(cause) => body == [cause].as_slice(),
         Due::Part(as_of, total, texts) => is_part(body, as_of, total, texts),
-        Due::Told(_, told) => body == told,
+        Due::Replied(_, reported) => body == reported,
     }
 }
 

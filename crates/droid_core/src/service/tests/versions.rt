@@ -4,7 +4,7 @@ use crate::service::Service;
 use crate::service::tests::steps::Ask::{
     Create, Export, File, Finish, Folder, Hashed, Piece, Spelled,
 };
-use crate::service::tests::steps::Due::{Made, Node, Part, Refused, Taken, Told};
+use crate::service::tests::steps::Due::{Made, Node, Part, Refused, Replied, Taken};
 use crate::service::tests::steps::{FINISHED, REFUSED, Step, frame_of};
 use crate::service::tests::texts::PLAIN;
 use crate::service::tests::{LARGEST, ask, first_wrong, is_answered, service};
@@ -33,7 +33,7 @@ const SHA256: &[Step] = &[
     EMPTY,
     (2, 1, 2, File(1, 0, 0, 0, 4, "e.txt"), Refused(2)),
     (1, 1, 3, Finish(1, 1), Refused(10)),
-    (2, 1, 3, Finish(1, 1), Told(FINISHED, PLAIN_SHA256)),
+    (2, 1, 3, Finish(1, 1), Replied(FINISHED, PLAIN_SHA256)),
     (1, 1, 3, Finish(1, 1), Refused(2)),
     (1, 1, 4, Finish(1, 1), Refused(12)),
     (
@@ -52,7 +52,7 @@ const SHA256: &[Step] = &[
         Refused(10),
     ),
     (1, 1, 6, Finish(1, 2), Refused(10)),
-    (2, 1, 6, Finish(1, 2), Told(REFUSED, b"\x10\0\0\0\0")),
+    (2, 1, 6, Finish(1, 2), Replied(REFUSED, b"\x10\0\0\0\0")),
     (1, 1, 6, Finish(1, 3), Refused(4)),
     (1, 1, 6, Finish(2, 1), Refused(3)),
 ];
@@ -62,12 +62,12 @@ const OTHERS: &[Step] = &[
     (2, 1, 1, Hashed(65_536, false, HashKind::Nothing), Made(1)),
     EMPTY_IN_TWO,
     (1, 1, 3, Finish(1, 1), Refused(10)),
-    (2, 1, 3, Finish(1, 1), Told(FINISHED, PLAIN_NO_HASH)),
+    (2, 1, 3, Finish(1, 1), Replied(FINISHED, PLAIN_NO_HASH)),
     (1, 1, 4, Create(65_536, false), Made(2)),
     (2, 1, 5, File(2, 0, 0, 0, 4, "e.txt"), Node(1)),
-    (2, 1, 6, Finish(2, 1), Told(FINISHED, PLAIN_MD5)),
+    (2, 1, 6, Finish(2, 1), Replied(FINISHED, PLAIN_MD5)),
     (1, 1, 7, File(2, 0, 0, 0, 4, "f.txt"), Node(2)),
-    (1, 1, 8, Finish(2, 2), Told(FINISHED, PLAIN)),
+    (1, 1, 8, Finish(2, 2), Replied(FINISHED, PLAIN)),
     (2, 1, 9, Hashed(65_536, false, HashKind::Md5), Made(3)),
 ];
 

@@ -1,6 +1,6 @@
 use Rattle.std.proofs.Common.{Some, refl, sym, ap, ◌∙◌, rules}
 use Rattle.std.proofs.lemmas.Result.{err_from_is_err_and}
-use Rattle.droid_core_spec.specs.Conditions.{is_told}
+use Rattle.droid_core_spec.specs.Conditions.{is_carried}
 use Rattle.droid_core_spec.specs.Judging.{judge_finish}
 use Rattle.droid_core_requests.specs.Findings.{finding_in}
 use Rattle.droid_core_requests.proofs.FileFinished.{finish_there, finish_for_file, only_looked, refused_finished, refused_untold, told_there, kind_is, comes_unfinished, finds, digest_is, seen_is, allowed_there, finished}
@@ -43,7 +43,7 @@ returns-in_err-finding c = record {
     comes = λ setting world is_in.
         let fault = err_from_is_err_and c.from_residual-in_err-finding.result c.from_residual-in_err-finding.ensures.1 in
         let has = c.in_ok-row.ensures.found setting world is_in.rows in
-        let there = told_there setting world c.args.stamp.version c.args.profile c.args.file c.in_ok-row.row has (sym c.if-not-is_told.ensures) in
+        let there = told_there setting world c.args.stamp.version c.args.profile c.args.file c.in_ok-row.row has (sym c.if-not-is_carried.ensures) in
         rw (fault.1, fault.2)
         (comes_unfinished setting world c.args.stamp.version c.args.profile c.args.file c.in_ok-row.row has c.args.holdings.now c.in_ok-place.place is_in (sym c.if-not-is_unfinished.ensures) c.in_ok-place.ensures.place there c.args.stamp _ _
         (only_looked setting world c.args.holdings.now c.in_ok-place.place c.file_of.new.store c.identify_file.new.files c.file_of.ensures.same c.identify_file.ensures.others c.identify_file.ensures.unchanged is_in)
@@ -76,7 +76,7 @@ returns c = record {
         let has = c.in_ok-row.ensures.found setting world is_in.rows in
         let is = sym c.if-not-is_unfinished.ensures in
         let at_place = c.in_ok-place.ensures.place in
-        let there = told_there setting world c.args.stamp.version c.args.profile c.args.file c.in_ok-row.row has (sym c.if-not-is_told.ensures) in
+        let there = told_there setting world c.args.stamp.version c.args.profile c.args.file c.in_ok-row.row has (sym c.if-not-is_carried.ensures) in
         let found = finds setting world c.args.stamp.version c.args.profile c.args.file c.in_ok-row.row has c.args.holdings.now c.in_ok-place.place is_in is at_place there c.in_ok-finding.finding c.in_ok-finding.ensures.finding in
         let digest = digest_is setting world c.args.stamp.version c.args.profile c.args.file c.in_ok-row.row has c.args.holdings.now c.in_ok-place.place is_in is at_place there c.in_ok-finding.finding c.in_ok-finding.ensures.finding in
         let allowed = allowed_there setting world c.args.stamp.version c.args.profile c.args.file c.in_ok-row.row has c.args.holdings.now c.in_ok-place.place is_in is at_place there c.in_ok-finding.ensures.allowed in
@@ -116,12 +116,12 @@ returns-in_err-none_is_pending c = record {
   };
 }
 
-pub returns-then-not-is_told : goal.returns-then-not-is_told
-returns-then-not-is_told c = record {
+pub returns-then-not-is_carried : goal.returns-then-not-is_carried
+returns-then-not-is_carried c = record {
   answers = record {
     comes = λ setting world is_in.
         let has = c.in_ok-row.ensures.found setting world is_in.rows in
-        let refused = refused_untold setting world c.args.stamp.version c.args.profile c.args.file c.in_ok-row.row has (sym c.if-not-is_unfinished.ensures) (sym c.if-not-is_told.ensures) in
+        let refused = refused_untold setting world c.args.stamp.version c.args.profile c.args.file c.in_ok-row.row has (sym c.if-not-is_unfinished.ensures) (sym c.if-not-is_carried.ensures) in
         rw refused (refl, read_only setting world c.args.holdings.now c.file_of.new.store c.file_of.ensures.same is_in);
     spelled = search rules;
     limits = refl;
@@ -134,9 +134,9 @@ returns-in_err-is_of_kind c = record {
   answers = record {
     comes = λ setting world is_in.
         let has = c.in_ok-row.ensures.found setting world is_in.rows in
-        let there = told_there setting world c.args.stamp.version c.args.profile c.args.file c.in_ok-row.row has (sym c.if-not-is_told.ensures) in
+        let there = told_there setting world c.args.stamp.version c.args.profile c.args.file c.in_ok-row.row has (sym c.if-not-is_carried.ensures) in
         let kind = kind_is setting world c.args.stamp.version c.args.profile c.args.file c.in_ok-row.row has c.args.holdings.now c.in_ok-place.place is_in (sym c.if-not-is_unfinished.ensures) c.in_ok-place.ensures.place there c.in_ok-finding.finding c.in_ok-finding.ensures.finding in
-        absurd (let told = c.in_err-is_of_kind.ensures.its kind in cc);
+        absurd (let reported = c.in_err-is_of_kind.ensures.its kind in cc);
     spelled = search rules;
     limits = refl;
     registry = refl;
@@ -147,4 +147,4 @@ pub keep_finding-requires-clause-kind : goal.keep_finding-requires-clause-kind
 keep_finding-requires-clause-kind c = rw c.file_of.ensures.same (c.in_ok-row.ensures.hash ∙ ap Some (sym c.in_ok-is_of_kind.ensures.kind))
 
 pub keep_finding-requires-clause-hash : goal.keep_finding-requires-clause-hash
-keep_finding-requires-clause-hash c = spelled_hash c.args.stamp.version _ c.in_ok-finding.ensures.well_formed.hash_value (ap (is_told c.args.stamp.version) c.in_ok-is_of_kind.ensures.kind ∙ sym c.if-not-is_told.ensures)
+keep_finding-requires-clause-hash c = spelled_hash c.args.stamp.version _ c.in_ok-finding.ensures.well_formed.hash_value (ap (is_carried c.args.stamp.version) c.in_ok-is_of_kind.ensures.kind ∙ sym c.if-not-is_carried.ensures)

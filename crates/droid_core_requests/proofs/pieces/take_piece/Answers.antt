@@ -40,9 +40,9 @@ returns-in_err-put_piece c = record {
     comes = λ setting world is_in.
         let fault = err_from_is_err_and c.from_residual-in_err-put_piece.result c.from_residual-in_err-put_piece.ensures.1 in
         let has = c.in_ok-row.ensures.found setting world is_in.rows in
-        let told = judged_by_put setting world c.args.profile c.args.file c.in_ok-row.row has c.args.index c.args.bytes c.args.holdings.now c.in_ok-place.place is_in (sym c.if-not-is_unfinished.ensures) c.in_ok-place.ensures.place _ c.in_err-put_piece.ensures.judged in
+        let reported = judged_by_put setting world c.args.profile c.args.file c.in_ok-row.row has c.args.index c.args.bytes c.args.holdings.now c.in_ok-place.place is_in (sym c.if-not-is_unfinished.ensures) c.in_ok-place.ensures.place _ c.in_err-put_piece.ensures.judged in
         rw (fault.1, fault.2)
-        (comes_refused setting world c.args.holdings.now _ c.args.stamp _ _ (of_any _ (refused setting world c.args.profile c.args.file c.in_ok-row.row has c.args.index c.args.bytes _ told))
+        (comes_refused setting world c.args.holdings.now _ c.args.stamp _ _ (of_any _ (refused setting world c.args.profile c.args.file c.in_ok-row.row has c.args.index c.args.bytes _ reported))
         (stays_as setting world c.args.holdings.now c.file_of.new.store c.put_piece.new.files c.file_of.ensures.same c.in_err-put_piece.ensures.same is_in));
     spelled = search rules;
     limits = refl;
@@ -76,12 +76,12 @@ returns c = record {
         let has = c.in_ok-row.ensures.found setting world is_in.rows in
         let is = sym c.if-not-is_unfinished.ensures in
         let at_place = c.in_ok-place.ensures.place in
-        let told = judged_by_put setting world c.args.profile c.args.file c.in_ok-row.row has c.args.index c.args.bytes c.args.holdings.now c.in_ok-place.place is_in is at_place _ c.in_ok-put_piece.ensures.judged in
+        let reported = judged_by_put setting world c.args.profile c.args.file c.in_ok-row.row has c.args.index c.args.bytes c.args.holdings.now c.in_ok-place.place is_in is at_place _ c.in_ok-put_piece.ensures.judged in
         let counted = held_is setting world c.args.profile c.args.file c.in_ok-row.row has c.args.index c.args.bytes c.args.holdings.now c.in_ok-place.place is_in is at_place _ c.in_ok-held.ensures.held in
         let stored = c.in_ok-keep_piece.ensures.kept ∙ (rw (c.in_ok-entry.ensures.row, c.file_of.ensures.same) refl) in
         taken setting world c.args.profile c.args.file c.in_ok-row.row has c.args.index c.args.bytes c.args.holdings.now c.in_ok-place.place is_in is at_place
         c.keep_piece.new.store c.put_piece.new.files c.keep_piece.new.files c.put_piece.ensures.others c.keep_piece.ensures.others c.in_ok-put_piece.ensures.pending
-        c.args.stamp _ counted stored told c.put_piece.ensures.stands c.in_ok-keep_piece.ensures.stands c.in_ok-keep_piece.ensures.same_file c.in_ok-keep_piece.ensures.none_pending;
+        c.args.stamp _ counted stored reported c.put_piece.ensures.stands c.in_ok-keep_piece.ensures.stands c.in_ok-keep_piece.ensures.same_file c.in_ok-keep_piece.ensures.none_pending;
     spelled = search rules;
     limits = refl;
     registry = refl;

@@ -8,5 +8,5 @@ pub returns-clause-accepted : goal.returns-clause-accepted
 returns-clause-accepted c setting history legal = accepted_is_length setting history legal
 
 pub returns-clause-part : goal.returns-clause-part
-returns-clause-part c setting history version profile from max as_of total filter bytes legal told =
-    exported_as_of setting (world_of setting history) version profile from max as_of total filter bytes told ∙ accepted_is_length setting history legal
+returns-clause-part c setting history version profile from max as_of total filter bytes legal reported =
+    exported_as_of setting (world_of setting history) version profile from max as_of total filter bytes reported ∙ accepted_is_length setting history legal

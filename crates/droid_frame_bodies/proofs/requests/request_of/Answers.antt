@@ -12,5 +12,5 @@ pub returns-clause-malformed : goal.returns-clause-malformed
 returns-clause-malformed c = malformed_is_unspelled c.value_of.result c.args.frame.version c.args.frame.kind c.args.frame.body c.if-frame-ge-NUMBER_LIMIT.false c.value_of.ensures.bytes c.value_of.ensures.answer
 
 pub returns-clause-memory : goal.returns-clause-memory
-returns-clause-memory c = λ wanting.
-    wanted_is_spelled c.value_of.result c.args.frame.version c.args.frame.kind c.args.frame.body (c.value_of.ensures.wanting wanting) c.if-frame-ge-NUMBER_LIMIT.false c.value_of.ensures.bytes c.value_of.ensures.answer wanting
+returns-clause-memory c = λ out_of_memory.
+    wanted_is_spelled c.value_of.result c.args.frame.version c.args.frame.kind c.args.frame.body (c.value_of.ensures.out_of_memory out_of_memory) c.if-frame-ge-NUMBER_LIMIT.false c.value_of.ensures.bytes c.value_of.ensures.answer out_of_memory

@@ -5,9 +5,9 @@ use Rattle.droid_store.proofs.Clean.{trees_are_clean}
 use Rattle.droid_store.specs.declared.statements.TheConstants.{COUNT_NODES}
 use Rattle.droid_store.proofs.Effects.{stepped, kept_safe}
 use Rattle.droid_store.proofs.NodeEffects.{counts_nodes, with_counted}
-use Rattle.droid_store_sql.proofs.Wants.{in_memory}
-use Rattle.droid_store.proofs.Wanting.{wants_by}
-use Rattle.droid_store.proofs.WantingChanges.{count_params, count_wants}
+use Rattle.droid_store_sql.proofs.MemoryFaults.{in_memory}
+use Rattle.droid_store.proofs.MemoryFaultsIn.{wants_by}
+use Rattle.droid_store.proofs.MemoryFaultsOfChanges.{count_params, count_wants}
 use Rattle.droid_store.proofs.changes.count_nodes.Goals as goal
 
 pub returns-clause-ok : goal.returns-clause-ok
@@ -26,8 +26,8 @@ returns-clause-err c rows =
 pub returns-clause-limit : goal.returns-clause-limit
 returns-clause-limit c = c.execute.ensures.survives.limit
 
-pub returns-clause-want : goal.returns-clause-want
-returns-clause-want c rows keys =
+pub returns-clause-failure : goal.returns-clause-failure
+returns-clause-failure c rows keys =
     let old = state over_trees c.args.tx.now.conn.now in
     let new = state over_trees c.execute.new.self.conn.now in
     wants_by COUNT_NODES.now (count_params c.args.profile c.args.nodes) old new c.execute.result rows

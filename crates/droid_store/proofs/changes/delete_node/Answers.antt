@@ -7,9 +7,9 @@ use Rattle.droid_store.specs.Changes.{without_node}
 use Rattle.droid_store.specs.Encoded.{number}
 use Rattle.droid_store.proofs.ChangesNodes.{removes_node}
 use Rattle.droid_store.proofs.Effects.{stepped, kept_safe}
-use Rattle.droid_store_sql.proofs.Wants.{in_memory}
-use Rattle.droid_store.proofs.Wanting.{wants_by}
-use Rattle.droid_store.proofs.WantingChanges.{remove_params, remove_wants}
+use Rattle.droid_store_sql.proofs.MemoryFaults.{in_memory}
+use Rattle.droid_store.proofs.MemoryFaultsIn.{wants_by}
+use Rattle.droid_store.proofs.MemoryFaultsOfChanges.{remove_params, remove_wants}
 use Rattle.droid_store.proofs.changes.delete_node.Goals as goal
 
 pub returns-clause-ok : goal.returns-clause-ok
@@ -29,8 +29,8 @@ returns-clause-err c rows =
 pub returns-clause-limit : goal.returns-clause-limit
 returns-clause-limit c = c.execute.ensures.survives.limit
 
-pub returns-clause-want : goal.returns-clause-want
-returns-clause-want c rows keys later =
+pub returns-clause-failure : goal.returns-clause-failure
+returns-clause-failure c rows keys later =
     let old = state over_trees c.args.tx.now.conn.now in
     let new = state over_trees c.execute.new.self.conn.now in
     wants_by REMOVE_NODE.now (remove_params c.args.profile c.args.file) old new c.execute.result rows

@@ -10,9 +10,9 @@ use Rattle.droid_frame.specs.Fields.{method_number}
 use Rattle.droid_store.specs.Encoded.{number, flag, joined}
 use Rattle.droid_store.proofs.ChangesNodes.{finishes_node}
 use Rattle.droid_store.proofs.Effects.{stepped, kept_safe}
-use Rattle.droid_store_sql.proofs.Wants.{in_memory}
-use Rattle.droid_store.proofs.Wanting.{wants_by}
-use Rattle.droid_store.proofs.WantingChanges.{finish_params, finish_wants}
+use Rattle.droid_store_sql.proofs.MemoryFaults.{in_memory}
+use Rattle.droid_store.proofs.MemoryFaultsIn.{wants_by}
+use Rattle.droid_store.proofs.MemoryFaultsOfChanges.{finish_params, finish_wants}
 use Rattle.droid_store.proofs.changes.finish_node.Goals as goal
 
 pub returns-clause-ok : goal.returns-clause-ok
@@ -34,8 +34,8 @@ returns-clause-err c rows =
 pub returns-clause-limit : goal.returns-clause-limit
 returns-clause-limit c = c.execute.ensures.survives.limit
 
-pub returns-clause-want : goal.returns-clause-want
-returns-clause-want c rows keys puids is later small =
+pub returns-clause-failure : goal.returns-clause-failure
+returns-clause-failure c rows keys puids is later small =
     let old = state over_trees c.args.tx.now.conn.now in
     let new = state over_trees c.execute.new.self.conn.now in
     let f = c.args.findings.now in

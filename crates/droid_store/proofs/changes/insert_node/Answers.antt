@@ -10,8 +10,8 @@ use Rattle.std.proofs.lemmas.Int.{to_z-of_z}
 use Rattle.std.specs.Int.{w64}
 use Rattle.droid_store.specs.Nodes.{node_of}
 use Rattle.droid_store.proofs.NodeEffects.{adds_node, with_last_node}
-use Rattle.droid_store_sql.proofs.Wants.{in_memory}
-use Rattle.droid_store.proofs.Wanting.{wants_by, node_params, node_wants}
+use Rattle.droid_store_sql.proofs.MemoryFaults.{in_memory}
+use Rattle.droid_store.proofs.MemoryFaultsIn.{wants_by, node_params, node_wants}
 use Rattle.droid_store.proofs.changes.insert_node.Goals as goal
 
 pub returns-clause-ok : goal.returns-clause-ok
@@ -34,8 +34,8 @@ returns-clause-err c rows =
 pub returns-clause-limit : goal.returns-clause-limit
 returns-clause-limit c = c.execute.ensures.survives.limit
 
-pub returns-clause-want : goal.returns-clause-want
-returns-clause-want c rows keys small =
+pub returns-clause-failure : goal.returns-clause-failure
+returns-clause-failure c rows keys small =
     let old = state over_trees c.args.tx.now.conn.now in
     let new = state over_trees c.execute.new.self.conn.now in
     let n = c.args.node.now in

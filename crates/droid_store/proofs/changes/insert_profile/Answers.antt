@@ -6,8 +6,8 @@ use Rattle.droid_store.specs.declared.statements.TheConstants.{ADD_PROFILE}
 use Rattle.droid_store.proofs.Effects.{stepped, kept_safe}
 use Rattle.droid_store.specs.Changes.{with_profile}
 use Rattle.droid_store.proofs.Effects.{adds_profile}
-use Rattle.droid_store_sql.proofs.Wants.{in_memory}
-use Rattle.droid_store.proofs.Wanting.{wants_by, profile_params, profile_wants}
+use Rattle.droid_store_sql.proofs.MemoryFaults.{in_memory}
+use Rattle.droid_store.proofs.MemoryFaultsIn.{wants_by, profile_params, profile_wants}
 use Rattle.droid_store.proofs.changes.insert_profile.Goals as goal
 
 pub returns-clause-ok : goal.returns-clause-ok
@@ -26,8 +26,8 @@ returns-clause-err c rows =
 pub returns-clause-limit : goal.returns-clause-limit
 returns-clause-limit c = c.execute.ensures.survives.limit
 
-pub returns-clause-want : goal.returns-clause-want
-returns-clause-want c rows next keys =
+pub returns-clause-failure : goal.returns-clause-failure
+returns-clause-failure c rows next keys =
     let old = state over_trees c.args.tx.now.conn.now in
     let new = state over_trees c.execute.new.self.conn.now in
     wants_by ADD_PROFILE.now (profile_params c.args.profile c.args.scan_limit c.args.match_all c.args.hash) old new c.execute.result rows

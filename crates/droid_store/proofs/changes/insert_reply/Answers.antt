@@ -10,8 +10,8 @@ use Rattle.droid_store.specs.declared.statements.TheConstants.{ADD_REPLY}
 use Rattle.droid_store.proofs.Effects.{stepped, kept_safe}
 use Rattle.droid_store.specs.Changes.{with_reply}
 use Rattle.droid_store.proofs.Effects.{adds_reply}
-use Rattle.droid_store_sql.proofs.Wants.{in_memory}
-use Rattle.droid_store.proofs.Wanting.{wants_by, reply_params, reply_wants}
+use Rattle.droid_store_sql.proofs.MemoryFaults.{in_memory}
+use Rattle.droid_store.proofs.MemoryFaultsIn.{wants_by, reply_params, reply_wants}
 use Rattle.droid_store.proofs.changes.insert_reply.Goals as goal
 
 pub returns-clause-ok : goal.returns-clause-ok
@@ -32,8 +32,8 @@ returns-clause-err c rows =
 pub returns-clause-limit : goal.returns-clause-limit
 returns-clause-limit c = c.execute.ensures.survives.limit
 
-pub returns-clause-want : goal.returns-clause-want
-returns-clause-want c rows keys small =
+pub returns-clause-failure : goal.returns-clause-failure
+returns-clause-failure c rows keys small =
     let old = state over_trees c.args.tx.now.conn.now in
     let new = state over_trees c.execute.new.self.conn.now in
     let e = c.args.entry.now in

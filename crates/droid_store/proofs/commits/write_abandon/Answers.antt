@@ -5,8 +5,8 @@ use Rattle.droid_store.proofs.Clean.{trees_are_clean}
 use Rattle.droid_store_sql.specs.Transactions.{Settled}
 use Rattle.droid_store_trees.specs.declared.store.TreeStore.{TreeStore}
 use Rattle.droid_store_sql.proofs.Transactions.{on_err, rolled_back, ends_ok, ends_err}
-use Rattle.droid_store_sql.proofs.Wants.{in_memory, commit_wants}
-use Rattle.droid_store.proofs.WantingLookUps.{failed_for, handed_on}
+use Rattle.droid_store_sql.proofs.MemoryFaults.{in_memory, commit_wants}
+use Rattle.droid_store.proofs.MemoryFaultsOfLookUps.{failed_for, handed_on}
 use Rattle.droid_store.specs.Changes.{with_reply, without_node}
 use Rattle.droid_store.specs.Kept.{kept, Holds}
 use Rattle.droid_store.proofs.Started.{started, on_ok}
@@ -66,12 +66,12 @@ returns-in_err-delete_node-clause-limit c =
     let same : end ≡ c.conn-1.given.0 = search rules in
     subst (λ (h : Held TreeStore). h.step_limit ≡ c.args.conn.now.step_limit) same (c.drop-tx.ensures.survives.limit ∙ c.in_err-delete_node.ensures.limit ∙ ap (λ (h : Held TreeStore). h.step_limit) c.transaction-tx.ensures.begun)
 
-pub returns-in_err-delete_node-clause-want : goal.returns-in_err-delete_node-clause-want
-returns-in_err-delete_node-clause-want c keys later small none =
+pub returns-in_err-delete_node-clause-failure : goal.returns-in_err-delete_node-clause-failure
+returns-in_err-delete_node-clause-failure c keys later small none =
     let rows = kept c.args.conn.now in
     let begun = started c.args.conn.now c.transaction-tx.result.conn.now rows c.transaction-tx.ensures.begun c.requires.holds in
     let limit = ap (λ (h : Held TreeStore). h.step_limit) c.transaction-tx.ensures.begun ∙ none in
-    handed_on c.from_residual.result _ c.from_residual.ensures.1 (c.in_err-delete_node.ensures.want rows keys (record { replies = keys.replies; children = later.children; numbers = later.numbers }) rows begun limit)
+    handed_on c.from_residual.result _ c.from_residual.ensures.1 (c.in_err-delete_node.ensures.failure rows keys (record { replies = keys.replies; children = later.children; numbers = later.numbers }) rows begun limit)
 
 pub returns-in_err-insert_reply-clause-limit : goal.returns-in_err-insert_reply-clause-limit
 returns-in_err-insert_reply-clause-limit c =
@@ -79,14 +79,14 @@ returns-in_err-insert_reply-clause-limit c =
     let same : end ≡ c.conn-in_err-insert_reply-1.given.0 = search rules in
     subst (λ (h : Held TreeStore). h.step_limit ≡ c.args.conn.now.step_limit) same (c.drop-tx-in_err-insert_reply.ensures.survives.limit ∙ c.in_err-insert_reply.ensures.limit ∙ c.in_ok-delete_node.ensures.limit ∙ ap (λ (h : Held TreeStore). h.step_limit) c.transaction-tx.ensures.begun)
 
-pub returns-in_err-insert_reply-clause-want : goal.returns-in_err-insert_reply-clause-want
-returns-in_err-insert_reply-clause-want c keys later small none =
+pub returns-in_err-insert_reply-clause-failure : goal.returns-in_err-insert_reply-clause-failure
+returns-in_err-insert_reply-clause-failure c keys later small none =
     let rows = kept c.args.conn.now in
     let begun = started c.args.conn.now c.transaction-tx.result.conn.now rows c.transaction-tx.ensures.begun c.requires.holds in
     let limit = ap (λ (h : Held TreeStore). h.step_limit) c.transaction-tx.ensures.begun ∙ none in
     let first = c.in_ok-delete_node.ensures.ok rows c.requires.apart rows begun in
     let changed = without_node c.args.profile c.args.file rows in
-    handed_on c.from_residual-in_err-insert_reply.result _ c.from_residual-in_err-insert_reply.ensures.1 (c.in_err-insert_reply.ensures.want changed later small rows first (c.in_ok-delete_node.ensures.limit ∙ limit))
+    handed_on c.from_residual-in_err-insert_reply.result _ c.from_residual-in_err-insert_reply.ensures.1 (c.in_err-insert_reply.ensures.failure changed later small rows first (c.in_ok-delete_node.ensures.limit ∙ limit))
 
 pub returns-clause-limit : goal.returns-clause-limit
 returns-clause-limit c =
@@ -94,8 +94,8 @@ returns-clause-limit c =
     let same : end ≡ c.conn-2-1.given.0 = search rules in
     subst (λ (h : Held TreeStore). h.step_limit ≡ c.args.conn.now.step_limit) same (c.commit.ensures.survives.limit ∙ c.in_ok-insert_reply.ensures.limit ∙ c.in_ok-delete_node.ensures.limit ∙ ap (λ (h : Held TreeStore). h.step_limit) c.transaction-tx.ensures.begun)
 
-pub returns-clause-want : goal.returns-clause-want
-returns-clause-want c keys later small none =
+pub returns-clause-failure : goal.returns-clause-failure
+returns-clause-failure c keys later small none =
     let rows = kept c.args.conn.now in
     let begun = started c.args.conn.now c.transaction-tx.result.conn.now rows c.transaction-tx.ensures.begun c.requires.holds in
     let limit = ap (λ (h : Held TreeStore). h.step_limit) c.transaction-tx.ensures.begun ∙ none in

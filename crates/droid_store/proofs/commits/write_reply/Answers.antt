@@ -5,8 +5,8 @@ use Rattle.droid_store.proofs.Clean.{trees_are_clean}
 use Rattle.droid_store_sql.specs.Transactions.{Settled}
 use Rattle.droid_store_trees.specs.declared.store.TreeStore.{TreeStore}
 use Rattle.droid_store_sql.proofs.Transactions.{on_err, rolled_back, ends_ok, ends_err}
-use Rattle.droid_store_sql.proofs.Wants.{in_memory, commit_wants}
-use Rattle.droid_store.proofs.WantingLookUps.{failed_for, handed_on}
+use Rattle.droid_store_sql.proofs.MemoryFaults.{in_memory, commit_wants}
+use Rattle.droid_store.proofs.MemoryFaultsOfLookUps.{failed_for, handed_on}
 use Rattle.droid_store.specs.Changes.{with_reply}
 use Rattle.droid_store.specs.Kept.{kept, Holds}
 use Rattle.droid_store.proofs.Started.{started, on_ok}
@@ -56,12 +56,12 @@ returns-in_err-insert_reply-clause-limit c =
     let same : end ≡ c.conn-1.given.0 = search rules in
     subst (λ (h : Held TreeStore). h.step_limit ≡ c.args.conn.now.step_limit) same (c.drop-tx.ensures.survives.limit ∙ c.in_err-insert_reply.ensures.limit ∙ ap (λ (h : Held TreeStore). h.step_limit) c.transaction-tx.ensures.begun)
 
-pub returns-in_err-insert_reply-clause-want : goal.returns-in_err-insert_reply-clause-want
-returns-in_err-insert_reply-clause-want c keys small none =
+pub returns-in_err-insert_reply-clause-failure : goal.returns-in_err-insert_reply-clause-failure
+returns-in_err-insert_reply-clause-failure c keys small none =
     let rows = kept c.args.conn.now in
     let begun = started c.args.conn.now c.transaction-tx.result.conn.now rows c.transaction-tx.ensures.begun c.requires.holds in
     let limit = ap (λ (h : Held TreeStore). h.step_limit) c.transaction-tx.ensures.begun ∙ none in
-    handed_on c.from_residual.result _ c.from_residual.ensures.1 (c.in_err-insert_reply.ensures.want rows keys small rows begun limit)
+    handed_on c.from_residual.result _ c.from_residual.ensures.1 (c.in_err-insert_reply.ensures.failure rows keys small rows begun limit)
 
 pub returns-clause-limit : goal.returns-clause-limit
 returns-clause-limit c =
@@ -69,8 +69,8 @@ returns-clause-limit c =
     let same : end ≡ c.conn-2-1.given.0 = search rules in
     subst (λ (h : Held TreeStore). h.step_limit ≡ c.args.conn.now.step_limit) same (c.commit.ensures.survives.limit ∙ c.in_ok-insert_reply.ensures.limit ∙ ap (λ (h : Held TreeStore). h.step_limit) c.transaction-tx.ensures.begun)
 
-pub returns-clause-want : goal.returns-clause-want
-returns-clause-want c keys small none =
+pub returns-clause-failure : goal.returns-clause-failure
+returns-clause-failure c keys small none =
     let rows = kept c.args.conn.now in
     let begun = started c.args.conn.now c.transaction-tx.result.conn.now rows c.transaction-tx.ensures.begun c.requires.holds in
     let limit = ap (λ (h : Held TreeStore). h.step_limit) c.transaction-tx.ensures.begun ∙ none in

@@ -3,7 +3,7 @@ use Rattle.std.proofs.lemmas.Grind.{common_steps}
 use Rattle.droid_store.specs.Kept.{kept}
 use Rattle.droid_store.proofs.Clean.{trees_are_clean}
 use Rattle.droid_store.proofs.FaultsOfReading.{still_memory}
-use Rattle.droid_store.proofs.ToldFaults.{told_memory}
+use Rattle.droid_store.proofs.ReportedFaults.{told_memory}
 use Rattle.droid_store.proofs.GivenRows.{HaveRead, left, begun, settled_there, settled_on, gave_up, read_on, given_fits, read_all, read_no_more}
 use Rattle.droid_store.proofs.listing.list_records.Goals as goal
 

@@ -10,9 +10,9 @@ use Rattle.droid_store.proofs.Closed.{kept_is, kept_still}
 use Rattle.droid_store.proofs.FoundRows.{found_is}
 use Rattle.droid_store.proofs.FindsNodes.{finds_child}
 use Rattle.sqlite.specs.State.{QueriesRow}
-use Rattle.droid_store_sql.proofs.Wants.{in_memory}
+use Rattle.droid_store_sql.proofs.MemoryFaults.{in_memory}
 use Rattle.droid_store.specs.declared.statements.TheConstants.{FIND_CHILD}
-use Rattle.droid_store.proofs.WantingLookUps.{row_or_none, child_wants}
+use Rattle.droid_store.proofs.MemoryFaultsOfLookUps.{row_or_none, child_wants}
 use Rattle.droid_store.specs.Encoded.{number}
 use Rattle.droid_store.proofs.look_ups.find_child.Goals as goal
 
@@ -46,8 +46,8 @@ returns-clause-found c =
 pub returns-clause-limit : goal.returns-clause-limit
 returns-clause-limit c = c.query_row-answer.ensures.survives.limit
 
-pub returns-clause-want : goal.returns-clause-want
-returns-clause-want c none =
+pub returns-clause-failure : goal.returns-clause-failure
+returns-clause-failure c none =
     let rows = kept c.args.conn.now in
     let old = state over_trees c.args.conn.now in
     let new = state over_trees c.query_row-answer.new.self in

@@ -9,9 +9,9 @@ use Rattle.droid_store.proofs.Closed.{kept_is, kept_still}
 use Rattle.droid_store.proofs.FoundRows.{found_is}
 use Rattle.droid_store.proofs.FindsProfiles.{finds_profile}
 use Rattle.sqlite.specs.State.{QueriesRow}
-use Rattle.droid_store_sql.proofs.Wants.{in_memory}
+use Rattle.droid_store_sql.proofs.MemoryFaults.{in_memory}
 use Rattle.droid_store.specs.declared.statements.TheConstants.{FIND_PROFILE}
-use Rattle.droid_store.proofs.WantingLookUps.{row_or_none, profile_wants}
+use Rattle.droid_store.proofs.MemoryFaultsOfLookUps.{row_or_none, profile_wants}
 use Rattle.droid_store.specs.Encoded.{number}
 use Rattle.droid_store.proofs.look_ups.find_profile.Goals as goal
 
@@ -45,8 +45,8 @@ returns-clause-found c =
 pub returns-clause-limit : goal.returns-clause-limit
 returns-clause-limit c = c.query_row-answer.ensures.survives.limit
 
-pub returns-clause-want : goal.returns-clause-want
-returns-clause-want c none =
+pub returns-clause-failure : goal.returns-clause-failure
+returns-clause-failure c none =
     let rows = kept c.args.conn.now in
     let old = state over_trees c.args.conn.now in
     let new = state over_trees c.query_row-answer.new.self in

@@ -14,7 +14,7 @@ returns-in-Ok-clause-empty c =
     let none : (view c.new.result).trees catalog_tree ≡ [] = c.new.ensures.trees catalog_tree (λ same. omega arith) in
     opened_empty c.in-Ok.conn (c.in-Ok.ensures.opens (no_doubt true refl)) (ap (λ (db : Trees). db catalog_tree) (c.in-Ok.ensures.trees (no_doubt true refl)) ∙ none)
 
-pub returns-in-Err-clause-want : goal.returns-in-Err-clause-want
-returns-in-Err-clause-want c =
+pub returns-in-Err-clause-failure : goal.returns-in-Err-clause-failure
+returns-in-Err-clause-failure c =
     let none : (view c.new.result).trees catalog_tree ≡ [] = c.new.ensures.trees catalog_tree (λ same. omega arith) in
     opening_wants (view c.new.result).trees c.in-Err.error none (c.in-Err.ensures.err (no_doubt true refl))

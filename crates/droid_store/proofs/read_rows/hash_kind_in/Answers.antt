@@ -2,7 +2,7 @@ use Rattle.std.proofs.Common.{refl, arith}
 use Rattle.droid_frame.specs.Hashes.{hash_kind_number}
 use Rattle.droid_store.specs.Encoded.{number}
 use Rattle.droid_store.proofs.FaultsOfReading.{hash_kind_is_short}
-use Rattle.droid_store.proofs.ToldFaults.{unread, IsShort}
+use Rattle.droid_store.proofs.ReportedFaults.{unread, IsShort}
 use Rattle.droid_store.proofs.read_rows.hash_kind_in.Goals as goal
 
 pub returns-in_err-number-clause-memory : goal.returns-in_err-number-clause-memory

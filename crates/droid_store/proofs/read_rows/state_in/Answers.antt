@@ -1,7 +1,7 @@
 use Rattle.std.proofs.Common.{refl, arith}
 use Rattle.droid_store.specs.Encoded.{number, state_number}
 use Rattle.droid_store.proofs.FaultsOfReading.{state_is_short}
-use Rattle.droid_store.proofs.ToldFaults.{unread, IsShort}
+use Rattle.droid_store.proofs.ReportedFaults.{unread, IsShort}
 use Rattle.droid_store.proofs.read_rows.state_in.Goals as goal
 
 pub returns-in_err-number-clause-memory : goal.returns-in_err-number-clause-memory

@@ -4,7 +4,7 @@ use Rattle.droid_frame.specs.types.frame.Frame.{Frame}
 use Rattle.droid_frame.specs.types.reply.Reply.{Reply}
 use Rattle.droid_frame.specs.declared.stream.fault.FrameFault.TheVariants.{Read}
 use Rattle.droid_wire.specs.declared.fault.ServeFault.TheVariants as faults
-use Rattle.droid_frame.specs.InTurn.{TellsFaultInTurn}
+use Rattle.droid_frame.specs.InTurn.{ReportsFaultInTurn}
 use Rattle.droid_wire.specs.Turns.{ReadsFrame, WritesReply}
 use Rattle.droid_wire.specs.declared.ended.Ended.{Ended}
 use Rattle.droid_wire.specs.declared.fault.ServeFault.{ServeFault}
@@ -47,10 +47,10 @@ loop-preserved g c =
           ((c.in_ok-size.ensures.read_fault now.sound).otherwise (λ e. absurd cc));
       writes = λ sound endless.
           let now = c.loop.invariant.writes sound endless in
-          let told = c.in_ok-size.ensures.write_fault now.0.sound now.1 in (
+          let reported = c.in_ok-size.ensures.write_fault now.0.sound now.1 in (
             over_next g.W.SteadyWrite.seen (WritesReply g.W.Write.contents) c.args.writer.now c.loop.writer c.answer_next.new.writer c.loop.counter _ wrote.0 refl now.0 wrote.1
-                (told.0.otherwise (λ e. absurd e)),
-            told.1,
+                (reported.0.otherwise (λ e. absurd e)),
+            reported.1,
           );
       goes_on = λ setting history stands.
           goes_further setting history c.loop.counter 1 (c.loop.counter + 1) c.loop.service c.answer_next.new.service (omega arith) (c.loop.invariant.goes_on setting history stands) (λ here standing. c.in_ok-size.ensures.goes_on setting here standing);
@@ -91,7 +91,7 @@ returns-in_err-size-clause-read_fault g c = λ sound.
     let fault = c.in_err-size.field-0.0 in
     let Does = ReadsFrame g.R.Read.remaining in
     if_err_same c.from_residual.result fault
-    (λ (r : Result Ended ServeFault). TellsFaultInTurn g.R.SteadyRead.seen Does (λ count. count ≤ c.args.turns) c.args.reader.now c.answer_next.new.reader (IsErrOf r (faults.Frame Read))) c.from_residual.ensures.1
+    (λ (r : Result Ended ServeFault). ReportsFaultInTurn g.R.SteadyRead.seen Does (λ count. count ≤ c.args.turns) c.args.reader.now c.answer_next.new.reader (IsErrOf r (faults.Frame Read))) c.from_residual.ensures.1
     (told_next g.R.SteadyRead.seen Does (λ count. count ≤ c.args.turns) c.args.reader.now c.loop.reader c.answer_next.new.reader c.loop.counter _ _ now (omega (arith, c.loop-test.true))
     (c.in_err-size.ensures.read_fault now.sound) (λ e. same_fault fault (faults.Frame Read) e) (λ e. same_fault fault (faults.Frame Read) e))
 
@@ -101,7 +101,7 @@ returns-in_err-size-clause-write_fault g c = λ sound endless.
     let fault = c.in_err-size.field-0.0 in
     let Does = WritesReply g.W.Write.contents in
     if_err_same c.from_residual.result fault
-    (λ (r : Result Ended ServeFault). TellsFaultInTurn g.W.SteadyWrite.seen Does (λ count. count ≤ c.args.turns) c.args.writer.now c.answer_next.new.writer
+    (λ (r : Result Ended ServeFault). ReportsFaultInTurn g.W.SteadyWrite.seen Does (λ count. count ≤ c.args.turns) c.args.writer.now c.answer_next.new.writer
     (IsErrAnd r (λ fault. (written : ℕ) × (fault ≡ faults.Write written)))) c.from_residual.ensures.1
     (told_next g.W.SteadyWrite.seen Does (λ count. count ≤ c.args.turns) c.args.writer.now c.loop.writer c.answer_next.new.writer c.loop.counter _ _ now.0 (omega (arith, c.loop-test.true))
     (c.in_err-size.ensures.write_fault now.0.sound now.1).0 (λ e. e) (λ e. e))

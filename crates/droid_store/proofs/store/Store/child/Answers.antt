@@ -6,7 +6,7 @@ use Rattle.droid_store.specs.Rows.{child_at}
 use Rattle.droid_store.specs.Shown.{shown_id}
 use Rattle.droid_store.proofs.FaultsOfReading.{found_fits}
 use Rattle.droid_store.proofs.ReadableAfter.{child_readable}
-use Rattle.droid_store.proofs.ToldFaults.{unread, IsShort}
+use Rattle.droid_store.proofs.ReportedFaults.{unread, IsShort}
 use Rattle.droid_store.proofs.store.Store.child.Goals as goal
 
 pub returns-in_err-get-clause-memory : goal.returns-in_err-get-clause-memory

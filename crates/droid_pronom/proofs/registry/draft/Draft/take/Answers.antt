@@ -1,7 +1,7 @@
 use Rattle.std.proofs.Common.{◌∙◌, sym}
 use Rattle.csv.specs.Records.{fields_of}
 use Rattle.droid_pronom.specs.RegistryRecords.{miscounted}
-use Rattle.droid_pronom.proofs.RegistrySteps.{tells_step, untold}
+use Rattle.droid_pronom.proofs.RegistrySteps.{tells_step, unreported}
 use Rattle.droid_pronom.specs.RegistryCalls.{draft_of}
 use Rattle.droid_pronom.proofs.registry.draft.Draft.take.Goals as goal
 
@@ -10,7 +10,7 @@ returns-then-len-ne-FIELDS c = miscounted (λ e. c.if-len-ne-FIELDS.true (c.len.
 
 pub returns-in_default : goal.returns-in_default
 returns-in_default c =
-    untold (draft_of c.args.self.now) (fields_of c.args.row) c.from_byte_record.result c.in_default.field-0
+    unreported (draft_of c.args.self.now) (fields_of c.args.row) c.from_byte_record.result c.in_default.field-0
     (sym c.len.ensures ∙ c.if-len-ne-FIELDS.false) c.from_byte_record.ensures.refused c.in_default.is
 
 pub returns : goal.returns

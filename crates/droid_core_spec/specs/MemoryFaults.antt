@@ -1,0 +1,34 @@
+-- Which refusals say want of memory.
+use Rattle.std.specs.Prelude.{Bool, true, false}
+use Rattle.droid_frame.specs.types.refusal.Refusal.{Refusal}
+use Rattle.droid_frame.specs.types.refusal.Refusal.TheVariants as refusals
+use Rattle.droid_frame.specs.types.reply.Reply.{Reply}
+use Rattle.droid_frame.specs.types.reply.Reply.TheVariants.{Made, Node, Refused}
+
+-- Memory was refused. That a database refused for another cause (Store) is no want: no service answers it.
+abbrev pub is_out_of_memory_of : Refusal → Bool
+is_out_of_memory_of refusals.Memory = true
+is_out_of_memory_of refusals.Store = false
+is_out_of_memory_of refusals.Malformed = false
+is_out_of_memory_of refusals.NumberReused = false
+is_out_of_memory_of refusals.NoSuchProfile = false
+is_out_of_memory_of refusals.NoSuchNode = false
+is_out_of_memory_of refusals.NotAFolder = false
+is_out_of_memory_of refusals.NotAFile = false
+is_out_of_memory_of refusals.BadName = false
+is_out_of_memory_of refusals.PathTooLong = false
+is_out_of_memory_of refusals.NameTaken = false
+is_out_of_memory_of refusals.BadOption = false
+is_out_of_memory_of refusals.TooLarge = false
+is_out_of_memory_of refusals.AlreadyFinished = false
+is_out_of_memory_of refusals.BadPiece = false
+is_out_of_memory_of refusals.PieceHeld = false
+is_out_of_memory_of (refusals.TooFarAhead missing) = false
+is_out_of_memory_of (refusals.Incomplete missing) = false
+is_out_of_memory_of (refusals.LimitReached which) = false
+
+abbrev pub is_out_of_memory : Reply → Bool
+is_out_of_memory (Made profile) = false
+is_out_of_memory (Node id) = false
+is_out_of_memory (Refused refusal) = is_out_of_memory_of refusal
+is_out_of_memory _ = false

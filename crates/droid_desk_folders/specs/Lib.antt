@@ -1,0 +1,4 @@
+pub mod Changed
+pub mod Endings
+pub mod SubmissionEndings
+pub mod Ways

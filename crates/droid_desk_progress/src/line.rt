@@ -1,0 +1,91 @@
+//! A line of progress, no wider than there is room for.
+
+ghost use Rattle.std.specs.Prelude.{◌≡◌, ◌≤◌, IfOk, Some};
+ghost use Rattle.droid_desk_progress.specs.Cuts.{columns_of};
+ghost use Rattle.droid_desk_progress.specs.HowFar.{progress_text};
+ghost use Rattle.droid_desk_progress.specs.Lines.{columns_for, framed_text, joined_text, IsLine};
+ghost use Rattle.droid_desk_progress.specs.Paths.{shown_text};
+
+use crate::columns::{end_within, front_within};
+use crate::progress::Progress;
+use crate::shown::Shown;
+use crate::verbosity::Verbosity;
+use droid_frame::Text;
+use std::alloc::{AllocError, Global};
+use std::fmt::{self, Display, Formatter, Write};
+use unicode_width::UnicodeWidthStr;
+
+/// How many columns stand between how far it is and the path.
+const BETWEEN: usize = 2;
+
+/// How many columns a line of progress has at most.
+const LINE_COLUMNS: usize = 160;
+
+/// The same on a terminal: one less than the narrowest usual one has. A narrower one is told to cut the line.
+const TERMINAL_COLUMNS: usize = 79;
+
+/// How far it is, and the end of the path at hand, as long as so many columns have room for it.
+pub(crate) fn line_of(
+    alloc: Global,
+    progress: Progress,
+    path: &str,
+    columns: usize,
+) -> Result<Text, AllocError>
+    ensures width { IfOk result (λ line. columns_of line ≤ columns) }
+    ensures line { IfOk result (λ line. IsLine columns (progress_text progress) (shown_text path.now) line) }
+{
+    let far = format!(in alloc; "{progress}")?;
+    let far = front_within(far.as_str(), columns);
+    let shown = format!(in alloc; "{}", Shown(path.as_bytes()))?;
+    let room = columns.saturating_sub(far.width()).saturating_sub(BETWEEN);
+    let end = end_within(shown.as_str(), room);
+    let line = joined(alloc, far, end, columns)?;
+    Ok(line)
+}
+
+/// How far it is, and the end of a path, where there is one and so many columns have room for both.
+#[tactic(auto, unfolding(crate::specs::Lines::joined_text))]
+fn joined(alloc: Global, far: &str, end: &str, columns: usize) -> Result<Text, AllocError>
+    ensures { IfOk result (λ line. line ≡ joined_text columns far.now end.now) }
+{
+    if end.is_empty() {
+        return Text::copy_of(alloc, far);
+    }
+    let line = format!(in alloc; "{far}: {end}")?;
+    if line.as_str().width() > columns {
+        return Text::copy_of(alloc, far);
+    }
+    Ok(Text::from(line))
+}
+
+/// A line of progress as it is written: on a terminal at the start of its line, and cut where that ends.
+#[derive(Clone, Copy)]
+pub(crate) struct Framed<'a> {
+    /// How much is told.
+    pub verbosity: Verbosity,
+    /// The line.
+    pub line: &'a str,
+}
+
+impl Display for Framed<'_> {
+    ghost output = { λ framed. Some (framed_text framed.verbosity framed.line.now) };
+
+    #[tactic(auto, unfolding(crate::specs::Lines::framed_text))]
+    fn fmt<W: Write>(&self, f: &mut Formatter<W>) -> fmt::Result {
+        let line = self.line;
+        match self.verbosity {
+            Verbosity::Terminal => write!(f, "\r\x1b[?7l{line}\x1b[K\x1b[?7h"),
+            Verbosity::Quiet | Verbosity::Lines => writeln!(f, "{line}"),
+        }
+    }
+}
+
+/// How many columns a line of progress has at most.
+pub(crate) fn columns_for(verbosity: Verbosity) -> usize
+    ensures { result ≡ columns_for verbosity }
+{
+    match verbosity {
+        Verbosity::Quiet | Verbosity::Lines => LINE_COLUMNS,
+        Verbosity::Terminal => TERMINAL_COLUMNS,
+    }
+}

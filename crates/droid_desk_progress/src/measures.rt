@@ -1,0 +1,71 @@
+//! Numbers of bytes and of seconds, as they are told.
+
+ghost use Rattle.std.specs.Prelude.{◌≡◌, ◌<◌, Some};
+ghost use Rattle.droid_desk_progress.specs.Units.{rate_of, span_text, speed_text, unit_bytes, unit_name};
+
+use std::fmt::{self, Display, Formatter, Write};
+
+/// A unit in which numbers of bytes are told.
+#[derive(Clone, Copy)]
+pub(crate) struct Unit {
+    /// How many bytes it is.
+    pub bytes: u64,
+    /// What it is called.
+    pub name: &'static str,
+}
+
+/// The unit in which so many bytes are told: the first one in which they have four digits at most, or the last one.
+#[tactic(auto, unfolding(crate::specs::Units::unit_bytes, crate::specs::Units::unit_name))]
+pub(crate) fn unit_for(bytes: u64) -> Unit
+    ensures some { 0 < result.bytes }
+    ensures bytes { result.bytes ≡ unit_bytes bytes }
+    ensures name { result.name.now ≡ unit_name bytes }
+{
+    let (bytes, name) = match bytes {
+        0..=9_999 => (1, "bytes"),
+        10_000..=9_999_999 => (1_000, "kB"),
+        10_000_000..=9_999_999_999 => (1_000_000, "MB"),
+        _ => (1_000_000_000, "GB"),
+    };
+    Unit { bytes, name }
+}
+
+/// How many a second there are, of so many in so many milliseconds.
+pub(crate) fn rate(count: u64, milliseconds: u64) -> u64
+    ensures { result ≡ rate_of count milliseconds }
+{
+    count.saturating_mul(1_000) / milliseconds.max(1)
+}
+
+/// So many bytes a second, as they are told.
+#[derive(Clone, Copy)]
+pub(crate) struct Speed(pub u64);
+
+impl Display for Speed {
+    ghost output = { λ speed. Some (speed_text speed.0) };
+
+    #[tactic(auto, unfolding(crate::specs::Units::speed_text))]
+    fn fmt<W: Write>(&self, f: &mut Formatter<W>) -> fmt::Result {
+        let unit = unit_for(self.0);
+        write!(f, "{} {}/s", self.0 / unit.bytes, unit.name)
+    }
+}
+
+/// So many seconds, as they are told: in seconds, minutes, or hours and minutes.
+#[derive(Clone, Copy)]
+pub(crate) struct Span(pub u64);
+
+impl Display for Span {
+    ghost output = { λ span. Some (span_text span.0) };
+
+    #[tactic(auto, unfolding(crate::specs::Units::span_text))]
+    fn fmt<W: Write>(&self, f: &mut Formatter<W>) -> fmt::Result {
+        let seconds = self.0;
+        let minutes = seconds / 60;
+        match seconds {
+            0..=99 => write!(f, "{seconds} s"),
+            100..=5_999 => write!(f, "{minutes} min"),
+            _ => write!(f, "{} h {} min", minutes / 60, minutes % 60),
+        }
+    }
+}

@@ -1,0 +1,117 @@
+//! The numbers of what a walk did so far.
+
+ghost use Rattle.std.specs.Prelude.{◌≡◌};
+ghost use Rattle.droid_desk_progress.specs.Tallies.{after_bytes, after_found, after_held, after_skipped, after_method, after_mismatch, after_taken, done_in};
+
+use crate::progress::Amount;
+use droid_frame::{Method, Reply};
+
+/// How much of each there was.
+#[derive(Clone, Copy)]
+pub(crate) struct Tally {
+    /// How many folders and files are in the profile.
+    pub taken: u64,
+    /// How many entries were left out.
+    pub skipped: u64,
+    /// How many bytes of files were read.
+    pub bytes: u64,
+    /// How many need not be read, since they had been taken before.
+    pub held: u64,
+    /// How many files were found by their signatures.
+    pub by_signature: u64,
+    /// How many were found by their extensions.
+    pub by_extension: u64,
+    /// How many were not found to be anything.
+    pub unidentified: u64,
+    /// How many have an extension that is none of their formats'.
+    pub mismatches: u64,
+}
+
+impl Tally {
+    /// Nothing so far.
+    pub fn none() -> Tally
+        ensures { result ≡ record { taken = 0; skipped = 0; bytes = 0; held = 0; by_signature = 0; by_extension = 0; unidentified = 0; mismatches = 0 } }
+    {
+        Tally {
+            taken: 0,
+            skipped: 0,
+            bytes: 0,
+            held: 0,
+            by_signature: 0,
+            by_extension: 0,
+            unidentified: 0,
+            mismatches: 0,
+        }
+    }
+
+    /// How much is done.
+    pub fn done(self) -> Amount
+        ensures { result ≡ done_in self }
+    {
+        Amount {
+            entries: self.taken.saturating_add(self.skipped),
+            bytes: self.bytes.saturating_add(self.held),
+        }
+    }
+
+    /// Counts a folder or a file that is in the profile.
+    pub fn count_taken(&mut self)
+        ensures { self.new ≡ after_taken self.old }
+    {
+        self.taken = self.taken.saturating_add(1);
+    }
+
+    /// Counts what was left out.
+    pub fn count_skipped(&mut self)
+        ensures { self.new ≡ after_skipped self.old }
+    {
+        self.skipped = self.skipped.saturating_add(1);
+    }
+
+    /// Counts bytes that were read.
+    pub fn count_bytes(&mut self, count: u32)
+        ensures { self.new ≡ after_bytes count self.old }
+    {
+        self.bytes = self.bytes.saturating_add(u64::from(count));
+    }
+
+    /// Counts bytes that need not be read.
+    pub fn count_held(&mut self, count: u64)
+        ensures { self.new ≡ after_held count self.old }
+    {
+        self.held = self.held.saturating_add(count);
+    }
+
+    /// Counts what was found in a file, by the reply that finished it.
+    pub fn count_found(&mut self, found: &Reply)
+        ensures { self.new ≡ after_found found.now self.old }
+    {
+        if let Reply::Finished {
+            method,
+            mismatch,
+            ..
+        } = found
+        {
+            self.count_method(*method);
+            self.count_mismatch(*mismatch);
+        }
+    }
+
+    fn count_method(&mut self, method: Method)
+        ensures { self.new ≡ after_method method self.old }
+    {
+        match method {
+            Method::Signature => self.by_signature = self.by_signature.saturating_add(1),
+            Method::Extension => self.by_extension = self.by_extension.saturating_add(1),
+            Method::Unidentified => self.unidentified = self.unidentified.saturating_add(1),
+        }
+    }
+
+    fn count_mismatch(&mut self, mismatch: bool)
+        ensures { self.new ≡ after_mismatch mismatch self.old }
+    {
+        if mismatch {
+            self.mismatches = self.mismatches.saturating_add(1);
+        }
+    }
+}

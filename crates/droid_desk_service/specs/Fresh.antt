@@ -1,0 +1,37 @@
+-- A fresh service: what it is made of, and why none is made.
+use Rattle.std.specs.Prelude.{◌≡◌, ℕ, List, [], Option, IfSome, Ok}
+use Rattle.droid_core.specs.Standing.{StandsFor, limits_of}
+use Rattle.droid_core.specs.declared.service.Service.{Service}
+use Rattle.droid_desk_service.specs.Endings.{IsFaultOf, IsProgramSetting, program_limits}
+use Rattle.droid_desk_service.specs.declared.ending.Ending.{Ending}
+use Rattle.droid_desk_service.specs.declared.ending.Ending.TheVariants.{Done, Registry, NoService, Script, Stream, Send, Socket, BadLine}
+use Rattle.droid_core.specs.Setting.{Setting}
+use Rattle.droid_pronom.specs.Registry.{Contents}
+use Rattle.droid_pronom.specs.RegistryFile.{File}
+
+-- the service is empty, has the program's limits, and identifies files by this registry
+pub record IsMadeWith (registry : Contents) (service : Service) : Type 0 where
+  pub stands : (setting : Setting) → IsProgramSetting registry setting → StandsFor setting service []
+  pub limits : limits_of service ≡ program_limits
+
+-- the file comes to a registry, where its bytes are known, and the service is made with it
+pub record IsMadeOf (file : Option (List ℕ)) (service : Service) : Type 0 where
+  pub registry : Contents
+  pub is_read : IfSome file (λ bytes. File bytes (Ok registry))
+  pub made : IsMadeWith registry service
+
+-- no service could be made
+abbrev pub IsNoService : Ending → Type 0
+IsNoService (NoService fault) = Unit {0}
+IsNoService (Registry fault) = ⊥
+IsNoService (Script fault) = ⊥
+IsNoService (Stream fault) = ⊥
+IsNoService (Send fault) = ⊥
+IsNoService Socket = ⊥
+IsNoService BadLine = ⊥
+IsNoService Done = ⊥
+
+-- the file comes to this fault; or it comes to a registry, and no service could be made with it
+abbrev pub IsNotMadeOf : Option (List ℕ) → Ending → Type 0
+IsNotMadeOf file (Registry fault) = IsFaultOf file fault
+IsNotMadeOf file ending = IsNoService ending × (registry : Contents) × IfSome file (λ bytes. File bytes (Ok registry))

@@ -1,0 +1,54 @@
+//! Connections, served one after the other over one service.
+
+ghost use Rattle.std.specs.Prelude.{◌≡◌, ◌+◌, ◌-◌, ◌*◌, ℕ, OnErr, OnOk};
+ghost use Rattle.droid_core.specs.Standing.{StandsFor, limits_of, registry_of};
+ghost use Rattle.droid_core.specs.Histories.{History};
+ghost use Rattle.droid_core.specs.Setting.{Setting};
+ghost use Rattle.droid_wire.specs.Serving.{GoesOnFrom};
+ghost use Rattle.droid_desk_service.specs.Streams.{CameTo};
+
+use crate::ending::Ending;
+use droid_core::Service;
+use std::alloc::Global;
+use std::io;
+
+/// Where connections come from.
+pub trait Connections {
+    /// How many were taken so far.
+    ghost taken: { Self → ℕ };
+
+    /// How many frames of each are answered at the most.
+    ghost turns: { Self → ℕ };
+
+    /// Waits for the next connection, and serves it until it ends. On an error none came.
+    fn serve_next(&mut self, alloc: Global, service: &mut Service) -> io::Result<()>
+        ensures goes_on { (setting : Setting) (history : History) → StandsFor setting service.old history → GoesOnFrom setting history (turns self.old) service.new }
+        ensures turns { turns self.new ≡ turns self.old }
+        ensures came { OnOk result (taken self.new ≡ taken self.old + 1) }
+        ensures none { OnErr result ((taken self.new ≡ taken self.old) × (service.new ≡ service.old)) }
+        ensures limits { limits_of service.new ≡ limits_of service.old }
+        ensures registry { registry_of service.new ≡ registry_of service.old };
+}
+
+/// Serves so many connections, one after the other. Where one can't be taken, no more is waited for.
+pub fn serve_connections<C: Connections>(
+    alloc: Global,
+    service: &mut Service,
+    connections: &mut C,
+    count: u32,
+) -> Ending
+    ensures came { CameTo result (C.taken connections.old) (C.taken connections.new) count }
+    // One service served them all: it goes on from the history that it had, by at most so many requests for each that came.
+    ensures goes_on { (setting : Setting) (history : History) → StandsFor setting service.old history →
+        GoesOnFrom setting history ((C.taken connections.new - C.taken connections.old) * C.turns connections.old) service.new }
+    ensures limits { limits_of service.new ≡ limits_of service.old }
+    ensures registry { registry_of service.new ≡ registry_of service.old }
+{
+    for _ in 0..count {
+        match connections.serve_next(alloc, service) {
+            Ok(()) => {}
+            Err(_) => return Ending::Socket,
+        }
+    }
+    Ending::Done
+}

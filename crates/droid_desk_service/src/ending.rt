@@ -1,0 +1,95 @@
+//! How the program ends.
+
+ghost use Rattle.std.specs.Prelude.{◌≡◌};
+ghost use Rattle.droid_desk_service.specs.Endings.{after_lines, status_of, name_of, stream_name_of};
+
+use droid_lines::Tally;
+use droid_lines_script::ScriptFault;
+use droid_lines_send::{SendFault, frame_fault_name};
+use droid_pronom::RegistryFault;
+use droid_store::StoreFault;
+use droid_wire::ServeFault;
+use std::io;
+
+/// How the program ends.
+#[derive(Drop)]
+pub enum Ending {
+    /// All is done.
+    Done,
+    /// The registry was not read.
+    Registry(RegistryFault),
+    /// No service could be made.
+    NoService(StoreFault),
+    /// The script ended early.
+    Script(ScriptFault),
+    /// A frame could not be read, or a reply not be written.
+    Stream(ServeFault),
+    /// Sending lines ended early.
+    Send(SendFault),
+    /// A port could not be listened on or connected to, or a connection not be taken.
+    Socket,
+    /// Some line was bad.
+    BadLine,
+}
+
+impl Ending {
+    /// The exit status.
+    pub fn status(&self) -> u8
+        ensures { result ≡ status_of self.now }
+    {
+        match self {
+            Ending::Done => 0,
+            Ending::Registry(_) => 3,
+            Ending::NoService(_) => 6,
+            Ending::Script(_) | Ending::Stream(_) | Ending::Send(_) | Ending::Socket => 4,
+            Ending::BadLine => 5,
+        }
+    }
+
+    /// Prints what the ending has to say.
+    pub fn print<R: Eprint>(&self, rt: &R) -> io::Result<()> {
+        match self {
+            Ending::Registry(fault) => eprintln!(rt; "fault: {fault}"),
+            Ending::NoService(fault) => print_fault(rt, name_of(*fault)),
+            Ending::Script(fault) => print_fault(rt, fault.name()),
+            Ending::Stream(fault) => print_fault(rt, stream_name_of(*fault)),
+            Ending::Send(fault) => print_fault(rt, fault.name()),
+            Ending::Socket => print_fault(rt, "Socket"),
+            Ending::Done | Ending::BadLine => Ok(()),
+        }
+    }
+}
+
+fn print_fault<R: Eprint>(rt: &R, name: &str) -> io::Result<()> {
+    eprintln!(rt; "fault: {name}")
+}
+
+/// How the program ends where all lines were handled.
+pub fn after_lines(tally: Tally) -> Ending
+    ensures { result ≡ after_lines tally }
+{
+    match tally {
+        Tally { bad: 0, .. } => Ending::Done,
+        _ => Ending::BadLine,
+    }
+}
+
+/// What the program calls a fault of the database: as the refusal of a request for the same cause.
+fn name_of(fault: StoreFault) -> &'static str
+    ensures { result.now ≡ name_of fault }
+{
+    match fault {
+        StoreFault::Memory => "Memory",
+        StoreFault::Refused => "Store",
+    }
+}
+
+/// What the program calls a fault of a stream of frames.
+fn stream_name_of(fault: ServeFault) -> &'static str
+    ensures { result.now ≡ stream_name_of fault }
+{
+    match fault {
+        ServeFault::Frame(fault) => frame_fault_name(&fault),
+        ServeFault::Write { .. } => "Write",
+    }
+}

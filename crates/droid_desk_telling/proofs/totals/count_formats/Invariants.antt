@@ -1,6 +1,0 @@
-use Rattle.std.proofs.Common.{take}
-use Rattle.droid_desk_telling.specs.Tallies.{CountsFormats}
-use Rattle.droid_desk_telling.proofs.totals.count_formats.Given as goal
-
-abbrev pub invariant-loop-puid : goal.invariant-loop-puid
-invariant-loop-puid l = CountsFormats (take l.puid-index l.puid-items) l.initial.formats l.formats

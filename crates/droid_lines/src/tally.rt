@@ -1,0 +1,26 @@
+//! How many lines were handled.
+
+ghost use Rattle.std.specs.Prelude.{◌≡◌, ◌+◌, ◌<◌, ◌≤◌, ◌^◌};
+ghost use Rattle.droid_lines.specs.Tallies.{with_one_more};
+
+/// How many lines were handled, and how many of them were bad.
+#[derive(Clone, Copy, Debug, PartialEq, Eq)]
+pub struct Tally {
+    /// All lines, the bad ones among them.
+    pub lines: u64,
+    /// The lines that ask for nothing.
+    pub bad: u64,
+}
+
+impl Tally {
+    /// Counts one line more.
+    pub fn count(&mut self, is_bad: bool)
+        requires { (self.old.bad ≤ self.old.lines) × (self.old.lines + 1 < 2 ^ 64) }
+        ensures { self.new ≡ with_one_more is_bad self.old }
+    {
+        self.lines += 1;
+        if is_bad {
+            self.bad += 1;
+        }
+    }
+}

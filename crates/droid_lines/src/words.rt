@@ -1,0 +1,106 @@
+//! The words of a line.
+
+ghost use Rattle.std.specs.Prelude.{◌≡◌, ◌==◌, ◌^◌, slice_index};
+ghost use Rattle.std.specs.Option.{option_map};
+ghost use Rattle.droid_lines.specs.Words.{cut_at, first_word, number_below, signed_number, truth_word, number_word, signed_word};
+
+/// The text before the first space, and the text after it.
+pub fn word(text: &str) -> Option<(&str, &str)>
+    ensures { option_map (λ x. (x.0.now, x.1.now)) result ≡ cut_at 32 text.now }
+{
+    text.split_once(' ')
+}
+
+/// The first word, and the text after the space, where there is one.
+#[tactic(auto, unfolding(crate::specs::Words::first_word))]
+pub fn first_word(text: &str) -> (&str, Option<&str>)
+    ensures { (result.0.now, option_map (λ x. x.now) result.1) ≡ first_word text.now }
+{
+    match word(text) {
+        Some((first, rest)) => (first, Some(rest)),
+        None => (text, None),
+    }
+}
+
+/// The name before the `=` of a word, and the value after it.
+pub fn name_and_value(word: &str) -> Option<(&str, &str)>
+    ensures { option_map (λ x. (x.0.now, x.1.now)) result ≡ cut_at 61 word.now }
+{
+    word.split_once('=')
+}
+
+/// A number of 32 bits as the first word, and the text after the space.
+#[tactic(auto, unfolding(crate::specs::Words::number_word))]
+pub fn u32_word(text: &str) -> Option<(u32, &str)>
+    ensures { option_map (λ x. (x.0, x.1.now)) result ≡ number_word (2 ^ 32) text.now }
+{
+    let (word, rest) = word(text)?;
+    Some((u32_in(word)?, rest))
+}
+
+/// A number of 64 bits as the first word, and the text after the space.
+#[tactic(auto, unfolding(crate::specs::Words::number_word))]
+pub fn u64_word(text: &str) -> Option<(u64, &str)>
+    ensures { option_map (λ x. (x.0, x.1.now)) result ≡ number_word (2 ^ 64) text.now }
+{
+    let (word, rest) = word(text)?;
+    Some((u64_in(word)?, rest))
+}
+
+/// A number of 64 bits with a sign as the first word, and the text after the space.
+#[tactic(auto, unfolding(crate::specs::Words::signed_word))]
+pub fn i64_word(text: &str) -> Option<(i64, &str)>
+    ensures { option_map (λ x. (x.0, x.1.now)) result ≡ signed_word text.now }
+{
+    let (word, rest) = word(text)?;
+    Some((i64_in(word)?, rest))
+}
+
+/// A truth value: `0` or `1`.
+#[tactic(auto, unfolding(crate::specs::Words::truth_word))]
+pub fn truth_in(word: &str) -> Option<bool>
+    ensures { result ≡ truth_word word.now }
+{
+    if word == "0" {
+        Some(false)
+    } else if word == "1" {
+        Some(true)
+    } else {
+        None
+    }
+}
+
+/// A number of 32 bits in decimal digits. Unlike `parse`, it takes no `+`.
+pub fn u32_in(word: &str) -> Option<u32>
+    ensures { result ≡ number_below (2 ^ 32) word.now }
+{
+    if has_plus(word) {
+        return None;
+    }
+    word.parse().ok()
+}
+
+/// A number of 64 bits in decimal digits. Unlike `parse`, it takes no `+`.
+pub fn u64_in(word: &str) -> Option<u64>
+    ensures { result ≡ number_below (2 ^ 64) word.now }
+{
+    if has_plus(word) {
+        return None;
+    }
+    word.parse().ok()
+}
+
+fn i64_in(word: &str) -> Option<i64>
+    ensures { result ≡ signed_number word.now }
+{
+    if has_plus(word) {
+        return None;
+    }
+    word.parse().ok()
+}
+
+fn has_plus(word: &str) -> bool
+    ensures { result ≡ (slice_index word.now 0 == 43) }
+{
+    word.starts_with('+')
+}

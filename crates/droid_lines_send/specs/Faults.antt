@@ -1,0 +1,41 @@
+-- What the faults of the parts are to sending, and what the program calls them (this project's own).
+use Rattle.std.specs.Prelude.{ℕ, List, codes}
+use Rattle.droid_frame.specs.declared.stream.fault.FrameFault.{FrameFault}
+use Rattle.droid_frame.specs.declared.stream.fault.FrameFault.TheVariants as frames
+use Rattle.droid_wire_client.specs.declared.fault.SubmitFault.{SubmitFault}
+use Rattle.droid_wire_client.specs.declared.fault.SubmitFault.TheVariants as submits
+use Rattle.droid_wire_client.specs.declared.fault.HearFault.{HearFault}
+use Rattle.droid_wire_client.specs.declared.fault.HearFault.TheVariants as hears
+use Rattle.droid_lines_send.specs.declared.fault.SendFault.{SendFault}
+use Rattle.droid_lines_send.specs.declared.fault.SendFault.TheVariants.{Lines, Memory, NumbersUsedUp, Frames, Closed, Replies, Malformed, Stranger, Repeated, Text}
+
+-- a request that is not submitted
+abbrev pub submit_fault : SubmitFault → SendFault
+submit_fault submits.NumbersUsedUp = NumbersUsedUp
+submit_fault submits.Memory = Memory
+
+-- a reply that is not heard
+abbrev pub hear_fault : HearFault → SendFault
+hear_fault hears.Malformed = Malformed
+hear_fault hears.Memory = Memory
+
+-- why no frame could be read
+abbrev pub frame_fault_name : FrameFault → List ℕ
+frame_fault_name frames.Truncated = codes "Truncated"
+frame_fault_name frames.BadVersion = codes "BadVersion"
+frame_fault_name frames.TooLong = codes "TooLong"
+frame_fault_name frames.Memory = codes "Memory"
+frame_fault_name frames.Read = codes "Read"
+
+-- why sending ended early
+abbrev pub send_fault_name : SendFault → List ℕ
+send_fault_name Lines = codes "Read"
+send_fault_name Memory = codes "Memory"
+send_fault_name NumbersUsedUp = codes "NumbersUsedUp"
+send_fault_name Frames = codes "Write"
+send_fault_name Closed = codes "Closed"
+send_fault_name (Replies fault) = frame_fault_name fault
+send_fault_name Malformed = codes "Malformed"
+send_fault_name Stranger = codes "Stranger"
+send_fault_name Repeated = codes "Repeated"
+send_fault_name Text = codes "Write"

@@ -1,0 +1,41 @@
+//! What the faults of a sending say: their names, which the program prints.
+
+use droid_frame::FrameFault;
+use droid_lines_send::SendFault;
+use std::alloc::Global;
+use std::process::Abort;
+use std::test::Fail;
+
+const NAMES: [(SendFault, &str); 14] = [
+    (SendFault::Lines, "Read"),
+    (SendFault::Memory, "Memory"),
+    (SendFault::NumbersUsedUp, "NumbersUsedUp"),
+    (SendFault::Frames, "Write"),
+    (SendFault::Closed, "Closed"),
+    (SendFault::Replies(FrameFault::Truncated), "Truncated"),
+    (SendFault::Replies(FrameFault::BadVersion), "BadVersion"),
+    (SendFault::Replies(FrameFault::TooLong), "TooLong"),
+    (SendFault::Replies(FrameFault::Memory), "Memory"),
+    (SendFault::Replies(FrameFault::Read), "Read"),
+    (SendFault::Malformed, "Malformed"),
+    (SendFault::Stranger, "Stranger"),
+    (SendFault::Repeated, "Repeated"),
+    (SendFault::Text, "Write"),
+];
+
+#[test]
+fn names(rt: HostRuntime) -> Result<(), Fail> {
+    each_says(&rt, rt.alloc(), &NAMES)
+}
+
+/// Whether the fault is printed so.
+fn says(alloc: Global, fault: &SendFault, text: &str) -> Result<bool, Fail> {
+    Ok(format!(in alloc; "{fault}")?.as_str() == text)
+}
+
+fn each_says(rt: &impl Abort, alloc: Global, rows: &[(SendFault, &str)]) -> Result<(), Fail> {
+    for (fault, name) in rows {
+        assert!(rt; says(alloc, fault, name)?, "{name}");
+    }
+    Ok(())
+}

@@ -1,0 +1,168 @@
+//! A folder of a file system as a tree.
+
+ghost use Rattle.std.specs.Prelude.{◌≡◌, ◌⊎◌, ◌++◌, IfErr, IfOk, IsFalse, IsTrue};
+ghost use Rattle.droid_tree.specs.declared.fault.TreeFault.TheVariants.{Memory, Unreadable};
+ghost use Rattle.droid_tree_disk.specs.FolderObservation.{IsSameFile, OpensAt, OpensNone, ObservesBelow, folder_path};
+ghost use Rattle.droid_tree_disk.specs.Tops.{IsWithoutSlashes};
+
+use crate::disk::{Disk, Found};
+use crate::listing::list;
+use droid_frame::Text;
+use droid_tree::{Entry, EntryKind, Tree, TreeFault};
+use std::alloc::{AllocError, Global};
+
+/// A folder, with all that lies below it. The file that is read stays open until another is.
+#[derive(Drop)]
+pub struct Folder<D: Disk + Drop> {
+    /// The file system that it lies in.
+    pub disk: D,
+    /// Its path, without a `/` at its end.
+    pub top: Text,
+    /// The file that was read last.
+    pub open: Option<D::File>,
+}
+
+impl<D: Disk + Drop> Folder<D> {
+    /// The folder at this path, which may end in `/`.
+    pub fn new(alloc: Global, disk: D, path: &str) -> Result<Folder<D>, AllocError>
+        ensures disk { IfOk result (λ folder. folder.disk ≡ disk) }
+        ensures top { IfOk result (λ folder. IsWithoutSlashes path.now folder.top) }
+    {
+        let top = without_slashes(path);
+        Ok(Folder {
+            disk,
+            top: Text::copy_of(alloc, top)?,
+            open: None,
+        })
+    }
+}
+
+impl<D: Disk + Drop> Tree for Folder<D> {
+    ghost observes = { λ old observed new. ObservesBelow D.says old.top old.disk observed new.disk × (new.top ≡ old.top) };
+
+    fn entries(&mut self, alloc: Global, path: &str) -> Result<Vec<Entry>, TreeFault> {
+        self.open = None;
+        let top = self.top.as_str();
+        let place = kept(folder_at(alloc, top, path))?;
+        let folder = kept(place_of(alloc, top, path))?;
+        list(alloc, &mut self.disk, place.as_str(), folder.as_str())
+    }
+
+    fn read(
+        &mut self,
+        path: &str,
+        from: u64,
+        wanted: u32,
+        bytes: &mut Vec<u8>,
+    ) -> Result<(), TreeFault> {
+        let alloc = *bytes.allocator();
+        let place = kept(place_of(alloc, self.top.as_str(), path))?;
+        let held = self.open.take();
+        let file = file_at(alloc, &mut self.disk, held, place.as_str())?;
+        self.disk.read_at(&file, from, wanted, bytes)?;
+        self.open = Some(file);
+        Ok(())
+    }
+}
+
+/// The path, without all slashes at its end.
+fn without_slashes(path: &str) -> &str
+    ensures { IsWithoutSlashes path.now result.now }
+{
+    path.trim_end_matches('/')
+}
+
+/// The path, where there was memory for it.
+fn kept(path: Result<Text, AllocError>) -> Result<Text, TreeFault>
+    ensures same { IfOk result (λ text. path ≡ Ok text) }
+    ensures memory { IfErr result (λ fault. fault ≡ Memory) }
+{
+    match path {
+        Ok(path) => Ok(path),
+        Err(_) => Err(TreeFault::Memory),
+    }
+}
+
+/// The path of something below the folder.
+fn place_of(alloc: Global, top: &str, path: &str) -> Result<Text, AllocError>
+    ensures { IfOk result (λ text. text ≡ top.now ++ path.now) }
+{
+    let joined = format!(in alloc; "{top}{path}")?;
+    Ok(Text::from(joined))
+}
+
+/// The path by which the names of a folder below the folder are asked.
+fn folder_at(alloc: Global, top: &str, path: &str) -> Result<Text, AllocError>
+    ensures { IfOk result (λ text. text ≡ folder_path top.now path.now) }
+{
+    if path.is_empty() {
+        return place_of(alloc, top, "/");
+    }
+    place_of(alloc, top, path)
+}
+
+/// The open file, where it was opened by this path, or the one that is opened now.
+fn file_at<D: Disk>(
+    alloc: Global,
+    disk: &mut D,
+    held: Option<D::File>,
+    path: &str,
+) -> Result<D::File, TreeFault>
+    ensures path { IfOk result (λ file. D.path_of file ≡ path.now) }
+    ensures opened { IfOk result (λ file. OpensAt D.says path.now disk.old disk.new ⊎ (disk.new ≡ disk.old)) }
+    ensures failed { IfErr result (λ fault. fault ≡ Unreadable → OpensNone D.says path.now disk.old disk.new) }
+{
+    let Some(file) = held else {
+        return open_at(alloc, disk, path);
+    };
+    if D::is_at(&file, path) {
+        return Ok(file);
+    }
+    open_at(alloc, disk, path)
+}
+
+/// Opens a regular file, and sees that what was opened is what stands there, and no link to it.
+fn open_at<D: Disk>(alloc: Global, disk: &mut D, path: &str) -> Result<D::File, TreeFault>
+    ensures path { IfOk result (λ file. D.path_of file ≡ path.now) }
+    ensures opened { IfOk result (λ file. OpensAt D.says path.now disk.old disk.new) }
+    ensures failed { IfErr result (λ fault. fault ≡ Unreadable → OpensNone D.says path.now disk.old disk.new) }
+{
+    let Some(there) = disk.look(path) else {
+        return Err(TreeFault::Unreadable);
+    };
+    let file = disk.open(alloc, path)?;
+    if is_same_file(there, D::found(&file)) {
+        Ok(file)
+    } else {
+        Err(TreeFault::Unreadable)
+    }
+}
+
+/// Whether it is a regular file, and the same one.
+fn is_same_file(first: Found, second: Found) -> bool
+    ensures same { IsTrue result → IsSameFile first second }
+    ensures other { IsFalse result → IsSameFile first second → ⊥ }
+{
+    if !is_file(first) {
+        return false;
+    }
+    if !is_file(second) {
+        return false;
+    }
+    if first.device != second.device {
+        return false;
+    }
+    first.node == second.node
+}
+
+/// Whether it is a regular file.
+fn is_file(found: Found) -> bool
+    ensures file { IsTrue result → found.kind ≡ EntryKind.File }
+    ensures other { IsFalse result → found.kind ≡ EntryKind.File → ⊥ }
+{
+    match found.kind {
+        EntryKind::File => true,
+        EntryKind::Folder => false,
+        EntryKind::Other => false,
+    }
+}

@@ -1,0 +1,24 @@
+-- How a file of a tree is shown in an export (this project's own).
+use Rattle.std.specs.Prelude.{ℕ, List}
+use Rattle.droid_frame.specs.Hashes.{hash}
+use Rattle.droid_frame.specs.types.node_kind.NodeKind.TheVariants as kinds
+use Rattle.droid_frame.specs.types.record.Record.{Record}
+use Rattle.droid_core.specs.Setting.{Setting}
+use Rattle.droid_core.specs.World.{Profile, path}
+use Rattle.droid_tree.specs.declared.entry.Entry.{Entry}
+
+-- the record of a file of this folder, by its entry and its bytes
+abbrev pub shown_file : Setting → Profile → ℕ → ℕ → Entry → List ℕ → Record
+shown_file setting profile id folder entry bytes = record {
+  id = id;
+  parent = folder;
+  path = path profile.nodes id;
+  name = entry.name;
+  kind = kinds.File;
+  size = entry.len;
+  modified = entry.modified;
+  method = (setting.identify entry.name bytes profile.scan_limit profile.match_all).method;
+  mismatch = (setting.identify entry.name bytes profile.scan_limit profile.match_all).mismatch;
+  hash = hash profile.hash bytes;
+  puids = (setting.identify entry.name bytes profile.scan_limit profile.match_all).puids;
+}

@@ -1,0 +1,115 @@
+//! Trees in memory.
+
+ghost use Rattle.std.specs.Prelude.{◌≡◌, ◌≤◌, IfErr, OnOk, length};
+ghost use Rattle.droid_tree.specs.Observation.{BytesCame};
+ghost use Rattle.droid_tree.specs.declared.fault.TreeFault.TheVariants as faults;
+
+use droid_frame::Blob;
+use droid_tree::{Entry, EntryKind, Tree, TreeFault};
+use std::alloc::{AllocError, Global};
+
+/// An entry: its folder's path, its name, what it is, how long it is said to be, and its bytes, or `None` where it can't be
+/// read.
+pub type Row<'a> = (&'a str, &'a [u8], EntryKind, u64, Option<&'a [u8]>);
+
+/// A tree of such rows. A folder tells its entries in the order in which they stand.
+#[derive(Drop)]
+pub struct MemoryTree<'a> {
+    pub rows: &'a [Row<'a>],
+    /// How many bytes were read.
+    pub read: u64,
+}
+
+impl<'a> MemoryTree<'a> {
+    pub fn of(rows: &'a [Row<'a>]) -> MemoryTree<'a> {
+        MemoryTree { rows, read: 0 }
+    }
+}
+
+impl Tree for MemoryTree<'_> {
+    ghost observes = { λ old observed new. Unit {0} };
+
+    fn entries(&mut self, alloc: Global, path: &str) -> Result<Vec<Entry>, TreeFault> {
+        if is_sealed(self.rows, path) {
+            return Err(TreeFault::Unreadable);
+        }
+        match entries_below(alloc, self.rows, path) {
+            Ok(entries) => Ok(entries),
+            Err(_) => Err(TreeFault::Memory),
+        }
+    }
+
+    fn read(
+        &mut self,
+        path: &str,
+        from: u64,
+        wanted: u32,
+        bytes: &mut Vec<u8>,
+    ) -> Result<(), TreeFault>
+        ensures came { OnOk result (BytesCame (λ old observed new. Unit {0}) self.old path.now from wanted bytes.old.items bytes.new.items self.new) }
+        ensures unread { IfErr result (λ fault. fault ≡ faults.Unreadable → Unit {0}) }
+    {
+        let Some(all) = bytes_of(self.rows, path) else {
+            return Err(TreeFault::Unreadable);
+        };
+        let part = cut(all, from, wanted);
+        self.read = self.read.wrapping_add(part.len() as u64);
+        match bytes.extend_from_slice(part) {
+            Ok(()) => Ok(()),
+            Err(_) => Err(TreeFault::Memory),
+        }
+    }
+}
+
+fn cut(all: &[u8], from: u64, wanted: u32) -> &[u8]
+    ensures { length result.now ≤ wanted }
+{
+    let from = (from as usize).min(all.len());
+    let rest = &all[from..];
+    &rest[..rest.len().min(wanted as usize)]
+}
+
+/// Whether the folder of this path can't be read.
+fn is_sealed(rows: &[Row], path: &str) -> bool {
+    for row in rows {
+        if row.2 == EntryKind::Folder && row.4.is_none() && is_path_of(row, path) {
+            return true;
+        }
+    }
+    false
+}
+
+fn is_path_of(row: &Row, path: &str) -> bool {
+    match path.strip_prefix(row.0) {
+        Some(rest) => match rest.strip_prefix('/') {
+            Some(name) => name.as_bytes() == row.1,
+            None => false,
+        },
+        None => false,
+    }
+}
+
+fn bytes_of<'a>(rows: &'a [Row<'a>], path: &str) -> Option<&'a [u8]> {
+    for row in rows {
+        if is_path_of(row, path) {
+            return row.4;
+        }
+    }
+    None
+}
+
+fn entries_below(alloc: Global, rows: &[Row], path: &str) -> Result<Vec<Entry>, AllocError> {
+    let mut entries = Vec::new(alloc);
+    for row in rows {
+        if row.0 == path {
+            let entry = Entry {
+                name: Blob::copy_of(alloc, row.1)?,
+                kind: row.2,
+                modified: 0,
+                len: row.3,
+            };
+            entries.push(entry)?;
+        }
+    }
+    Ok(entries)
+}
