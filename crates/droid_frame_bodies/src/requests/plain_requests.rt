@@ -1,4 +1,4 @@
-//! Requests whose bodies hold no list.
+//! Readers of the requests that have no list: all but Export.
 
 ghost use Rattle.std.specs.Prelude.{◌≡◌, ◌≤◌, drop, length, vec_len};
 ghost use Rattle.droid_frame_bodies.specs.fields.Reading.{text_at};
@@ -9,8 +9,8 @@ use crate::fields::hashes::carried_kind_at;
 use crate::fields::{bool_at, bytes_after, text_of, u32_at, u64_at};
 use droid_frame_values::{Blob, Request, Text};
 
-/// The request of a kind whose bodies hold no list, in this version: a name and a piece's bytes are the body's own
-/// buffer. It takes no memory.
+/// Reads a request that has no list, in this version. A name and a piece's bytes stay in the body's own buffer.
+/// Allocates nothing.
 #[tactic(auto, unfolding(crate::specs::requests::Values::plain_value, crate::specs::requests::Values::finish_value, crate::specs::requests::Values::abandon_value, crate::specs::requests::Values::status_value))]
 pub(crate) fn plain_value(version: u8, kind: u8, body: Blob) -> Option<Request>
     ensures { result ≡ plain_value version kind body }
@@ -22,15 +22,15 @@ pub(crate) fn plain_value(version: u8, kind: u8, body: Blob) -> Option<Request>
         3 => add_file(body),
         4 => piece(body),
         5 => {
-            let (profile, file) = file_value(bytes)?;
+            let (profile, file) = profile_and_file(bytes)?;
             Some(Request::Finish { profile, file })
         }
         6 => {
-            let (profile, file) = file_value(bytes)?;
+            let (profile, file) = profile_and_file(bytes)?;
             Some(Request::Abandon { profile, file })
         }
         7 => {
-            let (profile, file) = file_value(bytes)?;
+            let (profile, file) = profile_and_file(bytes)?;
             Some(Request::Status { profile, file })
         }
         _ => None,
@@ -105,9 +105,9 @@ fn piece(body: Blob) -> Option<Request>
     })
 }
 
-/// The numbers of a profile and a file, where the body has nothing else.
+/// Reads the numbers of a profile and a file, if the body has nothing else.
 #[tactic(auto, unfolding(crate::specs::requests::Values::file_value, crate::specs::fields::Reading::whole))]
-fn file_value(body: &[u8]) -> Option<(u32, u32)>
+fn profile_and_file(body: &[u8]) -> Option<(u32, u32)>
     ensures { result ≡ file_value body.now }
 {
     let (profile, rest) = u32_at(body)?;
@@ -118,7 +118,7 @@ fn file_value(body: &[u8]) -> Option<(u32, u32)>
     Some((profile, file))
 }
 
-/// The text from this place to the end, in the body's own buffer.
+/// Reads the text from this index to the end, in the body's own buffer.
 fn text_after(body: Blob, place: usize) -> Option<Text>
     requires { place ≤ length body }
     ensures { result ≡ text_at (drop place body) }
