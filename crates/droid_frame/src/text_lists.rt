@@ -1,4 +1,4 @@
-//! Texts, added at the end of bytes, each after its length in one byte.
+//! Writers of texts, each after its length in one byte.
 
 ghost use Rattle.std.specs.Prelude.{◌≡◌, ◌≤◌, ◌++◌, OnOk, length};
 ghost use Rattle.std.specs.List.{AllByRecursion};
@@ -8,7 +8,7 @@ ghost use Rattle.droid_frame_values.specs.TextLists.{sized_bytes, texts_bytes};
 use droid_frame_values::{Text, Texts};
 use std::alloc::AllocError;
 
-/// Adds the texts at the end, each after its length.
+/// Appends the texts, each after its length.
 pub(crate) fn append_texts(out: &mut Vec<u8>, texts: &Texts) -> Result<(), AllocError>
     requires { AllByRecursion (λ text. length text ≤ 255) texts.now }
     ensures added { OnOk result (out.new.items ≡ out.old.items ++ texts_bytes texts.now) }

@@ -1,4 +1,4 @@
-//! Filters, added at the end of bytes.
+//! Writers of filters.
 
 ghost use Rattle.std.specs.Prelude.{◌≡◌, ◌++◌, ◌∷◌, ◌<◌, ◌^◌, OnOk};
 ghost use Rattle.droid_frame_values.specs.Fields.{u64_bytes};
@@ -8,7 +8,7 @@ use crate::text_lists::append_texts;
 use droid_frame_values::{Criterion, Filter, Texts};
 use std::alloc::AllocError;
 
-/// Adds the filter at the end.
+/// Appends the filter.
 pub(crate) fn append_filter(out: &mut Vec<u8>, filter: &Filter) -> Result<(), AllocError>
     requires { FilterFits filter.now }
     ensures added { OnOk result (out.new.items ≡ out.old.items ++ filter_bytes filter.now) }

@@ -1,4 +1,4 @@
-//! Frames on streams: one after the other, with nothing between them.
+//! Readers and writers of frames on streams. A stream has frames one after the other, with nothing between them.
 
 mod arrival;
 mod fault;

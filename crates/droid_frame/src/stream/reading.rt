@@ -1,4 +1,4 @@
-//! Reading a frame.
+//! The reader of frames.
 
 ghost use Rattle.std.specs.Prelude.{◌≡◌, ◌++◌, ℕ, List, Some, Err, IfOk, IfErr, OnErr, IfSome, IsErrOf};
 ghost use Rattle.droid_frame_values.specs.Frames.{frame_bytes};
@@ -13,23 +13,23 @@ use droid_frame_stream::{Retries, SteadyRead, fill};
 use droid_frame_values::{Blob, Frame, body_limit, is_version};
 use std::alloc::Global;
 
-/// Reads the next frame. The header is read whole before any of it is judged, and memory is taken once, for
-/// the body, after that. An interrupted read is tried again, 64 times over all of the frame.
+/// Reads the next frame, or the end of the stream. It reads the whole header before it checks it, and then allocates
+/// once, for the body. It retries interrupted reads, up to 64 in one frame.
 pub fn read_frame<R: SteadyRead>(alloc: Global, reader: &mut R) -> Result<Arrival, FrameFault>
-    // A frame comes with exactly its spelling read, and the end where nothing is left.
+    // A returned frame is readable, and exactly its bytes were read. `End` means that no bytes were left.
     ensures brought { IfOk result (Brings (R.remaining reader.old) (R.remaining reader.new)) }
-    // What the input begins with comes, and leaves the rest of the input.
+    // If the input begins with a readable frame, this frame is returned, and the bytes after it are left.
     ensures accepted { (frame : Frame) (rest : List ℕ) → IsReadable frame → R.remaining reader.old ≡ Some (frame_bytes frame ++ rest) →
         UnlessRefused result ((result ≡ Ok (Arrival.Frame frame)) × (R.remaining reader.new ≡ Some rest)) }
-    // Where it begins with no frame, this says why.
+    // If the input begins with no frame, the result is the end or the fault that `why` defines.
     ensures ended { (input : List ℕ) → R.remaining reader.old ≡ Some input → BeginsNoFrame input → UnlessRefused result (result ≡ why input) }
-    // So each fault comes exactly where it is why; memory is only asked for behind a good header.
+    // So each fault has its cause in the input. `Memory` comes only after a valid header with a body.
     ensures reported { IfErr result (λ fault. IfSome (R.remaining reader.old) (Tells fault)) }
-    // What a fault has read begins with no frame: at most a header, or a good header and less than the body
-    // that it names. Want of memory has read a good header, and the body isn't empty.
+    // The bytes read before a fault contain no whole frame: at most a header, or a valid header and less than the body
+    // that it announces. Before `Memory`, exactly a valid header was read, and its body is not empty.
     ensures fault { OnErr result (ReadsNoFrame (R.remaining reader.old) (R.remaining reader.new)) }
     ensures memory { IsErrOf result FrameFault.Memory → ReadsGoodHeader (R.remaining reader.old) (R.remaining reader.new) }
-    // `Read` comes exactly where the reader failed or was interrupted for the 65th time in this call.
+    // `Read` comes exactly if the reader failed or was interrupted for the 65th time in this call.
     ensures failed { IsSound (R.seen reader.old) →
         ReportsFault (R.seen reader.old).interruptions (R.seen reader.new) (IsErrOf result FrameFault.Read) }
 {
@@ -59,7 +59,7 @@ fn next_arrival<R: SteadyRead>(
     }))
 }
 
-/// Reads a header, or nothing at the end of the input.
+/// Reads a header, or `None` at the end of the input.
 fn read_header<R: SteadyRead>(
     reader: &mut R,
     retries: &mut Retries,
@@ -75,7 +75,7 @@ fn read_header<R: SteadyRead>(
     }
 }
 
-/// How long the body is that the header names.
+/// Checks the header's version and length, in this order, and returns the length of the body.
 #[tactic(auto, unfolding(crate::specs::StreamReads::judged))]
 fn body_length(header: Header) -> Result<usize, FrameFault>
     ensures judged { result ≡ judged header }
@@ -91,7 +91,7 @@ fn body_length(header: Header) -> Result<usize, FrameFault>
     Ok(length)
 }
 
-/// Reads a body of this length, into a buffer that is taken once; an empty body takes no memory.
+/// Reads a body of this length. Allocates once, and not at all for an empty body.
 fn read_body<R: SteadyRead>(
     alloc: Global,
     reader: &mut R,

@@ -1,4 +1,4 @@
-//! Writing replies.
+//! The writer of replies.
 
 ghost use Rattle.std.specs.Prelude.{◌≡◌, ◌+◌, ◌<◌, ◌≤◌, ◌^◌, ◌-◌, ℕ, IsErr, OnOk, IfErr, length};
 ghost use Rattle.std.specs.Io.KnownBytes.{Appends};
@@ -18,11 +18,11 @@ use crate::replies::reply_body_len;
 use droid_frame_stream::{Progress, SteadyWrite, WriteFault, write_all};
 use droid_frame_values::{Reply, Texts};
 
-/// Writes a reply's frame, in the version, to the client and under the number of the request that it answers. It
-/// takes no memory. An interrupted write is tried again, 64 times over all of the frame.
+/// Writes the frame of a reply. The version, client and number are those of the request. It allocates nothing, and
+/// retries interrupted writes, up to 64 in one frame.
 ///
-/// A reply with more identifiers, a longer one or a longer part than a reply may have has no spelling, and in
-/// version 1 one with another hash than MD5 hasn't either, so the caller sees to that.
+/// The reply must have a spelling in this version: it is within the limits of a reply, and its hash is MD5 if the
+/// version is 1.
 pub fn write_reply<W: SteadyWrite>(
     version: u8,
     client: u32,
@@ -32,14 +32,14 @@ pub fn write_reply<W: SteadyWrite>(
 ) -> Result<(), WriteFault>
     requires version { IsVersion version }
     requires spelling { HasReplySpelling version reply.now }
-    // All of the frame's one spelling was written, and nothing else.
+    // On success exactly the bytes of the frame were written.
     ensures ok { OnOk result (Appends (W.contents writer.old) (W.contents writer.new) (reply_frame version client number reply.now)) }
-    // Exactly the first `written` bytes of it were written, and that isn't all.
+    // After a fault exactly the first `written` bytes of the frame were written, and some were left.
     ensures err { IfErr result (λ fault. Stops (W.contents writer.old) (W.contents writer.new) (reply_frame version client number reply.now) fault.written) }
-    // A fault comes exactly where the writer failed or was interrupted for the 65th time in this call, or had no room.
+    // A fault comes exactly if the writer failed, had no room, or was interrupted for the 65th time in this call.
     ensures failed { IsSound (W.seen writer.old) →
         ReportsWrite (W.seen writer.old).interruptions (W.seen writer.new) (W.room writer.old) (length (reply_frame version client number reply.now)) (IsErr result) }
-    // What went out is taken from the room; where there is no end of it, it stays so.
+    // The written bytes reduce the room, if it is limited.
     ensures room_ok { OnOk result (Takes (W.room writer.old) (W.room writer.new) (length (reply_frame version client number reply.now))) }
     ensures room_err { IfErr result (λ fault. Takes (W.room writer.old) (W.room writer.new) fault.written) }
 {
@@ -56,7 +56,7 @@ pub fn write_reply<W: SteadyWrite>(
     write_rest(writer, reply, &mut progress)
 }
 
-/// Writes the list or the bytes of a reply.
+/// Writes the list or bytes after a reply's front.
 fn write_rest<W: SteadyWrite>(
     writer: &mut W,
     reply: &Reply,
@@ -77,7 +77,7 @@ fn write_rest<W: SteadyWrite>(
     }
 }
 
-/// Writes the identifiers, each after its length.
+/// Writes the format identifiers, each after its length.
 fn write_puids<W: SteadyWrite>(
     writer: &mut W,
     puids: &Texts,

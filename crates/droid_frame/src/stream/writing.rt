@@ -1,4 +1,4 @@
-//! Writing a frame.
+//! The writer of frames.
 
 ghost use Rattle.std.specs.Prelude.{◌≤◌, IsErr, OnOk, IfErr, length};
 ghost use Rattle.std.specs.Io.KnownBytes.{Appends};
@@ -12,19 +12,19 @@ use super::header::Header;
 use droid_frame_stream::{Progress, SteadyWrite, WriteFault, write_all};
 use droid_frame_values::Frame;
 
-/// Writes a frame. It takes no memory. An interrupted write is tried again, 64 times over all of the frame.
+/// Writes a frame. It allocates nothing, and retries interrupted writes, up to 64 in one frame.
 ///
-/// A body that is longer than that of any frame may be has no spelling, so the caller sees to that.
+/// The body must be no longer than the limit of version 2.
 pub fn write_frame<W: SteadyWrite>(frame: &Frame, writer: &mut W) -> Result<(), WriteFault>
     requires { length frame.now.body ≤ body_limit 2 }
-    // All of the frame's one spelling was written, and nothing else.
+    // On success exactly the bytes of the frame were written.
     ensures ok { OnOk result (Appends (W.contents writer.old) (W.contents writer.new) (frame_bytes frame.now)) }
-    // Exactly the first `written` bytes of it were written, and that isn't all.
+    // After a fault exactly the first `written` bytes of the frame were written, and some were left.
     ensures err { IfErr result (λ fault. Stops (W.contents writer.old) (W.contents writer.new) (frame_bytes frame.now) fault.written) }
-    // A fault comes exactly where the writer failed or was interrupted for the 65th time in this call, or had no room.
+    // A fault comes exactly if the writer failed, had no room, or was interrupted for the 65th time in this call.
     ensures failed { IsSound (W.seen writer.old) →
         ReportsWrite (W.seen writer.old).interruptions (W.seen writer.new) (W.room writer.old) (length (frame_bytes frame.now)) (IsErr result) }
-    // What went out is taken from the room; where there is no end of it, it stays so.
+    // The written bytes reduce the room, if it is limited.
     ensures room_ok { OnOk result (Takes (W.room writer.old) (W.room writer.new) (length (frame_bytes frame.now))) }
     ensures room_err { IfErr result (λ fault. Takes (W.room writer.old) (W.room writer.new) fault.written) }
 {
