@@ -8,7 +8,7 @@ pub mod laws;
 mod replies;
 mod requests;
 mod stream;
-mod text_lists;
+mod text_writer;
 
 pub use droid_frame_bodies::{BodyFault, reply_of, request_of};
 pub use droid_frame_stream::{

@@ -11,7 +11,7 @@ ghost use Rattle.droid_frame_values.specs.TextLists.{texts_bytes};
 ghost use Rattle.droid_frame_values.specs.Versions.{IsVersion};
 
 use crate::replies::fronts::front_of;
-use crate::text_lists::append_texts;
+use crate::text_writer::append_texts;
 use droid_frame_values::{Blob, Reply, Texts};
 use std::alloc::{AllocError, Global};
 

@@ -1,6 +1,6 @@
 //! Makers of requests' frames.
 
-mod filters;
+mod filter_writer;
 
 ghost use Rattle.std.specs.Prelude.{◌≡◌, ◌++◌, IfOk, OnOk};
 ghost use Rattle.std.specs.Str.{IsUtf8};
@@ -10,7 +10,7 @@ ghost use Rattle.droid_frame_values.specs.Filters.{FilterFits, IsFilter, filter_
 ghost use Rattle.droid_frame_values.specs.Frames.{frame_bytes, spelling};
 ghost use Rattle.droid_frame_values.specs.Hashes.{CarriesHash, hash_field};
 
-use self::filters::append_filter;
+use self::filter_writer::append_filter;
 use droid_frame_values::{Blob, Filter, Frame, HashKind, Request, Text};
 use std::alloc::{AllocError, Global};
 

@@ -2,14 +2,14 @@
 
 mod arrival;
 mod fault;
+mod frame_reader;
+mod frame_writer;
 mod header;
-mod reading;
-mod replies;
-mod writing;
+mod reply_writer;
 
 pub use arrival::Arrival;
 pub use fault::FrameFault;
+pub use frame_reader::read_frame;
+pub use frame_writer::write_frame;
 pub use header::HEADER_LENGTH;
-pub use reading::read_frame;
-pub use replies::write_reply;
-pub use writing::write_frame;
+pub use reply_writer::write_reply;

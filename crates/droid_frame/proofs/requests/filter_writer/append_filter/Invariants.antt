@@ -2,7 +2,7 @@
 use Rattle.std.proofs.Common.{◌≡◌, ◌++◌, take}
 use Rattle.std.specs.List.{AllByRecursion, flat_map}
 use Rattle.droid_frame_values.specs.Filters.{IsCriterion, criterion_bytes}
-use Rattle.droid_frame.proofs.requests.filters.append_filter.Given as goal
+use Rattle.droid_frame.proofs.requests.filter_writer.append_filter.Given as goal
 
 abbrev pub invariant-loop-criterion : goal.invariant-loop-criterion
 invariant-loop-criterion l = record {

@@ -13,7 +13,7 @@ use Rattle.droid_frame.proofs.StreamEnds.{first_room, takes_before, told_last, w
 use Rattle.droid_frame.proofs.ReplyFronts.{rest_spelled}
 use Rattle.droid_frame.proofs.ReplyWrites.{frame_size, all_sent, frame_is, rest_room, stops_in_front, stops_in_header, stops_in_rest}
 use Rattle.droid_frame.proofs.StreamWrites.{Sent, if_err, on_ok, passed_on, sent_more, sent_nothing}
-use Rattle.droid_frame.proofs.stream.replies.write_reply.Goals as goal
+use Rattle.droid_frame.proofs.stream.reply_writer.write_reply.Goals as goal
 
 pub returns-in_err-write_all-clause-err : goal.returns-in_err-write_all-clause-err
 returns-in_err-write_all-clause-err g c =

@@ -1,7 +1,7 @@
 use Rattle.droid_frame_stream.proofs.Scopes.{counts_begin}
 use Rattle.droid_frame.proofs.StreamCounts.{told_read}
 use Rattle.droid_frame.proofs.StreamArrivals.{accepted, ended}
-use Rattle.droid_frame.proofs.stream.reading.read_frame.Goals as goal
+use Rattle.droid_frame.proofs.stream.frame_reader.read_frame.Goals as goal
 
 pub returns-clause-accepted : goal.returns-clause-accepted
 returns-clause-accepted g c = λ frame rest readable e. accepted _ _ c.next_arrival.result frame rest c.next_arrival.ensures.came readable e

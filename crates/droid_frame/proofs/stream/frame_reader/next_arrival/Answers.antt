@@ -2,7 +2,7 @@ use Rattle.std.proofs.Common.{Err, ap, sym}
 use Rattle.droid_frame.specs.declared.stream.fault.FrameFault.{FrameFault}
 use Rattle.droid_frame.proofs.StreamCounts.{counts_judged, counts_passed}
 use Rattle.droid_frame.proofs.StreamArrivals.{header_fault, length_fault, body_fault, frame_came, good_is, passed_fault}
-use Rattle.droid_frame.proofs.stream.reading.next_arrival.Goals as goal
+use Rattle.droid_frame.proofs.stream.frame_reader.next_arrival.Goals as goal
 
 pub returns-in_err-header-clause-came : goal.returns-in_err-header-clause-came
 returns-in_err-header-clause-came g c =

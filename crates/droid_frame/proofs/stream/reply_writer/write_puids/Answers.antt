@@ -7,7 +7,7 @@ use Rattle.droid_frame_values.specs.TextLists.{sized_bytes, texts_bytes}
 use Rattle.droid_frame.proofs.ReplyWrites.{puid_room, puids_split, stops_on}
 use Rattle.droid_frame.proofs.StreamEnds.{stop_passed}
 use Rattle.droid_frame.proofs.StreamWrites.{passed_on}
-use Rattle.droid_frame.proofs.stream.replies.write_puids.Goals as goal
+use Rattle.droid_frame.proofs.stream.reply_writer.write_puids.Goals as goal
 
 pub write_all-requires : goal.write_all-requires
 write_all-requires g c =

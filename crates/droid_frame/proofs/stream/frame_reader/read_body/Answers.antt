@@ -1,6 +1,6 @@
 use Rattle.droid_frame.specs.declared.stream.fault.FrameFault.TheVariants.{Read}
 use Rattle.droid_frame.proofs.StreamCounts.{counts_passed}
-use Rattle.droid_frame.proofs.stream.reading.read_body.Goals as goal
+use Rattle.droid_frame.proofs.stream.frame_reader.read_body.Goals as goal
 
 pub returns-in_err-count-clause-counts : goal.returns-in_err-count-clause-counts
 returns-in_err-count-clause-counts g c = λ start counts.

@@ -10,7 +10,7 @@ use Rattle.droid_frame_values.specs.Frames.{frame_bytes}
 use Rattle.droid_frame.specs.StreamWrites.{Stops}
 use Rattle.droid_frame.proofs.StreamEnds.{first_room, told_last, within_part}
 use Rattle.droid_frame.proofs.StreamWrites.{Sent, sent_nothing, sent_more, stops_after, passed_on, on_ok, if_err}
-use Rattle.droid_frame.proofs.stream.writing.write_frame.Goals as goal
+use Rattle.droid_frame.proofs.stream.frame_writer.write_frame.Goals as goal
 
 pub returns-in_err-write_all-clause-err : goal.returns-in_err-write_all-clause-err
 returns-in_err-write_all-clause-err g c =

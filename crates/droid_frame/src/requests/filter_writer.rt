@@ -4,7 +4,7 @@ ghost use Rattle.std.specs.Prelude.{◌≡◌, ◌++◌, ◌∷◌, ◌<◌, ◌
 ghost use Rattle.droid_frame_values.specs.Fields.{u64_bytes};
 ghost use Rattle.droid_frame_values.specs.Filters.{IsList, IsCriterion, IsFilter, ListFits, CriterionFits, FilterFits, list_bytes, criterion_bytes, filter_bytes};
 
-use crate::text_lists::append_texts;
+use crate::text_writer::append_texts;
 use droid_frame_values::{Criterion, Filter, Texts};
 use std::alloc::AllocError;
 

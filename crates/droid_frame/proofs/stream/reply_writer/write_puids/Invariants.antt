@@ -4,7 +4,7 @@ use Rattle.std.specs.Io.KnownBytes.{Appends}
 use Rattle.droid_frame_stream.specs.Seen.{Counts}
 use Rattle.droid_frame_stream.specs.Writes.{Takes}
 use Rattle.droid_frame_values.specs.TextLists.{texts_bytes}
-use Rattle.droid_frame.proofs.stream.replies.write_puids.Given as goal
+use Rattle.droid_frame.proofs.stream.reply_writer.write_puids.Given as goal
 
 abbrev pub invariant-loop-puid : goal.invariant-loop-puid
 invariant-loop-puid g l = record {
