@@ -1,4 +1,4 @@
-//! How the front is shown several pieces.
+//! Passing several pieces to the front.
 
 ghost use Rattle.std.specs.Prelude.{◌≡◌, ◌≤◌, ◌++◌, ℕ, List, length};
 ghost use Rattle.std.specs.List.{concat};
@@ -9,8 +9,8 @@ use crate::front::Front;
 use crate::joined::Joined;
 use crate::several::Several;
 
-/// Shows the front the bytes of small pieces, joined: what each call to the front costs is more than a
-/// few bytes. It stands by itself, so that large pieces don't clear the room for those.
+/// Joins small pieces, and passes their bytes to the front in one call, which is cheaper than a call for each. This is
+/// a function of its own so that large pieces don't pay for clearing the buffer.
 #[inline(never)]
 pub(crate) fn show_joined(front: &mut Front, several: &Several)
     requires sound { IsFront front.old }
@@ -29,7 +29,7 @@ pub(crate) fn show_joined(front: &mut Front, several: &Several)
     front.take(joined.bytes());
 }
 
-/// Shows the front the bytes of each piece, without a copy.
+/// Passes the bytes of each piece to the front, without a copy.
 #[inline(never)]
 pub(crate) fn show_each(front: &mut Front, several: &Several)
     requires sound { IsFront front.old }

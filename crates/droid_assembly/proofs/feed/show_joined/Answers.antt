@@ -2,8 +2,8 @@ use Rattle.std.proofs.Common.{◌≡◌, ◌∙◌, ◌+◌, ◌<◌, ◌++◌, 
 use Rattle.std.specs.List.{concat, slice_get}
 use Rattle.std.specs.Option.{option_copied}
 use Rattle.droid_assembly.proofs.ShowingSeveral.{joined-more, joined-within, none-past}
-use Rattle.droid_assembly.proofs.showing.show_joined.Goals as goal
-use Rattle.droid_assembly.proofs.showing.show_joined.Goals.{in-Some, in_default}
+use Rattle.droid_assembly.proofs.feed.show_joined.Goals as goal
+use Rattle.droid_assembly.proofs.feed.show_joined.Goals.{in-Some, in_default}
 
 pub push-requires : goal.push-requires
 push-requires c =

@@ -4,8 +4,8 @@ use Rattle.std.specs.Option.{option_copied}
 use Rattle.std.proofs.lemmas.List.{append_assoc}
 use Rattle.droid_assembly.specs.Fronts.{FrontKnows}
 use Rattle.droid_assembly.proofs.ShowingSeveral.{joined-more, joined-all, none-past}
-use Rattle.droid_assembly.proofs.showing.show_each.Goals as goal
-use Rattle.droid_assembly.proofs.showing.show_each.Goals.{in-Some, in_default}
+use Rattle.droid_assembly.proofs.feed.show_each.Goals as goal
+use Rattle.droid_assembly.proofs.feed.show_each.Goals.{in-Some, in_default}
 
 pub loop-place-preserved : goal.loop-place-preserved
 loop-place-preserved c =
