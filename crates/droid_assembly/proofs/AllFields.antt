@@ -1,4 +1,4 @@
--- An assembly has these fields and no other: with one more these records would want a field.
+-- An assembly has exactly these fields: with one more, these records would lack it.
 use Rattle.std.proofs.Common.{◌≡◌, refl}
 use Rattle.droid_assembly.specs.declared.assembly.Assembly.TheInside.{Inside}
 use Rattle.droid_assembly.specs.declared.front.Front.{Front}

@@ -1,10 +1,10 @@
--- What contracts see of the fields of an assembly.
+-- The state of an assembly, as contracts see it, from its fields.
 use Rattle.std.specs.Prelude.{vec_capacity}
 use Rattle.droid_assembly.specs.State.{State}
 use Rattle.droid_assembly.specs.Rings.{ring_items}
 use Rattle.droid_assembly.specs.declared.assembly.Assembly.TheInside.{Inside}
 
--- all of them, but how the last bytes lie in their block
+-- all of the fields, except the position of the last bytes in their ring buffer
 abbrev pub state_of : Inside → State
 state_of fields = record {
   size = fields.size;

@@ -1,4 +1,4 @@
--- What is kept of the bytes before the first missing piece.
+-- The front of a file: the bytes before the first missing piece.
 use Rattle.std.specs.Prelude.{◌≡◌, ℕ, ◌≤◌, List, vec_len, vec_capacity}
 use Rattle.droid_assembly.specs.Pieces.{first_window, last_window}
 use Rattle.droid_assembly.specs.Hashing.{HoldsAll}
@@ -6,19 +6,19 @@ use Rattle.droid_assembly.specs.Rings.{IsRing, ring_items}
 use Rattle.droid_assembly.specs.declared.front.Front.{Front}
 use Rattle.droid_assembly.specs.declared.running_hash.RunningHash.{RunningHash}
 
--- its fields belong together
+-- its fields fit together; each window has memory for exactly `width` bytes
 pub record IsFront (front : Front) : Type 0 where
   pub ring : IsRing front.last
   pub same_width : front.last.width ≡ front.width
-  pub room : front.width ≤ vec_capacity front.first
+  pub room : vec_capacity front.first ≡ front.width
   pub within : vec_len front.first ≤ front.width
 
--- these are the first and the last of the bytes, and this hash holds them all
+-- `first` and `last` are the windows of the bytes, and the hash covers all of the bytes
 pub record Knows (width : ℕ) (first last : List ℕ) (hash : RunningHash) (bytes : List ℕ) : Type 0 where
   pub begun : first ≡ first_window width bytes
   pub ended : last ≡ last_window width bytes
   pub hashed : HoldsAll hash bytes
 
--- it keeps the ends of these bytes, and its hash holds them all
+-- the front has the windows and the hash of these bytes
 abbrev pub FrontKnows : Front → List ℕ → Type 0
 FrontKnows front bytes = Knows front.width front.first.items (ring_items front.last) front.hash bytes

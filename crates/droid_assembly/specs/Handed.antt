@@ -1,4 +1,4 @@
--- What is handed back.
+-- The pieces that `settle` returns.
 use Rattle.std.specs.Prelude.{ℕ, List, [], ◌∷◌, Option, None, Some}
 
 -- the bytes of each piece, in order of index: of one piece, or of several

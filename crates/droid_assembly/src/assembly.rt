@@ -1,4 +1,4 @@
-//! One unfinished file.
+//! The pieces of one unfinished file.
 
 ghost use Rattle.std.specs.Prelude.{◌≡◌, ◌+◌, ◌-◌, ◌*◌, ◌^◌, ◌<◌, ◌≤◌, ◌↔◌, ◌++◌, ◌∷◌, [], ℕ, List, length, min, IsOk, IfOk, IfErr, OnOk, OnErr, IsErrOf, IsTrue, IsSome, None, Some, option_map, MatchBool};
 ghost use Rattle.std.specs.Bool.{OnFalse};
@@ -19,11 +19,11 @@ use droid_frame::{Blob, HashKind, HashValue};
 use std::alloc::{AllocError, Global};
 use std::marker::Model;
 
-/// The pieces of one unfinished file, put together whatever order they come in.
+/// The pieces of one unfinished file. They can come in any order.
 ///
-/// One piece at a time is pending: a caller that has to commit elsewhere first settles it
-/// afterwards, or takes it back. No piece before the first missing one is kept: of these the two
-/// windows and a running hash remain.
+/// [`put`](Assembly::put) makes a piece pending. The caller then commits it elsewhere, and calls
+/// [`settle`](Assembly::settle) to keep the piece, or [`take_back`](Assembly::take_back) to drop it. The assembly keeps
+/// no piece before the first missing one: it keeps their first and last bytes (the windows) and their hash so far.
 #[derive(Debug, Drop)]
 pub struct Assembly {
     size: u64,
@@ -34,7 +34,7 @@ pub struct Assembly {
     settled_bytes: u64,
     front: Front,
     hashed: Option<HashValue>,
-    // The settled pieces past the first missing one, each at the rest of its index by their number.
+    // The settled pieces after the first missing one. A piece is at its index modulo 16.
     waiting: Vec<Option<Blob>>,
     pending: Option<(u32, Blob)>,
 }
@@ -55,10 +55,9 @@ impl Model for Assembly {
 impl Assembly {
     ghost use Rattle.droid_assembly.specs.Lending.{StaysUnchanged};
 
-    /// An assembly of no piece, for a file of `size` bytes in pieces of `piece_size` bytes, of which
-    /// `scan_limit` bytes are scanned from each end, and which gets this hash. What the sizes can be is this
-    /// project's own. Only want of memory refuses it, and no later call takes any: two windows are
-    /// reserved, and sixteen places.
+    /// Makes an assembly without pieces, for a file of `size` bytes in pieces of `piece_size` bytes. Each window has
+    /// `scan_limit` bytes, and the file gets this kind of hash. The limits on the sizes are this project's own. It
+    /// reserves two windows and sixteen places for pieces, and fails only when out of memory. No later call allocates.
     pub fn new(
         alloc: Global,
         size: u64,
@@ -91,10 +90,10 @@ impl Assembly {
         })
     }
 
-    /// Makes this piece the pending one, or hands its bytes back and changes nothing.
+    /// Makes this piece the pending one. On a fault it returns the bytes, and the assembly is unchanged.
     pub fn put(&mut self, index: u32, bytes: Blob) -> Result<(), PutFault>
         requires { self.old.pending ≡ None }
-        // The first of these that holds is answered.
+        // The first of these faults that applies is returned.
         ensures bad_piece { IsErrOf result (PutFault.BadPiece bytes)
             ↔ (¬ IsDue self.old.size self.old.piece_size (index, bytes)) }
         ensures piece_held { (pieces : List Piece) → StandsFor self.old pieces
@@ -128,14 +127,14 @@ impl Assembly {
         Ok(())
     }
 
-    /// The index of the pending piece.
+    /// Returns the index of the pending piece.
     pub fn pending(&self) -> Option<u32>
         ensures { result ≡ option_map (λ piece. piece.0) self.now.pending }
     {
         self.pending.as_ref().map(|piece| piece.0)
     }
 
-    /// Drops the pending piece, so that the assembly is as before its `put`.
+    /// Drops the pending piece. The assembly is then as it was before its `put`.
     pub fn take_back(&mut self)
         requires { IsSome self.old.pending }
         ensures as_before { self.new ≡ with_pending self.old None }
@@ -144,7 +143,8 @@ impl Assembly {
         self.pending = None;
     }
 
-    /// Takes the pending piece for good. The pieces that are no longer needed then are handed back.
+    /// Keeps the pending piece. Returns the pieces that the assembly no longer needs, in order of index. Allocates
+    /// nothing.
     #[inline(always)]
     pub fn settle(&mut self) -> Spent
         requires { IsSome self.old.pending }
@@ -153,7 +153,7 @@ impl Assembly {
         ensures same_file { IsOfSameFile self.old self.new }
         ensures none_pending { self.new.pending ≡ None }
 
-        // Those from the missing one to the new missing one come back, in order of index.
+        // These are the pieces from the old first missing index up to the new one.
         ensures spent { (pieces : List Piece) (piece : Piece) → StandsFor self.old pieces → self.old.pending ≡ Some piece
             → let before = missing_of (count_of self.old) pieces in
             let after = missing_of (count_of self.old) (pieces ++ piece ∷ []) in
@@ -167,20 +167,20 @@ impl Assembly {
         arrive(waiting, front, &mut self.missing, index, bytes)
     }
 
-    /// How many pieces are settled.
+    /// Returns the number of settled pieces.
     pub fn held(&self) -> u32
         ensures count { (pieces : List Piece) → StandsFor self.now pieces → result ≡ held_of pieces }
 
         // Each assembly stands for some list of pieces.
         ensures stands { (pieces : List Piece) × StandsFor self.now pieces }
 
-        // At most 16 of them lie past the first missing one.
+        // At most 16 of them come after the first missing one.
         ensures few { result ≤ 2 ^ 20 + 16 }
     {
         self.held
     }
 
-    /// The smallest index that is not settled, or the number of pieces where all are.
+    /// Returns the index of the first missing piece, or the number of pieces if none is missing.
     pub fn missing(&self) -> u32
         ensures least { (pieces : List Piece) → StandsFor self.now pieces → result ≡ missing_of (count_of self.now) pieces }
         ensures within { result ≤ count_of self.now }
@@ -189,13 +189,13 @@ impl Assembly {
         self.missing
     }
 
-    /// How many bytes are kept: in the two windows, and of the pieces that wait and the pending one.
+    /// Returns the number of bytes kept: those of the two windows, of the waiting pieces and of the pending piece.
     pub fn kept_bytes(&self) -> u64
         ensures kept { (pieces : List Piece) → StandsFor self.now pieces
             → result ≡ kept_of self.now.scan_limit (count_of self.now) pieces + pending_len self.now.pending }
         ensures bound { result ≤ 2 * min self.now.scan_limit self.now.size + 16 * self.now.piece_size }
 
-        // So many at most whatever the sizes are, and whatever they are with pieces of 1,048,576 bytes at most.
+        // The largest number for any sizes, and for any sizes with pieces of at most 1,048,576 bytes.
         ensures most { result ≤ 67239936 }
         ensures most_of_small { self.now.piece_size ≤ 1048576 → result ≤ 16908288 }
     {
@@ -206,8 +206,8 @@ impl Assembly {
         windows + (self.settled_bytes - passed) + self.pending_bytes()
     }
 
-    /// The size and the hash of the whole file, or which piece is missing first. It may be asked for
-    /// again.
+    /// Returns the size and the hash of the whole file, or the index of the first missing piece. It can be called
+    /// again, with the same result. Allocates nothing.
     pub fn seal(&mut self) -> Result<Sealed, Incomplete>
         requires { self.old.pending ≡ None }
         ensures complete { IsOk result ↔ IsComplete self.old }
@@ -240,8 +240,8 @@ impl Assembly {
         })
     }
 
-    /// The first and the last bytes of the file, as many as are scanned from each end. They may be
-    /// asked for again.
+    /// Returns the first and the last bytes of the whole file, up to the scan limit each. It can be called again, with
+    /// the same result. Allocates nothing.
     pub fn windows(&mut self) -> Windows<'_>
         requires complete { IsComplete self.old }
         requires none_pending { self.old.pending ≡ None }
@@ -257,11 +257,11 @@ impl Assembly {
         self.front.windows()
     }
 
-    /// Whether the file has a piece of this index and of this length.
+    /// Returns whether the file has a piece of this index and this length.
     fn is_due(&self, index: u32, bytes: &Blob) -> bool
         ensures { IsTrue result ↔ IsDue self.now.size self.now.piece_size (index, bytes.now) }
     {
-        // A product in place of the number of pieces, which takes a division.
+        // A product is cheaper than the number of pieces, which needs a division.
         let piece_size = u64::from(self.piece_size);
         let start = u64::from(index) * piece_size;
         if start >= self.size {
@@ -270,7 +270,7 @@ impl Assembly {
         bytes.len() as u64 == piece_size.min(self.size - start)
     }
 
-    /// Whether the piece of this index is settled.
+    /// Returns whether the piece of this index is settled.
     fn is_held(&self, index: u32) -> bool
         ensures held { (pieces : List Piece) → StandsFor self.now pieces
             → MatchBool result (HasIndex pieces index) (LacksIndex pieces index) }
@@ -283,14 +283,14 @@ impl Assembly {
         index - self.missing < AHEAD && self.waiting[(index % AHEAD) as usize].is_some()
     }
 
-    /// How many pieces the file has.
+    /// Returns the number of pieces of the file.
     fn count(&self) -> u32
         ensures { result ≡ count_of self.now }
     {
         self.size.div_ceil(u64::from(self.piece_size)) as u32
     }
 
-    /// How many bytes the pending piece has.
+    /// Returns the number of bytes of the pending piece.
     fn pending_bytes(&self) -> u64
         ensures { result ≡ pending_len self.now.pending }
     {
@@ -301,7 +301,7 @@ impl Assembly {
     }
 }
 
-// The hash of the bytes so far, which is kept from then on.
+// Returns the hash of the bytes so far, and keeps it.
 fn hash_of(kept: &mut Option<HashValue>, front: &mut Front) -> HashValue
     ensures value { (before : List ℕ) → IsHashOf kept.old front.old.hash before → result ≡ hash (running_kind front.old.hash) before }
     ensures kind { running_kind front.new.hash ≡ running_kind front.old.hash }

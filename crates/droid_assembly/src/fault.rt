@@ -1,20 +1,20 @@
-//! What an assembly refuses.
+//! Faults of an assembly.
 
 ghost use Rattle.std.specs.Prelude.{◌≡◌};
 
 use droid_frame::{Blob, Refusal};
 use thiserror::Error;
 
-/// Why a piece was not taken. Each hands the bytes of the piece back.
+/// Why a piece was not accepted. Each fault returns the bytes of the piece.
 #[derive(Debug, Drop, Error)]
 pub enum PutFault {
-    /// The file has no piece of this index, or the piece there has another length.
+    /// The file has no piece of this index, or its piece of this index has another length.
     #[error("no piece of this index and length belongs to the file")]
     BadPiece { bytes: Blob },
-    /// The piece of this index was taken before.
+    /// The piece of this index is already settled.
     #[error("the piece was taken before")]
     PieceHeld { bytes: Blob },
-    /// The index lies 16 or more past the first missing one, which is `missing`.
+    /// The index is 16 or more past `missing`, the index of the first missing piece.
     #[error("the piece lies too far past piece {missing}, which is missing")]
     TooFarAhead { missing: u32, bytes: Blob },
 }
@@ -24,7 +24,7 @@ impl From<PutFault> for Refusal {
 
     ghost from_gives = { λ fault refusal. refusal ≡ reported_as fault };
 
-    /// What a client is told; the bytes of the piece are dropped.
+    /// Returns the refusal that is sent to the client, and drops the bytes of the piece.
     fn from(fault: PutFault) -> Refusal {
         match fault {
             PutFault::BadPiece { .. } => Refusal::BadPiece,
@@ -34,7 +34,7 @@ impl From<PutFault> for Refusal {
     }
 }
 
-/// A piece is missing: this is the smallest such index.
+/// The file is incomplete: `missing` is the index of the first missing piece.
 #[derive(Clone, Copy, Debug, PartialEq, Eq, Error)]
 #[error("piece {missing} is missing")]
 pub struct Incomplete {

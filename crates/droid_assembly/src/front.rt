@@ -1,4 +1,4 @@
-//! What is kept of the bytes before the first missing piece.
+//! The front of a file: the bytes before the first missing piece.
 
 ghost use Rattle.std.specs.Prelude.{◌≡◌, ◌++◌, [], ℕ, List, IfOk, vec_capacity};
 ghost use Rattle.droid_assembly.specs.Fronts.{IsFront, FrontKnows};
@@ -12,8 +12,8 @@ use crate::windows::Windows;
 use droid_frame::{HashKind, HashValue};
 use std::alloc::{AllocError, Global};
 
-/// What is kept of the bytes before the first missing piece: the first and the last of them, and a
-/// running hash of all.
+/// What the assembly keeps of the front of a file, the bytes before the first missing piece: the first and the last of
+/// them, and the hash of all of them so far.
 #[derive(Debug, Drop)]
 pub(crate) struct Front {
     first: Vec<u8>,
@@ -23,8 +23,7 @@ pub(crate) struct Front {
 }
 
 impl Front {
-    /// What is kept of no byte, with room for `width` bytes in each window. Only want of memory
-    /// refuses it.
+    /// Makes an empty front, with room for `width` bytes in each window. Fails only when out of memory.
     pub(crate) fn with_room(
         alloc: Global,
         width: usize,
@@ -45,7 +44,7 @@ impl Front {
         })
     }
 
-    /// Takes the bytes that come next.
+    /// Adds the next bytes. Allocates nothing.
     pub(crate) fn take(&mut self, bytes: &[u8])
         requires { IsFront self.old }
         ensures sound { IsFront self.new }
@@ -59,7 +58,7 @@ impl Front {
         self.hash.update(bytes);
     }
 
-    /// The hash of the bytes so far. What is kept no longer holds them afterwards.
+    /// Returns the hash of the bytes so far. After this call the running hash no longer covers them.
     pub(crate) fn finish(&mut self) -> HashValue
         ensures value { (before : List ℕ) → HoldsAll self.old.hash before → result ≡ hash (running_kind self.old.hash) before }
         ensures kind { running_kind self.new.hash ≡ running_kind self.old.hash }
@@ -70,7 +69,7 @@ impl Front {
         self.hash.finish()
     }
 
-    /// Turns the last bytes so that they lie in order.
+    /// Moves the last bytes so that they are in order in memory.
     pub(crate) fn straighten(&mut self)
         requires { IsFront self.old }
         ensures sound { IsFront self.new }
@@ -84,7 +83,7 @@ impl Front {
         self.last.straighten();
     }
 
-    /// The two windows, where the last bytes lie in order.
+    /// Returns the two windows. The last bytes must be in order: call [`straighten`](Front::straighten) first.
     pub(crate) fn windows(&self) -> Windows<'_>
         ensures first { result.first.now ≡ self.now.first.items }
         ensures last { result.last.now ≡ self.now.last.bytes.items }

@@ -1,14 +1,14 @@
-//! The bytes of small pieces, joined.
+//! Small pieces, joined.
 
 ghost use Rattle.std.specs.Prelude.{◌≡◌, ◌+◌, ◌≤◌, ◌++◌, [], length};
 
 use crate::ring::overwrite;
 use std::marker::Model;
 
-/// How many bytes are joined at most.
+/// The limit on the joined bytes.
 pub(crate) const JOINED_LIMIT: usize = 512;
 
-/// The bytes of small pieces, joined without memory of their own. Contracts see the list of the bytes.
+/// The bytes of small pieces, joined in a buffer of fixed size. In contracts it is the list of its bytes.
 #[derive(Debug, Drop)]
 pub(crate) struct Joined {
     bytes: [u8; JOINED_LIMIT],
@@ -26,7 +26,7 @@ impl Model for Joined {
 }
 
 impl Joined {
-    /// No byte yet.
+    /// Makes an empty buffer.
     #[inline(always)]
     pub(crate) fn none() -> Joined
         ensures { result ≡ [] }
@@ -37,7 +37,7 @@ impl Joined {
         }
     }
 
-    /// Adds the bytes of a piece, for which there is room.
+    /// Appends the bytes of a piece. There must be room for them.
     #[inline(always)]
     pub(crate) fn push(&mut self, bytes: &[u8])
         requires { length self.old + length bytes.now ≤ 512 }
@@ -47,7 +47,7 @@ impl Joined {
         self.count += bytes.len();
     }
 
-    /// The bytes so far.
+    /// Returns the bytes.
     pub(crate) fn bytes(&self) -> &[u8]
         ensures { result.now ≡ self.now }
     {

@@ -1,8 +1,9 @@
-//! The pieces of one unfinished file, put together whatever order they come in.
+//! Assembles one file from pieces that come in any order.
 #![tactic(auto)]
 
 mod assembly;
 mod fault;
+mod feed;
 mod front;
 mod joined;
 mod places;
@@ -10,7 +11,6 @@ mod ring;
 mod running_hash;
 mod sealed;
 mod several;
-mod showing;
 mod spent;
 mod windows;
 

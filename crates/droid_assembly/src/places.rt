@@ -1,4 +1,4 @@
-//! The places of pieces that wait for an earlier one.
+//! The places of pieces that wait for an earlier piece.
 
 ghost use Rattle.std.specs.Prelude.{◌≡◌, ◌<◌, ◌≤◌, ◌+◌, ◌%◌, ◌-◌, ◌^◌, [], ℕ, List, length, min, None, Some, IfOk, IsSome, IsTrue, replicate, slice_set, vec_capacity};
 ghost use Rattle.std.specs.Bool.{OnFalse};
@@ -9,19 +9,19 @@ ghost use Rattle.droid_assembly.specs.Fronts.{IsFront};
 ghost use Rattle.droid_assembly.specs.Hashing.{running_kind};
 ghost use Rattle.droid_assembly.specs.Kept.{IsAlong, ArePlaced, pieces_from};
 
+use crate::feed::{show_each, show_joined};
 use crate::front::Front;
 use crate::joined::JOINED_LIMIT;
 use crate::several::Several;
-use crate::showing::{show_each, show_joined};
 use crate::spent::Spent;
 use droid_frame::Blob;
 use std::alloc::{AllocError, Global};
 
-/// A piece is taken only less than so many places past the first missing one, so each of those that
-/// wait has a place of its own.
+/// A piece is accepted only if its index is less than this far past the first missing one. So each waiting piece has a
+/// place of its own.
 pub(crate) const AHEAD: u32 = 16;
 
-/// The places, none with a piece. Only want of memory refuses them.
+/// Makes the places, all empty. Fails only when out of memory.
 pub(crate) fn empty_places(alloc: Global) -> Result<Vec<Option<Blob>>, AllocError>
     ensures empty { IfOk result (λ places. places.items ≡ replicate 16 None) }
     ensures reserved { IfOk result (λ places. vec_capacity places ≡ 16) }
@@ -33,8 +33,8 @@ pub(crate) fn empty_places(alloc: Global) -> Result<Vec<Option<Blob>>, AllocErro
     Ok(places)
 }
 
-/// Puts a piece into its free place, takes the pieces that follow one another from an index on out of
-/// theirs, shows them to the front, and hands them back.
+/// Accepts a piece whose place is free. Passes every piece that is now next, from index `from` on, to the front, and
+/// returns these pieces. Allocates nothing.
 #[inline(always)]
 pub(crate) fn arrive(
     waiting: &mut [Option<Blob>],
@@ -60,7 +60,7 @@ pub(crate) fn arrive(
     ensures counted { from.new ≡ from.old + length result }
     ensures few { length result ≤ 16 }
 {
-    // Mostly the piece is the next one and no other waits for it, and then it needs no place.
+    // The usual case: the piece is next, and no other waits for it. Then it needs no place.
     if index == *from && !waits(waiting, *from + 1) {
         front.take(bytes.as_slice());
         *from += 1;
@@ -73,9 +73,8 @@ pub(crate) fn arrive(
     Spent::none()
 }
 
-// Takes the pieces that follow one another from this index on out of their places, shows them to the
-// front, and hands them back. It stands by itself, so that a piece that comes in order doesn't clear the
-// places of several.
+// Takes the consecutive pieces from this index on out of their places, passes them to the front, and returns them.
+// This is a function of its own so that the usual case doesn't pay for clearing the array of `Several`.
 #[inline(always)]
 fn pass(waiting: &mut [Option<Blob>], front: &mut Front, from: &mut u32) -> Spent
     requires places { length waiting.old ≡ 16 }
@@ -98,7 +97,7 @@ fn pass(waiting: &mut [Option<Blob>], front: &mut Front, from: &mut u32) -> Spen
     Spent::several(several)
 }
 
-// Does the same, and puts the pieces where they are to lie.
+// Does the work of `pass`, and puts the pieces into `several`.
 #[inline(never)]
 fn pass_several(waiting: &mut [Option<Blob>], front: &mut Front, from: u32, several: &mut Several)
     requires places { length waiting.old ≡ 16 }
@@ -115,7 +114,7 @@ fn pass_several(waiting: &mut [Option<Blob>], front: &mut Front, from: u32, seve
     ensures stopped { slot waiting.new (from + length several.new) ≡ None }
     ensures few { length several.new ≤ 16 }
 {
-    // Each call to the front costs more than a few bytes, so small pieces are joined first.
+    // A call of the front costs more than copying a few bytes, so small pieces are joined first.
     let total = gather(waiting, from, several);
     if total <= JOINED_LIMIT {
         show_joined(front, several);
@@ -124,8 +123,8 @@ fn pass_several(waiting: &mut [Option<Blob>], front: &mut Front, from: u32, seve
     }
 }
 
-// Takes the pieces that follow one another from this index on out of their places, and tells how many
-// bytes they have, as far as that can be counted.
+// Takes the consecutive pieces from this index on out of their places. Returns the number of their bytes, or the
+// largest `usize` if there are more.
 #[inline(always)]
 fn gather(waiting: &mut [Option<Blob>], from: u32, several: &mut Several) -> usize
     requires places { length waiting.old ≡ 16 }
@@ -152,7 +151,7 @@ fn gather(waiting: &mut [Option<Blob>], from: u32, several: &mut Several) -> usi
     total
 }
 
-// Whether the piece of this index waits.
+// Returns whether the piece of this index waits.
 fn waits(waiting: &[Option<Blob>], index: u32) -> bool
     requires { length waiting.now ≡ 16 }
     ensures there { IsTrue result → IsSome (slot waiting.now index) }

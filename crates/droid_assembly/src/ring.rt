@@ -1,22 +1,23 @@
-//! The last bytes of what came so far.
+//! The last bytes of the front.
 
 ghost use Rattle.std.specs.Prelude.{◌≡◌, ◌<◌, ◌≤◌, ◌+◌, ◌++◌, [], IfOk, length, drop, take, vec_len, vec_capacity};
 ghost use Rattle.droid_assembly.specs.Pieces.{last_window};
 ghost use Rattle.droid_assembly.specs.Rings.{IsRing, ring_items};
 
 use std::alloc::{AllocError, Global};
+use std::mem;
 
-/// The last bytes of what came so far, in a block that is written round and round.
+/// The last bytes so far, in a ring buffer.
 #[derive(Debug, Drop)]
 pub(crate) struct Ring {
     bytes: Vec<u8>,
-    // The place of the oldest byte, where the next one goes once the block is full.
+    // The index of the oldest byte. When the buffer is full, the next byte replaces it.
     turn: usize,
     width: usize,
 }
 
 impl Ring {
-    /// A ring of no bytes, with room for `width` of them. Only want of memory refuses it.
+    /// Makes an empty ring, with room for `width` bytes. Fails only when out of memory.
     pub(crate) fn with_room(alloc: Global, width: usize) -> Result<Ring, AllocError>
         ensures sound { IfOk result IsRing }
         ensures width { IfOk result (λ ring. ring.width ≡ width) }
@@ -30,7 +31,7 @@ impl Ring {
         })
     }
 
-    /// Appends bytes. Where they don't fit, the oldest go.
+    /// Appends bytes. If there is no room, they replace the oldest bytes. Allocates nothing.
     pub(crate) fn extend(&mut self, bytes: &[u8])
         requires { IsRing self.old }
         ensures sound { IsRing self.new }
@@ -43,7 +44,7 @@ impl Ring {
         self.extend_over(bytes);
     }
 
-    // Does the same where the block isn't full, or its end comes first.
+    // Does the same if the buffer is not full, or the bytes reach over its end.
     #[inline(never)]
     fn extend_over(&mut self, bytes: &[u8])
         requires { IsRing self.old }
@@ -57,7 +58,7 @@ impl Ring {
         self.replace(&bytes[count..]);
     }
 
-    /// Turns the block so that it begins with the oldest byte.
+    /// Moves the bytes so that the buffer begins with the oldest one.
     pub(crate) fn straighten(&mut self)
         requires { IsRing self.old }
         ensures sound { IsRing self.new }
@@ -70,14 +71,14 @@ impl Ring {
         self.turn = 0;
     }
 
-    /// The block, from its beginning.
+    /// Returns the buffer, from its beginning.
     pub(crate) fn block(&self) -> &[u8]
         ensures { result.now ≡ self.now.bytes.items }
     {
         self.bytes.as_slice()
     }
 
-    // Puts bytes in the place of the oldest ones.
+    // Replaces the oldest bytes.
     fn replace(&mut self, bytes: &[u8])
         requires sound { IsRing self.old }
         requires fits { length bytes.now ≤ vec_len self.old.bytes }
@@ -94,7 +95,7 @@ impl Ring {
         }
     }
 
-    // Puts bytes in the place of the oldest ones, where these lie before the block's end.
+    // Replaces the oldest bytes, if these do not reach over the end of the buffer.
     fn write(&mut self, bytes: &[u8])
         requires sound { IsRing self.old }
         requires fits { self.old.turn + length bytes.now ≤ vec_len self.old.bytes }
@@ -110,35 +111,41 @@ impl Ring {
     }
 }
 
-/// Appends bytes for which there is room.
+/// Appends bytes. There must be room for them, so nothing is allocated.
 #[inline(always)]
 pub(crate) fn append(window: &mut Vec<u8>, bytes: &[u8])
     requires { vec_len window.old + length bytes.now ≤ vec_capacity window.old }
     ensures items { window.new.items ≡ window.old.items ++ bytes.now }
-    ensures capacity { vec_capacity window.old ≤ vec_capacity window.new }
+    ensures capacity { vec_capacity window.new ≡ vec_capacity window.old }
 {
     if bytes.len() > 0 {
         append_some(window, bytes);
     }
 }
 
-// Appends at least one byte.
+// Appends at least one byte. `push_reserved` is used because its contract says that the memory stays the same.
+// The buffer is moved into a local variable so that the compiler can vectorize the loop.
 #[inline(never)]
 fn append_some(window: &mut Vec<u8>, bytes: &[u8])
     requires { vec_len window.old + length bytes.now ≤ vec_capacity window.old }
     ensures items { window.new.items ≡ window.old.items ++ bytes.now }
-    ensures capacity { vec_capacity window.old ≤ vec_capacity window.new }
+    ensures capacity { vec_capacity window.new ≡ vec_capacity window.old }
 {
-    window.extend_from_slice(bytes).unwrap();
+    let alloc = *window.allocator();
+    let mut filled = mem::replace(window, Vec::new(alloc));
+    for byte in bytes {
+        filled.push_reserved(*byte);
+    }
+    *window = filled;
 }
 
-/// Puts bytes in the place of those from `at` on.
+/// Replaces the bytes from index `at` on.
 #[inline(always)]
 pub(crate) fn overwrite(block: &mut [u8], at: usize, bytes: &[u8])
     requires { at + length bytes.now ≤ length block.old }
     ensures { block.new ≡ take at block.old ++ bytes.now ++ drop (at + length bytes.now) block.old }
 {
-    // To call for a copy of one byte would cost more than the byte.
+    // For one byte a call would cost more than the copy.
     if bytes.len() == 1 {
         block[at] = bytes[0];
     } else {
@@ -146,7 +153,7 @@ pub(crate) fn overwrite(block: &mut [u8], at: usize, bytes: &[u8])
     }
 }
 
-// Puts bytes in the place of those from `at` on, by a copy.
+// Does the same by a call of the copy.
 #[inline(never)]
 fn copy_over(block: &mut [u8], at: usize, bytes: &[u8])
     requires { at + length bytes.now ≤ length block.old }

@@ -1,4 +1,4 @@
-//! The hash of bytes that come one part after another.
+//! Hashes of bytes that come in parts.
 
 ghost use Rattle.std.specs.Prelude.{◌≡◌, ◌++◌, [], ℕ, List};
 ghost use Rattle.droid_assembly.specs.Hashing.{running_kind, HoldsAll};
@@ -8,17 +8,17 @@ use droid_frame::{HashKind, HashValue};
 use md5::{Digest as Md5Digest, Md5};
 use sha2::{Digest as Sha2Digest, Sha256};
 
-/// The hash of bytes that come one part after another, by its kind.
+/// The hash, so far, of bytes that come in parts.
 #[derive(Debug, Drop)]
 pub(crate) enum RunningHash {
-    /// None: no byte is looked at.
+    /// No hash.
     Nothing,
     Md5(Md5),
     Sha256(Sha256),
 }
 
 impl RunningHash {
-    /// The hash of this kind, of no byte.
+    /// Makes a hash of this kind, of no bytes.
     pub(crate) fn of(kind: HashKind) -> RunningHash
         ensures kind { running_kind result ≡ kind }
         ensures holds { HoldsAll result [] }
@@ -30,7 +30,7 @@ impl RunningHash {
         }
     }
 
-    /// Takes the bytes that come next.
+    /// Adds the next bytes.
     pub(crate) fn update(&mut self, bytes: &[u8])
         ensures kind { running_kind self.new ≡ running_kind self.old }
         ensures holds { (before : List ℕ) → HoldsAll self.old before → HoldsAll self.new (before ++ bytes.now) }
@@ -42,7 +42,7 @@ impl RunningHash {
         }
     }
 
-    /// The hash of the bytes so far. It no longer holds them afterwards.
+    /// Returns the hash of the bytes so far, and starts again with no bytes.
     pub(crate) fn finish(&mut self) -> HashValue
         ensures value { (before : List ℕ) → HoldsAll self.old before → result ≡ hash (running_kind self.old) before }
         ensures kind { running_kind self.new ≡ running_kind self.old }

@@ -1,12 +1,12 @@
-//! The size and the hash of a whole file.
+//! The result of a complete assembly.
 
 use droid_frame::HashValue;
 
 /// The size and the hash of a whole file.
 #[derive(Clone, Copy, Debug, PartialEq, Eq)]
 pub struct Sealed {
-    /// How many bytes the file has.
+    /// The size of the file in bytes.
     pub size: u64,
-    /// The hash of all of them.
+    /// The hash of the whole file.
     pub hash: HashValue,
 }

@@ -1,4 +1,4 @@
-//! Several pieces, as many as can follow one another at once.
+//! Several consecutive pieces.
 
 ghost use Rattle.std.specs.Prelude.{◌≡◌, ◌<◌, ◌++◌, ◌∷◌, [], length};
 ghost use Rattle.std.specs.Option.{option_copied};
@@ -8,11 +8,10 @@ use droid_frame::Blob;
 use std::array;
 use std::marker::Model;
 
-/// How many pieces there can be.
+/// The limit on the pieces.
 const SEVERAL_LIMIT: usize = 16;
 
-/// Several pieces in order of index. They are held without memory of their own. Contracts see the list
-/// of their bytes.
+/// Several consecutive pieces, in an array of fixed size. In contracts it is the list of their bytes.
 #[derive(Debug, Drop)]
 pub(crate) struct Several {
     blobs: [Option<Blob>; SEVERAL_LIMIT],
@@ -31,7 +30,7 @@ impl Model for Several {
 }
 
 impl Several {
-    /// No piece yet.
+    /// Makes an empty list.
     pub(crate) fn none() -> Several
         ensures { result ≡ [] }
     {
@@ -41,7 +40,7 @@ impl Several {
         }
     }
 
-    /// Adds a piece, for which there is a place.
+    /// Appends a piece. There must be room for it.
     pub(crate) fn push(&mut self, bytes: Blob)
         requires { length self.old < 16 }
         ensures { self.new ≡ self.old ++ bytes ∷ [] }
@@ -50,14 +49,14 @@ impl Several {
         self.count += 1;
     }
 
-    /// How many pieces there are.
+    /// Returns the number of pieces.
     pub(crate) fn len(&self) -> usize
         ensures { result ≡ length self.now }
     {
         self.count
     }
 
-    /// The piece at this place of the list, counted from 0, or `None` past the end.
+    /// Returns the piece at this position in the list, counted from 0, or `None` past the end.
     pub(crate) fn get(&self, place: usize) -> Option<&Blob>
         ensures { option_copied result ≡ slice_get self.now place }
     {

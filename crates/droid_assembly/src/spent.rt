@@ -1,4 +1,4 @@
-//! Pieces that an assembly needs no longer.
+//! Pieces that an assembly no longer needs.
 
 ghost use Rattle.std.specs.Prelude.{◌≡◌, ◌↔◌, ◌∷◌, [], IsTrue, length};
 ghost use Rattle.std.specs.Option.{option_copied};
@@ -8,10 +8,9 @@ use crate::several::Several;
 use droid_frame::Blob;
 use std::marker::Model;
 
-/// The pieces that an assembly needs no longer, in order of index. It holds them without memory of
-/// its own. Contracts see the list of their bytes.
-// Mostly one piece is handed back, or none. The places of several lie apart from the one, so that they
-// are not cleared then.
+/// The pieces that an assembly no longer needs, in order of index. It allocates nothing. In contracts it is the list of
+/// their bytes.
+// Usually there is one piece or none. The array of `Several` is a field of its own so that it isn't cleared then.
 #[derive(Debug, Drop)]
 pub struct Spent {
     one: Option<Blob>,
@@ -28,7 +27,7 @@ impl Model for Spent {
 }
 
 impl Spent {
-    /// No piece.
+    /// Makes an empty list.
     pub(crate) fn none() -> Spent
         ensures { result ≡ [] }
     {
@@ -38,7 +37,7 @@ impl Spent {
         }
     }
 
-    /// This piece alone.
+    /// Makes a list of this one piece.
     pub(crate) fn one(bytes: Blob) -> Spent
         ensures { result ≡ bytes ∷ [] }
     {
@@ -48,7 +47,7 @@ impl Spent {
         }
     }
 
-    /// All of these.
+    /// Makes a list of these pieces.
     pub(crate) fn several(several: Several) -> Spent
         ensures { result ≡ several }
     {
@@ -58,7 +57,7 @@ impl Spent {
         }
     }
 
-    /// How many pieces were handed back.
+    /// Returns the number of pieces.
     pub fn len(&self) -> usize
         ensures { result ≡ length self.now }
     {
@@ -69,14 +68,14 @@ impl Spent {
         }
     }
 
-    /// Whether none was.
+    /// Returns whether there are no pieces.
     pub fn is_empty(&self) -> bool
         ensures { IsTrue result ↔ (self.now ≡ []) }
     {
         self.len() == 0
     }
 
-    /// The piece at this place of the list, counted from 0, or `None` past the end.
+    /// Returns the piece at this position in the list, counted from 0, or `None` past the end.
     pub fn get(&self, place: usize) -> Option<&Blob>
         ensures { option_copied result ≡ slice_get self.now place }
     {

@@ -1,10 +1,10 @@
 //! The first and the last bytes of a file.
 
-/// The ends of a whole file, as signatures are looked for in them. Where the file is short they overlap.
+/// The first and the last bytes of a file, in which signatures are searched. In a short file they overlap.
 #[derive(Clone, Copy, Debug)]
 pub struct Windows<'a> {
-    /// The file's first bytes, as many as the scan limit allows.
+    /// The first bytes of the file, up to the scan limit.
     pub first: &'a [u8],
-    /// The file's last bytes, as many as the scan limit allows.
+    /// The last bytes of the file, up to the scan limit.
     pub last: &'a [u8],
 }

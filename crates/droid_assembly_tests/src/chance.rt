@@ -1,6 +1,6 @@
-//! Numbers that look like chance and are the same in each run.
+//! Pseudo-random numbers, the same in each run.
 
-/// The numbers from one seed on (Marsaglia's xorshift).
+/// A generator of pseudo-random numbers (Marsaglia's xorshift).
 #[derive(Clone, Copy, Debug)]
 pub struct Chance {
     state: u32,
@@ -11,7 +11,7 @@ impl Chance {
         Chance { state: seed | 1 }
     }
 
-    /// A number below `bound`, or 0 where there is none.
+    /// Returns a number below `bound`, or 0 if `bound` is 0.
     pub fn below(&mut self, bound: usize) -> usize {
         let mut state = self.state;
         state ^= state << 13;

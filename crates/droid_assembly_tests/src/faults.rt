@@ -1,4 +1,4 @@
-//! What the faults of an assembly say.
+//! The texts of an assembly's faults.
 
 use droid_assembly::{Incomplete, PutFault};
 use droid_frame::Blob;
@@ -14,7 +14,7 @@ const TOO_FAR_AHEAD: &str = "the piece lies too far past piece 7, which is missi
 
 const INCOMPLETE: &str = "piece 7 is missing";
 
-/// Whether the fault is printed so.
+/// Returns whether the fault is printed as this text.
 fn says<T: Display>(alloc: Global, fault: &T, text: &str) -> Result<bool, Fail> {
     Ok(format!(in alloc; "{fault}")?.as_str() == text)
 }

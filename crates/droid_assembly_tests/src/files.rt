@@ -1,4 +1,4 @@
-//! Files put together from pieces, for the tests.
+//! Files assembled from pieces, for the tests.
 
 ghost use Rattle.std.specs.Prelude.{◌≡◌, IfOk, IsSome, OnErr, OnOk, None};
 
@@ -8,7 +8,7 @@ use std::alloc::Global;
 use std::process::Abort;
 use std::test::Fail;
 
-/// The suite of RFC 1321, appendix A.5, but for its last two messages.
+/// The test suite of RFC 1321, appendix A.5, without its last two messages.
 pub const SUITE: [(&str, [u8; 16]); 5] = [
     (
         "",
@@ -47,17 +47,17 @@ pub const SUITE: [(&str, [u8; 16]); 5] = [
     ),
 ];
 
-/// In which order the pieces of a file come in.
+/// The order in which the pieces of a file come.
 #[derive(Clone, Copy, Debug)]
 pub enum Order {
     Forward,
-    /// Each sixteen of them from the last to the first.
+    /// Each group of sixteen from the last to the first.
     Backward,
-    /// Of each two the second first.
+    /// The second of each two first.
     Swapped,
 }
 
-// The index of the piece that comes in at this turn, of so many in all.
+// Returns the index of the piece that comes at this turn, of `count` pieces.
 fn index_at(order: Order, turn: usize, count: usize) -> usize {
     let last = count.saturating_sub(1);
     match order {
@@ -70,7 +70,7 @@ fn index_at(order: Order, turn: usize, count: usize) -> usize {
     }
 }
 
-// The calls of an assembly with no more clauses than tests need, so that tests are soon proved.
+// The calls of an assembly, with only the clauses that tests need, so that tests are proved quickly.
 
 /// Makes a piece the pending one.
 pub fn put(assembly: &mut Assembly, index: u32, bytes: Blob) -> Result<(), PutFault>
@@ -81,7 +81,7 @@ pub fn put(assembly: &mut Assembly, index: u32, bytes: Blob) -> Result<(), PutFa
     assembly.put(index, bytes)
 }
 
-/// Takes the pending piece for good.
+/// Keeps the pending piece.
 pub fn settle(assembly: &mut Assembly) -> Spent
     requires { IsSome assembly.old.pending }
     ensures { assembly.new.pending ≡ None }
@@ -97,7 +97,7 @@ pub fn take_back(assembly: &mut Assembly)
     assembly.take_back();
 }
 
-/// The size and the hash, or what is missing.
+/// Returns the size and the hash, or the index of the first missing piece.
 pub fn seal(assembly: &mut Assembly) -> Result<Sealed, Incomplete>
     requires { assembly.old.pending ≡ None }
     ensures { assembly.new.pending ≡ None }
@@ -105,7 +105,7 @@ pub fn seal(assembly: &mut Assembly) -> Result<Sealed, Incomplete>
     assembly.seal()
 }
 
-/// What an assembly tells of itself.
+/// The results of the calls that change nothing.
 #[derive(Clone, Copy, Debug, PartialEq, Eq)]
 pub struct Views {
     pub held: u32,
@@ -113,7 +113,7 @@ pub struct Views {
     pub kept_bytes: u64,
 }
 
-/// What this assembly tells of itself.
+/// Returns the results of the calls that change nothing.
 pub fn views_of(assembly: &Assembly) -> Views {
     Views {
         held: assembly.held(),
@@ -122,7 +122,7 @@ pub fn views_of(assembly: &Assembly) -> Views {
     }
 }
 
-/// Puts a piece and settles it.
+/// Puts and settles a piece.
 pub fn take(assembly: &mut Assembly, index: u32, bytes: Blob) -> Result<(), PutFault>
     requires { assembly.old.pending ≡ None }
     ensures { assembly.new.pending ≡ None }
@@ -132,7 +132,7 @@ pub fn take(assembly: &mut Assembly, index: u32, bytes: Blob) -> Result<(), PutF
     Ok(())
 }
 
-/// The message in pieces of this size, put together in this order.
+/// Assembles the message from pieces of this size, in this order.
 pub fn assembled(
     rt: &impl Abort,
     alloc: Global,
@@ -160,7 +160,7 @@ pub fn assembled(
     Ok(assembly)
 }
 
-/// What the file is sealed to, and its windows.
+/// Checks the sealed size and hash, and the windows.
 pub fn expect_file(
     rt: &impl Abort,
     assembly: &mut Assembly,

@@ -1,8 +1,10 @@
-//! Tests of the assembly of a file's pieces, over the public calls of `droid_assembly` alone.
+//! Tests of the assembly of a file. They use only the public calls of `droid_assembly`.
 #![tactic(auto)]
 
 #[cfg(test)]
 mod chance;
+#[cfg(test)]
+mod example;
 #[cfg(test)]
 mod faults;
 #[cfg(test)]

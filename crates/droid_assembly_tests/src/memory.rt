@@ -1,4 +1,4 @@
-//! Memory: `new` alone takes any, answers where it is refused, and takes it again at the next call.
+//! Memory: only `new` allocates, reports out of memory, and succeeds when it is called again.
 
 ghost use Rattle.std.specs.Prelude.{◌≡◌, IfOk, None};
 
@@ -13,7 +13,7 @@ fn blob(alloc: Global, bytes: &[u8]) -> Result<Blob, AllocError> {
     Blob::copy_of(alloc, bytes).or_else(|_| Blob::copy_of(alloc, bytes))
 }
 
-/// An assembly of nothing yet, for `abc` in pieces of two.
+/// Makes an assembly for `abc` in pieces of two.
 fn empty_assembly(alloc: Global) -> Result<Assembly, AllocError>
     ensures { IfOk result (λ assembly. assembly.pending ≡ None) }
 {
@@ -26,7 +26,7 @@ fn empty_assembly(alloc: Global) -> Result<Assembly, AllocError>
     ))
 }
 
-/// Every call after `new`, on pieces that are there already.
+/// Makes every call after `new`, with pieces that were allocated before.
 fn call_each(
     rt: &impl Abort,
     assembly: &mut Assembly,
@@ -59,7 +59,7 @@ fn call_each(
     Ok(())
 }
 
-// It passes whichever single allocation is refused: tests/memory refuses each in turn.
+// This test passes if any one allocation fails: tests/memory makes each fail in turn.
 #[test]
 fn each_growth_refused(rt: HostRuntime) -> Result<(), Fail> {
     let alloc = rt.alloc();
@@ -68,8 +68,8 @@ fn each_growth_refused(rt: HostRuntime) -> Result<(), Fail> {
     call_each(&rt, &mut assembly, first, again, last)
 }
 
-// This test and the one above ask for the same number of allocations, so no call after `new` takes
-// memory: tests/memory counts both.
+// This test and the one above make the same number of allocations, so no call after `new` allocates: tests/memory
+// counts both.
 #[test]
 fn growths_without_calls(rt: HostRuntime) -> Result<(), Fail> {
     let alloc = rt.alloc();

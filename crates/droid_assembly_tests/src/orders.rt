@@ -1,4 +1,4 @@
-//! Files in orders by chance, beside a plain program that keeps every piece: each answer of each call.
+//! Pieces in pseudo-random orders. Every result of every call is compared with the plain model in `plain.rt`.
 
 ghost use Rattle.std.specs.Prelude.{◌≡◌, OnOk, None};
 
@@ -11,10 +11,10 @@ use std::alloc::Global;
 use std::process::Abort;
 use std::test::Fail;
 
-/// How many files are put together.
+/// The number of files that are assembled.
 const FILES: usize = 2000;
 
-/// How a refusal of the assembly is told by the plain program.
+/// Returns the result of the plain model that matches a fault of the assembly.
 fn reported(fault: &PutFault) -> Put {
     match fault {
         PutFault::BadPiece { .. } => Put::BadPiece,
@@ -23,7 +23,7 @@ fn reported(fault: &PutFault) -> Put {
     }
 }
 
-// What both answer to calls that change nothing.
+// Compares the results of the calls that change nothing.
 fn same_views(rt: &impl Abort, assembly: &Assembly, plain: &Plain) {
     let reported = views_of(assembly);
     assert!(rt;
@@ -32,7 +32,7 @@ fn same_views(rt: &impl Abort, assembly: &Assembly, plain: &Plain) {
     assert_eq!(rt; reported.kept_bytes, plain.kept_bytes() as u64);
 }
 
-// What was handed back, piece by piece.
+// Compares the returned pieces one by one.
 fn same_spent(rt: &impl Abort, spent: &Spent, plain: &Plain, from: usize, end: usize) {
     assert_eq!(rt; spent.len(), end.saturating_sub(from));
     for place in 0..spent.len() {
@@ -45,7 +45,7 @@ fn same_spent(rt: &impl Abort, spent: &Spent, plain: &Plain, from: usize, end: u
     }
 }
 
-// Puts this piece into both, and settles it or takes it back.
+// Puts this piece into both, and then settles it or takes it back in both.
 fn turn(
     rt: &impl Abort,
     alloc: Global,
@@ -81,7 +81,7 @@ fn turn(
     Ok(())
 }
 
-// What both are sealed to, and the windows of a whole file.
+// Compares the results of `seal`, and the windows of a complete file.
 fn same_end(
     rt: &impl Abort,
     alloc: Global,
@@ -115,7 +115,7 @@ fn same_end(
     Ok(())
 }
 
-// Pieces by chance, most of them settled, and now and then the end.
+// Puts pseudo-random pieces, settles most of them, and sometimes calls `seal`.
 fn chance_pieces(
     rt: &impl Abort,
     alloc: Global,
@@ -152,7 +152,7 @@ fn chance_pieces(
     Ok(())
 }
 
-// Every piece in order, whether it is there or not.
+// Puts every piece in order, whether it is settled or not.
 fn all_pieces(
     rt: &impl Abort,
     alloc: Global,
@@ -172,7 +172,7 @@ fn all_pieces(
     Ok(())
 }
 
-// The calls of a file from its beginning until it is whole.
+// Makes the calls of a file from its beginning until it is complete.
 fn same_calls(
     rt: &impl Abort,
     alloc: Global,
@@ -192,7 +192,7 @@ fn same_calls(
     same_end(rt, alloc, assembly, plain, pieces, limit)
 }
 
-// A file of this size, its pieces by chance until it is whole.
+// Assembles a file of this size, from pseudo-random pieces, until it is complete.
 fn same_file(
     rt: &impl Abort,
     alloc: Global,
@@ -218,7 +218,7 @@ fn same_file(
     )
 }
 
-// The index of the next piece: mostly near the missing one, sometimes anywhere or past the end.
+// Returns the index of the next piece: usually near the first missing one, sometimes anywhere or past the end.
 fn chosen(chance: &mut Chance, plain: &Plain, count: usize) -> u32 {
     let near = plain.missing().saturating_add(chance.below(18));
     let index = if chance.below(4) == 0 {
@@ -229,7 +229,7 @@ fn chosen(chance: &mut Chance, plain: &Plain, count: usize) -> u32 {
     index.min(100) as u32
 }
 
-// Bytes of a piece.
+// Makes the bytes of a piece.
 fn piece_bytes(chance: &mut Chance) -> [u8; 16] {
     let mut bytes = [0; 16];
     for byte in bytes.iter_mut() {
@@ -238,7 +238,7 @@ fn piece_bytes(chance: &mut Chance) -> [u8; 16] {
     bytes
 }
 
-// A scan limit at or beside an edge of a file of this size.
+// Returns a scan limit at or near a boundary for a file of this size.
 fn limit_for(chance: &mut Chance, size: usize) -> usize {
     let limit = match chance.below(7) {
         0 => size.saturating_add(1),

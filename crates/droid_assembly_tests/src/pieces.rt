@@ -1,4 +1,4 @@
-//! What no clause says: that calls succeed, and what comes out of them, by values from outside.
+//! What no clause says: that calls succeed, and their results, compared with values from other sources.
 
 ghost use Rattle.std.specs.Prelude.{◌≡◌, OnOk, None};
 
@@ -10,7 +10,7 @@ use droid_frame::{Blob, HashKind, HashValue};
 use std::alloc::Global;
 use std::test::Fail;
 
-// The last piece first, and the first taken back once.
+// The last piece comes first; the first is taken back once.
 const ALONE: [Step; 3] = [
     (1, "c", Then::Settled(1), (1, 0, 1)),
     (0, "ab", Then::TakenBack(3), (1, 0, 1)),
@@ -59,7 +59,7 @@ fn suite_in_any_order(rt: HostRuntime) -> Result<(), Fail> {
     Ok(())
 }
 
-// A piece that is held, and five that the file doesn't have.
+// A piece that is settled already, and five that the file does not have.
 const REFUSED: [Step; 8] = [
     (0, "mess", Then::Settled(4), (1, 1, 8)),
     (0, "mess", Then::PieceHeld, (1, 1, 8)),
@@ -76,7 +76,7 @@ fn refusals_hand_the_bytes_back(rt: HostRuntime) -> Result<(), Fail> {
     expect_incomplete(&rt, rt.alloc(), ("message digest", 4, 9), &REFUSED, 1)
 }
 
-// A piece 16 past the first missing one, before and after that one came.
+// A piece 16 past the first missing one, before and after that one comes.
 const FAR: [Step; 4] = [
     (15, "p", Then::Settled(1), (1, 0, 1)),
     (16, "q", Then::TooFarAhead(0), (1, 0, 1)),
@@ -89,7 +89,7 @@ fn sixteen_ahead_is_too_far(rt: HostRuntime) -> Result<(), Fail> {
     expect_incomplete(&rt, rt.alloc(), ("abcdefghijklmnopqrst", 1, 1), &FAR, 1)
 }
 
-// Each piece that passes takes the one behind it along.
+// Each piece that is passed takes the next one along.
 const HANDED_BACK: [Step; 4] = [
     (3, "st", Then::Settled(2), (1, 0, 2)),
     (1, "age ", Then::Settled(6), (2, 0, 6)),
@@ -110,7 +110,7 @@ fn pieces_are_handed_back(rt: HostRuntime) -> Result<(), Fail> {
     )
 }
 
-// All but piece 14 of the first sixteen, which piece 15 waits for; then that.
+// All of the first sixteen pieces but piece 14, for which piece 15 waits; then piece 14.
 const WAITING: [Step; 16] = [
     (15, "p", Then::Settled(1), (1, 0, 1)),
     (0, "a", Then::Settled(2), (2, 1, 3)),
@@ -141,7 +141,7 @@ fn fifteen_pieces_wait(rt: HostRuntime) -> Result<(), Fail> {
     )
 }
 
-// The pieces of `message digest` in this order.
+// Puts the pieces of `message digest` in this order.
 fn take_all(alloc: Global, assembly: &mut Assembly, order: [u32; 4]) -> Result<(), Fail>
     requires { assembly.old.pending ≡ None }
     ensures { OnOk result (assembly.new.pending ≡ None) }

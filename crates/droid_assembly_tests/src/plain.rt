@@ -1,11 +1,11 @@
-//! The assembly as a plain program: it keeps every piece, and joins them when it is asked.
+//! A plain model of the assembly: it keeps every piece, and joins them when needed.
 
 use droid_frame::{HashKind, HashValue};
 use md5::{Digest as Md5Digest, Md5};
 use sha2::{Digest as Sha2Digest, Sha256};
 use std::alloc::{AllocError, Global};
 
-/// How a piece was taken.
+/// The result of putting a piece.
 #[derive(Clone, Copy, Debug, PartialEq, Eq)]
 pub enum Put {
     Taken,
@@ -48,12 +48,12 @@ impl Plain {
         })
     }
 
-    /// Which hash the file gets.
+    /// Returns the kind of hash of the file.
     pub fn hash(&self) -> HashKind {
         self.hash
     }
 
-    /// How long the piece of this index is.
+    /// Returns the length of the piece of this index.
     pub fn due(&self, index: usize) -> usize {
         let start = index.saturating_mul(self.piece_size);
         self.size.saturating_sub(start).min(self.piece_size)
@@ -78,7 +78,7 @@ impl Plain {
         self.pending = None;
     }
 
-    /// The indexes from the missing one to the new missing one.
+    /// Keeps the pending piece. Returns the first missing index before and after.
     pub fn settle(&mut self) -> (usize, usize) {
         let before = self.missing();
         if let Some((index, bytes)) = self.pending.take() {
@@ -107,7 +107,7 @@ impl Plain {
         windows.saturating_add(waiting).saturating_add(pending)
     }
 
-    /// The bytes of all pieces there are, joined in order of index.
+    /// Returns the bytes of all settled pieces, joined in order of index.
     pub fn joined(&self, alloc: Global) -> Result<Vec<u8>, AllocError> {
         let mut bytes = Vec::new(alloc);
         for index in 0..self.pieces.len() {
@@ -116,7 +116,7 @@ impl Plain {
         Ok(bytes)
     }
 
-    /// The bytes of the piece of this index, or none.
+    /// Returns the bytes of the piece of this index, or none.
     pub fn piece(&self, index: usize) -> &[u8] {
         match self.pieces.get(index) {
             Some(Some(bytes)) => bytes.as_slice(),
@@ -137,7 +137,7 @@ impl Plain {
     }
 }
 
-/// The hash of some bytes.
+/// Computes the hash of the bytes.
 pub fn hash_of(kind: HashKind, bytes: &[u8]) -> HashValue {
     match kind {
         HashKind::Nothing => HashValue::Nothing,

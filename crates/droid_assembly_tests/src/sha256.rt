@@ -1,4 +1,4 @@
-//! SHA-256's own messages (FIPS 180-4), in pieces.
+//! The example messages of SHA-256 (FIPS 180-4), in pieces.
 
 ghost use Rattle.std.specs.Prelude.{◌≡◌, OnOk, None};
 
@@ -9,7 +9,7 @@ use std::alloc::Global;
 use std::process::Abort;
 use std::test::Fail;
 
-/// Messages of no byte, of 24, 448 and 896 bits, with the digest that the standard's examples give.
+/// Messages of 0, 24, 448 and 896 bits, with the digests of the standard's examples.
 pub const SHA256: [(&str, [u8; 32]); 4] = [
     (
         "",
@@ -45,7 +45,7 @@ pub const SHA256: [(&str, [u8; 32]); 4] = [
     ),
 ];
 
-// The digest of a million times the letter a.
+// The digest of a million letters a.
 const MILLION: [u8; 32] = [
     0xcd, 0xc7, 0x6e, 0x5c, 0x99, 0x14, 0xfb, 0x92, 0x81, 0xa1, 0xc7, 0xe2, 0x84, 0xd7, 0x3e, 0x67,
     0xf1, 0x80, 0x9a, 0x48, 0xa4, 0x97, 0x20, 0x0e, 0x04, 0x6d, 0x39, 0xcc, 0xc7, 0x11, 0x2c, 0xd0,
@@ -70,7 +70,7 @@ fn messages_in_pieces(rt: HostRuntime) -> Result<(), Fail> {
     Ok(())
 }
 
-// The pieces of a million bytes, each of them the letter a.
+// Puts the pieces of a million letters a.
 fn take_million(
     rt: &impl Abort,
     alloc: Global,

@@ -1,4 +1,4 @@
-//! Files put together step by step, with what each step comes to and what is told after it, in tables.
+//! Files assembled step by step, from tables with the result of each step and of the calls after it.
 
 ghost use Rattle.std.specs.Prelude.{◌≡◌, IfOk, OnOk, None};
 
@@ -9,21 +9,21 @@ use std::alloc::Global;
 use std::process::Abort;
 use std::test::Fail;
 
-/// What a piece that is put comes to.
+/// The result of putting a piece.
 #[derive(Clone, Copy)]
 pub enum Then {
-    /// It is settled; so many bytes are kept while it is pending.
+    /// It is settled; this many bytes are kept while it is pending.
     Settled(u64),
-    /// It is taken back; so many bytes are kept while it is pending.
+    /// It is taken back; this many bytes are kept while it is pending.
     TakenBack(u64),
     BadPiece,
     PieceHeld,
-    /// The piece of this index is the first missing one.
+    /// It is too far ahead of the first missing piece, which has this index.
     TooFarAhead(u32),
 }
 
-/// The index of a piece, its bytes, what it comes to, and then the number of pieces held, the index of
-/// the first missing one and the number of bytes kept.
+/// A piece's index, its bytes and its result, and then the number of settled pieces, the index of the first missing one
+/// and the number of bytes kept.
 pub type Step = (u32, &'static str, Then, (u32, u32, u64));
 
 /// A file's bytes, the size of its pieces, and the scan limit.
@@ -40,7 +40,7 @@ fn is_refusal(fault: &PutFault, comes: Then, text: &[u8]) -> bool {
     }
 }
 
-// Whether the pieces of a file from one index to another were handed back, in order.
+// Returns whether the returned pieces are those from one index to another, in order.
 fn hands_back(spent: &Spent, file: File, from: usize, end: usize) -> bool {
     let count = end.saturating_sub(from);
     let mut all = spent.len() == count && spent.is_empty() == (count == 0);
@@ -163,7 +163,7 @@ fn new_assembly(
     Ok(Assembly::new(alloc, size, piece_size, limit, hash)?)
 }
 
-/// The steps of a file, of which this piece is missing at the end.
+/// Makes the steps of a file, whose first missing piece at the end is this one.
 pub fn expect_incomplete(
     rt: &impl Abort,
     alloc: Global,
@@ -177,7 +177,7 @@ pub fn expect_incomplete(
     Ok(())
 }
 
-/// The steps of a file that is whole at the end, its hash and its windows; sealed twice.
+/// Makes the steps of a file that is complete at the end, seals it twice, and checks its hash and its windows.
 pub fn expect_whole(
     rt: &impl Abort,
     alloc: Global,

@@ -1,4 +1,4 @@
--- The header of a frame as bytes (this project's own).
+-- The bytes of a frame's header (this project's own).
 use Rattle.std.specs.Prelude.{ℕ, List, ◌∷◌, ◌++◌}
 use Rattle.droid_frame.specs.declared.stream.header.Header.{Header}
 use Rattle.droid_frame_values.specs.Fields.{u32_bytes, u64_bytes}

@@ -1,4 +1,4 @@
--- what the crates below define, under the paths that callers write
+-- the definitions of the crates below, re-exported
 pub use Rattle.droid_frame_values.specs.Bodies
 pub use Rattle.droid_frame_values.specs.Fields
 pub use Rattle.droid_frame_values.specs.Filters

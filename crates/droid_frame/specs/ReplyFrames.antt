@@ -8,7 +8,7 @@ use Rattle.droid_frame_values.specs.Replies.{HasReplySpelling, reply_bytes, repl
 use Rattle.droid_frame_values.specs.Versions.{IsVersion}
 use Rattle.droid_frame.specs.Streams.{IsReadable}
 
--- the frame of a reply: the version, the client and the number of the request, and the reply's kind
+-- the frame of a reply: version, client and number are those of the request
 abbrev pub frame_of_reply : ℕ → ℕ → ℕ → Reply → Frame
 frame_of_reply version client number reply =
     record { version = version; kind = reply_kind reply; client = client; number = number; body = reply_bytes version reply }
@@ -16,7 +16,7 @@ frame_of_reply version client number reply =
 abbrev pub reply_frame : ℕ → ℕ → ℕ → Reply → List ℕ
 reply_frame version client number reply = frame_bytes (frame_of_reply version client number reply)
 
--- it is a frame that a stream may hold, so what was written is read again
+-- the frame of every reply that has a spelling is readable
 abbrev pub ReplyFramesAreReadable : Type 0
 ReplyFramesAreReadable =
     (version client number : ℕ) (reply : Reply) → IsVersion version → IsU32 client → IsU64 number → HasReplySpelling version reply

@@ -1,4 +1,4 @@
--- For proofs alone: a reply's body in two, a front of fields of a few bytes and then a list or bytes of any length.
+-- For proofs only: the two parts of a reply's body, a front of short fields and a rest of any length.
 use Rattle.std.specs.Prelude.{ℕ, List, [], ◌++◌, length}
 use Rattle.std.specs.List.{AllByRecursion}
 use Rattle.droid_frame_values.specs.declared.reply.Reply.{Reply}
@@ -7,7 +7,7 @@ use Rattle.droid_frame_values.specs.Fields.{u16_bytes, u32_bytes, u64_bytes, tru
 use Rattle.droid_frame_values.specs.Replies.{IsPuidText, digest_bytes, refusal_bytes}
 use Rattle.droid_frame_values.specs.TextLists.{texts_bytes}
 
--- the fields before the list or the bytes
+-- the front: the fields before a list or bytes
 abbrev pub reply_front : ℕ → Reply → List ℕ
 reply_front version (Made profile) = u32_bytes profile
 reply_front version (Node id) = u32_bytes id
@@ -18,7 +18,7 @@ reply_front version (Progress held missing) = u32_bytes held ++ u32_bytes missin
 reply_front version (Part as_of total bytes) = u64_bytes as_of ++ u64_bytes total
 reply_front version (Refused refusal) = refusal_bytes refusal
 
--- the list or the bytes
+-- the rest: a list or bytes
 abbrev pub reply_rest : Reply → List ℕ
 reply_rest (Made profile) = []
 reply_rest (Node id) = []

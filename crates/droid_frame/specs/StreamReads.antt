@@ -1,4 +1,4 @@
--- What a reader has left after the reads of one frame, and what then is known of its bytes.
+-- The bytes that reading one frame consumes, for each result.
 use Rattle.std.specs.Prelude.{◌≡◌, ℕ, ◌+◌, ◌<◌, ◌≤◌, ◌^◌, nat_lt, if◌then◌else◌, ◌⊎◌, List, [], Option, Some, None, IfSome, Result, Ok, Err, length}
 use Rattle.std.specs.Io.KnownBytes.{Consumes, IsAtEnd}
 use Rattle.droid_frame_values.specs.Limits.{body_limit}
@@ -16,7 +16,7 @@ use Rattle.droid_frame_stream.specs.Reads.{ConsumesFewer}
 use Rattle.droid_frame_stream.specs.Seen.{Counts, GivesUp}
 use Rattle.droid_frame.specs.Streams.{IsReadable, BeginsNoFrame, header_size, version_in, length_in, why}
 
--- known bytes lost all, which are at least so many, and fewer than were wanted
+-- the reader consumed all that was left: at least `least` bytes, and fewer than `wanted`
 pub record ConsumesShort (old new : Option (List ℕ)) (least wanted : ℕ) : Type 0 where
   pub bytes : List ℕ
   pub consumed : Consumes old new bytes
@@ -24,43 +24,43 @@ pub record ConsumesShort (old new : Option (List ℕ)) (least wanted : ℕ) : Ty
   pub some : least ≤ length bytes
   pub short : length bytes < wanted
 
--- bytes begin with a header of a version that frames have, and it names a body within the limit of that
+-- the bytes begin with a valid header: its version is 1 or 2, and the body that it announces is within the limit
 pub record IsGoodHeader (bytes : List ℕ) : Type 0 where
   pub whole : header_size ≤ length bytes
   pub version_is : IsVersion (version_in bytes)
   pub length_fits : length_in bytes ≤ body_limit (version_in bytes)
 
--- and the body that it names isn't empty
+-- the bytes begin with a valid header that announces a body of at least one byte
 pub record NamesSomeBody (bytes : List ℕ) : Type 0 where
   pub good : IsGoodHeader bytes
   pub some : 0 < length_in bytes
 
--- known bytes lost some at their front that begin with no frame: at most a header, or a good header and
--- less than the body that it names
+-- the reader consumed bytes that contain no whole frame: at most a header, or a valid header and less than the body
+-- that it announces
 pub record ReadsNoFrame (old new : Option (List ℕ)) : Type 0 where
   pub bytes : List ℕ
   pub consumed : Consumes old new bytes
   pub no_frame : BeginsNoFrame bytes
   pub within : (length bytes ≤ header_size) ⊎ (IsGoodHeader bytes × (length bytes < header_size + length_in bytes))
 
--- known bytes lost a good header that names a body of some bytes, and nothing more
+-- the reader consumed exactly a valid header that announces a body of at least one byte
 pub record ReadsGoodHeader (old new : Option (List ℕ)) : Type 0 where
   pub bytes : List ℕ
   pub consumed : Consumes old new bytes
   pub size : length bytes ≡ header_size
   pub names_body : NamesSomeBody bytes
 
--- a frame came, and exactly its spelling was read; or the end, and there was nothing to read
+-- a readable frame, and exactly its bytes were consumed; or the end, and no bytes were left
 abbrev pub Brings : Option (List ℕ) → Option (List ℕ) → Arrival → Type 0
 Brings old new (arrivals.Frame frame) = IsReadable frame × Consumes old new (frame_bytes frame)
 Brings old new arrivals.End = IsAtEnd old × Consumes old new []
 
--- the bytes begin with no frame, and this is why
+-- the input begins with no frame, and `why` gives this result
 pub record EndsBy (input : List ℕ) (why_it_ends : Result Arrival FrameFault) : Type 0 where
   pub no_frame : BeginsNoFrame input
   pub reason : why input ≡ why_it_ends
 
--- what a fault tells of the bytes that were there to read
+-- the property of the input that each fault implies
 abbrev pub Tells : FrameFault → List ℕ → Type 0
 Tells Truncated input = EndsBy input (Err Truncated)
 Tells BadVersion input = EndsBy input (Err BadVersion)
@@ -68,7 +68,7 @@ Tells TooLong input = EndsBy input (Err TooLong)
 Tells Memory input = NamesSomeBody input
 Tells Read input = Unit {0}
 
--- this, unless memory was refused or the reader failed
+-- P holds, unless memory ran out or the reader failed
 abbrev pub UnlessRefused : Result Arrival FrameFault → Type 0 → Type 0
 UnlessRefused (Ok arrival) P = P
 UnlessRefused (Err Truncated) P = P
@@ -87,8 +87,8 @@ pub record IsHeader (header : Header) : Type 0 where
   pub number_fits : header.number < 2 ^ 64
   pub length_fits : IsU32 header.length
 
--- what the reads of a header leave: its bytes were read; or nothing was there; or less than a header was;
--- or the reader failed
+-- after reading a header: its bytes were consumed; or no bytes were left; or less than a header was left; or the
+-- reader failed
 abbrev pub HeaderCame : Option (List ℕ) → Option (List ℕ) → Result (Option Header) FrameFault → Type 0
 HeaderCame old new (Ok (Some header)) = IsHeader header × Consumes old new (header_bytes header)
 HeaderCame old new (Ok None) = Consumes old new [] × IsAtEnd new
@@ -98,8 +98,8 @@ HeaderCame old new (Err BadVersion) = ⊥
 HeaderCame old new (Err TooLong) = ⊥
 HeaderCame old new (Err Memory) = ⊥
 
--- what the reads of a body leave, which is to have so many bytes: it was read; or less was there; or nothing
--- was read, for want of memory, which an empty body doesn't take; or the reader failed
+-- after reading a body of `wanted` bytes: it was consumed; or less was left; or memory ran out, nothing was consumed
+-- and the body is not empty; or the reader failed
 abbrev pub BodyCame : Option (List ℕ) → Option (List ℕ) → ℕ → Result (List ℕ) FrameFault → Type 0
 BodyCame old new wanted (Ok body) = IsBytes body × (length body ≡ wanted) × Consumes old new body
 BodyCame old new wanted (Err Truncated) = ConsumesShort old new 0 wanted
@@ -108,7 +108,7 @@ BodyCame old new wanted (Err Read) = ConsumesFewer old new wanted
 BodyCame old new wanted (Err BadVersion) = ⊥
 BodyCame old new wanted (Err TooLong) = ⊥
 
--- at a fault: the reader is given up where that is why, and otherwise the count of interruptions goes on
+-- after a fault: `Read` means that the reader was given up; after any other the count of interruptions is right
 abbrev pub FaultCounts : ℕ → Seen → ℕ → FrameFault → Type 0
 FaultCounts start seen count Truncated = Counts start seen count
 FaultCounts start seen count BadVersion = Counts start seen count
@@ -116,18 +116,18 @@ FaultCounts start seen count TooLong = Counts start seen count
 FaultCounts start seen count Memory = Counts start seen count
 FaultCounts start seen count Read = GivesUp start seen
 
--- after some of the reads
+-- after some of the reads: on success too the count of interruptions is right
 abbrev pub ReadsOn : {T : Type 0} → ℕ → Seen → ℕ → Result T FrameFault → Type 0
 ReadsOn start seen count (Ok value) = Counts start seen count
 ReadsOn start seen count (Err fault) = FaultCounts start seen count fault
 
--- what a header is refused for: its version first, then its length
+-- the length that a header announces, or its fault: the version is checked first, then the length
 unfoldable pub judged : Header → Result ℕ FrameFault
 judged header =
     if is_version header.version then (if nat_lt (body_limit header.version) header.length then Err TooLong else Ok header.length)
     else Err BadVersion
 
--- all that one call leaves
+-- the whole effect of reading one frame
 abbrev pub Arrives : Option (List ℕ) → Option (List ℕ) → Result Arrival FrameFault → Type 0
 Arrives old new (Ok arrival) = Brings old new arrival
 Arrives old new (Err Memory) = IfSome old (Tells Memory) × ReadsNoFrame old new × ReadsGoodHeader old new

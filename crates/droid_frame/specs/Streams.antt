@@ -1,4 +1,4 @@
--- The frames of a stream, and how a stream ends (this project's own).
+-- The frames of a stream, and the way a stream ends (this project's own).
 use Rattle.std.specs.Prelude.{◌≡◌, ℕ, ◌<◌, ◌≤◌, ◌^◌, ◌==◌, nat_lt, if◌then◌else◌, List, ◌++◌, length, take, drop, slice_index, Result, Ok, Err}
 use Rattle.std.specs.Int.{w32, from_be_bytes}
 use Rattle.std.specs.List.{AllByRecursion, flat_map}
@@ -12,7 +12,7 @@ use Rattle.droid_frame_values.specs.Fields.{IsBytes, IsU32}
 use Rattle.droid_frame_values.specs.Frames.{frame_bytes}
 use Rattle.droid_frame_values.specs.Versions.{IsVersion, is_version}
 
--- each field is in its range, and the body is no longer than that of a frame of its version may be
+-- each field is in its range, and the body is within the limit of the frame's version
 pub record IsFrame (frame : Frame) : Type 0 where
   pub version_fits : frame.version < 2 ^ 8
   pub kind_fits : frame.kind < 2 ^ 8
@@ -21,22 +21,22 @@ pub record IsFrame (frame : Frame) : Type 0 where
   pub body_fits : length frame.body ≤ body_limit frame.version
   pub body_is_bytes : IsBytes frame.body
 
--- a frame that a stream may hold: its version is 1 or 2
+-- a stream can carry the frame: its version is 1 or 2
 pub record IsReadable (frame : Frame) : Type 0 where
   pub is_frame : IsFrame frame
   pub version_is : IsVersion frame.version
 
--- no frame's spelling is at the front
+-- the bytes do not begin with the spelling of a readable frame
 abbrev pub BeginsNoFrame : List ℕ → Type 0
 BeginsNoFrame bytes = (frame : Frame) (rest : List ℕ) → IsReadable frame → bytes ≡ frame_bytes frame ++ rest → ⊥
 
--- the stream is the spellings of these frames, one after the other, and then a rest that begins with none
+-- the stream is the spellings of these frames, one after the other, and then a rest that begins with no frame
 pub record Frames (stream : List ℕ) (frames : List Frame) (rest : List ℕ) : Type 0 where
   pub readable : AllByRecursion IsReadable frames
   pub joined : stream ≡ flat_map frame_bytes frames ++ rest
   pub none_more : BeginsNoFrame rest
 
--- a header has 18 bytes: the version is its first, the length of the body its last four
+-- a header has 18 bytes: the first is the version, the last four are the length of the body
 abbrev pub header_size : ℕ
 header_size = 18
 
@@ -46,8 +46,8 @@ version_in bytes = slice_index bytes 0
 abbrev pub length_in : List ℕ → ℕ
 length_in bytes = from_be_bytes w32 (take 4 (drop 14 bytes))
 
--- why no frame comes of a rest that begins with none: it is empty, which is the end; or less than a header;
--- or the header has another version; or it names a body that is too long; or the body is cut short
+-- the result for a rest that begins with no frame: the end if it is empty; `Truncated` if it is shorter than a header;
+-- `BadVersion` if its version is neither 1 nor 2; `TooLong` if it announces too long a body; otherwise `Truncated`
 unfoldable pub why : List ℕ → Result Arrival FrameFault
 why rest =
     if length rest == 0 then Ok End

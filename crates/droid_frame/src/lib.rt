@@ -1,15 +1,14 @@
-//! Frames, and streams of them.
+//! Frames, and streams of frames.
 //!
-//! A frame carries a request or a reply as bytes. This crate writes requests and replies as frames, and
-//! reads and writes frames on streams. It gives the values, and the calls that read them from bodies, of
-//! the crates below under its own name.
+//! A frame carries one request or reply as bytes. This crate makes frames of requests and replies, and reads and writes
+//! frames on streams. It re-exports the values and the readers of bodies from the crates below.
 #![tactic(auto)]
 
 pub mod laws;
 mod replies;
 mod requests;
 mod stream;
-mod text_lists;
+mod text_writer;
 
 pub use droid_frame_bodies::{BodyFault, reply_of, request_of};
 pub use droid_frame_stream::{

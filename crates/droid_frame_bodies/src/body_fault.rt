@@ -1,16 +1,15 @@
-//! Why a body is no request or no reply.
+//! Faults of reading a request or reply from its frame.
 
 ghost use Rattle.std.specs.Prelude.{◌≡◌};
 
 use std::alloc::AllocError;
 
-/// Why a frame holds no request or no reply.
+/// Why no request or reply could be read from a frame.
 #[derive(Clone, Copy, Debug, PartialEq, Eq)]
 pub enum BodyFault {
-    /// The version or the kind is unknown, the body is outside the kind's grammar in that version, or the number is
-    /// too large.
+    /// The version or kind is unknown, the body is not valid for them, or the number of a request is too large.
     Malformed,
-    /// Memory was refused.
+    /// Out of memory.
     Memory,
 }
 

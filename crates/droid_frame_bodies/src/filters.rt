@@ -1,4 +1,4 @@
-//! Filters, read from the front of bytes.
+//! Readers of filters.
 
 ghost use Rattle.std.specs.Prelude.{◌≡◌, is_some};
 ghost use Rattle.std.specs.Option.{option_map};
@@ -12,7 +12,7 @@ use crate::fields::{bool_at, method_at, u8_at, u64_at};
 use droid_frame_values::{Criteria, Criterion, Filter, NodeKind, Texts};
 use std::alloc::Global;
 
-/// The filter that all the bytes spell. The whole of it is checked before it takes memory.
+/// Reads the filter that the bytes spell, with none left over. Checks all of them before it allocates.
 #[tactic(auto, unfolding(crate::specs::filters::Values::filter_value, crate::specs::fields::Reading::whole))]
 pub(crate) fn filter_of(alloc: Global, bytes: &[u8]) -> Result<Filter, BodyFault>
     ensures { IsAnswer result (filter_value bytes.now) }
@@ -34,7 +34,7 @@ fn is_filter(bytes: &[u8]) -> bool
     }
 }
 
-/// The bytes after a filter. It takes no memory.
+/// Skips a filter, and returns the bytes after it. Allocates nothing.
 #[tactic(auto, unfolding(crate::specs::filters::Values::filter_at, crate::specs::fields::Sequences::counted_at))]
 fn after_filter(bytes: &[u8]) -> Option<&[u8]>
     ensures { option_map (λ rest. rest.now) result ≡ option_map (λ x. x.1) (filter_at bytes.now) }
@@ -77,8 +77,8 @@ fn after_list(bytes: &[u8]) -> Option<&[u8]>
     after_texts(usize::from(count), 0, 255, rest)
 }
 
-/// A filter, and the bytes after it. It grows the criteria and their texts, so [`after_filter`] goes
-/// first.
+/// Reads a filter, and returns it and the bytes after it. It allocates as it reads, so callers check the bytes with
+/// [`after_filter`] first.
 #[tactic(auto, unfolding(crate::specs::filters::Values::filter_at, crate::specs::fields::Sequences::counted_at))]
 fn filter_at(alloc: Global, bytes: &[u8]) -> Result<(Filter, &[u8]), BodyFault>
     ensures { Gives (λ x. (x.0, x.1.now)) result (filter_at bytes.now) }
@@ -135,7 +135,7 @@ fn list_at(alloc: Global, bytes: &[u8]) -> Result<(Texts, &[u8]), BodyFault>
     texts_at(alloc, usize::from(count), 0, 255, rest)
 }
 
-/// The criterion of a tag that goes before no list. It takes no memory.
+/// Reads the value of a criterion that has no list, given its tag. Allocates nothing.
 #[tactic(auto, unfolding(crate::specs::filters::Values::plain_at, crate::specs::filters::Values::method_is_at, crate::specs::filters::Values::mismatch_is_at, crate::specs::filters::Values::size_at_least_at, crate::specs::filters::Values::size_at_most_at, crate::specs::filters::Values::kind_is_at))]
 fn plain_at(tag: u8, bytes: &[u8]) -> Option<(Criterion, &[u8])>
     ensures { option_map (λ x. (x.0, x.1.now)) result ≡ plain_at tag bytes.now }

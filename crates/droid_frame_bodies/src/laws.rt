@@ -1,4 +1,4 @@
-//! Laws of the grammar: each stands on a function that does nothing, and is proved with it.
+//! Laws of the spellings. Each is the contract of a function that does nothing.
 
 ghost use Rattle.std.specs.Prelude.{◌≡◌, ℕ, List};
 ghost use Rattle.droid_frame_values.specs.Bodies.{SpellsRequest};

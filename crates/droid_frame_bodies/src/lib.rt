@@ -1,4 +1,4 @@
-//! The bodies of frames, read: which request or reply a kind and a body spell.
+//! Readers of frames' bodies: they return the request or the reply that a frame's version, kind and body spell.
 #![tactic(auto)]
 
 mod body_fault;

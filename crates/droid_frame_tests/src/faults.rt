@@ -1,4 +1,4 @@
-//! How values are printed, and what the faults say.
+//! The texts of faults.
 
 use droid_frame::{FrameFault, InputFault, ReadFault, WriteFault};
 use std::alloc::Global;
@@ -6,12 +6,12 @@ use std::fmt::{Debug, Display};
 use std::process::Abort;
 use std::test::Fail;
 
-/// Whether the value is printed so.
+/// Returns whether `Display` prints the value as this text.
 fn says<T: Display>(alloc: Global, value: &T, text: &str) -> Result<bool, Fail> {
     Ok(format!(in alloc; "{value}")?.as_str() == text)
 }
 
-/// Whether the value is printed so for those who look for faults.
+/// Returns whether `Debug` prints the value as this text.
 pub fn is_shown<T: Debug>(alloc: Global, value: &T, text: &str) -> Result<bool, Fail> {
     Ok(format!(in alloc; "{value:?}")?.as_str() == text)
 }

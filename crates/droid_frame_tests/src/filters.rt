@@ -1,4 +1,4 @@
-//! Filters that are none, and filters within their limits and past them.
+//! Malformed filters, and filters at and over their limits.
 
 use crate::requests::{EVERY_TAG, is_malformed};
 use droid_frame::{Criteria, Criterion, Filter, Request, Text, Texts, request_frame, request_of};
@@ -6,8 +6,8 @@ use std::alloc::{AllocError, Global};
 use std::process::Abort;
 use std::test::Fail;
 
-/// After profile, from and max: truth values of 2, a method of 3, a kind of 2, tags of 0 and 8, too few
-/// criteria, a list and a text cut short, a text that isn't UTF-8, a byte more.
+/// Malformed filters, after the fields profile, from and max: truth values of 2, a method of 3, a kind of 2, tags 0 and
+/// 8, too few criteria, a list and a text cut short, a text that is not UTF-8, one byte too many.
 const MALFORMED: [&[u8]; 14] = [
     &[],
     &[1],
@@ -44,7 +44,7 @@ fn each_malformed(
     Ok(())
 }
 
-/// A text of so many bytes.
+/// Makes a text of this many bytes.
 fn text(alloc: Global, len: usize) -> Result<String, AllocError> {
     let mut text = String::new(alloc);
     for _ in 0..len {
@@ -53,7 +53,7 @@ fn text(alloc: Global, len: usize) -> Result<String, AllocError> {
     Ok(text)
 }
 
-/// So many copies of the text.
+/// Makes a list of this many copies of the text.
 fn copies(alloc: Global, text: &str, count: usize) -> Result<Texts, AllocError> {
     let mut texts = Texts::new(alloc);
     for _ in 0..count {
@@ -62,7 +62,7 @@ fn copies(alloc: Global, text: &str, count: usize) -> Result<Texts, AllocError> 
     Ok(texts)
 }
 
-/// So many criteria with this list.
+/// Makes this many criteria, each with this list.
 fn criteria(alloc: Global, texts: &Texts, count: usize) -> Result<Criteria, AllocError> {
     let mut criteria = Criteria::new(alloc);
     for _ in 0..count {
@@ -71,8 +71,7 @@ fn criteria(alloc: Global, texts: &Texts, count: usize) -> Result<Criteria, Allo
     Ok(criteria)
 }
 
-/// A request for a part of the export, whose filter has so many criteria, each with so many texts of so many
-/// bytes.
+/// Makes an Export whose filter has this many criteria, each with this many texts of this many bytes.
 fn export(alloc: Global, count: usize, texts: usize, len: usize) -> Result<Request, AllocError> {
     let text = text(alloc, len)?;
     let texts = copies(alloc, text.as_str(), texts)?;
@@ -87,8 +86,8 @@ fn export(alloc: Global, count: usize, texts: usize, len: usize) -> Result<Reque
     })
 }
 
-/// How many criteria, texts of each and bytes of each text; and how long the body is, where the request fits.
-/// Seventeen lists of 255 texts of 255 bytes are more than a body may have.
+/// The number of criteria, of texts in each and of bytes in each text; and the length of the body, if the request fits.
+/// Seventeen lists of 255 texts of 255 bytes are more than a body can hold.
 const LIMITS: [(usize, usize, usize, Option<usize>); 8] = [
     (255, 0, 0, Some(528)),
     (256, 0, 0, None),
@@ -121,7 +120,7 @@ fn each_limit(
     Ok(())
 }
 
-/// How long the body of the request's frame is, where the request fits and the frame is a request again.
+/// Returns the length of the body, if the request fits and its frame reads back as a request.
 fn written(alloc: Global, request: &Request) -> Result<Option<usize>, AllocError> {
     if !request.fits(1) {
         return Ok(None);

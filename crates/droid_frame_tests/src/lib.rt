@@ -1,6 +1,8 @@
-//! Tests of frames, over the public calls of `droid_frame` alone.
+//! Tests of frames. They use only the public calls of `droid_frame`.
 #![tactic(auto)]
 
+#[cfg(test)]
+mod example;
 #[cfg(test)]
 mod faults;
 #[cfg(test)]

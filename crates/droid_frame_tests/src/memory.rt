@@ -1,19 +1,19 @@
-// Each test passes too where any one allocation is refused: tests/memory refuses each in turn.
-//! Want of memory: a refused call answers it, and the same call again does its work.
+// Each test also passes if any one allocation fails: tests/memory makes each fail in turn.
+//! Out of memory: a call reports it, and the same call succeeds when it is made again.
 
 use droid_frame::{BodyFault, Frame, Reply, Request, Texts, reply_of, request_frame, request_of};
 use droid_frame_vectors::frame;
 use std::alloc::{AllocError, Global};
 use std::test::Fail;
 
-// Any record whose extension is `msg` or empty; written out by hand.
+// An Export of the records whose extension is `msg` or empty. Written by hand.
 const EXPORT: [u8; 25] = [
     0, 0, 0, 1, 0, 0, 0, 0, 0, 0, 0, 9, 0, 0, 0, 1, 0, 1, 3, 2, 3, 0x6d, 0x73, 0x67, 0,
 ];
 
 const VERSION: u8 = 2;
 
-// By its extension, no mismatch, the MD5 of nothing, the formats `dev/4` and `a`; written out by hand.
+// A Finished: by extension, no mismatch, the MD5 of no bytes, the formats `dev/4` and `a`. Written by hand.
 const FINISHED: [u8; 29] = [
     2, 0, 1, 0xd4, 0x1d, 0x8c, 0xd9, 0x8f, 0x00, 0xb2, 0x04, 0xe9, 0x80, 0x09, 0x98, 0xec, 0xf8,
     0x42, 0x7e, 0, 2, 5, 0x64, 0x65, 0x76, 0x2f, 0x34, 1, 0x61,
@@ -34,7 +34,7 @@ fn request(alloc: Global) -> Result<Request, Fail> {
     }
 }
 
-// Whether the request is written as these bytes.
+// Returns whether the body of the request's frame is these bytes.
 fn is_written(alloc: Global, request: &Request, body: &[u8]) -> Result<bool, AllocError> {
     if !request.fits(VERSION) {
         return Ok(false);

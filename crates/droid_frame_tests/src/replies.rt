@@ -1,4 +1,4 @@
-//! Replies: bytes to values and values to bytes.
+//! Replies, from bytes to values and back.
 
 ghost use Rattle.droid_frame.specs.Replies.{HasReplySpelling};
 ghost use Rattle.droid_frame.specs.Versions.{IsVersion};
@@ -21,7 +21,7 @@ pub const MD5_OF_NOTHING: [u8; 16] = [
     0xd4, 0x1d, 0x8c, 0xd9, 0x8f, 0, 0xb2, 0x04, 0xe9, 0x80, 0x09, 0x98, 0xec, 0xf8, 0x42, 0x7e,
 ];
 
-/// Reads the reply of a stream of one frame; its copy, where both are written as these bytes again.
+/// Reads the reply of a stream of one frame. Returns a copy of it, if both are written as the same bytes again.
 fn read_and_written(alloc: Global, bytes: &[u8]) -> Result<Option<Reply>, Fail> {
     let mut input = bytes;
     match read_frame(alloc, &mut input) {
@@ -45,7 +45,7 @@ fn written_again(alloc: Global, frame: Frame, bytes: &[u8]) -> Result<Option<Rep
     Ok(Some(copy))
 }
 
-/// Whether these bytes are the frame of this version, client and number.
+/// Returns whether the frame of the reply, with this version, client and number, is these bytes.
 fn has_frame(
     alloc: Global,
     version: u8,
@@ -71,7 +71,7 @@ fn has_body(alloc: Global, version: u8, reply: &Reply, body: &[u8]) -> Result<bo
     Ok(reply_body(alloc, version, reply)?.as_slice() == body)
 }
 
-/// The reply of a body of this version and kind, which is written again.
+/// Reads the reply of this version, kind and body, if it is written as the same bytes again.
 pub fn reply_with(
     alloc: Global,
     version: u8,
@@ -92,7 +92,7 @@ fn shows(alloc: Global, reply: Option<Reply>, shown: &str) -> Result<bool, Fail>
     }
 }
 
-/// Whole frames, and what they are read as.
+/// Whole frames, and the replies read from them.
 const FRAMES: [(&[u8], &str); 12] = [
     (MADE, "Made { profile: 1 }"),
     (NODE, "Node { id: 1 }"),
@@ -133,7 +133,7 @@ fn each_frame(rt: &impl Abort, alloc: Global, rows: &[(&[u8], &str)]) -> Result<
     Ok(())
 }
 
-/// Each kind that no frame above has, each number from 1 to 19 and each limit, as the list of refusals has them.
+/// Each kind that no frame above has, each refusal from 1 to 19 and each limit.
 const BODIES: [(u8, &[u8], &str); 26] = [
     (131, &[0xff, 0, 0, 0x10], "Taken { held: 4278190096 }"),
     (133, &[], "Abandoned"),

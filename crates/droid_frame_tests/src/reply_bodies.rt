@@ -1,4 +1,4 @@
-//! Bodies of replies within their bounds and past them, and bodies that are no reply.
+//! Bodies of replies at and over their limits, and malformed bodies.
 
 use crate::replies::{MD5_OF_NOTHING, reply_with};
 use droid_frame::{BodyFault, PART_LIMIT, Reply, reply_of};
@@ -7,13 +7,13 @@ use std::alloc::Global;
 use std::process::Abort;
 use std::test::Fail;
 
-/// Whether the body is no reply of this version and kind.
+/// Returns whether the body is malformed for a reply of this version and kind.
 fn is_malformed(alloc: Global, version: u8, kind: u8, body: &[u8]) -> Result<bool, Fail> {
     let fault = reply_of(alloc, frame(alloc, version, kind, 1, body)?).err();
     Ok(fault == Some(BodyFault::Malformed))
 }
 
-/// How long a front of the body is that is a reply but isn't the whole body, where one is.
+/// Returns the length of a shorter front of the body that is also a reply, if there is one.
 fn shorter_reply(alloc: Global, version: u8, kind: u8, body: &[u8]) -> Result<Option<usize>, Fail> {
     for less in 0..body.len() {
         if !is_malformed(alloc, version, kind, &body[..less])? {
@@ -23,14 +23,14 @@ fn shorter_reply(alloc: Global, version: u8, kind: u8, body: &[u8]) -> Result<Op
     Ok(None)
 }
 
-/// Whether the body with a byte more is no reply.
+/// Returns whether the body is malformed with one byte more.
 fn longer_is_malformed(alloc: Global, version: u8, kind: u8, body: &[u8]) -> Result<bool, Fail> {
     let mut more = Vec::from_slice(alloc, body)?;
     more.push(0)?;
     is_malformed(alloc, version, kind, more.as_slice())
 }
 
-/// Bodies of the kinds and numbers that no frame of `VECTORS` has.
+/// Bodies of the kinds and refusals that `VECTORS` does not have.
 const OTHERS: [(u8, &[u8]); 4] = [
     (131, &[0, 0, 0, 1]),
     (133, &[]),
@@ -38,7 +38,7 @@ const OTHERS: [(u8, &[u8]); 4] = [
     (136, &[15, 0, 0, 0, 1]),
 ];
 
-// A byte more and any bytes less than each kind has.
+// Each kind with one byte more, and with any number of bytes less.
 #[test]
 fn another_length(rt: HostRuntime) -> Result<(), Fail> {
     each_vector(&rt, rt.alloc(), &VECTORS)?;
@@ -95,12 +95,12 @@ fn one_length(
     Ok(())
 }
 
-/// The kinds of requests, and kinds that are none.
+/// The kinds of requests, and unknown kinds.
 const NO_KINDS: [u8; 12] = [0, 1, 2, 3, 4, 5, 6, 7, 8, 128, 137, 255];
 
 const ANY_BODIES: [&[u8]; 5] = [&[], &[0, 0, 0, 1], &[0, 1, 0, 0, 0], &[0; 8], &[0; 20]];
 
-/// Numbers that name no refusal and no limit.
+/// Numbers of no refusal and of no limit.
 const NO_NUMBERS: [&[u8]; 6] = [&[0], &[20], &[255], &[17, 0], &[17, 4], &[17, 255]];
 
 #[test]
@@ -123,8 +123,7 @@ fn each_malformed(rt: &impl Abort, alloc: Global, kind: u8, bodies: &[&[u8]]) ->
     Ok(())
 }
 
-// The replies of one version with another kind's hash, of a version that no frame has, or with a digest of another
-// length than the hash's.
+// Replies whose version cannot carry their hash, replies of an unknown version, and digests of the wrong length.
 #[test]
 fn no_reply_in_this_version(rt: HostRuntime) -> Result<(), Fail> {
     for (version, body) in &NO_FINISHED {
@@ -143,7 +142,7 @@ fn no_reply_in_this_version(rt: HostRuntime) -> Result<(), Fail> {
 }
 
 const NO_FINISHED: [(u8, &[u8]); 8] = [
-    // no hash in version 1, and one in version 2 with no kind before it
+    // no hash in version 1, and a hash without its kind in version 2
     (1, &[2, 0, 0, 0, 0]),
     (1, &[2, 0, 0, 0]),
     (
@@ -165,7 +164,7 @@ const NO_FINISHED: [(u8, &[u8]); 8] = [
             7, 7, 7, 7, 7, 0, 0,
         ],
     ),
-    // hashes of no kind, and an MD5 of 15 bytes
+    // hashes of unknown kinds, and an MD5 of 15 bytes
     (2, &[2, 0, 3, 0, 0]),
     (2, &[2, 0, 255, 0, 0]),
     (
@@ -174,10 +173,10 @@ const NO_FINISHED: [(u8, &[u8]); 8] = [
     ),
 ];
 
-/// A Finished: its first two bytes, how many identifiers it says it has, and those that it has, each so often.
+/// A Finished: its first two bytes, its count of identifiers, and its identifiers with the number of copies of each.
 type Finished<'a> = (u8, u8, u16, &'a [u8], u16);
 
-/// Methods, truth values, counts and lengths within their bounds and past them; whether that is a reply.
+/// Methods, truth values, counts and lengths at and over their limits, and whether each body is a reply.
 const FINISHED: [(Finished<'static>, bool); 15] = [
     ((0, 0, 0, &[], 1), true),
     ((1, 1, 0, &[], 1), true),
@@ -244,7 +243,7 @@ fn has_puids(alloc: Global, version: u8, body: &[u8], count: u16) -> Result<bool
     }
 }
 
-// The longest part, which is as long in both versions, and one byte more.
+// The longest Part, of the same length in both versions, and one byte more.
 #[test]
 fn parts(rt: HostRuntime) -> Result<(), Fail> {
     let longer = vec![in rt.alloc(); 7u8; 17 + PART_LIMIT]?;

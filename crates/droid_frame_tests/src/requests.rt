@@ -1,4 +1,4 @@
-//! Requests: bytes to values and values to bytes, and what is no request.
+//! Requests, from bytes to values and back, and malformed requests.
 
 use crate::faults::is_shown;
 use droid_frame::{
@@ -9,7 +9,7 @@ use std::alloc::Global;
 use std::process::Abort;
 use std::test::Fail;
 
-// The bodies are written out by hand; the marks are from Python's hashlib.
+// The bodies are written by hand. The marks are from Python's hashlib.
 const CREATE: [u8; 5] = [0, 1, 0, 0, 0];
 
 const CREATE_MARK: [u8; 16] = [
@@ -35,15 +35,15 @@ const EXPORT: [u8; 20] = [
     0, 0, 0, 1, 0, 0, 0, 0, 0, 0, 0, 0, 0, 0x10, 0, 0, 1, 1, 7, 1,
 ];
 
-// Any of: method Signature; formats `dev/1` or the empty text; extension `msg`; a mismatch; at least
-// 15 bytes; at most 2^64 - 1 bytes; a file. Written out by hand.
+// An Export of the records that meet any of: method Signature; format `dev/1` or the empty text; extension `msg`; a
+// mismatch; at least 15 bytes; at most 2^64 - 1 bytes; a file. Written by hand.
 pub(crate) const EVERY_TAG: [u8; 57] = [
     0, 0, 0, 1, 0, 0, 0, 0, 0, 0, 0, 9, 0, 0, 0, 1, 0, 7, 1, 1, 2, 2, 5, 0x64, 0x65, 0x76, 0x2f,
     0x31, 0, 3, 1, 3, 0x6d, 0x73, 0x67, 4, 1, 5, 0, 0, 0, 0, 0, 0, 0, 15, 6, 255, 255, 255, 255,
     255, 255, 255, 255, 7, 0,
 ];
 
-/// Each kind, and each tag of a filter: what the bytes are read as.
+/// Each kind and each tag of a filter: the body, and the text of the request read from it.
 const KINDS: [(u8, &[u8], &str); 9] = [
     (
         1,
@@ -80,7 +80,7 @@ const KINDS: [(u8, &[u8], &str); 9] = [
     ),
 ];
 
-// The same bytes are written again.
+// Each request is written as the same bytes again.
 #[test]
 fn kinds(rt: HostRuntime) -> Result<(), Fail> {
     each_kind(&rt, rt.alloc(), 1, &KINDS)?;
@@ -88,7 +88,7 @@ fn kinds(rt: HostRuntime) -> Result<(), Fail> {
     each_kind(&rt, rt.alloc(), 2, &PROFILES_IN_TWO)
 }
 
-/// Profiles of version 2: its body has one byte more.
+/// CreateProfile in version 2, whose body has one byte more.
 const PROFILES_IN_TWO: [(u8, &[u8], &str); 3] = [
     (
         1,
@@ -122,7 +122,7 @@ fn each_kind(
     Ok(())
 }
 
-/// Whether the body is read as a request that is shown so, and that is written as this body again.
+/// Returns whether the request read from the body has this text, and is written as the same body again.
 fn is_read_and_written(
     alloc: Global,
     version: u8,
@@ -151,7 +151,7 @@ fn marks(rt: HostRuntime) {
     assert!(rt; mark(2, &FOLDER) == FOLDER_MARK);
 }
 
-/// Whether the body of this kind is no request under this number.
+/// Returns whether the body is malformed for a request of this kind and number, in version 1.
 pub fn is_malformed(alloc: Global, kind: u8, number: u64, body: &[u8]) -> Result<bool, Fail> {
     is_malformed_in(alloc, 1, kind, number, body)
 }
@@ -167,7 +167,7 @@ fn is_malformed_in(
     Ok(matches!(read, Err(BodyFault::Malformed)))
 }
 
-/// Each kind, and one byte less than its bodies have at the least.
+/// Each kind, and a length one byte less than its shortest body.
 const SHORT: [(u8, &[u8], usize); 8] = [
     (1, &CREATE, 4),
     (2, &FOLDER, 15),
@@ -179,8 +179,8 @@ const SHORT: [(u8, &[u8], usize); 8] = [
     (8, &EXPORT, 19),
 ];
 
-/// A byte more than kinds have whose bodies don't run to the end; a truth value of 2; a name that isn't UTF-8; kinds of
-/// no request, and of replies; a number of 2^63.
+/// Malformed requests: one byte too many, a truth value of 2, a name that is not UTF-8, unknown kinds, kinds of
+/// replies, and a number of 2^63.
 const MALFORMED: [(u8, u64, &[u8]); 13] = [
     (1, 1, &[0, 1, 0, 0, 0, 0]),
     (5, 9, &[0, 0, 0, 1, 0, 0, 0, 2, 0]),
@@ -209,7 +209,7 @@ fn malformed(rt: HostRuntime) -> Result<(), Fail> {
     each_malformed(&rt, rt.alloc(), 2, &MALFORMED_IN_TWO)
 }
 
-/// In version 2: no byte for the hash, a byte more than that, and hashes of no kind.
+/// Malformed in version 2: no byte for the hash, one byte too many, and unknown hashes.
 const MALFORMED_IN_TWO: [(u8, u64, &[u8]); 4] = [
     (1, 1, &CREATE),
     (1, 1, &[0, 1, 0, 0, 0, 1, 0]),
@@ -217,7 +217,7 @@ const MALFORMED_IN_TWO: [(u8, u64, &[u8]); 4] = [
     (1, 1, &[0, 1, 0, 0, 0, 255]),
 ];
 
-// A body that is a request in versions 1 and 2 is none in any other.
+// A body that is a request in versions 1 and 2 is malformed in every other version.
 #[test]
 fn other_versions(rt: HostRuntime) -> Result<(), Fail> {
     for version in [0, 3, 9, 255] {
@@ -262,7 +262,7 @@ fn each_malformed(
     Ok(())
 }
 
-/// As few bytes as a kind has: a name and a piece of no bytes are well formed.
+/// The shortest bodies: an empty name and an empty piece are well formed.
 const SHORTEST: [(u8, &[u8], usize); 4] = [
     (2, &FOLDER, 16),
     (3, &FILE, 28),
@@ -270,7 +270,7 @@ const SHORTEST: [(u8, &[u8], usize); 4] = [
     (7, &OF_FILE, 8),
 ];
 
-// The largest number is well formed too.
+// The largest number of a request is well formed too.
 #[test]
 fn well_formed_at_the_ends(rt: HostRuntime) -> Result<(), Fail> {
     each_shortest(&rt, rt.alloc(), &SHORTEST)
@@ -285,7 +285,7 @@ fn each_shortest(rt: &impl Abort, alloc: Global, rows: &[(u8, &[u8], usize)]) ->
     Ok(())
 }
 
-/// The hashes, and in which of the versions 0 to 3 a profile with one can be asked for.
+/// The hashes, and for each the versions from 0 to 3 that can carry it.
 const HASHES: [(HashKind, [bool; 4]); 3] = [
     (HashKind::Nothing, [false, false, true, false]),
     (HashKind::Md5, [false, true, true, false]),
@@ -314,8 +314,8 @@ fn each_hash(rt: &impl Abort, rows: &[(HashKind, [bool; 4])]) {
     }
 }
 
-/// How many bytes a piece has, and whether it can be sent in version 1 and in version 2: with the longest of each, a body
-/// has as many bytes as it may.
+/// The length of a piece, and whether it fits in version 1 and in version 2. The longest piece of each version makes
+/// the longest body.
 const PIECES: [(usize, bool, bool); 5] = [
     (1_048_576, true, true),
     (1_048_628, true, true),

@@ -1,4 +1,4 @@
--- The grammar of bodies: which version, kind and bytes spell which request.
+-- The spelling of requests: the version, kind and body bytes of each (this project's own).
 use Rattle.std.specs.Prelude.{◌≡◌, ℕ, ◌≤◌, List, ◌++◌, length}
 use Rattle.std.specs.Str.{IsUtf8}
 use Rattle.droid_frame_values.specs.Limits.{body_limit}
@@ -9,7 +9,7 @@ use Rattle.droid_frame_values.specs.Filters.{filter_bytes, IsFilter, FilterFits}
 use Rattle.droid_frame_values.specs.Hashes.{CarriesHash, hash_field}
 use Rattle.droid_frame_values.specs.Versions.{IsVersion}
 
--- the kind of a request
+-- the kind of a request's frame
 abbrev pub request_kind : Request → ℕ
 request_kind (CreateProfile scan_limit match_all hash) = 1
 request_kind (AddFolder profile parent modified name) = 2
@@ -20,7 +20,7 @@ request_kind (Abandon profile file) = 6
 request_kind (Status profile file) = 7
 request_kind (Export profile from max filter) = 8
 
--- the fields of a request, one after the other; a name and a piece's bytes run to the end
+-- the fields of a request, one after the other; a name and a piece's bytes extend to the end of the body
 abbrev pub request_body : ℕ → Request → List ℕ
 request_body version (CreateProfile scan_limit match_all hash) = u32_bytes scan_limit ++ (truth_bytes match_all ++ hash_field version hash)
 request_body version (AddFolder profile parent modified name) = u32_bytes profile ++ (u32_bytes parent ++ (i64_bytes modified ++ name))
@@ -32,8 +32,8 @@ request_body version (Abandon profile file) = u32_bytes profile ++ u32_bytes fil
 request_body version (Status profile file) = u32_bytes profile ++ u32_bytes file
 request_body version (Export profile from max filter) = u32_bytes profile ++ (u64_bytes from ++ (u32_bytes max ++ filter_bytes filter))
 
--- each number is in its field's range, each text is UTF-8, and each list is short enough for its count; and the
--- version tells of the profile's hash
+-- the request has a spelling: each number fits its field, each text is UTF-8, each list fits its count, and the
+-- version can carry the profile's hash
 abbrev pub HasSpelling : ℕ → Request → Type 0
 HasSpelling version (CreateProfile scan_limit match_all hash) = IsU32 scan_limit × CarriesHash version hash
 HasSpelling version (AddFolder profile parent modified name) = IsU32 profile × IsU32 parent × IsI64 modified × IsUtf8 name
@@ -44,24 +44,24 @@ HasSpelling version (Abandon profile file) = IsU32 profile × IsU32 file
 HasSpelling version (Status profile file) = IsU32 profile × IsU32 file
 HasSpelling version (Export profile from max filter) = IsU32 profile × IsU64 from × IsU32 max × IsFilter filter
 
--- in this version the kind and the body spell the request: every byte of the body is used
+-- in this version the kind and the whole body spell the request
 pub record SpellsRequest (version kind : ℕ) (body : List ℕ) (request : Request) : Type 0 where
   pub version_is : IsVersion version
   pub kind_is : kind ≡ request_kind request
   pub body_is : body ≡ request_body version request
   pub has_spelling : HasSpelling version request
 
--- the lists of a filter are short enough for their counts, and the other requests have no list
+-- the lists of an Export's filter fit their counts; the other requests have no list
 abbrev pub ListsFit : Request → Type 0
 ListsFit (Export profile from max filter) = FilterFits filter
 ListsFit _ = Unit {0}
 
--- a profile has a hash that the version tells of
+-- the version can carry the hash of a CreateProfile
 abbrev pub HashFits : ℕ → Request → Type 0
 HashFits version (CreateProfile scan_limit match_all hash) = CarriesHash version hash
 HashFits version _ = Unit {0}
 
--- short enough to be sent in this version, and with a hash that it tells of
+-- a frame of this version can carry the request
 pub record Fits (version : ℕ) (request : Request) : Type 0 where
   pub version_is : IsVersion version
   pub body : length (request_body version request) ≤ body_limit version

@@ -1,7 +1,7 @@
--- For proofs alone: bytes that other bytes end in.
+-- For proofs only: suffixes of byte lists.
 use Rattle.std.specs.Prelude.{◌≡◌, ℕ, ◌-◌, ◌≤◌, List, length, drop}
 
--- the bytes end in these
+-- rest is a suffix of bytes
 pub record IsEnd (bytes rest : List ℕ) : Type 0 where
   pub shorter : length rest ≤ length bytes
   pub ends : drop (length bytes - length rest) bytes ≡ rest

@@ -1,10 +1,10 @@
--- The fields of a frame and of a body, and how each is spelled (this project's own).
+-- The fields of frames and bodies, and the bytes of each (this project's own).
 use Rattle.std.specs.Prelude.{ℕ, ℤ, ◌<◌, ◌^◌, Bool, true, false, List, [], ◌∷◌, FitsSigned, slice_index}
 use Rattle.std.specs.Int.{w16, w32, w64, to_be_bytes, cast_unsigned}
 use Rattle.droid_frame_values.specs.declared.method.Method.{Method}
 use Rattle.droid_frame_values.specs.declared.method.Method.TheVariants.{Unidentified, Signature, Extension}
 
--- each is a byte
+-- each item is a byte
 abbrev pub IsBytes : List ℕ → Type 0
 IsBytes bytes = (i : ℕ) → slice_index bytes i < 256
 
@@ -38,7 +38,7 @@ method_number Extension = 2
 abbrev pub method_bytes : Method → List ℕ
 method_bytes method = method_number method ∷ []
 
--- what has a spelling in four bytes, and in eight
+-- the number fits an unsigned field of four bytes, an unsigned field of eight, a signed field of eight
 abbrev pub IsU32 : ℕ → Type 0
 IsU32 n = n < 2 ^ 32
 

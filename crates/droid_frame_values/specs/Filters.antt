@@ -1,4 +1,4 @@
--- The grammar of filters (this project's own).
+-- The spelling of filters (this project's own).
 use Rattle.std.specs.Prelude.{ℕ, ◌<◌, ◌≤◌, ◌^◌, List, [], ◌∷◌, ◌++◌, length}
 use Rattle.std.specs.List.{AllByRecursion}
 use Rattle.droid_frame_values.specs.declared.criterion.Criterion.{Criterion}
@@ -19,11 +19,11 @@ node_kind_number Folder = 1
 abbrev pub node_kind_bytes : NodeKind → List ℕ
 node_kind_bytes kind = node_kind_number kind ∷ []
 
--- how many texts, and then each after its length
+-- the number of texts, and then each text after its length
 abbrev pub list_bytes : List (List ℕ) → List ℕ
 list_bytes texts = counted_bytes sized_bytes texts
 
--- a tag of one byte, and what the criterion asks for
+-- a tag of one byte, and then the value that the criterion asks for
 abbrev pub criterion_bytes : Criterion → List ℕ
 criterion_bytes (MethodIs method) = 1 ∷ method_bytes method
 criterion_bytes (PuidIn texts) = 2 ∷ list_bytes texts
@@ -33,11 +33,11 @@ criterion_bytes (SizeAtLeast size) = 5 ∷ u64_bytes size
 criterion_bytes (SizeAtMost size) = 6 ∷ u64_bytes size
 criterion_bytes (KindIs kind) = 7 ∷ node_kind_bytes kind
 
--- whether all have to be met, how many there are, and then each
+-- whether all criteria must be met, the number of criteria, and then each criterion
 abbrev pub filter_bytes : Filter → List ℕ
 filter_bytes filter = truth_bytes filter.all ++ counted_bytes criterion_bytes filter.criteria
 
--- ---- what has a spelling
+-- ---- values that have a spelling
 
 -- at most 255 texts, each UTF-8 of at most 255 bytes
 pub record IsList (texts : List (List ℕ)) : Type 0 where
@@ -57,7 +57,7 @@ pub record IsFilter (filter : Filter) : Type 0 where
   pub few : length filter.criteria < 256
   pub each : AllByRecursion IsCriterion filter.criteria
 
--- ---- what is short enough to be spelled
+-- ---- values that are short enough to have a spelling
 
 pub record ListFits (texts : List (List ℕ)) : Type 0 where
   pub few : length texts ≤ count_limit

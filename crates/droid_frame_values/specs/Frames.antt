@@ -1,4 +1,4 @@
--- A frame as bytes, and the mark of a request (this project's own).
+-- The bytes of a frame, and the mark of a request (this project's own).
 use Rattle.std.specs.Prelude.{ℕ, List, ◌∷◌, ◌++◌, length}
 use Rattle.md5.specs.Md5.{md5}
 use Rattle.droid_frame_values.specs.declared.frame.Frame.{Frame}
@@ -12,6 +12,6 @@ spelling version kind client number body =
 abbrev pub frame_bytes : Frame → List ℕ
 frame_bytes frame = spelling frame.version frame.kind frame.client frame.number frame.body
 
--- the MD5 of the kind's byte and then the body
+-- the MD5 (RFC 1321) of the kind's byte followed by the body
 abbrev pub mark_of : ℕ → List ℕ → List ℕ
 mark_of kind body = md5 (kind ∷ body)

@@ -1,17 +1,17 @@
--- The numbers of refusals and limits (this project's own).
+-- The numbers of limits and of the reasons for a refusal (this project's own).
 use Rattle.std.specs.Prelude.{ℕ}
 use Rattle.droid_frame_values.specs.declared.refusal.Limit.{Limit}
 use Rattle.droid_frame_values.specs.declared.refusal.Limit.TheVariants as limits
 use Rattle.droid_frame_values.specs.declared.refusal.Refusal.{Refusal}
 use Rattle.droid_frame_values.specs.declared.refusal.Refusal.TheVariants.{Malformed, NumberReused, NoSuchProfile, NoSuchNode, NotAFolder, NotAFile, BadName, PathTooLong, NameTaken, BadOption, TooLarge, AlreadyFinished, BadPiece, PieceHeld, TooFarAhead, Incomplete, LimitReached, Memory, Store}
 
--- which limit
+-- the number of a limit
 abbrev pub limit_number : Limit → ℕ
 limit_number limits.Profiles = 1
 limit_number limits.Nodes = 2
 limit_number limits.Unfinished = 3
 
--- which cause
+-- the number of a reason
 abbrev pub refusal_number : Refusal → ℕ
 refusal_number Malformed = 1
 refusal_number NumberReused = 2

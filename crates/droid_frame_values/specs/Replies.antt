@@ -1,4 +1,4 @@
--- The grammar of replies: which version, kind and bytes spell which reply (this project's own).
+-- The spelling of replies: the version, kind and body bytes of each (this project's own).
 use Rattle.std.specs.Prelude.{◌≡◌, ℕ, ◌≤◌, List, [], ◌∷◌, ◌++◌, length}
 use Rattle.std.specs.List.{AllByRecursion}
 use Rattle.droid_frame_values.specs.declared.hash_value.HashValue.{HashValue}
@@ -13,7 +13,7 @@ use Rattle.droid_frame_values.specs.Refusals.{refusal_number, limit_number}
 use Rattle.droid_frame_values.specs.TextLists.{texts_bytes, IsSizedText}
 use Rattle.droid_frame_values.specs.Versions.{IsVersion}
 
--- the kind of a reply
+-- the kind of a reply's frame
 abbrev pub reply_kind : Reply → ℕ
 reply_kind (Made profile) = 129
 reply_kind (Node id) = 130
@@ -24,7 +24,7 @@ reply_kind (Progress held missing) = 134
 reply_kind (Part as_of total bytes) = 135
 reply_kind (Refused refusal) = 136
 
--- what stands after a refusal's number: the first missing index, or which limit
+-- the field after a refusal's number: the index of the first missing piece, or the number of the limit
 abbrev pub refusal_detail : Refusal → List ℕ
 refusal_detail (refusals.TooFarAhead missing) = u32_bytes missing
 refusal_detail (refusals.Incomplete missing) = u32_bytes missing
@@ -34,11 +34,11 @@ refusal_detail _ = []
 abbrev pub refusal_bytes : Refusal → List ℕ
 refusal_bytes refusal = refusal_number refusal ∷ refusal_detail refusal
 
--- the kind of a hash, where the version has a field for it, and its digest
+-- the kind of a hash, if the version has a field for it, and then the digest
 abbrev pub digest_bytes : ℕ → HashValue → List ℕ
 digest_bytes version hash = hash_field version (hash_value_kind hash) ++ hash_bytes hash
 
--- the fields of a reply, one after the other; the bytes of a part run to the end
+-- the fields of a reply, one after the other; the bytes of a Part extend to the end of the body
 abbrev pub reply_bytes : ℕ → Reply → List ℕ
 reply_bytes version (Made profile) = u32_bytes profile
 reply_bytes version (Node id) = u32_bytes id
@@ -50,21 +50,21 @@ reply_bytes version (Progress held missing) = u32_bytes held ++ u32_bytes missin
 reply_bytes version (Part as_of total bytes) = u64_bytes as_of ++ (u64_bytes total ++ bytes)
 reply_bytes version (Refused refusal) = refusal_bytes refusal
 
--- the missing index is in its field's range
+-- the index of the missing piece fits its field
 abbrev pub HasRefusalSpelling : Refusal → Type 0
 HasRefusalSpelling (refusals.TooFarAhead missing) = IsU32 missing
 HasRefusalSpelling (refusals.Incomplete missing) = IsU32 missing
 HasRefusalSpelling _ = Unit {0}
 
--- a hash that a Finished can tell: its version tells of the kind, and the digest is as long as one of it
+-- a Finished of this version can carry the hash: the version can carry its kind, and the digest has the right length
 abbrev pub IsSpelledHash : ℕ → HashValue → Type 0
 IsSpelledHash version hash = CarriesHash version (hash_value_kind hash) × IsHashValue hash
 
--- the identifier of a format: UTF-8, of 1 to 32 bytes
+-- the identifier of a format is UTF-8 of 1 to 32 bytes
 abbrev pub IsPuidText : List ℕ → Type 0
 IsPuidText puid = IsSizedText 1 puid_limit puid
 
--- each number is in its field's range, and each list within its limit
+-- the reply has a spelling: each number fits its field, and each list is within its limit
 abbrev pub HasReplySpelling : ℕ → Reply → Type 0
 HasReplySpelling version (Made profile) = IsU32 profile
 HasReplySpelling version (Node id) = IsU32 id
@@ -76,7 +76,7 @@ HasReplySpelling version (Progress held missing) = IsU32 held × IsU32 missing
 HasReplySpelling version (Part as_of total bytes) = IsU64 as_of × IsU64 total × (length bytes ≤ part_limit) × IsBytes bytes
 HasReplySpelling version (Refused refusal) = HasRefusalSpelling refusal
 
--- in this version the kind and the body spell the reply: every byte of the body is used
+-- in this version the kind and the whole body spell the reply
 pub record SpellsReply (version kind : ℕ) (body : List ℕ) (reply : Reply) : Type 0 where
   pub version_is : IsVersion version
   pub kind_is : kind ≡ reply_kind reply

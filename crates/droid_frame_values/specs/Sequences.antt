@@ -1,7 +1,7 @@
--- So many of one field, one after the other (this project's own).
+-- Counted sequences of one kind of value (this project's own).
 use Rattle.std.specs.Prelude.{ℕ, List, ◌∷◌, length}
 use Rattle.std.specs.List.{flat_map}
 
--- how many there are in one byte, and then each
+-- the number of values in one byte, and then the bytes of each value
 abbrev pub counted_bytes : {A : Type 0} → (A → List ℕ) → List A → List ℕ
 counted_bytes spelled values = length values ∷ flat_map spelled values

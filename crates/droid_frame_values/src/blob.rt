@@ -1,4 +1,4 @@
-//! Bytes with an owner.
+//! Owned bytes.
 
 ghost use Rattle.std.specs.Prelude.{◌≡◌, ◌↔◌, [], IfOk, IsTrue, length};
 ghost use Rattle.droid_frame_values.specs.Fields.{IsBytes};
@@ -6,7 +6,7 @@ ghost use Rattle.droid_frame_values.specs.Fields.{IsBytes};
 use std::alloc::{AllocError, Global};
 use std::marker::Model;
 
-/// Owned bytes, as the body of a frame. Contracts see the list of the bytes alone.
+/// Owned bytes, such as a frame's body. In contracts it is the list of its bytes.
 #[derive(Debug, Drop)]
 pub struct Blob {
     bytes: Vec<u8>,
@@ -25,7 +25,7 @@ impl Model for Blob {
 }
 
 impl Blob {
-    /// A copy of the bytes, with a buffer of its own. Only want of memory refuses it.
+    /// Copies the bytes into a new buffer. Fails only when out of memory.
     pub fn copy_of(alloc: Global, bytes: &[u8]) -> Result<Blob, AllocError>
         ensures { IfOk result (λ blob. blob ≡ bytes.now) }
     {
@@ -34,14 +34,14 @@ impl Blob {
         })
     }
 
-    /// A second copy. Only want of memory refuses it.
+    /// Copies the value. Fails only when out of memory.
     pub fn try_clone(&self, alloc: Global) -> Result<Blob, AllocError>
         ensures { IfOk result (λ blob. blob ≡ self.now) }
     {
         Blob::copy_of(alloc, self.as_slice())
     }
 
-    /// The bytes.
+    /// Returns the bytes.
     pub fn as_slice(&self) -> &[u8]
         ensures value { result.now ≡ self.now }
         ensures bytes { IsBytes self.now }
@@ -49,21 +49,21 @@ impl Blob {
         self.bytes.as_slice()
     }
 
-    /// How many bytes there are.
+    /// Returns the number of bytes.
     pub fn len(&self) -> usize
         ensures { result ≡ length self.now }
     {
         self.bytes.len()
     }
 
-    /// Whether there is no byte.
+    /// Returns whether there are no bytes.
     pub fn is_empty(&self) -> bool
         ensures { IsTrue result ↔ (self.now ≡ []) }
     {
         self.bytes.is_empty()
     }
 
-    /// The buffer itself, given back without taking memory.
+    /// Returns the buffer itself. Allocates nothing.
     pub fn into_vec(self) -> Vec<u8>
         ensures { result.items ≡ self }
     {
@@ -75,7 +75,7 @@ impl Blob {
 impl From<Vec<u8>> for Blob {
     ghost from_gives = { λ bytes blob. blob ≡ bytes.items };
 
-    /// Takes the buffer over without taking memory.
+    /// Takes over the buffer. Allocates nothing.
     fn from(bytes: Vec<u8>) -> Blob {
         Blob { bytes }
     }

@@ -8,7 +8,7 @@ use crate::criterion::Criterion;
 use std::alloc::{AllocError, Global};
 use std::marker::Model;
 
-/// Criteria in order. Contracts see the list of them.
+/// The criteria of a filter, in order. In contracts it is the list of them.
 #[derive(Debug, Drop)]
 pub struct Criteria {
     items: Vec<Criterion>,
@@ -24,7 +24,7 @@ impl Model for Criteria {
 }
 
 impl Criteria {
-    /// No criterion. It takes no memory.
+    /// Makes an empty list. Allocates nothing.
     pub fn new(alloc: Global) -> Criteria
         ensures { result ≡ [] }
     {
@@ -33,7 +33,7 @@ impl Criteria {
         }
     }
 
-    /// Adds a criterion at the end. Only want of memory refuses it, and the list then stays as it was.
+    /// Appends a criterion. When out of memory it fails, and the list is unchanged.
     pub fn push(&mut self, criterion: Criterion) -> Result<(), AllocError>
         ensures ok { OnOk result (self.new ≡ self.old ++ criterion ∷ []) }
         ensures err { OnErr result (self.new ≡ self.old) }
@@ -42,35 +42,35 @@ impl Criteria {
         Ok(())
     }
 
-    /// The criterion at this place, counted from 0, or `None` past the end.
+    /// Returns the criterion at this index, counted from 0, or `None` past the end.
     pub fn get(&self, place: usize) -> Option<&Criterion>
         ensures { option_copied result ≡ slice_get self.now place }
     {
         self.items.get(place)
     }
 
-    /// The criteria.
+    /// Returns the criteria as a slice.
     pub fn as_slice(&self) -> &[Criterion]
         ensures { result.now ≡ self.now }
     {
         self.items.as_slice()
     }
 
-    /// How many criteria there are.
+    /// Returns the number of criteria.
     pub fn len(&self) -> usize
         ensures { result ≡ length self.now }
     {
         self.items.len()
     }
 
-    /// Whether there is no criterion.
+    /// Returns whether the list is empty.
     pub fn is_empty(&self) -> bool
         ensures { IsTrue result ↔ (self.now ≡ []) }
     {
         self.items.is_empty()
     }
 
-    /// A copy of the list and of each criterion. Only want of memory refuses it.
+    /// Copies the list and each criterion. Fails only when out of memory.
     pub fn try_clone(&self, alloc: Global) -> Result<Criteria, AllocError>
         ensures { IfOk result (λ criteria. criteria ≡ self.now) }
     {

@@ -1,4 +1,4 @@
-//! What a filter asks of a record.
+//! The conditions of a filter.
 
 ghost use Rattle.std.specs.Prelude.{◌≡◌, IfOk};
 
@@ -12,22 +12,22 @@ use std::alloc::{AllocError, Global};
 pub enum Criterion {
     /// The record was identified by this method.
     MethodIs(Method),
-    /// One of its formats has one of these identifiers.
+    /// The record has a format with one of these identifiers (PUIDs).
     PuidIn(Texts),
-    /// Its extension is one of these.
+    /// The record's extension is one of these.
     ExtIn(Texts),
-    /// Whether its extension is one that none of its formats lists.
+    /// The record's mismatch flag has this value. The flag is true if none of its formats lists its extension.
     MismatchIs(bool),
-    /// It is a file of at least so many bytes.
+    /// The record is a file of at least this many bytes.
     SizeAtLeast(u64),
-    /// It is a file of at most so many bytes.
+    /// The record is a file of at most this many bytes.
     SizeAtMost(u64),
-    /// It is of this kind.
+    /// The record is of this kind: a file or a folder.
     KindIs(NodeKind),
 }
 
 impl Criterion {
-    /// A second copy. Only want of memory refuses it.
+    /// Copies the value. Fails only when out of memory.
     pub fn try_clone(&self, alloc: Global) -> Result<Criterion, AllocError>
         ensures { IfOk result (λ criterion. criterion ≡ self.now) }
     {

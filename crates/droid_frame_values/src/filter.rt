@@ -1,21 +1,21 @@
-//! Which records an export shows.
+//! Filters of an export.
 
 ghost use Rattle.std.specs.Prelude.{◌≡◌, IfOk};
 
 use crate::criteria::Criteria;
 use std::alloc::{AllocError, Global};
 
-/// Criteria, joined by all or by any. Without criteria it lets every record through in both modes.
+/// Selects records of an export. A filter without criteria selects every record, whatever `all` is.
 #[derive(Debug, Drop)]
 pub struct Filter {
-    /// Whether a record has to meet every criterion, and otherwise at least one.
+    /// If true, a record must meet every criterion; if false, at least one.
     pub all: bool,
     /// The criteria.
     pub criteria: Criteria,
 }
 
 impl Filter {
-    /// A second copy. Only want of memory refuses it.
+    /// Copies the value. Fails only when out of memory.
     pub fn try_clone(&self, alloc: Global) -> Result<Filter, AllocError>
         ensures { IfOk result (λ filter. filter ≡ self.now) }
     {

@@ -1,4 +1,4 @@
-//! A frame: a request or a reply as it travels.
+//! Frames: requests and replies as bytes on a stream.
 
 ghost use Rattle.std.specs.Prelude.{◌≡◌};
 ghost use Rattle.droid_frame_values.specs.Frames.{mark_of};
@@ -6,27 +6,27 @@ ghost use Rattle.droid_frame_values.specs.Frames.{mark_of};
 use crate::blob::Blob;
 use md5::{Digest, Md5};
 
-/// The numbers of requests are below this.
+/// The number of a request is below this.
 pub const NUMBER_LIMIT: u64 = 1 << 63;
 
-/// A frame. Any version, kind, client, number and body make one; what a kind's body may be is the
-/// grammar's to say.
+/// A frame: a request or a reply with its header. Any values make a frame; `request_of` and `reply_of` check whether
+/// its kind and body are valid.
 #[derive(Debug, Drop)]
 pub struct Frame {
-    /// The version of the grammar that the body is spelled in: 1 or 2 in a frame that a stream may hold.
+    /// The version of the format: 1 or 2 in a frame on a stream.
     pub version: u8,
-    /// Which request or reply the body spells.
+    /// The kind: 1 to 8 in a request, 129 to 136 in a reply.
     pub kind: u8,
     /// The client that sent the request.
     pub client: u32,
-    /// The number that the client gave it. A request has one below [`NUMBER_LIMIT`].
+    /// The number that the client gave the request, below [`NUMBER_LIMIT`]. A reply has the number of its request.
     pub number: u64,
-    /// The request or the reply, without the frame's header.
+    /// The fields of the request or reply, without the frame's header.
     pub body: Blob,
 }
 
-/// The mark of a request: the MD5 (RFC 1321) of its kind's byte and then its body. Requests under one
-/// number are taken for one request where their versions and their marks are equal. It takes no memory.
+/// Computes the mark of a request: the MD5 (RFC 1321) of its kind's byte followed by its body. Two requests of one
+/// client and number count as the same request if their versions and their marks are equal. Allocates nothing.
 pub fn mark(kind: u8, body: &[u8]) -> [u8; 16]
     ensures { result ≡ mark_of kind body.now }
 {

@@ -1,12 +1,12 @@
-//! Which hash the files of a profile get.
+//! The kinds of hash that a profile can compute.
 
 ghost use Rattle.std.specs.Prelude.{◌≡◌};
 ghost use Rattle.droid_frame_values.specs.Hashes.{hash_kind_number};
 
-/// The hash that a profile's finished files get.
+/// The kind of hash that a profile computes for each finished file.
 #[derive(Clone, Copy, Debug, PartialEq, Eq)]
 pub enum HashKind {
-    /// None.
+    /// No hash.
     Nothing,
     /// MD5 (RFC 1321).
     Md5,
@@ -15,7 +15,7 @@ pub enum HashKind {
 }
 
 impl HashKind {
-    /// The number of the kind in a table.
+    /// Returns the number of the kind, 0 to 2, in frames and in the store.
     pub fn number(self) -> u8
         ensures { result ≡ hash_kind_number self }
     {

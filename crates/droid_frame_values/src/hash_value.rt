@@ -1,23 +1,23 @@
-//! The hash of a file.
+//! The hash of one file.
 
 ghost use Rattle.std.specs.Prelude.{◌≡◌};
 ghost use Rattle.droid_frame_values.specs.Hashes.{hash_bytes, hash_value_kind};
 
 use crate::hash_kind::HashKind;
 
-/// What a hash gives of a file's bytes.
+/// The hash of a file's bytes.
 #[derive(Clone, Copy, Debug, PartialEq, Eq)]
 pub enum HashValue {
-    /// None was taken.
+    /// No hash was computed.
     Nothing,
-    /// Their MD5.
+    /// The MD5 of the bytes.
     Md5([u8; 16]),
-    /// Their SHA-256.
+    /// The SHA-256 of the bytes.
     Sha256([u8; 32]),
 }
 
 impl HashValue {
-    /// Which hash gives such a value.
+    /// Returns the kind of hash.
     pub fn kind(self) -> HashKind
         ensures { result ≡ hash_value_kind self }
     {
@@ -28,7 +28,7 @@ impl HashValue {
         }
     }
 
-    /// The digest, and no byte where none was taken.
+    /// Returns the digest, or no bytes if no hash was computed.
     pub fn as_slice(&self) -> &[u8]
         ensures { result.now ≡ hash_bytes self.now }
     {

@@ -1,4 +1,4 @@
-//! Laws of the values: each stands on a function that does nothing, and is proved with it.
+//! Laws of the values. Each is the contract of a function that does nothing.
 
 ghost use Rattle.std.specs.Prelude.{◌≡◌, ◌^◌};
 ghost use Rattle.droid_frame_values.specs.Limits.{part_limit, puid_limit, puids_limit};
@@ -6,7 +6,7 @@ ghost use Rattle.droid_frame_values.specs.Limits.{part_limit, puid_limit, puids_
 use crate::frame::NUMBER_LIMIT;
 use crate::reply::{PART_LIMIT, PUID_LIMIT, PUIDS_LIMIT};
 
-/// The constants are the numbers of the definitions.
+/// The constants of this crate equal the limits that `specs/` defines.
 pub fn constants_are_the_limits()
     ensures number { NUMBER_LIMIT ≡ 2 ^ 63 }
     ensures puids { PUIDS_LIMIT ≡ puids_limit }

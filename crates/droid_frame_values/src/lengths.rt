@@ -1,4 +1,4 @@
-//! How long bodies are.
+//! The lengths of request bodies.
 
 ghost use Rattle.std.specs.Prelude.{◌≡◌, ◌↔◌, ◌<◌, ◌≤◌, ◌+◌, ◌++◌, Bool, IsTrue, MatchOption, length};
 ghost use Rattle.droid_frame_values.specs.Bodies.{Fits, request_body};
@@ -13,21 +13,20 @@ use crate::request::Request;
 use crate::texts::Texts;
 use crate::versions::{body_limit, is_version};
 
-/// How many criteria a filter has at most, how many texts a list, and how many bytes each of these.
+/// The limit on the criteria of a filter, on the texts of a list, and on the bytes of each of these texts.
 const COUNT_LIMIT: usize = 255;
 
 impl Request {
-    /// Whether the request can be sent in a frame of this version: its body has at most [`body_limit`] bytes, a
-    /// filter at most 255 criteria, each list of a criterion at most 255 texts, and each of these at most 255
-    /// bytes; and in version 1 a profile's hash is MD5. In a version that no frame has, none can be sent. It takes
-    /// no memory.
+    /// Returns whether a frame of this version can carry the request. It can if the version is 1 or 2; the body has
+    /// at most [`body_limit`] bytes; a filter has at most 255 criteria, each list of a criterion at most 255 texts,
+    /// and each text at most 255 bytes; and, in version 1, a new profile's hash is MD5. Allocates nothing.
     pub fn fits(&self, version: u8) -> bool
         ensures { IsTrue result ↔ Fits version self.now }
     {
         self.body_len(version).is_some()
     }
 
-    /// How many bytes the request's body has in this version, or `None` where it doesn't fit.
+    /// Returns the length in bytes of the request's body in this version, or `None` if it does not fit.
     pub fn body_len(&self, version: u8) -> Option<usize>
         ensures { MatchOption result (¬ Fits version self.now)
             (λ len. Fits version self.now × (len ≡ length (request_body version self.now))) }
@@ -49,7 +48,7 @@ impl Request {
     }
 }
 
-/// The length of the body of a profile's options, or `None` where the version doesn't tell of the hash.
+/// Returns the body length of a CreateProfile, or `None` if the version cannot carry the hash kind.
 fn options_len(version: u8, hash: HashKind) -> Option<usize>
     ensures { MatchOption result (¬ CarriesHash version hash)
         (λ len. CarriesHash version hash × ((match_all : Bool) → len ≡ 4 + length (truth_bytes match_all ++ hash_field version hash))) }
@@ -64,7 +63,7 @@ fn options_len(version: u8, hash: HashKind) -> Option<usize>
     }
 }
 
-/// The length of a body whose first fields have so many bytes, and the rest so many.
+/// Adds the lengths of a body's fields and of the rest of it. Returns `None` if the sum is over the limit.
 fn len_with(limit: usize, fields: usize, rest: usize) -> Option<usize>
     requires { fields ≤ limit }
     ensures { MatchOption result (limit < fields + rest) (λ len. (len ≡ fields + rest) × (len ≤ limit)) }

@@ -1,6 +1,7 @@
-//! The values that frames carry: requests, replies and what they are made of.
+//! The values that frames carry: requests, replies and their parts.
 //!
-//! Each value has one spelling in bytes, which `specs/` defines; the crates above read and write by it.
+//! `specs/` defines the spelling of each value: the one sequence of bytes that encodes it in a frame. The crates above
+//! read and write these bytes.
 #![tactic(auto)]
 
 mod blob;

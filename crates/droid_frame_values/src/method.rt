@@ -1,12 +1,12 @@
-//! How a file was identified.
+//! Methods of identification.
 
 ghost use Rattle.std.specs.Prelude.{◌≡◌};
 ghost use Rattle.droid_frame_values.specs.Fields.{method_number};
 
-/// What a file's formats were found by.
+/// How the formats of a file were found.
 #[derive(Clone, Copy, Debug, PartialEq, Eq)]
 pub enum Method {
-    /// Nothing was found.
+    /// No format was found.
     Unidentified,
     /// By the byte sequences of a signature.
     Signature,
@@ -15,7 +15,7 @@ pub enum Method {
 }
 
 impl Method {
-    /// The number of the method in a body.
+    /// Returns the number of the method in a body, 0 to 2.
     pub fn number(self) -> u8
         ensures { result ≡ method_number self }
     {

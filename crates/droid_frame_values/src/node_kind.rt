@@ -1,9 +1,9 @@
-//! Files and folders.
+//! Kinds of node.
 
 ghost use Rattle.std.specs.Prelude.{◌≡◌};
 ghost use Rattle.droid_frame_values.specs.Filters.{node_kind_number};
 
-/// What a node of a profile is.
+/// The kind of a node in a profile.
 #[derive(Clone, Copy, Debug, PartialEq, Eq)]
 pub enum NodeKind {
     /// A file, with bytes.
@@ -13,7 +13,7 @@ pub enum NodeKind {
 }
 
 impl NodeKind {
-    /// The number of the kind in a body.
+    /// Returns the number of the kind in a body, 0 or 1.
     pub fn number(self) -> u8
         ensures { result ≡ node_kind_number self }
     {

@@ -1,4 +1,4 @@
-//! What the export shows of a node.
+//! Records of an export.
 
 ghost use Rattle.std.specs.Prelude.{◌≡◌, IfOk};
 
@@ -9,35 +9,35 @@ use crate::text::Text;
 use crate::texts::Texts;
 use std::alloc::{AllocError, Global};
 
-/// A folder or a finished file, with all that its rows of the export are made of.
+/// A folder or a finished file, with everything that its rows in the export show.
 #[derive(Debug, Drop)]
 pub struct Record {
     /// The node's number, from 1 in its profile.
     pub id: u32,
-    /// The number of the folder that it lies in, or 0 at the top.
+    /// The number of the folder that contains it, or 0 at the top level.
     pub parent: u32,
-    /// `/` and the names from the top, joined by `/`.
+    /// `/` followed by the names from the top level down, joined by `/`.
     pub path: Text,
     /// The node's own name.
     pub name: Text,
     /// Whether it is a file or a folder.
     pub kind: NodeKind,
-    /// How many bytes the file has. A folder has 0.
+    /// The size of the file in bytes. A folder has 0.
     pub size: u64,
-    /// Seconds since 1970-01-01T00:00:00 in UTC, negative before.
+    /// When it was modified, in seconds since 1970-01-01T00:00:00 UTC; negative before that.
     pub modified: i64,
-    /// What the formats were found by. A folder has `Unidentified`.
+    /// How the formats were found. A folder has `Unidentified`.
     pub method: Method,
-    /// Whether the file's extension is none of its formats'. A folder has `false`.
+    /// Whether none of the file's formats lists its extension. A folder has `false`.
     pub mismatch: bool,
-    /// The hash of the file's bytes. A folder has none.
+    /// The hash of the file's bytes. A folder has `Nothing`.
     pub hash: HashValue,
-    /// The identifiers of the formats, in the registry's order. A folder has none.
+    /// The identifiers (PUIDs) of the formats, in the registry's order. A folder has none.
     pub puids: Texts,
 }
 
 impl Record {
-    /// A second copy. Only want of memory refuses it.
+    /// Copies the value. Fails only when out of memory.
     pub fn try_clone(&self, alloc: Global) -> Result<Record, AllocError>
         ensures { IfOk result (λ copy. copy ≡ self.now) }
     {

@@ -1,23 +1,23 @@
-//! Why a request is refused.
+//! The reasons for a refused request.
 
 ghost use Rattle.std.specs.Prelude.{◌≡◌};
 ghost use Rattle.droid_frame_values.specs.Refusals.{refusal_number, limit_number};
 
 use std::alloc::AllocError;
 
-/// Which limit of the service is reached.
+/// A limit of the service.
 #[derive(Clone, Copy, Debug, PartialEq, Eq)]
 pub enum Limit {
-    /// Profiles of the service.
+    /// The number of profiles in the service.
     Profiles,
-    /// Nodes ever accepted in one profile.
+    /// The number of nodes ever accepted in one profile.
     Nodes,
-    /// Unfinished files over the whole service.
+    /// The number of unfinished files in the whole service.
     Unfinished,
 }
 
 impl Limit {
-    /// The number of the limit in a reply's body, from 1 to 3.
+    /// Returns the number of the limit in a reply's body, 1 to 3.
     pub fn number(self) -> u8
         ensures { result ≡ limit_number self }
     {
@@ -29,58 +29,59 @@ impl Limit {
     }
 }
 
-/// Why a request is refused: each cause has a number from 1 to 19 (this project's own). A refusal
-/// changes nothing and isn't kept, so the same request sent again is judged anew.
+/// Why the service refuses a request. Each reason has a number from 1 to 19 (this project's own). A refused request
+/// changes nothing, and the service does not keep the refusal. If the client sends the request again, the service
+/// judges it anew.
 #[derive(Clone, Copy, Debug, PartialEq, Eq)]
 pub enum Refusal {
-    /// The kind is unknown, the body is outside the grammar, or the number is 2^63 or more.
+    /// The version or kind is unknown, the body is invalid, or the request's number is 2^63 or more.
     Malformed,
-    /// The number is kept with another request's mark.
+    /// The client used this number for another request that was accepted.
     NumberReused,
-    /// The profile isn't there.
+    /// There is no such profile.
     NoSuchProfile,
-    /// The node isn't there, or was abandoned.
+    /// There is no such node, or it was abandoned.
     NoSuchNode,
     /// The parent is a file.
     NotAFolder,
     /// The node is a folder.
     NotAFile,
-    /// The name is empty, over 255 bytes, `.` or `..`, or has a `/` or a zero byte.
+    /// The name is empty, longer than 255 bytes, `.` or `..`, or contains a `/` or a zero byte.
     BadName,
-    /// The path would pass 4,096 bytes.
+    /// The path would be longer than 4,096 bytes.
     PathTooLong,
-    /// A node of the same parent has this name, byte for byte.
+    /// The parent already contains a node of exactly this name.
     NameTaken,
-    /// A number of the request is out of its range.
+    /// A number in the request is out of range.
     BadOption,
-    /// The size, or the number of pieces, is past its limit.
+    /// The file's size or its number of pieces is over the limit.
     TooLarge,
-    /// The file is finished.
+    /// The file is already finished.
     AlreadyFinished,
-    /// The piece has an index past the last, or not the length that is due.
+    /// The piece's index is past the last piece, or its length is wrong for its index.
     BadPiece,
-    /// The piece was taken.
+    /// The service already has this piece.
     PieceHeld,
-    /// The piece is 16 places or more past the first missing one.
+    /// The piece's index is 16 or more past the first missing piece.
     TooFarAhead {
-        /// The least index that isn't taken.
+        /// The index of the first missing piece.
         missing: u32,
     },
-    /// A piece is missing.
+    /// A piece of the file is missing.
     Incomplete {
-        /// The least index that isn't taken.
+        /// The index of the first missing piece.
         missing: u32,
     },
-    /// A limit of the service is reached.
+    /// The request would exceed a limit of the service.
     LimitReached(Limit),
-    /// Memory was refused.
+    /// The service is out of memory.
     Memory,
-    /// The database refused for another cause.
+    /// The store failed for another reason.
     Store,
 }
 
 impl Refusal {
-    /// The number of the cause, from 1 to 19.
+    /// Returns the number of the reason, 1 to 19.
     pub fn number(self) -> u8
         ensures { result ≡ refusal_number self }
     {
@@ -113,7 +114,7 @@ impl From<AllocError> for Refusal {
 
     ghost from_gives = { λ _ refusal. refusal ≡ Memory };
 
-    /// Want of memory is told as that.
+    /// Reports out of memory as `Memory`.
     fn from(_: AllocError) -> Refusal {
         Refusal::Memory
     }

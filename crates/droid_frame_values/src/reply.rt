@@ -1,4 +1,4 @@
-//! What the service answers.
+//! Replies of the service.
 
 ghost use Rattle.std.specs.Prelude.{◌≡◌, IfOk};
 ghost use Rattle.droid_frame_values.specs.Replies.{reply_kind};
@@ -10,69 +10,69 @@ use crate::refusal::Refusal;
 use crate::texts::Texts;
 use std::alloc::{AllocError, Global};
 
-/// How many identifiers of formats a Finished has at most.
+/// The limit on the format identifiers in a Finished.
 pub const PUIDS_LIMIT: usize = 4_096;
 
-/// How many bytes the identifier of a format has at most.
+/// The limit on the bytes of one format identifier.
 pub const PUID_LIMIT: usize = 32;
 
-/// How many bytes of the export a Part has at most.
+/// The limit on the bytes of the export's text in a Part.
 pub const PART_LIMIT: usize = 1_048_576;
 
-/// The one reply to a request.
+/// The reply to one request.
 #[derive(Debug, Drop)]
 pub enum Reply {
-    /// The profile was made, with this number.
+    /// The profile was created.
     Made {
-        /// From 1 over the service, in order of acceptance.
+        /// The number of the profile. The service numbers profiles from 1, in order of acceptance.
         profile: u32,
     },
-    /// The node was added, with this number.
+    /// The folder or file was added.
     Node {
-        /// From 1 in the profile, in order of acceptance.
+        /// The number of the node. Each profile numbers its nodes from 1, in order of acceptance.
         id: u32,
     },
-    /// The piece was taken.
+    /// The piece was accepted.
     Taken {
-        /// How many pieces of the file are taken, this one included.
+        /// The number of the file's pieces that the service has, this one included.
         held: u32,
     },
-    /// The file is finished, and this is what it was found to be.
+    /// The file is finished and identified.
     Finished {
-        /// What the formats were found by.
+        /// How the formats were found.
         method: Method,
-        /// Whether the file's extension is none of its formats'.
+        /// Whether none of the file's formats lists its extension.
         mismatch: bool,
-        /// The hash of the file's bytes. A frame of version 1 can tell an MD5 alone.
+        /// The hash of the file's bytes. A frame of version 1 can carry an MD5 only.
         hash: HashValue,
-        /// The identifiers of the formats, in the registry's order: at most [`PUIDS_LIMIT`], each of 1
-        /// to [`PUID_LIMIT`] bytes.
+        /// The identifiers (PUIDs) of the formats, in the registry's order: at most [`PUIDS_LIMIT`], each of 1 to
+        /// [`PUID_LIMIT`] bytes.
         puids: Texts,
     },
-    /// The unfinished file is given up.
+    /// The unfinished file was abandoned.
     Abandoned,
-    /// How far the file has come.
+    /// The pieces of a file that the service has.
     Progress {
-        /// How many pieces are taken.
+        /// The number of pieces that the service has.
         held: u32,
-        /// The least index that isn't taken, and the number of pieces where all are taken.
+        /// The index of the first missing piece, or the number of pieces if none is missing.
         missing: u32,
     },
-    /// A part of the export's text.
+    /// Part of the export's text.
     Part {
-        /// How many commands the service had accepted.
+        /// The number of commands that the service had accepted by then.
         as_of: u64,
-        /// How many bytes the whole text has.
+        /// The length of the whole text in bytes.
         total: u64,
         /// The bytes of this part, at most [`PART_LIMIT`].
         bytes: Blob,
     },
-    /// The request changed nothing.
+    /// The request was refused, and changed nothing.
     Refused(Refusal),
 }
 
 impl Reply {
-    /// The kind of the frame that holds the reply, from 129 to 136.
+    /// Returns the kind of the reply's frame, 129 to 136.
     pub fn kind(&self) -> u8
         ensures { result ≡ reply_kind self.now }
     {
@@ -88,7 +88,7 @@ impl Reply {
         }
     }
 
-    /// A second copy. Only want of memory refuses it.
+    /// Copies the value. Fails only when out of memory.
     pub fn try_clone(&self, alloc: Global) -> Result<Reply, AllocError>
         ensures { IfOk result (λ copy. copy ≡ self.now) }
     {

@@ -1,4 +1,4 @@
-//! What a client asks.
+//! Requests of clients.
 
 ghost use Rattle.std.specs.Prelude.{◌≡◌};
 ghost use Rattle.droid_frame_values.specs.Bodies.{request_kind};
@@ -8,40 +8,40 @@ use crate::filter::Filter;
 use crate::hash_kind::HashKind;
 use crate::text::Text;
 
-/// One request, as a frame's version, kind and body spell it.
+/// One request.
 #[derive(Debug, Drop)]
 pub enum Request {
-    /// Make a profile.
+    /// Create a profile.
     CreateProfile {
-        /// How many bytes at each end of a file are looked at: 1 to 65,536.
+        /// How many bytes at each end of a file are scanned for signatures: 1 to 65,536.
         scan_limit: u32,
-        /// Whether a format with signatures may be found by its extension too.
+        /// Whether a format that has signatures may also be found by its extension.
         match_all: bool,
-        /// Which hash its files get. A frame of version 1 can ask for MD5 alone.
+        /// The hash of its files. A frame of version 1 can carry MD5 only.
         hash: HashKind,
     },
     /// Add a folder to a profile.
     AddFolder {
         /// The number of the profile.
         profile: u32,
-        /// The number of the folder that it lies in, or 0 at the top.
+        /// The number of the folder that contains it, or 0 at the top level.
         parent: u32,
-        /// Seconds since 1970-01-01T00:00:00 in UTC, negative before.
+        /// When it was modified, in seconds since 1970-01-01T00:00:00 UTC; negative before that.
         modified: i64,
         /// The folder's own name, without its path.
         name: Text,
     },
-    /// Add a file to a profile, whose bytes then come in pieces.
+    /// Add a file to a profile. Its bytes follow in pieces.
     AddFile {
         /// The number of the profile.
         profile: u32,
-        /// The number of the folder that it lies in, or 0 at the top.
+        /// The number of the folder that contains it, or 0 at the top level.
         parent: u32,
-        /// Seconds since 1970-01-01T00:00:00 in UTC, negative before.
+        /// When it was modified, in seconds since 1970-01-01T00:00:00 UTC; negative before that.
         modified: i64,
-        /// How many bytes the file has.
+        /// The size of the file in bytes.
         size: u64,
-        /// How many bytes each piece but the last has: 1 to 1,048,576, and in version 2 to 4,194,304.
+        /// The size in bytes of each piece but the last: 1 to 1,048,576 in version 1, 1 to 4,194,304 in version 2.
         piece_size: u32,
         /// The file's own name, without its path.
         name: Text,
@@ -52,47 +52,47 @@ pub enum Request {
         profile: u32,
         /// The number of the file.
         file: u32,
-        /// Which piece it is, counted from 0.
+        /// The index of the piece, counted from 0.
         index: u32,
         /// The bytes of the piece.
         bytes: Blob,
     },
-    /// Finish a file whose pieces are all there.
+    /// Finish a file that has all its pieces.
     Finish {
         /// The number of the profile.
         profile: u32,
         /// The number of the file.
         file: u32,
     },
-    /// Give up an unfinished file.
+    /// Abandon an unfinished file.
     Abandon {
         /// The number of the profile.
         profile: u32,
         /// The number of the file.
         file: u32,
     },
-    /// Ask how many pieces of a file are there.
+    /// Ask which pieces of a file the service has.
     Status {
         /// The number of the profile.
         profile: u32,
         /// The number of the file.
         file: u32,
     },
-    /// Ask for a part of a profile's export.
+    /// Ask for part of the text of a profile's export.
     Export {
         /// The number of the profile.
         profile: u32,
-        /// The first byte of the text that is asked for, counted from 0.
+        /// The offset in the text of the first byte asked for, counted from 0.
         from: u64,
-        /// How many bytes are asked for at most: 1 to 1,048,576.
+        /// The largest number of bytes to return: 1 to 1,048,576.
         max: u32,
-        /// Which records are shown.
+        /// The records to export.
         filter: Filter,
     },
 }
 
 impl Request {
-    /// The kind of the frame that holds the request, from 1 to 8.
+    /// Returns the kind of the request's frame, 1 to 8.
     pub fn kind(&self) -> u8
         ensures { result ≡ request_kind self.now }
     {

@@ -1,4 +1,4 @@
-//! Text with an owner.
+//! Owned text.
 
 ghost use Rattle.std.specs.Prelude.{◌≡◌, IfOk, length, string_bytes};
 ghost use Rattle.std.specs.Str.{IsUtf8};
@@ -6,7 +6,7 @@ ghost use Rattle.std.specs.Str.{IsUtf8};
 use std::alloc::{AllocError, Global};
 use std::marker::Model;
 
-/// Owned UTF-8 text, as the name of a file. Contracts see the list of its bytes alone.
+/// Owned UTF-8 text, such as the name of a file. In contracts it is the list of its bytes.
 #[derive(Debug, Drop)]
 pub struct Text {
     text: String,
@@ -21,7 +21,7 @@ impl Model for Text {
 }
 
 impl Text {
-    /// A copy of the text, with a buffer of its own. Only want of memory refuses it.
+    /// Copies the text into a new buffer. Fails only when out of memory.
     pub fn copy_of(alloc: Global, text: &str) -> Result<Text, AllocError>
         ensures { IfOk result (λ it. it ≡ text.now) }
     {
@@ -30,14 +30,14 @@ impl Text {
         })
     }
 
-    /// A second copy. Only want of memory refuses it.
+    /// Copies the value. Fails only when out of memory.
     pub fn try_clone(&self, alloc: Global) -> Result<Text, AllocError>
         ensures { IfOk result (λ it. it ≡ self.now) }
     {
         Text::copy_of(alloc, self.as_str())
     }
 
-    /// The text.
+    /// Returns the text.
     pub fn as_str(&self) -> &str
         ensures value { result.now ≡ self.now }
         ensures utf8 { IsUtf8 self.now }
@@ -45,14 +45,14 @@ impl Text {
         self.text.as_str()
     }
 
-    /// How many bytes the text has.
+    /// Returns the length of the text in bytes.
     pub fn len(&self) -> usize
         ensures { result ≡ length self.now }
     {
         self.text.len()
     }
 
-    /// The string itself, given back without taking memory.
+    /// Returns the string itself. Allocates nothing.
     pub fn into_string(self) -> String
         ensures { string_bytes result ≡ self }
     {
@@ -64,7 +64,7 @@ impl Text {
 impl From<String> for Text {
     ghost from_gives = { λ text it. it ≡ string_bytes text };
 
-    /// Takes the string over without taking memory.
+    /// Takes over the string. Allocates nothing.
     fn from(text: String) -> Text {
         Text { text }
     }

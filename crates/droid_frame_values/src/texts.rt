@@ -8,7 +8,7 @@ use crate::text::Text;
 use std::alloc::{AllocError, Global};
 use std::marker::Model;
 
-/// Texts in order, as the identifiers of a file's formats. Contracts see the list of their bytes.
+/// Texts in order, such as the identifiers of a file's formats. In contracts it is the list of their bytes.
 #[derive(Debug, Drop)]
 pub struct Texts {
     items: Vec<Text>,
@@ -23,7 +23,7 @@ impl Model for Texts {
 }
 
 impl Texts {
-    /// No text. It takes no memory.
+    /// Makes an empty list. Allocates nothing.
     pub fn new(alloc: Global) -> Texts
         ensures { result ≡ [] }
     {
@@ -32,7 +32,7 @@ impl Texts {
         }
     }
 
-    /// Adds a text at the end. Only want of memory refuses it, and the list then stays as it was.
+    /// Appends a text. When out of memory it fails, and the list is unchanged.
     pub fn push(&mut self, text: Text) -> Result<(), AllocError>
         ensures ok { OnOk result (self.new ≡ self.old ++ text ∷ []) }
         ensures err { OnErr result (self.new ≡ self.old) }
@@ -41,35 +41,35 @@ impl Texts {
         Ok(())
     }
 
-    /// The text at this place, counted from 0, or `None` past the end.
+    /// Returns the text at this index, counted from 0, or `None` past the end.
     pub fn get(&self, place: usize) -> Option<&Text>
         ensures { option_copied result ≡ slice_get self.now place }
     {
         self.items.get(place)
     }
 
-    /// The texts.
+    /// Returns the texts as a slice.
     pub fn as_slice(&self) -> &[Text]
         ensures { result.now ≡ self.now }
     {
         self.items.as_slice()
     }
 
-    /// How many texts there are.
+    /// Returns the number of texts.
     pub fn len(&self) -> usize
         ensures { result ≡ length self.now }
     {
         self.items.len()
     }
 
-    /// Whether there is no text.
+    /// Returns whether the list is empty.
     pub fn is_empty(&self) -> bool
         ensures { IsTrue result ↔ (self.now ≡ []) }
     {
         self.items.is_empty()
     }
 
-    /// A copy of the list and of each text. Only want of memory refuses it.
+    /// Copies the list and each text. Fails only when out of memory.
     pub fn try_clone(&self, alloc: Global) -> Result<Texts, AllocError>
         ensures { IfOk result (λ texts. texts ≡ self.now) }
     {

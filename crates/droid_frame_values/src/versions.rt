@@ -1,17 +1,17 @@
-//! The versions of frames, and how long a body of each may be.
+//! The versions of frames, and the longest body of each.
 
 ghost use Rattle.std.specs.Prelude.{◌≡◌, ◌↔◌, ◌≤◌, IsTrue};
 ghost use Rattle.droid_frame_values.specs.Limits.{body_limit};
 ghost use Rattle.droid_frame_values.specs.Versions.{IsVersion};
 
-/// Whether frames have this version: it is 1 or 2.
+/// Returns whether this is a version of frames: 1 or 2.
 pub fn is_version(version: u8) -> bool
     ensures { IsTrue result ↔ IsVersion version }
 {
     matches!(version, 1 | 2)
 }
 
-/// How many bytes the body of a frame has at most: 1,048,640 in version 1, and 4,194,368 in version 2.
+/// Returns the limit on a frame's body in bytes: 1,048,640 in version 1, and 4,194,368 in version 2.
 pub fn body_limit(version: u8) -> usize
     ensures limit { result ≡ body_limit version }
     ensures least { 1048640 ≤ result }

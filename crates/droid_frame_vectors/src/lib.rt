@@ -1,4 +1,4 @@
-//! Frames whose bytes are written out by hand, and how they are read, for the tests of frames and of streams.
+//! Frames whose bytes are written by hand, and readers of them, for tests of frames and streams.
 #![tactic(auto)]
 
 mod reading;

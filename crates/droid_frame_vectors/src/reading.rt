@@ -1,26 +1,26 @@
-//! How a frame is read, and whether it is the one of a vector.
+//! Readers for tests: they compare a frame that was read with a vector.
 
 use crate::vectors::{Vector, body_of};
 use droid_frame::{Arrival, Frame, FrameFault, Noted, SteadyRead, read_frame};
 use droid_frame_shaky::{Manner, ShakyReader, Stop};
 use std::alloc::Global;
 
-/// A reader that ends behind the bytes.
+/// Makes a reader of these bytes that then ends.
 pub fn reader_of(bytes: &[u8], manner: Manner) -> Noted<ShakyReader<'_>> {
     Noted::new(ShakyReader::new(bytes, Stop::Ends, manner))
 }
 
-/// The fault of the next frame, or `None` where a frame or the end comes.
+/// Reads the next frame, and returns its fault, if there is one.
 pub fn fault_of<R: SteadyRead>(alloc: Global, reader: &mut R) -> Option<FrameFault> {
     read_frame(alloc, reader).err()
 }
 
-/// Whether the end comes.
+/// Returns whether the stream has ended.
 pub fn is_end<R: SteadyRead>(alloc: Global, reader: &mut R) -> bool {
     matches!(read_frame(alloc, reader), Ok(Arrival::End))
 }
 
-/// Reads the frame of a vector, and says whether it is that frame.
+/// Reads the next frame, and returns whether it is the frame of the vector.
 pub fn comes<R: SteadyRead>(alloc: Global, reader: &mut R, vector: &Vector) -> bool {
     match read_frame(alloc, reader) {
         Ok(Arrival::Frame(frame)) => is_frame(&frame, vector),

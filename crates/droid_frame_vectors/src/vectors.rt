@@ -1,42 +1,42 @@
-//! Frames whose bytes are written out.
+//! Frames whose bytes are written by hand.
 
 use droid_frame::{Blob, Frame, HEADER_LENGTH};
 use std::alloc::{AllocError, Global};
 
-/// The reply to the first request of a profile.
+/// The reply to a CreateProfile.
 pub const MADE: &[u8] = &[
     1, 0x81, 0, 0, 0, 1, 0, 0, 0, 0, 0, 0, 0, 1, 0, 0, 0, 4, 0, 0, 0, 1,
 ];
 
-/// The reply to a folder's request.
+/// The reply to the AddFolder of `FOLDER`.
 pub const NODE: &[u8] = &[
     1, 0x82, 0, 0, 0, 1, 0, 0, 0, 0, 0, 0, 0, 2, 0, 0, 0, 4, 0, 0, 0, 1,
 ];
 
-/// The reply to another folder under that number.
+/// The reply to another AddFolder with the same number.
 pub const NUMBER_REUSED: &[u8] = &[1, 0x88, 0, 0, 0, 1, 0, 0, 0, 0, 0, 0, 0, 2, 0, 0, 0, 1, 2];
 
-/// The reply to the end of an empty file.
+/// The reply to the Finish of an empty file.
 pub const FINISHED: &[u8] = &[
     1, 0x84, 0, 0, 0, 1, 0, 0, 0, 0, 0, 0, 0, 3, 0, 0, 0, 0x1a, 2, 0, 0xd4, 0x1d, 0x8c, 0xd9, 0x8f,
     0, 0xb2, 0x04, 0xe9, 0x80, 0x09, 0x98, 0xec, 0xf8, 0x42, 0x7e, 0, 1, 5, 0x64, 0x65, 0x76, 0x2f,
     0x34,
 ];
 
-/// The reply to a request that lacks a byte.
+/// The reply to a request whose body is one byte short.
 pub const MALFORMED: &[u8] = &[1, 0x88, 0, 0, 0, 1, 0, 0, 0, 0, 0, 0, 0, 9, 0, 0, 0, 1, 1];
 
-/// The reply to the end of a file whose piece 1 is missing.
+/// The reply to the Finish of a file whose piece 1 is missing.
 pub const INCOMPLETE: &[u8] = &[
     1, 0x88, 0, 0, 0, 1, 0, 0, 0, 0, 0, 0, 0, 9, 0, 0, 0, 5, 0x10, 0, 0, 0, 1,
 ];
 
-/// The reply to a node past the limit.
+/// The reply to a node over the limit.
 pub const NODES_REACHED: &[u8] = &[
     1, 0x88, 0, 0, 0, 1, 0, 0, 0, 0, 0, 0, 0, 3, 0, 0, 0, 2, 0x11, 2,
 ];
 
-/// The request for the folder `in`.
+/// An AddFolder of the folder `in`.
 pub const FOLDER: Vector = Vector {
     version: 1,
     kind: 2,
@@ -47,7 +47,7 @@ pub const FOLDER: Vector = Vector {
     ],
 };
 
-/// The reply to the end of an empty file whose profile asks for SHA-256 (FIPS 180-4, of no bytes).
+/// The reply in version 2 to the Finish of an empty file whose profile has SHA-256 (FIPS 180-4, of no bytes).
 pub const FINISHED_WITH_SHA256: &[u8] = &[
     2, 0x84, 0, 0, 0, 1, 0, 0, 0, 0, 0, 0, 0, 3, 0, 0, 0, 0x2b, 2, 0, 2, 0xe3, 0xb0, 0xc4, 0x42,
     0x98, 0xfc, 0x1c, 0x14, 0x9a, 0xfb, 0xf4, 0xc8, 0x99, 0x6f, 0xb9, 0x24, 0x27, 0xae, 0x41, 0xe4,
@@ -55,28 +55,28 @@ pub const FINISHED_WITH_SHA256: &[u8] = &[
     0x76, 0x2f, 0x34,
 ];
 
-/// The same in version 2 where the profile asks for MD5.
+/// The same reply if the profile has MD5.
 pub const FINISHED_WITH_MD5: &[u8] = &[
     2, 0x84, 0, 0, 0, 1, 0, 0, 0, 0, 0, 0, 0, 3, 0, 0, 0, 0x1b, 2, 0, 1, 0xd4, 0x1d, 0x8c, 0xd9,
     0x8f, 0, 0xb2, 0x04, 0xe9, 0x80, 0x09, 0x98, 0xec, 0xf8, 0x42, 0x7e, 0, 1, 5, 0x64, 0x65, 0x76,
     0x2f, 0x34,
 ];
 
-/// The same where it asks for no hash.
+/// The same reply if the profile has no hash.
 pub const FINISHED_WITH_NOTHING: &[u8] = &[
     2, 0x84, 0, 0, 0, 1, 0, 0, 0, 0, 0, 0, 0, 9, 0, 0, 0, 0x0b, 2, 0, 0, 0, 1, 5, 0x64, 0x65, 0x76,
     0x2f, 0x34,
 ];
 
-/// The reply of version 2 to the first request of a profile.
+/// The reply in version 2 to a CreateProfile.
 pub const MADE_IN_TWO: &[u8] = &[
     2, 0x81, 0, 0, 0, 1, 0, 0, 0, 0, 0, 0, 0, 1, 0, 0, 0, 4, 0, 0, 0, 1,
 ];
 
-/// The refusal of version 2 of a piece's size.
+/// The refusal in version 2 of an AddFile with a bad piece size.
 pub const BAD_OPTION_IN_TWO: &[u8] = &[2, 0x88, 0, 0, 0, 1, 0, 0, 0, 0, 0, 0, 0, 6, 0, 0, 0, 1, 10];
 
-/// A frame as bytes, with its version, kind and number; its client is 1.
+/// The bytes of a frame, with its version, kind and number. Its client is 1.
 #[derive(Clone, Copy)]
 pub struct Vector {
     pub version: u8,
@@ -85,10 +85,10 @@ pub struct Vector {
     pub bytes: &'static [u8],
 }
 
-/// The versions, kinds and numbers are read off the bytes by hand: the first byte, the second, and the eight from the
-/// seventh on.
+/// Frames with their versions, kinds and numbers, which were read from the bytes by hand: the first byte, the second,
+/// and the eight from the seventh on.
 pub const VECTORS: [Vector; 18] = [
-    // Make a profile.
+    // A CreateProfile.
     Vector {
         version: 1,
         kind: 1,
@@ -122,7 +122,7 @@ pub const VECTORS: [Vector; 18] = [
         number: 3,
         bytes: FINISHED,
     },
-    // A frame whose body lacks a byte of its kind's, and its reply.
+    // A request whose body is one byte short, and its reply.
     Vector {
         version: 1,
         kind: 5,
@@ -149,7 +149,7 @@ pub const VECTORS: [Vector; 18] = [
         number: 3,
         bytes: NODES_REACHED,
     },
-    // Export the folders.
+    // An Export of the folders.
     Vector {
         version: 1,
         kind: 8,
@@ -159,8 +159,8 @@ pub const VECTORS: [Vector; 18] = [
             0, 0, 0, 0x10, 0, 0, 1, 1, 7, 1,
         ],
     },
-    // In version 2: make a profile with SHA-256, its reply, the ends of empty files, a refusal, and a file in pieces
-    // of 4,194,304 bytes.
+    // In version 2: a CreateProfile with SHA-256, its reply, the replies to the Finish of empty files, a refusal, and
+    // an AddFile in pieces of 4,194,304 bytes.
     Vector {
         version: 2,
         kind: 1,
@@ -210,7 +210,7 @@ pub const VECTORS: [Vector; 18] = [
     },
 ];
 
-/// The frame of a vector.
+/// Makes the frame of a vector.
 pub fn frame_of(alloc: Global, vector: &Vector) -> Result<Frame, AllocError> {
     frame(
         alloc,
@@ -221,7 +221,7 @@ pub fn frame_of(alloc: Global, vector: &Vector) -> Result<Frame, AllocError> {
     )
 }
 
-/// A frame of client 1.
+/// Makes a frame of client 1.
 pub fn frame(
     alloc: Global,
     version: u8,
@@ -238,7 +238,7 @@ pub fn frame(
     })
 }
 
-/// What follows a frame's header.
+/// Returns the bytes after a frame's header.
 pub fn body_of(bytes: &[u8]) -> &[u8] {
     match bytes.get(HEADER_LENGTH..) {
         Some(body) => body,

@@ -1,4 +1,4 @@
-//! The fronts of replies' bodies: the fields that have a few bytes.
+//! The fronts of replies' bodies: the fields before a list or bytes of any length.
 
 ghost use Rattle.std.specs.Prelude.{◌≡◌, ◌≤◌, ◌++◌, [], length};
 ghost use Rattle.droid_frame_values.specs.Hashes.{IsHashValue};
@@ -9,7 +9,7 @@ ghost use Rattle.droid_frame_values.specs.TextLists.{sized_bytes};
 use super::small_bytes::SmallBytes;
 use droid_frame_values::{HashValue, Refusal, Reply, Text};
 
-/// The fields of the reply in this version before its list or its bytes.
+/// Makes the front of the reply's body in this version: the fields before its list or bytes.
 pub(crate) fn front_of(version: u8, reply: &Reply) -> SmallBytes
     requires { HasReplySpelling version reply.now }
     ensures { result ≡ reply_front version reply.now }
@@ -44,7 +44,7 @@ pub(crate) fn front_of(version: u8, reply: &Reply) -> SmallBytes
     front
 }
 
-/// Adds the digest, after its kind in a version that has a field for that.
+/// Appends the kind of the hash, if the version has a field for it, and then the digest.
 fn add_hash(front: &mut SmallBytes, version: u8, hash: &HashValue)
     requires room { length front.old ≤ 2 }
     requires value { IsHashValue hash.now }
@@ -74,7 +74,7 @@ fn add_refusal(front: &mut SmallBytes, refusal: Refusal)
     }
 }
 
-/// The identifier of a format after its length.
+/// Makes the bytes of a format identifier after its length.
 pub(crate) fn sized_puid(puid: &Text) -> SmallBytes
     requires { IsPuidText puid.now }
     ensures { result ≡ sized_bytes puid.now }

@@ -1,4 +1,4 @@
-//! Replies as bodies of frames.
+//! Writers of replies' bodies.
 
 pub(crate) mod fronts;
 mod small_bytes;
@@ -11,15 +11,14 @@ ghost use Rattle.droid_frame_values.specs.TextLists.{texts_bytes};
 ghost use Rattle.droid_frame_values.specs.Versions.{IsVersion};
 
 use crate::replies::fronts::front_of;
-use crate::text_lists::append_texts;
+use crate::text_writer::append_texts;
 use droid_frame_values::{Blob, Reply, Texts};
 use std::alloc::{AllocError, Global};
 
-/// The body of a reply's frame: the one spelling that the reply has in this version. Memory is taken once, for all
-/// of it, and only want of memory refuses it.
+/// Makes the body of a reply's frame in this version. Allocates once, and fails only when out of memory.
 ///
-/// A reply with more identifiers, a longer one or a longer part than a reply may have has no spelling, and in
-/// version 1 one with another hash than MD5 hasn't either, so the caller sees to that.
+/// The reply must have a spelling in this version: it is within the limits of a reply, and its hash is MD5 if the
+/// version is 1.
 pub fn reply_body(alloc: Global, version: u8, reply: &Reply) -> Result<Blob, AllocError>
     requires version { IsVersion version }
     requires spelling { HasReplySpelling version reply.now }
@@ -35,8 +34,7 @@ pub fn reply_body(alloc: Global, version: u8, reply: &Reply) -> Result<Blob, All
     Ok(Blob::from(body))
 }
 
-/// How many bytes the body of a reply's frame has in this version. A reply that has no spelling has no such body, so
-/// the caller sees to that.
+/// Returns the length in bytes of the body of a reply's frame in this version. The reply must have a spelling in it.
 pub fn reply_body_len(version: u8, reply: &Reply) -> usize
     requires { HasReplySpelling version reply.now }
     ensures length { result ≡ length (reply_bytes version reply.now) }
@@ -50,7 +48,7 @@ pub fn reply_body_len(version: u8, reply: &Reply) -> usize
     front_of(version, reply).as_slice().len() + rest
 }
 
-/// How many bytes the identifiers take, each after its length.
+/// Returns the number of bytes of the identifiers, each after its length.
 fn puids_length(puids: &Texts) -> usize
     requires count { length puids.now ≤ puids_limit }
     requires each { AllByRecursion IsPuidText puids.now }

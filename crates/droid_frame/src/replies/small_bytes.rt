@@ -4,10 +4,10 @@ ghost use Rattle.std.specs.Prelude.{◌≡◌, ◌+◌, ◌≤◌, ◌++◌, [],
 
 use std::marker::Model;
 
-/// How many bytes there are at most: those of a Finished with a SHA-256 before its identifiers.
+/// The limit on the bytes: the front of a Finished with a SHA-256 has this many.
 pub(crate) const SMALL_LIMIT: usize = 37;
 
-/// A few bytes in a buffer of their own. Contracts see the list of the bytes alone.
+/// Up to [`SMALL_LIMIT`] bytes in a buffer of fixed size. In contracts it is the list of its bytes.
 #[derive(Drop)]
 pub(crate) struct SmallBytes {
     bytes: [u8; SMALL_LIMIT],
@@ -25,7 +25,7 @@ impl Model for SmallBytes {
 }
 
 impl SmallBytes {
-    /// No byte.
+    /// Makes an empty buffer.
     pub(crate) fn new() -> SmallBytes
         ensures { result ≡ [] }
     {
@@ -35,7 +35,7 @@ impl SmallBytes {
         }
     }
 
-    /// Adds bytes at the end.
+    /// Appends bytes.
     pub(crate) fn add(&mut self, bytes: &[u8])
         requires { length self.old + length bytes.now ≤ 37 }
         ensures { self.new ≡ self.old ++ bytes.now }
@@ -45,7 +45,7 @@ impl SmallBytes {
         self.len = end;
     }
 
-    /// The bytes.
+    /// Returns the bytes.
     pub(crate) fn as_slice(&self) -> &[u8]
         ensures { result.now ≡ self.now }
     {

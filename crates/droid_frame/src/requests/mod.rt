@@ -1,6 +1,6 @@
-//! Requests as frames.
+//! Makers of requests' frames.
 
-mod filters;
+mod filter_writer;
 
 ghost use Rattle.std.specs.Prelude.{◌≡◌, ◌++◌, IfOk, OnOk};
 ghost use Rattle.std.specs.Str.{IsUtf8};
@@ -10,11 +10,11 @@ ghost use Rattle.droid_frame_values.specs.Filters.{FilterFits, IsFilter, filter_
 ghost use Rattle.droid_frame_values.specs.Frames.{frame_bytes, spelling};
 ghost use Rattle.droid_frame_values.specs.Hashes.{CarriesHash, hash_field};
 
-use self::filters::append_filter;
+use self::filter_writer::append_filter;
 use droid_frame_values::{Blob, Filter, Frame, HashKind, Request, Text};
 use std::alloc::{AllocError, Global};
 
-/// The frame of a request: the one spelling that it has in this version. Only want of memory refuses it.
+/// Makes the frame of a request in this version. Fails only when out of memory.
 pub fn request_frame(
     alloc: Global,
     version: u8,
@@ -38,7 +38,7 @@ pub fn request_frame(
     })
 }
 
-/// The body, in a buffer of exactly its length.
+/// Makes the body, in a buffer of exactly its length.
 fn body_of(alloc: Global, version: u8, request: &Request) -> Result<Blob, AllocError>
     requires { Fits version request.now }
     ensures { IfOk result (λ body. SpellsRequest version (request_kind request.now) body request.now) }
@@ -49,7 +49,7 @@ fn body_of(alloc: Global, version: u8, request: &Request) -> Result<Blob, AllocE
     Ok(Blob::from(body))
 }
 
-/// Adds the request's fields at the end, one after the other.
+/// Appends the request's fields, one after the other.
 fn append_body(out: &mut Vec<u8>, version: u8, request: &Request) -> Result<(), AllocError>
     requires lists { ListsFit request.now }
     requires hash { HashFits version request.now }
@@ -112,7 +112,7 @@ fn append_options(
     Ok(())
 }
 
-/// Adds the kind of a hash in a version that has a field for it.
+/// Appends the kind of a hash, if the version has a field for it.
 fn append_hash(out: &mut Vec<u8>, version: u8, hash: HashKind) -> Result<(), AllocError>
     ensures { OnOk result (out.new.items ≡ out.old.items ++ hash_field version hash) }
 {

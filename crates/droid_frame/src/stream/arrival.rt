@@ -1,12 +1,12 @@
-//! What comes next on a stream.
+//! The next frame of a stream, or its end.
 
 use droid_frame_values::Frame;
 
-/// What a stream brought where a frame may begin.
+/// The result of reading a stream at the beginning of a frame.
 #[derive(Debug, Drop)]
 pub enum Arrival {
     /// The next frame.
     Frame(Frame),
-    /// Nothing: the stream ended there.
+    /// The end of the stream.
     End,
 }

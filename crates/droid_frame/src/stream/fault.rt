@@ -1,4 +1,4 @@
-//! Why a frame could not be read.
+//! Faults of reading a frame.
 
 ghost use Rattle.std.specs.Prelude.{◌≡◌};
 
@@ -6,22 +6,22 @@ use droid_frame_stream::ReadFault;
 use std::alloc::AllocError;
 use thiserror::Error;
 
-/// Why no frame could be read. The stream isn't read further, and what was read of the frame is lost.
+/// Why no frame could be read. The bytes that were read of the frame are lost, so the stream is of no further use.
 #[derive(Clone, Copy, Debug, PartialEq, Eq, Error)]
 pub enum FrameFault {
-    /// The input ends within the header, or within the body that the header names.
+    /// The stream ends inside a frame: in the header, or in the body that the header announces.
     #[error("the stream ends within a frame")]
     Truncated,
     /// The header's version is neither 1 nor 2.
     #[error("the version of a frame is neither 1 nor 2")]
     BadVersion,
-    /// The header names a body of more than 1,048,640 bytes in version 1, or 4,194,368 in version 2.
+    /// The header announces a body of more than 1,048,640 bytes in version 1, or 4,194,368 in version 2.
     #[error("the body of a frame is longer than its version allows")]
     TooLong,
-    /// Memory was refused for the body.
+    /// Out of memory for the body.
     #[error("memory was refused")]
     Memory,
-    /// The reader failed, or was interrupted more than 64 times while this frame was read.
+    /// The reader failed, or was interrupted for the 65th time in this frame.
     #[error("the stream could not be read")]
     Read,
 }

@@ -1,28 +1,28 @@
-//! The header of a frame: all of it but the body.
+//! Headers of frames.
 
 ghost use Rattle.std.specs.Prelude.{◌≡◌};
 ghost use Rattle.droid_frame.specs.Headers.{header_bytes};
 
-/// How many bytes the header of a frame has: all of it but the body.
+/// The length in bytes of a frame's header, which is everything before the body.
 pub const HEADER_LENGTH: usize = 18;
 
-/// The fields of a header, in the order in which they stand on a stream.
+/// The fields of a header, in their order on a stream.
 #[derive(Clone, Copy)]
 pub(crate) struct Header {
-    /// The version of the frame's form.
+    /// The version of the frame's format.
     pub(crate) version: u8,
-    /// Which request or reply the body spells.
+    /// The kind: 1 to 8 for a request, 129 to 136 for a reply.
     pub(crate) kind: u8,
     /// The client that sent the request.
     pub(crate) client: u32,
-    /// The number that the client gave it.
+    /// The number that the client gave the request.
     pub(crate) number: u64,
-    /// How many bytes the body has.
+    /// The length of the body in bytes.
     pub(crate) length: u32,
 }
 
 impl Header {
-    /// The bytes of the header.
+    /// Returns the bytes of the header.
     pub(crate) fn to_bytes(&self) -> [u8; HEADER_LENGTH]
         ensures { result ≡ header_bytes self.now }
     {
@@ -51,7 +51,7 @@ impl Header {
         ]
     }
 
-    /// The header that these bytes spell.
+    /// Returns the header that these bytes spell.
     pub(crate) fn from_bytes(bytes: &[u8; HEADER_LENGTH]) -> Header
         ensures { header_bytes result ≡ bytes.now }
     {

@@ -1,4 +1,4 @@
--- For proofs, and for the clauses `exact`: the kind of a hash and a digest, each read from the front of bytes by a function.
+-- For proofs, and for the clauses `exact`: functions that read hash kinds and digests from the front of bytes.
 use Rattle.std.specs.Prelude.{ℕ, zero, suc, nat_lt, ◌==◌, if◌then◌else◌, List, [], ◌∷◌, length, take, drop, Option, Some, None}
 use Rattle.droid_frame_values.specs.declared.hash_kind.HashKind.{HashKind}
 use Rattle.droid_frame_values.specs.declared.hash_kind.HashKind.TheVariants as kinds
@@ -14,11 +14,11 @@ hash_kind_at (suc zero ∷ rest) = Some (kinds.Md5, rest)
 hash_kind_at (suc (suc zero) ∷ rest) = Some (kinds.Sha256, rest)
 hash_kind_at (suc (suc (suc b)) ∷ rest) = None
 
--- the same where the version has a field for it: version 1 has none, and means MD5
+-- the kind of a hash in this version: version 1 has no field for it, and means MD5
 unfoldable pub carried_kind_at : ℕ → List ℕ → Option (HashKind × List ℕ)
 carried_kind_at version bytes = if version == 1 then Some (kinds.Md5, bytes) else hash_kind_at bytes
 
--- so many bytes, and the bytes after them
+-- `count` bytes, and the bytes after them
 unfoldable pub run_at : ℕ → List ℕ → Option (List ℕ × List ℕ)
 run_at count bytes = if nat_lt (length bytes) count then None else Some (take count bytes, drop count bytes)
 
@@ -32,7 +32,7 @@ hash_value_at kinds.Sha256 bytes = do
   digest ← run_at 32 bytes
   Some (values.Sha256 digest.0, digest.1)
 
--- a kind that the version tells, and the digest of a hash of that kind
+-- the kind of a hash in this version, and then the digest of that kind
 unfoldable pub digest_at : ℕ → List ℕ → Option (HashValue × List ℕ)
 digest_at version bytes = do
   kind ← carried_kind_at version bytes

@@ -1,11 +1,11 @@
--- For proofs, and for the clauses `exact`: the fields of a body, each read from the front of bytes by a function.
+-- For proofs, and for the clauses `exact`: functions that read single fields from the front of bytes.
 use Rattle.std.specs.Prelude.{ℕ, zero, suc, ℤ, Bool, true, false, nat_lt, if◌then◌else◌, List, [], ◌∷◌, length, take, drop, Option, Some, None}
 use Rattle.std.specs.Int.{Width, w64, byte_len, from_be_bytes, cast_signed}
 use Rattle.std.specs.Str.{is_utf8}
 use Rattle.droid_frame_values.specs.declared.method.Method.{Method}
 use Rattle.droid_frame_values.specs.declared.method.Method.TheVariants.{Unidentified, Signature, Extension}
 
--- what comes next, where this was found
+-- the next step, if the value before it was found
 infixl 10 ◌>>=◌
 abbrev pub ◌>>=◌ : {A B : Type 0} → Option A → (A → Option B) → Option B
 None >>= next = None
@@ -45,7 +45,7 @@ method_at (suc (suc (suc b)) ∷ rest) = None
 unfoldable pub text_at : List ℕ → Option (List ℕ)
 text_at bytes = if is_utf8 bytes then Some bytes else None
 
--- the value, where no byte is left
+-- the value, if no bytes are left
 unfoldable pub whole : {A : Type 0} → List ℕ → A → Option A
 whole [] value = Some value
 whole (b ∷ bytes) value = None

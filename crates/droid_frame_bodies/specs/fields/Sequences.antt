@@ -1,8 +1,8 @@
--- For proofs: so many of one field, one after the other, read from the front of bytes by a function.
+-- For proofs: functions that read counted sequences from the front of bytes.
 use Rattle.std.specs.Prelude.{ℕ, zero, suc, List, [], ◌∷◌, Option, Some}
 use Rattle.droid_frame_bodies.specs.fields.Reading.{◌>>=◌, byte_at}
 
--- what so many readings give, and the bytes after them
+-- the values of `count` reads in turn, and the bytes after them
 unfoldable pub sequence_at : {A : Type 0} → (List ℕ → Option (A × List ℕ)) → ℕ → List ℕ → Option (List A × List ℕ)
 sequence_at at zero bytes = Some ([], bytes)
 sequence_at at (suc count) bytes = do
@@ -10,7 +10,7 @@ sequence_at at (suc count) bytes = do
   others ← sequence_at at count first.1
   Some (first.0 ∷ others.0, others.1)
 
--- a count in one byte, and what so many readings give
+-- a count in one byte, and the values of that many reads
 unfoldable pub counted_at : {A : Type 0} → (List ℕ → Option (A × List ℕ)) → List ℕ → Option (List A × List ℕ)
 counted_at at bytes = do
   count ← byte_at bytes

@@ -1,4 +1,4 @@
--- For proofs: the filter at the front of bytes, by a function.
+-- For proofs: functions that read filters from the front of bytes.
 use Rattle.std.specs.Prelude.{ℕ, zero, suc, ◌==◌, if◌then◌else◌, List, [], ◌∷◌, Option, Some, None}
 use Rattle.std.specs.Int.{w64}
 use Rattle.droid_frame_values.specs.declared.criterion.Criterion.{Criterion}
@@ -21,7 +21,7 @@ node_kind_at (suc (suc b) ∷ rest) = None
 unfoldable pub list_at : List ℕ → Option (List (List ℕ) × List ℕ)
 list_at bytes = counted_at (sized_text_at 0 255) bytes
 
--- what each tag's criterion asks for
+-- the value of each tag's criterion
 unfoldable pub method_is_at : List ℕ → Option (Criterion × List ℕ)
 method_is_at bytes = do
   method ← method_at bytes
@@ -57,7 +57,7 @@ kind_is_at bytes = do
   kind ← node_kind_at bytes
   Some (KindIs kind.0, kind.1)
 
--- the criterion of a tag that goes before no list
+-- the criterion of a tag that has no list
 unfoldable pub plain_at : ℕ → List ℕ → Option (Criterion × List ℕ)
 plain_at tag bytes =
     if tag == 1 then method_is_at bytes
@@ -74,7 +74,7 @@ tagged_at tag bytes =
     else if tag == 3 then ext_in_at bytes
     else plain_at tag bytes
 
--- a tag, and its criterion
+-- a tag, and then its criterion
 unfoldable pub criterion_at : List ℕ → Option (Criterion × List ℕ)
 criterion_at bytes = do
   tag ← byte_at bytes
@@ -87,7 +87,7 @@ filter_at bytes = do
   criteria ← counted_at criterion_at all.1
   Some (record { all = all.0; criteria = criteria.0 }, criteria.1)
 
--- a filter that all the bytes spell
+-- the filter that the bytes spell, with none left over
 unfoldable pub filter_value : List ℕ → Option Filter
 filter_value bytes = do
   filter ← filter_at bytes

@@ -1,4 +1,4 @@
--- For proofs: a refusal in a body, read from its front by a function.
+-- For proofs: functions that read refusals from the front of bytes.
 use Rattle.std.specs.Prelude.{ℕ, ◌==◌, if◌then◌else◌, List, [], ◌∷◌, Option, Some, None}
 use Rattle.std.specs.List.{find}
 use Rattle.std.specs.Option.{option_map}
@@ -10,16 +10,16 @@ use Rattle.droid_frame_values.specs.declared.refusal.Refusal.TheVariants as refu
 use Rattle.droid_frame_values.specs.Refusals.{refusal_number, limit_number}
 use Rattle.droid_frame_bodies.specs.fields.Reading.{◌>>=◌, number_at}
 
--- one of these, by its number in one byte, and the bytes after it
+-- one of these choices, by its number in one byte, and the bytes after it
 abbrev pub choice_at : {A : Type 0} → (A → ℕ) → List A → List ℕ → Option (A × List ℕ)
 choice_at number choices [] = None
 choice_at number choices (b ∷ rest) = option_map (λ x. (x, rest)) (find (λ x. number x == b) choices)
 
--- which limit
+-- a limit
 unfoldable pub limit_at : List ℕ → Option (Limit × List ℕ)
 limit_at bytes = choice_at limit_number (limits.Profiles ∷ limits.Nodes ∷ limits.Unfinished ∷ []) bytes
 
--- the refusals with nothing after their number
+-- the refusals with no field after their number
 abbrev pub plain_refusals : List Refusal
 plain_refusals =
     refusals.Malformed ∷ refusals.NumberReused ∷ refusals.NoSuchProfile ∷ refusals.NoSuchNode
@@ -31,7 +31,7 @@ plain_refusals =
 unfoldable pub plain_refusal : ℕ → Option Refusal
 plain_refusal number = find (λ refusal. refusal_number refusal == number) plain_refusals
 
--- the first missing index, in the refusal that has it
+-- the refusals that have the index of the first missing piece
 unfoldable pub too_far_at : List ℕ → Option (Refusal × List ℕ)
 too_far_at bytes = do
   missing ← number_at w32 bytes
@@ -52,7 +52,7 @@ plain_refusal_at number rest = do
   refusal ← plain_refusal number
   Some (refusal, rest)
 
--- the refusal of this number, with what stands after the number
+-- the refusal of this number, with the field after its number
 unfoldable pub refusal_after : ℕ → List ℕ → Option (Refusal × List ℕ)
 refusal_after number rest =
     if number == 15 then too_far_at rest

@@ -1,11 +1,11 @@
--- What `reply_of` answers of a reply that is spelled, and that a version, a kind and a body spell at most one reply.
+-- The result of `reply_of`, and the law that a frame spells at most one reply.
 use Rattle.std.specs.Prelude.{◌≡◌, ℕ, List, Result, Ok, Err}
 use Rattle.droid_frame_values.specs.declared.reply.Reply.{Reply}
 use Rattle.droid_frame_values.specs.Replies.{SpellsReply}
 use Rattle.droid_frame_bodies.specs.declared.body_fault.BodyFault.{BodyFault}
 use Rattle.droid_frame_bodies.specs.declared.body_fault.BodyFault.TheVariants.{Memory}
 
--- this very reply was read, or it is a Finished and memory was refused
+-- this reply was returned, or it is a Finished and memory ran out
 abbrev pub IsReadAs : ℕ → Reply → Result Reply BodyFault → Type 0
 IsReadAs kind reply (Ok it) = it ≡ reply
 IsReadAs kind reply (Err fault) = (kind ≡ 132) × (fault ≡ Memory)

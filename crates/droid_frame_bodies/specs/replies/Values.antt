@@ -1,4 +1,4 @@
--- For proofs, and for the clause `exact` of `reply_of`: the reply of a body, read from its front by a function.
+-- For proofs, and for the clause `exact` of `reply_of`: functions that read replies from the front of bytes.
 use Rattle.std.specs.Prelude.{ℕ, ◌==◌, nat_lt, if◌then◌else◌, List, length, Option, Some, None}
 use Rattle.std.specs.Int.{w16, w32, w64}
 use Rattle.droid_frame_values.specs.declared.reply.Reply.{Reply}
@@ -46,13 +46,13 @@ refused_value body = do
   refusal ← refusal_at body
   whole refusal.1 (Refused refusal.0)
 
--- how many identifiers of formats follow
+-- the number of format identifiers that follow
 unfoldable pub count_at : List ℕ → Option (ℕ × List ℕ)
 count_at bytes = do
   count ← number_at w16 bytes
   if nat_lt puids_limit count.0 then None else Some count
 
--- what stands before the identifiers of a Finished
+-- the fields of a Finished before its format identifiers
 unfoldable pub finished_head_at : ℕ → List ℕ → Option (FinishedHead × List ℕ)
 finished_head_at version bytes = do
   method ← method_at bytes
@@ -67,7 +67,7 @@ finished_value version body = do
   puids ← texts_at head.0.count 1 puid_limit head.1
   whole puids.1 (Finished head.0.method head.0.mismatch head.0.hash puids.0)
 
--- the reply that the kind and the body spell, where they spell one that has no list
+-- the reply that the kind and the body spell, if it has no list
 unfoldable pub plain_value : ℕ → List ℕ → Option Reply
 plain_value kind body =
     if kind == 129 then made_value body
@@ -79,10 +79,10 @@ plain_value kind body =
     else if kind == 136 then refused_value body
     else None
 
--- the reply that the kind and the body spell in a version that frames have, where they spell one
+-- the reply that the kind and the body spell in version 1 or 2, if there is one
 unfoldable pub any_value : ℕ → ℕ → List ℕ → Option Reply
 any_value version kind body = if kind == 132 then finished_value version body else plain_value kind body
 
--- the reply that the version, the kind and the body spell, where they spell one
+-- the reply that the version, the kind and the body spell, if there is one
 unfoldable pub reply_value : ℕ → ℕ → List ℕ → Option Reply
 reply_value version kind body = if is_version version then any_value version kind body else None

@@ -1,10 +1,10 @@
--- For proofs: the first fields of the requests that add a node, read from the front of bytes by a function.
+-- For proofs: a function that reads the first fields of AddFolder and AddFile.
 use Rattle.std.specs.Prelude.{ℕ, List, Option, Some}
 use Rattle.std.specs.Int.{w32}
 use Rattle.droid_frame_bodies.specs.declared.requests.node_head.NodeHead.{NodeHead}
 use Rattle.droid_frame_bodies.specs.fields.Reading.{◌>>=◌, number_at, signed_at}
 
--- the profile, the parent and when the node was modified
+-- the profile, the parent and the time of modification
 unfoldable pub node_head_at : List ℕ → Option (NodeHead × List ℕ)
 node_head_at bytes = do
   profile ← number_at w32 bytes

@@ -1,4 +1,4 @@
--- For proofs, and for the clause `exact` of `request_of`: the request of a body, read from its front by a function.
+-- For proofs, and for the clause `exact` of `request_of`: functions that read requests from the front of bytes.
 use Rattle.std.specs.Prelude.{ℕ, ◌^◌, nat_lt, ◌==◌, if◌then◌else◌, List, Option, Some, None}
 use Rattle.std.specs.Int.{w32, w64}
 use Rattle.droid_frame_values.specs.declared.frame.Frame.{Frame}
@@ -38,7 +38,7 @@ piece_value body = do
   index ← number_at w32 file.1
   Some (Piece profile.0 file.0 index.0 index.1)
 
--- a profile and a file, and nothing after them
+-- the numbers of a profile and a file, and nothing after them
 unfoldable pub file_value : List ℕ → Option (ℕ × ℕ)
 file_value body = do
   profile ← number_at w32 body
@@ -68,7 +68,7 @@ export_value body = do
   filter ← filter_value max.1
   Some (Export profile.0 from.0 max.0 filter)
 
--- the request of the kinds whose bodies hold no list
+-- the request, if its kind has no list
 unfoldable pub plain_value : ℕ → ℕ → List ℕ → Option Request
 plain_value version kind body =
     if kind == 1 then create_profile_value version body
@@ -80,14 +80,14 @@ plain_value version kind body =
     else if kind == 7 then status_value body
     else None
 
--- the request that the kind and the body spell in a version that frames have, where they spell one
+-- the request that the kind and the body spell in version 1 or 2, if there is one
 unfoldable pub any_value : ℕ → ℕ → List ℕ → Option Request
 any_value version kind body = if kind == 8 then export_value body else plain_value version kind body
 
--- the request that the version, the kind and the body spell, where they spell one
+-- the request that the version, the kind and the body spell, if there is one
 unfoldable pub request_value : ℕ → ℕ → List ℕ → Option Request
 request_value version kind body = if is_version version then any_value version kind body else None
 
--- the request of a frame: its number has to be below 2^63
+-- the request of a frame, if its number is below 2^63
 unfoldable pub request_in : Frame → Option Request
 request_in frame = if nat_lt frame.number (2 ^ 63) then request_value frame.version frame.kind frame.body else None

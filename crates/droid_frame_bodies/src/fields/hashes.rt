@@ -1,4 +1,4 @@
-//! The kind of a hash and a digest, each read from the front of bytes.
+//! Readers of hash kinds and digests.
 
 ghost use Rattle.std.specs.Prelude.{◌≡◌};
 ghost use Rattle.std.specs.Option.{option_map};
@@ -6,7 +6,7 @@ ghost use Rattle.droid_frame_bodies.specs.fields.Hashes.{digest_at, hash_kind_at
 
 use droid_frame_values::{HashKind, HashValue};
 
-/// The kind of a hash where the version has a field for it. Version 1 has none, and means MD5.
+/// Reads the kind of a hash. Version 1 has no field for it, and means MD5.
 #[tactic(auto, unfolding(crate::specs::fields::Hashes::carried_kind_at))]
 pub(crate) fn carried_kind_at(version: u8, bytes: &[u8]) -> Option<(HashKind, &[u8])>
     ensures { option_map (λ x. (x.0, x.1.now)) result ≡ carried_kind_at version bytes.now }
@@ -17,7 +17,7 @@ pub(crate) fn carried_kind_at(version: u8, bytes: &[u8]) -> Option<(HashKind, &[
     hash_kind_at(bytes)
 }
 
-/// A digest, after its kind where the version has a field for that.
+/// Reads the kind of a hash, if the version has a field for it, and then the digest.
 #[tactic(auto, unfolding(crate::specs::fields::Hashes::digest_at))]
 pub(crate) fn digest_at(version: u8, bytes: &[u8]) -> Option<(HashValue, &[u8])>
     ensures { option_map (λ x. (x.0, x.1.now)) result ≡ digest_at version bytes.now }

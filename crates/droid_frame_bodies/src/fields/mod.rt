@@ -1,4 +1,4 @@
-//! The fields of a body, each read from the front of bytes.
+//! Readers of single fields. Each reads from the front of the bytes and returns the value and the bytes after it.
 
 pub(crate) mod hashes;
 pub(crate) mod text_lists;
@@ -90,7 +90,7 @@ pub(crate) fn method_at(bytes: &[u8]) -> Option<(Method, &[u8])>
     }
 }
 
-/// The bytes from this place to the end, in the body's own buffer.
+/// Returns the bytes from this index to the end, in the body's own buffer.
 pub(crate) fn bytes_after(body: Blob, place: usize) -> Blob
     requires { place ≤ length body }
     ensures { result ≡ drop place body }
@@ -100,7 +100,7 @@ pub(crate) fn bytes_after(body: Blob, place: usize) -> Blob
     Blob::from(bytes)
 }
 
-/// Removes the first bytes in place.
+/// Removes the first `count` bytes in place.
 fn remove_front(bytes: &mut Vec<u8>, count: usize)
     requires { count ≤ vec_len bytes.old }
     ensures { bytes.new.items ≡ drop count bytes.old.items }

@@ -1,4 +1,4 @@
-//! Texts in a body, each after its length in one byte.
+//! Readers of texts, each after its length in one byte.
 
 ghost use Rattle.std.specs.Prelude.{◌≡◌};
 ghost use Rattle.std.specs.Option.{option_map};
@@ -10,7 +10,7 @@ use crate::body_fault::BodyFault;
 use droid_frame_values::{Text, Texts};
 use std::alloc::Global;
 
-/// The bytes after these texts, each of `least` to `most` bytes. It takes no memory.
+/// Skips `count` texts of `least` to `most` bytes each, and returns the bytes after them. Allocates nothing.
 pub(crate) fn after_texts(count: usize, least: u8, most: u8, bytes: &[u8]) -> Option<&[u8]>
     ensures { option_map (λ rest. rest.now) result ≡ option_map (λ x. x.1) (texts_at count least most bytes.now) }
 {
@@ -22,8 +22,8 @@ pub(crate) fn after_texts(count: usize, least: u8, most: u8, bytes: &[u8]) -> Op
     Some(rest)
 }
 
-/// These texts, each of `least` to `most` bytes, and the bytes after them. It grows the list and
-/// its texts, so [`after_texts`] goes first.
+/// Reads `count` texts of `least` to `most` bytes each, and returns them and the bytes after them. It allocates as it
+/// reads, so callers check the bytes with [`after_texts`] first.
 pub(crate) fn texts_at(
     alloc: Global,
     count: usize,

@@ -1,4 +1,4 @@
-//! The body of a Finished.
+//! The reader of a Finished.
 
 ghost use Rattle.std.specs.Prelude.{◌≡◌, ◌↔◌, IsTrue};
 ghost use Rattle.std.specs.Option.{option_map};
@@ -12,7 +12,7 @@ use crate::fields::{bool_at, method_at, u16_at};
 use droid_frame_values::{HashValue, Method, PUID_LIMIT, PUIDS_LIMIT, Reply};
 use std::alloc::Global;
 
-/// What stands before the identifiers of the formats.
+/// The fields of a Finished before the format identifiers.
 #[derive(Clone, Copy)]
 pub(crate) struct FinishedHead {
     pub(crate) method: Method,
@@ -21,7 +21,7 @@ pub(crate) struct FinishedHead {
     pub(crate) count: u16,
 }
 
-/// The reply of a Finished's body in this version. The whole body is checked before anything grows.
+/// Reads the body of a Finished in this version. Checks the whole body before it allocates.
 pub(crate) fn finished(alloc: Global, version: u8, body: &[u8]) -> Result<Reply, BodyFault>
     ensures { IsReplyAnswer 132 (finished_value version body.now) result }
 {
@@ -42,7 +42,7 @@ pub(crate) fn finished(alloc: Global, version: u8, body: &[u8]) -> Result<Reply,
     }
 }
 
-/// Whether so many identifiers use the bytes up.
+/// Returns whether the bytes are exactly this many identifiers.
 fn are_puids(count: u16, bytes: &[u8]) -> bool
     ensures { IsTrue result ↔ ArePuids count bytes.now }
 {
@@ -69,7 +69,7 @@ fn finished_head_at(version: u8, bytes: &[u8]) -> Option<(FinishedHead, &[u8])>
     Some((head, rest))
 }
 
-/// How many identifiers follow.
+/// Reads the number of identifiers that follow.
 #[tactic(auto, unfolding(crate::specs::replies::Values::count_at))]
 fn count_at(bytes: &[u8]) -> Option<(u16, &[u8])>
     ensures { option_map (λ x. (x.0, x.1.now)) result ≡ count_at bytes.now }

@@ -1,4 +1,4 @@
-//! Replies from frames.
+//! Readers of replies.
 
 mod finished;
 mod refusals;
@@ -18,18 +18,21 @@ use crate::fields::{bytes_after, u32_at, u64_at};
 use droid_frame_values::{Blob, Frame, PART_LIMIT, Reply, is_version};
 use std::alloc::Global;
 
-/// The reply of a frame, whose body it uses up: the bytes of a Part are the body's own buffer. Only a
-/// Finished takes memory, for its list of identifiers, once the whole body is known to spell one.
+/// Reads the reply of a frame. It consumes the frame: the bytes of a Part stay in the body's own buffer. Only a
+/// Finished allocates, for its list of identifiers, and only after the whole body has been checked.
+///
+/// `Malformed`: the version is neither 1 nor 2, the kind is unknown, or the body is not valid for them. `Memory`: out
+/// of memory for the identifiers of a Finished.
 pub fn reply_of(alloc: Global, frame: Frame) -> Result<Reply, BodyFault>
-    // What is read is spelled so, all of the body.
+    // The frame's version, kind and whole body spell the returned reply.
     ensures found { IfOk result (SpellsReply frame.version frame.kind frame.body) }
-    // What is spelled so is read, unless it is a Finished and memory is refused.
+    // If they spell a reply, it is returned, unless it is a Finished and memory runs out.
     ensures accepted { (reply : Reply) → SpellsReply frame.version frame.kind frame.body reply → IsReadAs frame.kind reply result }
-    // This comes exactly where no reply is spelled, as in a version other than 1 and 2.
+    // `Malformed` is returned exactly if they spell no reply.
     ensures malformed { IsErrOf result BodyFault.Malformed ↔ ((reply : Reply) → ¬ SpellsReply frame.version frame.kind frame.body reply) }
-    // This comes only where a Finished is spelled.
+    // `Memory` is returned only if they spell a Finished.
     ensures memory { IsErrOf result BodyFault.Memory → (frame.kind ≡ 132) × (reply : Reply) × SpellsReply frame.version frame.kind frame.body reply }
-    // The same in one equation, but for a Finished.
+    // For every kind but a Finished, one equation says all of this.
     ensures exact { frame.kind ≢ 132 → result ≡ ok_or (reply_value frame.version frame.kind frame.body) BodyFault.Malformed }
 {
     value_of(alloc, frame.version, frame.kind, frame.body)
@@ -46,7 +49,7 @@ fn value_of(alloc: Global, version: u8, kind: u8, body: Blob) -> Result<Reply, B
     any_value(alloc, version, kind, body)
 }
 
-/// The reply in a version that frames have.
+/// Reads the reply, in version 1 or 2.
 #[tactic(auto, unfolding(crate::specs::replies::Values::any_value))]
 fn any_value(alloc: Global, version: u8, kind: u8, body: Blob) -> Result<Reply, BodyFault>
     ensures answer { IsReplyAnswer kind (any_value version kind body) result }
@@ -59,7 +62,7 @@ fn any_value(alloc: Global, version: u8, kind: u8, body: Blob) -> Result<Reply, 
     }
 }
 
-/// A reply without a list. It takes no memory.
+/// Reads a reply that has no list. Allocates nothing.
 #[tactic(auto, unfolding(crate::specs::replies::Values::plain_value))]
 fn plain(kind: u8, body: Blob) -> Option<Reply>
     ensures { result ≡ plain_value kind body }
@@ -142,7 +145,7 @@ fn refused(body: &[u8]) -> Option<Reply>
     whole(rest, Reply::Refused(refusal))
 }
 
-/// The reply, where no byte is left.
+/// Returns the reply if no bytes are left.
 #[tactic(auto, unfolding(crate::specs::fields::Reading::whole))]
 fn whole(rest: &[u8], reply: Reply) -> Option<Reply>
     ensures { result ≡ whole rest.now reply }

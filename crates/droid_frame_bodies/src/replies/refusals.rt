@@ -1,4 +1,4 @@
-//! The fields of a reply's body, each read from the front of bytes.
+//! Readers of refusals.
 
 ghost use Rattle.std.specs.Prelude.{◌≡◌};
 ghost use Rattle.std.specs.Option.{option_map};
@@ -73,7 +73,7 @@ fn limit_at(bytes: &[u8]) -> Option<(Limit, &[u8])>
     }
 }
 
-/// The refusal with nothing after its number.
+/// Returns the refusal of this number, if it has no further field.
 #[tactic(auto, unfolding(crate::specs::replies::Refusals::plain_refusal))]
 fn plain_refusal(number: u8) -> Option<Refusal>
     ensures { result ≡ plain_refusal number }

@@ -1,7 +1,7 @@
-//! Requests from frames.
+//! Readers of requests.
 
 mod node_head;
-mod plain;
+mod plain_requests;
 
 ghost use Rattle.std.specs.Prelude.{◌≡◌, ◌↔◌, ◌<◌, ◌^◌, IfOk, IsErrOf, ok_or, Ok, Err};
 ghost use Rattle.droid_frame_values.specs.Bodies.{SpellsRequest};
@@ -9,32 +9,32 @@ ghost use Rattle.droid_frame_values.specs.Fields.{IsBytes};
 ghost use Rattle.droid_frame_bodies.specs.Outcomes.{IsAnswer};
 ghost use Rattle.droid_frame_bodies.specs.requests.Values.{any_value, export_value, request_value, request_in};
 
-use self::plain::plain_value;
+use self::plain_requests::plain_value;
 use crate::body_fault::BodyFault;
 use crate::fields::{u32_at, u64_at};
 use crate::filters::filter_of;
 use droid_frame_values::{Blob, Frame, NUMBER_LIMIT, Request, is_version};
 use std::alloc::Global;
 
-/// The request of a frame, whose body it uses up: a name and a piece's bytes are the body's own buffer.
-/// Only a filter takes memory, and none is taken before the whole body is found to be in the grammar.
+/// Reads the request of a frame. It consumes the frame: a name and a piece's bytes stay in the body's own buffer. Only
+/// a filter allocates, and only after the whole body has been checked.
 ///
-/// `Malformed`: the version is neither 1 nor 2, the kind is unknown, the body is outside the kind's grammar in that
-/// version, or the number is [`NUMBER_LIMIT`] or more. `Memory`: the memory of a filter was refused.
+/// `Malformed`: the version is neither 1 nor 2, the kind is unknown, the body is not valid for them, or the number is
+/// [`NUMBER_LIMIT`] or more. `Memory`: out of memory for a filter.
 #[tactic(auto, unfolding(crate::specs::requests::Values::request_in))]
 pub fn request_of(alloc: Global, frame: Frame) -> Result<Request, BodyFault>
-    // What is read is spelled so, all of the body.
+    // The number is below the limit, and the frame's version, kind and whole body spell the returned request.
     ensures found { IfOk result (λ request. (frame.number < 2 ^ 63) × SpellsRequest frame.version frame.kind frame.body request) }
-    // What is spelled so, under a number below the limit, is read, unless memory is refused.
+    // If the number is below the limit and they spell a request, it is returned, unless memory runs out.
     ensures accepted { (request : Request) → frame.number < 2 ^ 63 → SpellsRequest frame.version frame.kind frame.body request →
         ¬ (result ≡ Err BodyFault.Memory) → result ≡ Ok request }
-    // This comes exactly where the number is too large or no request is spelled, as in another version.
+    // `Malformed` is returned exactly if the number is too large or they spell no request.
     ensures malformed { IsErrOf result BodyFault.Malformed ↔
         (frame.number < 2 ^ 63 → (request : Request) → ¬ SpellsRequest frame.version frame.kind frame.body request) }
-    // This comes only where a request for a part of the export is spelled, under a number below the limit.
+    // `Memory` is returned only if the number is below the limit and they spell an Export.
     ensures memory { IsErrOf result BodyFault.Memory →
         (frame.kind ≡ 8) × (frame.number < 2 ^ 63) × (request : Request) × SpellsRequest frame.version frame.kind frame.body request }
-    // The same in one equation, but for an export.
+    // For every kind but an Export, one equation says all of this.
     ensures exact { ¬ (frame.kind ≡ 8) → result ≡ ok_or (request_in frame) BodyFault.Malformed }
 {
     if frame.number >= NUMBER_LIMIT {
@@ -56,7 +56,7 @@ fn value_of(alloc: Global, version: u8, kind: u8, body: Blob) -> Result<Request,
     any_value(alloc, version, kind, body)
 }
 
-/// The request in a version that frames have.
+/// Reads the request, in version 1 or 2.
 #[tactic(auto, unfolding(crate::specs::requests::Values::any_value))]
 fn any_value(alloc: Global, version: u8, kind: u8, body: Blob) -> Result<Request, BodyFault>
     ensures answer { IsAnswer result (any_value version kind body) }

@@ -1,4 +1,4 @@
-//! The first fields of the requests that add a node.
+//! The fields that AddFolder and AddFile begin with.
 
 ghost use Rattle.std.specs.Prelude.{◌≡◌, IfSome};
 ghost use Rattle.std.specs.Option.{option_map};
@@ -7,14 +7,14 @@ ghost use Rattle.droid_frame_bodies.specs.requests.NodeHeads.{node_head_at};
 
 use crate::fields::{i64_at, u32_at};
 
-/// Which profile and folder the node lies in, and when it was modified.
+/// The first fields of AddFolder and AddFile.
 #[derive(Clone, Copy)]
 pub(crate) struct NodeHead {
     /// The number of the profile.
     pub(crate) profile: u32,
-    /// The number of the folder that the node lies in, or 0 at the top.
+    /// The number of the folder that contains the node, or 0 at the top level.
     pub(crate) parent: u32,
-    /// Seconds since 1970-01-01T00:00:00 in UTC, negative before.
+    /// When the node was modified, in seconds since 1970-01-01T00:00:00 UTC; negative before that.
     pub(crate) modified: i64,
 }
 

@@ -16,7 +16,7 @@ returns c =
         refl,
         (λ _. tt),
         rw (← c.self.view_is, c.straighten.ensures.first, c.straighten.ensures.last, c.straighten.ensures.hash, c.straighten.ensures.capacity) (record {
-          same_file = record { size = refl; piece_size = refl; scan_limit = refl; hash_kind = refl {a = running_kind c.self.inside.front.hash} };
+          same_file = record { size = refl; piece_size = refl; scan_limit = refl; hash_kind = refl {a = running_kind c.self.inside.front.hash}; reserved = refl };
           missing = refl;
           pending = refl;
           stands = λ pieces h. h;
