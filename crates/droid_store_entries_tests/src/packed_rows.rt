@@ -1,4 +1,4 @@
-//! Rows of each kind of value, packed and read back.
+//! Packs rows with values of each kind and reads them back.
 
 use droid_store_entries::PackedRow;
 use sqlite_value::keys::Order;
@@ -8,7 +8,7 @@ use std::alloc::{AllocError, Global};
 use std::cmp::Ordering;
 use std::test::Fail;
 
-/// The ends of what fits in so many bytes, and numbers beside them.
+/// The first and last numbers that fit into 1, 2, 3, 4, 6 and 8 bytes, and their neighbours.
 const NUMBERS: [i64; 20] = [
     0,
     1,
@@ -34,7 +34,7 @@ const NUMBERS: [i64; 20] = [
 
 const FRACTIONS: [f64; 4] = [0.0, -0.0, 1.5, -1e300];
 
-/// Lengths at which the type of a text or of a blob takes a byte more, and beside them.
+/// Lengths at which the type of a text or of a blob takes one more byte, and their neighbours.
 const LENGTHS: [usize; 6] = [0, 1, 57, 58, 8_185, 8_186];
 
 fn push_numbers(row: &mut Row) -> Result<(), AllocError> {
@@ -60,7 +60,7 @@ fn push_bytes(row: &mut Row, bytes: &[u8]) -> Result<(), AllocError> {
     Ok(())
 }
 
-/// Whether the row is read back, over another, and is neither above nor below itself.
+/// Whether the packed row is read back as it was, over another row, and compares as equal to itself.
 fn is_kept(alloc: Global, row: &Row) -> Result<bool, AllocError> {
     let packed = PackedRow::of(alloc, row)?;
     let mut back = Row::new(alloc);
