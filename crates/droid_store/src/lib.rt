@@ -1,21 +1,22 @@
-//! Records and kept replies in a database in memory, one transaction for each accepted command.
+//! The profiles, nodes and replies of a service in a database in memory, with one transaction for each accepted
+//! command.
 //!
-//! Callers and contracts see a [`Store`] as its rows: profiles, nodes and replies in order of
-//! acceptance. That they lie in tables of SQL is this crate's own affair.
+//! For callers and contracts a [`Store`] is its rows: profiles, nodes and replies in order of acceptance. That SQL
+//! tables hold them is internal to this crate.
 #![tactic(auto)]
 
 mod changes;
 mod commits;
-mod counting;
+mod counters;
 mod fault;
 mod hashes;
-mod listing;
 mod look_ups;
-mod making;
-mod read_rows;
+mod record_list;
+mod row_reader;
 mod rows;
 mod statements;
 mod store;
+mod tables;
 mod words;
 
 pub use fault::StoreFault;

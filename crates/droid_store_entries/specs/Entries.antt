@@ -7,7 +7,7 @@ abbrev pub rows : Node → List Row
 rows Empty = []
 rows (Fork' p left row right len) = rows left ++ row.value ∷ rows right
 
--- each part of the tree counts its rows
+-- each node counts the rows below it, its own included
 abbrev pub IsCounted : Node → Type 0
 IsCounted Empty = Unit {0}
 IsCounted (Fork' p left row right len) = IsCounted left × IsCounted right × (len ≡ length (rows left) + 1 + length (rows right))

@@ -1,4 +1,4 @@
-//! The list of rows that callers see.
+//! A list of rows, which is what callers of this crate use.
 
 ghost use Rattle.std.specs.Prelude.{◌≡◌, ◌≤◌, ◌<◌, length, slice_index_or, slice_set, [], IfOk, IfSome, IfNone, OnOk, OnErr};
 ghost use Rattle.std.specs.List.{insert, remove};
@@ -12,8 +12,10 @@ use std::alloc::{AllocError, Global};
 use std::marker::Model;
 use std::rc::Rc;
 
-/// Rows in an order that the caller keeps. An edit, a look and a search go down a balanced tree,
-/// and a copy takes no memory.
+/// A list of rows. The caller chooses the order and keeps it.
+///
+/// A balanced tree holds the rows, so an edit, a look-up and a search take time in the logarithm of their number. A
+/// copy shares the tree and takes no memory.
 #[derive(Drop)]
 pub struct Entries {
     root: Node,
@@ -32,19 +34,22 @@ impl Model for Entries {
 }
 
 impl Entries {
+    /// Makes a list without rows. It takes no memory.
     pub fn new() -> Entries
         ensures { result ≡ [] }
     {
         Entries { root: Node::Empty }
     }
 
+    /// Returns the number of rows, without counting them again.
     pub fn len(&self) -> usize
         ensures { result ≡ length self.now }
     {
         self.root.len()
     }
 
-    /// The same rows. It is refused only where more lists share a row than can be counted.
+    /// Copies the list; both copies share the rows. Fails only if a counter of the copies that share a part of the tree
+    /// is full.
     pub fn copy(&self) -> Result<Entries, AllocError>
         ensures { IfOk result (λ copy. copy ≡ self.now) }
     {
@@ -53,6 +58,7 @@ impl Entries {
         })
     }
 
+    /// Returns the row at this position, counted from 0, or `None` past the end.
     pub fn get(&self, at: usize) -> Option<&PackedRow>
         ensures found { IfSome result (λ row. (at < length self.now) × (row.now ≡ slice_index_or self.now at [])) }
         ensures none { IfNone result (length self.now ≤ at) }
@@ -63,7 +69,7 @@ impl Entries {
         }
     }
 
-    /// How many rows pass the test of the search.
+    /// Searches: returns the number of rows that pass the test. They stand before all rows that fail it.
     pub fn place(&self, probe: Probe<'_>) -> usize
         requires { IsCutBy (passes probe) self.now }
         ensures { IsPlaceOf (passes probe.entry) self.now result }
@@ -71,6 +77,8 @@ impl Entries {
         self.root.place(probe)
     }
 
+    /// Replaces the row at this position; past the end it changes nothing. If memory runs out, the list stays as it
+    /// was.
     pub fn set(&mut self, alloc: Global, at: usize, row: PackedRow) -> Result<(), AllocError>
         ensures ok { OnOk result (self.new ≡ slice_set self.old at row) }
         ensures err { OnErr result (self.new ≡ self.old) }
@@ -79,6 +87,7 @@ impl Entries {
         Ok(())
     }
 
+    /// Inserts the row before the one at this position, or at the end. If memory runs out, the list stays as it was.
     pub fn insert(&mut self, alloc: Global, at: usize, row: PackedRow) -> Result<(), AllocError>
         requires { at ≤ length self.old }
         ensures ok { OnOk result (self.new ≡ insert self.old at row) }
@@ -88,6 +97,7 @@ impl Entries {
         Ok(())
     }
 
+    /// Removes the row at this position. This takes memory too, and if that runs out, the list stays as it was.
     pub fn remove(&mut self, alloc: Global, at: usize) -> Result<(), AllocError>
         requires { at < length self.old }
         ensures ok { OnOk result (self.new ≡ remove self.old at) }

@@ -1,4 +1,5 @@
-//! Rows in order, in a list that is copied at no cost: a copy shares all that later edits leave.
+//! Ordered lists of rows that are cheap to copy: a copy shares every row, and every part of the tree, that later edits
+//! do not change.
 #![tactic(auto)]
 
 mod entries;

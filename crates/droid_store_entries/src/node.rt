@@ -1,5 +1,5 @@
-//! A balanced tree of rows. An edit makes the nodes above its place anew and shares all others, so
-//! the tree before it stands as it was.
+//! A balanced tree of rows. An edit makes new nodes on the way from the root to its position and shares all others, so
+//! the old tree stays as it was.
 
 ghost use Rattle.std.specs.Prelude.{◌≡◌, ◌≤◌, ◌<◌, ◌∷◌, ◌++◌, length, slice_index_or, slice_set, [], IfOk, IfSome, IfNone};
 ghost use Rattle.std.specs.List.{insert, remove};
@@ -39,7 +39,7 @@ impl Node {
         }
     }
 
-    /// The same tree, shared.
+    /// Copies the tree. The copy shares all its nodes.
     pub(crate) fn copy(&self) -> Result<Node, AllocError>
         requires { IsCounted self.now }
         ensures counted { IfOk result IsCounted }
@@ -73,7 +73,8 @@ impl Node {
         Ok(Node::Fork(Rc::new(alloc, fork)?))
     }
 
-    // By weights one above the numbers of rows: neither side has more than three times the other's.
+    // Joins both sides, and rotates if one of them has more than three times the weight of the other. A weight is the
+    // number of rows and 1.
     fn balanced(
         alloc: Global,
         left: Node,
@@ -148,7 +149,7 @@ impl Node {
         }
     }
 
-    /// How many rows pass.
+    /// Returns the number of rows that pass the test.
     pub(crate) fn place(&self, probe: Probe<'_>) -> usize
         requires { IsCounted self.now }
         ensures within { result ≤ length (rows self.now) }
@@ -252,7 +253,8 @@ impl Node {
 }
 
 impl Fork {
-    // A row and a smaller tree stand before this one.
+    // Joins a smaller tree and a row in front of this tree: a rotation to the left, a double one if the left side is
+    // large.
     fn after(&self, alloc: Global, left: Node, row: Rc<PackedRow>) -> Result<Node, AllocError>
         requires left { IsCounted left }
         requires parts { IsCounted self.now.left × IsCounted self.now.right }
@@ -275,7 +277,8 @@ impl Fork {
         Node::joined(alloc, first, self.row.clone()?, self.right.copy()?)
     }
 
-    // A row and a smaller tree stand behind this one.
+    // Joins a row and a smaller tree behind this tree: a rotation to the right, a double one if the right side is
+    // large.
     fn before(&self, alloc: Global, row: Rc<PackedRow>, right: Node) -> Result<Node, AllocError>
         requires right { IsCounted right }
         requires parts { IsCounted self.now.left × IsCounted self.now.right }

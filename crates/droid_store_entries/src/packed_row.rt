@@ -1,4 +1,4 @@
-//! A row as a tree keeps it: in one buffer, as SQLite writes a record.
+//! A row in one buffer, in the record format of SQLite (https://www.sqlite.org/fileformat2.html, section 2.1).
 
 ghost use Rattle.std.specs.Prelude.{◌≡◌, [], IfOk, OnOk, OnErr};
 ghost use Rattle.sqlite_value.specs.Value.{owned};
@@ -15,13 +15,14 @@ use std::alloc::{AllocError, Global};
 use std::cmp::Ordering;
 use std::marker::Model;
 
-/// How many bytes are set aside for a record's types while it is written.
+/// Bytes that are reserved for the types of a record while it is written.
 const TYPES_ROOM: usize = 16;
 
-/// The same for all of its bytes.
+/// Bytes that are reserved for a whole record while it is written.
 const BYTES_ROOM: usize = 120;
 
-/// A list of values: first the type of each, then their bytes, and no more of them than each needs.
+/// A list of values in one buffer: the types of all values, and then their bytes. Each value has only the bytes that it
+/// needs.
 #[derive(Drop)]
 pub struct PackedRow {
     record: Vec<u8>,
@@ -42,7 +43,8 @@ impl Model for PackedRow {
 }
 
 impl PackedRow {
-    /// The same values. A row with a NaN, or of more than a billion bytes, counts as memory that was refused.
+    /// Packs the values of the row. Fails if memory runs out, and in the same way for a NaN or for more than a billion
+    /// bytes.
     pub fn of(alloc: Global, row: &Row) -> Result<PackedRow, AllocError>
         ensures { IfOk result (λ packed. packed ≡ row.now) }
     {
@@ -57,7 +59,7 @@ impl PackedRow {
         }
     }
 
-    /// The first value, and NULL where there is none.
+    /// Returns the first value, or NULL if the row has none.
     pub fn first(&self) -> ValueRef<'_>
         ensures { owned result ≡ rowid self.now }
     {
@@ -68,21 +70,21 @@ impl PackedRow {
         }
     }
 
-    /// The order of a tree's entries: column by column, and a row before what extends it.
+    /// Compares column by column. A row that ends early comes before the longer ones that begin with it.
     pub fn cmp_entry(&self, order: Order, other: &Row) -> Ordering
         ensures { result ≡ entry_cmp order self.now other.now }
     {
         compare::with_row(order, self.record.as_slice(), other)
     }
 
-    /// The same over the columns that the key has.
+    /// Compares only as many columns as the key has.
     pub fn cmp_prefix(&self, order: Order, key: &Row) -> Ordering
         ensures { result ≡ prefix_cmp order self.now key.now }
     {
         compare::with_key(order, self.record.as_slice(), key)
     }
 
-    /// Writes the values over those of the row, or leaves it empty.
+    /// Replaces the values of `row` by these. If memory runs out, `row` is left empty.
     pub fn copy_into(&self, row: &mut Row) -> Result<(), AllocError>
         ensures ok { OnOk result (row.new ≡ self.now) }
         ensures err { OnErr result (row.new ≡ []) }

@@ -1,4 +1,4 @@
-//! What a search asks of each row.
+//! The tests by which a search finds its position.
 
 ghost use Rattle.std.specs.Prelude.{◌≡◌};
 ghost use Rattle.droid_store_entries.specs.Probe.{passes};
@@ -9,19 +9,21 @@ use sqlite_value::order::compare;
 use sqlite_value::row::Row;
 use sqlite_value::value::ValueRef;
 
-/// A test that the rows of a list pass up to some place, and fail from there on.
+/// A test that the first rows of an ordered list pass, and all rows after them fail.
 #[derive(Clone, Copy, Debug)]
 pub enum Probe<'a> {
-    /// Below a key, over the columns that it has.
+    /// The row is below this key. Only as many columns count as the key has.
     BelowKey(Order, &'a Row),
-    /// Not above a key, over the columns that it has.
+    /// The row is not above this key. Only as many columns count as the key has.
     UpToKey(Order, &'a Row),
-    /// The first value is below this one.
+    /// The row's first value is below this one.
     BelowRowid(ValueRef<'a>),
+    /// The row is below this one.
     BelowEntry(Order, &'a Row),
 }
 
 impl Probe<'_> {
+    /// Whether the row passes the test.
     pub(crate) fn passes(self, row: &PackedRow) -> bool
         ensures { result ≡ passes self.entry row.now }
     {

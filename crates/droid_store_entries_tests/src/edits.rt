@@ -1,4 +1,4 @@
-//! Random edits by a fixed seed, removals until nothing is left, and a list filled again.
+//! Random edits by a fixed seed, removals until no row is left, and a list that is filled again.
 
 ghost use Rattle.std.specs.Prelude.{◌≡◌};
 
@@ -14,7 +14,7 @@ struct Numbers {
 }
 
 impl Numbers {
-    /// A number below `limit`, and 0 where that is 0.
+    /// Returns a number below `limit`, or 0 if that is 0.
     fn below(&mut self, limit: usize) -> usize {
         self.state = self
             .state
@@ -31,7 +31,7 @@ fn row(alloc: Global, number: i64) -> Result<PackedRow, AllocError> {
     PackedRow::of(alloc, &row)
 }
 
-/// Whether the list has these numbers, and no row behind them.
+/// Whether the list has exactly these numbers.
 fn agrees(entries: &Entries, plain: &[i64]) -> bool {
     for at in 0..plain.len() {
         let Some(found) = entries.get(at) else {
@@ -85,7 +85,7 @@ fn set(
     Ok(())
 }
 
-/// Of ten edits five insert, three remove and two write over a row.
+/// Edits the list and the plain one: of ten edits five insert a row, three remove one and two replace one.
 fn edit(
     alloc: Global,
     numbers: &mut Numbers,

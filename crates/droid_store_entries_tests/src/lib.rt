@@ -1,7 +1,7 @@
-//! Rows in a balanced tree, beside a plain list.
+//! Tests of `droid_store_entries`: a balanced tree of rows beside a plain list, and packed rows.
 #![tactic(auto)]
 
 #[cfg(test)]
 mod edits;
 #[cfg(test)]
-mod rows;
+mod packed_rows;
