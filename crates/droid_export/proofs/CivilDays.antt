@@ -1,4 +1,4 @@
--- The date that lies so many days after 1970-01-01 is the one that `jiff` counts so many days for.
+-- The date n days after 1970-01-01 is the one that `jiff` computes for n.
 use Rattle.std.proofs.Common.{◌≡◌, ℕ, zero, suc, ◌+◌, ◌-◌, ◌<◌, ◌≤◌, inl, inr, true, false, nat_lt, refl, sym, arith, rules, ℤ, pos, negsuc, neg_ℤ, ◌+ℤ◌, ◌≤ℤ◌, unsigned_abs}
 use Rattle.std.proofs.lemmas.Bool.{cases_order}
 use Rattle.std.proofs.lemmas.Int.{by_lt_z}

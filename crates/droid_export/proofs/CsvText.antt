@@ -5,7 +5,7 @@ use Rattle.std.proofs.lemmas.List.{append-nil}
 use Rattle.std.proofs.lemmas.Bool.{eqb-true}
 use Rattle.csv.specs.Writing as csv
 use Rattle.droid_export.specs.Csv.{doubled, quoted, joined, line}
-use Rattle.droid_export.specs.Writing.{always}
+use Rattle.droid_export.specs.CsvBuffer.{always}
 
 -- one byte, by whether it is a double quote
 one_escaped : (b : ℕ) (t : Bool) (rest : List ℕ) → (b == 34) ≡ t → csv.escaped always (b ∷ rest) ≡ doubled b ++ csv.escaped always rest

@@ -2,9 +2,9 @@ pub mod CivilDays
 pub mod CsvText
 pub mod Escapes
 pub mod Examples
-pub mod Growing
-pub mod Indexing
-pub mod Marking
-pub mod Places
-pub mod ReadingBack
-pub mod Stopping
+pub mod TextConcatenation
+pub mod IndexContents
+pub mod FlagMarks
+pub mod ListPlaces
+pub mod CsvRoundTrip
+pub mod WriterStops

@@ -1,4 +1,4 @@
--- The civil calendar: the proleptic Gregorian calendar, in which ISO 8601 writes dates, one day after the other.
+-- The civil calendar: the proleptic Gregorian calendar of ISO 8601, defined day by day.
 use Rattle.std.specs.Prelude.{ℕ, zero, suc, ◌+◌, ◌-◌, nat_lt, if◌then◌else◌, ℤ, pos, negsuc}
 use Rattle.jiff_core.specs.Calendar.{days_in_month}
 
@@ -28,17 +28,17 @@ day_before date =
     else if nat_lt 1 date.month then record { year = date.year; month = date.month - 1; day = days_in_month (pos date.year) (date.month - 1) }
     else record { year = date.year - 1; month = 12; day = 31 }
 
--- the date that lies so many days after 1970-01-01
+-- the date n days after 1970-01-01
 unfoldable pub days_after : ℕ → Civil
 days_after zero = epoch
 days_after (suc n) = day_after (days_after n)
 
--- the date that lies so many days before 1970-01-01
+-- the date n days before 1970-01-01
 unfoldable pub days_before : ℕ → Civil
 days_before zero = epoch
 days_before (suc n) = day_before (days_before n)
 
--- the date that lies so many days after 1970-01-01; a negative number counts days before it
+-- the date with this number of days after 1970-01-01; a negative number counts days before it
 abbrev pub civil : ℤ → Civil
 civil (pos n) = days_after n
 civil (negsuc n) = days_before (suc n)

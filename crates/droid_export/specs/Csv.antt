@@ -10,7 +10,7 @@ doubled b = if b == 34 then 34 ∷ 34 ∷ [] else b ∷ []
 unfoldable pub quoted : List ℕ → List ℕ
 quoted field = 34 ∷ flat_map doubled field ++ 34 ∷ []
 
--- fields with commas between them
+-- fields, separated by commas
 unfoldable pub joined : List (List ℕ) → List ℕ
 joined [] = []
 joined (field ∷ []) = quoted field

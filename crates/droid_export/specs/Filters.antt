@@ -1,4 +1,4 @@
--- Which records a filter lets through.
+-- Which records meet a filter.
 use Rattle.std.specs.Prelude.{ℕ, Bool, true, false, ◌||◌, ◌&&◌, nat_le, List, [], ◌∷◌, if◌then◌else◌}
 use Rattle.std.specs.List.{list_any, list_all}
 use Rattle.std.specs.Str.{bytes_eq, str_eq_ignore_ascii_case}
@@ -34,15 +34,15 @@ abbrev pub same_truth : Bool → Bool → Bool
 same_truth true b = b
 same_truth false b = if b then false else true
 
--- the extension that a record shows: a folder has none
+-- the extension of a record: a folder has none
 unfoldable pub extension : Record → List ℕ
 extension node = if is_file node.kind then extension_of node.name else []
 
--- whether a record's extension is none of its formats': a folder's never is
+-- whether a file's extension contradicts its formats: a folder has no mismatch
 unfoldable pub mismatch : Record → Bool
 mismatch node = is_file node.kind && node.mismatch
 
--- the method by which a record's formats were found: a folder's by none, whatever the record says
+-- the method by which a file was identified: a folder is unidentified, whatever its record says
 unfoldable pub found_by : Record → Method
 found_by node = if is_file node.kind then node.method else Unidentified
 
@@ -50,7 +50,7 @@ found_by node = if is_file node.kind then node.method else Unidentified
 abbrev pub is_among : List (List ℕ) → List ℕ → Bool
 is_among texts text = list_any (λ other. bytes_eq text other) texts
 
--- whether one of the texts is this one, but for the case of ASCII letters
+-- whether one of the texts is this one, without regard to the case of ASCII letters
 abbrev pub is_among_in_any_case : List (List ℕ) → List ℕ → Bool
 is_among_in_any_case texts text = list_any (λ other. str_eq_ignore_ascii_case text other) texts
 
@@ -64,12 +64,12 @@ is_met node (SizeAtLeast size) = is_file node.kind && nat_le size node.size
 is_met node (SizeAtMost size) = is_file node.kind && nat_le node.size size
 is_met node (KindIs kind) = same_truth (is_file kind) (is_file node.kind)
 
--- whether a list of criteria has none
+-- whether the list of criteria is empty
 abbrev pub is_none : List Criterion → Bool
 is_none [] = true
 is_none (criterion ∷ criteria) = false
 
--- whether a record meets a filter: all of its criteria, or any of them if there is one
+-- whether a record meets a filter: all of its criteria, or without `all` at least one, if there are any
 unfoldable pub meets : Filter → Record → Bool
 meets filter node =
     if filter.all then list_all (is_met node) filter.criteria

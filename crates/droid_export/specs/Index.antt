@@ -1,4 +1,4 @@
--- The lists of a filter's criteria, looked up by text: for each text the places of the criteria that name it.
+-- For proofs: an index of the lists in a filter's criteria. For each text it has the places of the criteria that list it.
 use Rattle.std.specs.Prelude.{◌≡◌, ℕ, Bool, true, false, ◌==◌, List, [], map, get_or, if◌then◌else◌, String}
 use Rattle.std.specs.BTreeMap.{BTreeMap, get_by_text}
 use Rattle.std.specs.List.{list_any}
@@ -16,19 +16,19 @@ use Rattle.droid_export.specs.declared.index.Index.{Index}
 abbrev pub places_of : BTreeMap (String Global) (Vec ℕ Global) → List ℕ → List ℕ
 places_of named text = option_map_or (λ places. places.items) (get_by_text named text) []
 
--- whether a place is one of a text's
+-- whether a text has this place in the index
 abbrev pub names : BTreeMap (String Global) (Vec ℕ Global) → List ℕ → ℕ → Bool
 names named text at = list_any (λ place. place == at) (places_of named text)
 
--- what a text is looked up by: its letters in lower case, where case doesn't matter
+-- the key of a text: in lower case, if case makes no difference
 abbrev pub key : Bool → List ℕ → List ℕ
 key caseless text = if caseless then str_to_ascii_lowercase text else text
 
--- whether one of the texts is looked up by this
+-- whether one of the texts has this key
 abbrev pub has_key : Bool → List (List ℕ) → List ℕ → Bool
 has_key caseless texts text = list_any (λ other. bytes_eq text (key caseless other)) texts
 
--- whether a criterion asks for an identifier
+-- whether a criterion lists this PUID
 unfoldable pub asks_identifier : List ℕ → Criterion → Bool
 asks_identifier puid (MethodIs method) = false
 asks_identifier puid (PuidIn texts) = has_key false texts puid
@@ -38,7 +38,7 @@ asks_identifier puid (SizeAtLeast size) = false
 asks_identifier puid (SizeAtMost size) = false
 asks_identifier puid (KindIs kind) = false
 
--- whether a criterion asks for an extension, which is in lower case here
+-- whether a criterion lists this extension, given in lower case
 unfoldable pub asks_extension : List ℕ → Criterion → Bool
 asks_extension ext (MethodIs method) = false
 asks_extension ext (PuidIn texts) = false
@@ -48,12 +48,12 @@ asks_extension ext (SizeAtLeast size) = false
 asks_extension ext (SizeAtMost size) = false
 asks_extension ext (KindIs kind) = false
 
--- each text is looked up to exactly the places of the criteria that ask for it
+-- the index has for each text exactly the places of the criteria that list it
 pub record IsIndex (criteria : List Criterion) (index : Index) : Type 0 where
   pub identifiers : (text : List ℕ) (at : ℕ) → names index.identifiers text at ≡ get_or (map (asks_identifier text) criteria) at false
   pub extensions : (text : List ℕ) (at : ℕ) → names index.extensions text at ≡ get_or (map (asks_extension text) criteria) at false
 
--- whether a criterion has a list
+-- whether a criterion has a list of texts
 abbrev pub has_list : Criterion → Bool
 has_list (MethodIs method) = false
 has_list (PuidIn texts) = true

@@ -1,10 +1,10 @@
 pub mod Civil
 pub mod Csv
-pub mod Exporting
+pub mod ExportOutcome
 pub mod Filters
 pub mod Index
 pub mod Moments
 pub mod Rows
 pub mod Text
 pub mod Uris
-pub mod Writing
+pub mod CsvBuffer

@@ -1,4 +1,4 @@
--- The rows of an export: the header and, for each record, one for each of its formats, or one without a format.
+-- The rows of an export: the header, and for each record one row for each format, or one row without a format.
 use Rattle.std.specs.Prelude.{ℕ, ◌==◌, Bool, List, [], ◌∷◌, length, map, codes, if◌then◌else◌, Option, Some, None, slice_get}
 use Rattle.std.specs.Option.{option_and_then}
 use Rattle.std.specs.Fmt.{decimal}
@@ -16,7 +16,7 @@ use Rattle.droid_export.specs.Filters.{extension, found_by, is_file, mismatch}
 use Rattle.droid_export.specs.Moments.{moment_text}
 use Rattle.droid_export.specs.Uris.{uri}
 
--- the columns of the export, which are those of DROID's and the hash (the names and their order are this project's own)
+-- the columns of the export: those of DROID and the hash (their names and order are this project's own)
 pub record Row : Type 0 where
   pub id : List ℕ
   pub parent_id : List ℕ
@@ -44,7 +44,7 @@ fields row =
     ∷ row.ext ∷ row.last_modified ∷ row.extension_mismatch ∷ row.hash ∷ row.format_count
     ∷ row.puid ∷ row.mime_type ∷ row.format_name ∷ row.format_version ∷ []
 
--- the name of the column that shows this hash
+-- the name of the hash column
 abbrev pub hash_column : HashKind → List ℕ
 hash_column hashes.Nothing = codes "HASH"
 hash_column hashes.Md5 = codes "MD5_HASH"
@@ -73,7 +73,7 @@ header kind = record {
   format_version = codes "FORMAT_VERSION";
 }
 
--- what the four columns of a format show
+-- the four columns of a format
 pub record Shown : Type 0 where
   pub puid : List ℕ
   pub mime_type : List ℕ
@@ -88,12 +88,12 @@ no_format = record { puid = []; mime_type = []; name = []; version = [] }
 unfoldable pub format_of : Contents → List ℕ → Option Format
 format_of registry puid = option_and_then (λ place. slice_get registry.formats place) (place_of puid registry.formats)
 
--- a part of a format, and nothing where there is none
+-- a part of a format, or nothing if there is no format
 abbrev pub of_format : Option Format → (Format → List ℕ) → List ℕ
 of_format (Some format) part = part format
 of_format None part = []
 
--- what a PUID shows: of one that the registry lacks only itself
+-- the columns of a PUID; for a format that the registry lacks, only the PUID itself
 abbrev pub shown_by : List ℕ → Option Format → Shown
 shown_by puid format = record {
   puid = puid;
@@ -115,7 +115,7 @@ method_name Extension = codes "Extension"
 abbrev pub truth : Bool → List ℕ
 truth b = if b then codes "true" else codes "false"
 
--- a number, and nothing for the number 0 that means the top
+-- the ID of a parent; nothing for 0, which means the top
 abbrev pub parent_text : ℕ → List ℕ
 parent_text n = if n == 0 then [] else decimal n
 
@@ -123,7 +123,7 @@ parent_text n = if n == 0 then [] else decimal n
 abbrev pub kind_name : NodeKind → List ℕ
 kind_name kind = if is_file kind then codes "File" else codes "Folder"
 
--- what a column shows of files, and nothing for folders
+-- the column of a file; nothing for a folder
 abbrev pub of_file : Record → List ℕ → List ℕ
 of_file node text = if is_file node.kind then text else []
 

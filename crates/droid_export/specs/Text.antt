@@ -22,7 +22,7 @@ chosen_rows registry criteria records = flat_map (rows registry) (filter (meets 
 abbrev pub shown_rows : Contents → Filter → HashKind → List Record → List Row
 shown_rows registry criteria hash records = header hash ∷ chosen_rows registry criteria records
 
--- the text of an export whose column for hashes is named for this one
+-- the text of an export with the hash column of this kind
 unfoldable pub text : Contents → Filter → HashKind → List Record → List ℕ
 text registry criteria hash records = flat_map row_text (shown_rows registry criteria hash records)
 

@@ -4,7 +4,7 @@ use Rattle.std.specs.List.{flat_map}
 use Rattle.droid_frame.specs.types.node_kind.NodeKind.{NodeKind}
 use Rattle.droid_frame.specs.types.node_kind.NodeKind.TheVariants.{File, Folder}
 
--- whether a byte lies from the first to the last
+-- whether a byte lies between `first` and `last`, both included
 abbrev pub is_from_to : ℕ → ℕ → ℕ → Bool
 is_from_to first last b = nat_le first b && nat_le b last
 
@@ -23,7 +23,7 @@ hex_digit n = if nat_lt n 10 then 48 + n else 55 + n
 abbrev pub escaped_byte : ℕ → List ℕ
 escaped_byte b = if stands_for_itself b then b ∷ [] else 37 ∷ hex_digit (b / 16) ∷ hex_digit (b % 16) ∷ []
 
--- the end of a URI: a folder's is a slash (this project's own)
+-- the end of a URI: a slash for a folder (this project's own rule)
 abbrev pub uri_end : NodeKind → List ℕ
 uri_end File = []
 uri_end Folder = 47 ∷ []

@@ -1,11 +1,11 @@
-//! What an export shows of a file's extension.
+//! The extension column.
 
 ghost use Rattle.std.specs.Prelude.{◌≡◌};
 ghost use Rattle.droid_export.specs.Filters.{extension};
 
 use droid_frame::{NodeKind, Record};
 
-/// The extension as it is written in the name. A folder has none.
+/// Returns the extension in the letters of the name. A folder has none.
 #[tactic(auto, unfolding(crate::specs::Filters::extension))]
 pub(crate) fn extension(node: &Record) -> &str
     ensures { result.now ≡ extension node.now }

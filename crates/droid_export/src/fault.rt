@@ -1,4 +1,4 @@
-//! Why an export could not be written.
+//! The errors of writing an export.
 
 ghost use Rattle.std.specs.Prelude.{◌≡◌};
 
@@ -9,13 +9,13 @@ use thiserror::Error;
 /// Why an export could not be written.
 #[derive(Clone, Copy, Debug, PartialEq, Eq, Error)]
 pub enum ExportFault {
-    /// Memory was refused, before anything was written.
+    /// Out of memory. Nothing was written.
     #[error("memory was refused")]
     Memory,
-    /// The writer failed, was interrupted more than 64 times, or took no byte.
+    /// The writer failed, was interrupted more than 64 times, or took no more bytes.
     #[error("the export could not be written past its first {written} bytes")]
     Write {
-        /// How many bytes of the text went out: exactly its first ones.
+        /// The number of bytes that were written: exactly the first ones of the text.
         written: usize,
     },
 }

@@ -1,4 +1,4 @@
-//! Which records a filter lets through.
+//! Compares a record with a filter's criteria.
 
 ghost use Rattle.std.specs.Prelude.{◌≡◌};
 ghost use Rattle.std.specs.List.{list_any, list_all};
@@ -8,11 +8,11 @@ ghost use Rattle.droid_export.specs.Filters as filters;
 use crate::extension::extension;
 use droid_frame::{Criteria, Criterion, Filter, Method, NodeKind, Record, Texts};
 
-/// Whether a record meets a filter. It takes no memory.
+/// Returns whether a record meets a filter. Takes no memory.
 ///
-/// With `all` the record has to meet every criterion, without it at least one. A filter without criteria lets
-/// every record through in both modes. Extensions are compared without regard to the case of ASCII letters,
-/// identifiers byte for byte; no folder has a size.
+/// With `all` the record has to meet every criterion, without it at least one. Every record meets a filter without
+/// criteria. Extensions are compared without regard to the case of ASCII letters, PUIDs byte for byte. A folder meets
+/// no criterion on sizes.
 #[tactic(auto, unfolding(crate::specs::Filters::meets))]
 pub fn meets(filter: &Filter, node: &Record) -> bool
     ensures { result ≡ filters.meets filter.now node.now }
@@ -52,7 +52,7 @@ fn meets_any(criteria: &Criteria, node: &Record) -> bool
     false
 }
 
-/// Whether a record meets a criterion. It goes through the criterion's list.
+/// Returns whether a record meets a criterion. It goes through the criterion's list.
 #[tactic(auto, unfolding(crate::specs::Filters::is_met))]
 pub(crate) fn is_met(criterion: &Criterion, node: &Record) -> bool
     ensures { result ≡ is_met node.now criterion.now }
@@ -74,7 +74,7 @@ fn is_same_method(left: Method, right: Method) -> bool
     left == right
 }
 
-/// Whether a node is a file, and not a folder.
+/// Returns whether a node is a file, and not a folder.
 pub(crate) fn is_file(kind: NodeKind) -> bool
     ensures { result ≡ is_file kind }
 {
@@ -84,7 +84,7 @@ pub(crate) fn is_file(kind: NodeKind) -> bool
     }
 }
 
-/// Whether a record's extension is none of its formats'. A folder's never is.
+/// Returns whether a file's extension contradicts its formats. A folder has no mismatch.
 #[tactic(auto, unfolding(crate::specs::Filters::mismatch))]
 pub(crate) fn mismatch(node: &Record) -> bool
     ensures { result ≡ mismatch node.now }
@@ -92,7 +92,7 @@ pub(crate) fn mismatch(node: &Record) -> bool
     is_file(node.kind) && node.mismatch
 }
 
-/// The method by which a record's formats were found: a folder's by none, whatever the record says.
+/// Returns the method by which a file was identified. A folder is unidentified, whatever its record says.
 #[tactic(auto, unfolding(crate::specs::Filters::found_by))]
 pub(crate) fn found_by(node: &Record) -> Method
     ensures { result ≡ found_by node.now }
@@ -104,7 +104,7 @@ pub(crate) fn found_by(node: &Record) -> Method
     }
 }
 
-/// Whether one of the identifiers is among the texts, byte for byte.
+/// Returns whether one of the PUIDs is among the texts, byte for byte.
 fn shares_one(texts: &Texts, puids: &Texts) -> bool
     ensures { result ≡ list_any (λ puid. is_among texts.now puid) puids.now }
 {

@@ -1,4 +1,4 @@
-//! Flags of a filter's criteria, set by the places of an index.
+//! The flags of a filter's criteria, which look-ups in an index set.
 
 ghost use Rattle.std.specs.Prelude.{◌≡◌, ◌||◌, ◌<◌, ◌==◌, ℕ, false, get_or, length};
 ghost use Rattle.std.specs.List.{list_any};
@@ -7,7 +7,7 @@ ghost use Rattle.droid_export.specs.Index.{names};
 use crate::index::{Places, places_of};
 use droid_frame::Texts;
 
-/// Sets the flags at the places of some texts.
+/// Sets the flags at the places of these texts.
 pub(crate) fn mark_all(flags: &mut [bool], named: &Places, texts: &Texts)
     ensures length { length flags.new ≡ length flags.old }
     ensures marked { (at : ℕ) → at < length flags.old → get_or flags.new at false ≡ (get_or flags.old at false || list_any (λ text. names named.now text at) texts.now) }
@@ -18,7 +18,7 @@ pub(crate) fn mark_all(flags: &mut [bool], named: &Places, texts: &Texts)
     }
 }
 
-/// Sets the flags at some places.
+/// Sets the flags at these places.
 pub(crate) fn mark(flags: &mut [bool], places: &[usize])
     ensures length { length flags.new ≡ length flags.old }
     ensures marked { (at : ℕ) → at < length flags.old → get_or flags.new at false ≡ (get_or flags.old at false || list_any (λ place. place == at) places.now) }

@@ -1,4 +1,4 @@
-//! The lists of a filter's criteria, looked up by text.
+//! An index of the lists in a filter's criteria.
 
 ghost use Rattle.std.specs.Prelude.{◌≡◌, ◌||◌, ◌&&◌, ◌==◌, ℕ, List, false, IfOk, OnOk, string_bytes};
 ghost use Rattle.std.specs.List.{list_any};
@@ -9,20 +9,20 @@ use droid_frame::{Criteria, Criterion, Texts};
 use std::alloc::{AllocError, Global};
 use std::collections::BTreeMap;
 
-/// For each text that lists name, the places of their criteria.
+/// For each text of a list, the places of the criteria whose lists have it.
 pub(crate) type Places = BTreeMap<String, Vec<usize>>;
 
-/// The lists of a filter's criteria, made ready once for many records.
+/// The lists of a filter's criteria, indexed once for all records of an export.
 #[derive(Drop)]
 pub(crate) struct Index {
-    /// The places of the criteria that ask for an identifier.
+    /// The places of the criteria that list a PUID.
     pub(crate) identifiers: Places,
-    /// Those of the criteria that ask for an extension, in lower case.
+    /// The places of the criteria that list an extension, by the extension in lower case.
     pub(crate) extensions: Places,
 }
 
 impl Index {
-    /// The lists of some criteria. Only want of memory refuses it.
+    /// Indexes the lists of these criteria. Fails only if memory runs out.
     pub(crate) fn build(alloc: Global, criteria: &Criteria) -> Result<Index, AllocError>
         ensures { IfOk result (IsIndex criteria.now) }
     {
@@ -56,7 +56,7 @@ impl Index {
     }
 }
 
-/// Adds a place to each of some texts, which are put into lower case if case doesn't matter.
+/// Adds a place to each of these texts. With `caseless` the texts are converted to lower case first.
 fn add_all(
     named: &mut Places,
     alloc: Global,
@@ -74,7 +74,7 @@ fn add_all(
     Ok(())
 }
 
-/// What a text is looked up by.
+/// Returns the key by which a text is looked up.
 pub(crate) fn key_of(alloc: Global, text: &str, caseless: bool) -> Result<String, AllocError>
     ensures { IfOk result (λ it. string_bytes it ≡ key caseless text.now) }
 {
@@ -95,7 +95,7 @@ fn add_one(named: &mut Places, alloc: Global, key: String, place: usize) -> Resu
     Ok(())
 }
 
-/// Takes the places of a text out.
+/// Removes the places of a text from the index and returns them.
 fn taken(named: &mut Places, alloc: Global, text: &str) -> Vec<usize>
     ensures value { result.items ≡ places_of named.old text.now }
     ensures others { (other : List ℕ) → bytes_eq text.now other ≡ false → places_of named.new other ≡ places_of named.old other }
@@ -103,7 +103,7 @@ fn taken(named: &mut Places, alloc: Global, text: &str) -> Vec<usize>
     named.remove(text).unwrap_or(Vec::new(alloc))
 }
 
-/// Adds a place at the end, unless it stands there.
+/// Adds a place at the end, unless it is already the last one.
 fn note(places: &mut Vec<usize>, place: usize) -> Result<(), AllocError>
     ensures { OnOk result ((at : ℕ) → list_any (λ other. other == at) places.new.items ≡ (list_any (λ other. other == at) places.old.items || (place == at))) }
 {
@@ -114,7 +114,7 @@ fn note(places: &mut Vec<usize>, place: usize) -> Result<(), AllocError>
     Ok(())
 }
 
-/// The places of a text.
+/// Returns the places of a text.
 pub(crate) fn places_of<'a>(named: &'a Places, text: &str) -> &'a [usize]
     ensures { result.now ≡ places_of named.now text.now }
 {

@@ -1,4 +1,4 @@
-//! What holds of every export.
+//! Laws of the export. Each is the contract of a function that does nothing.
 
 ghost use Rattle.std.specs.Prelude.{List, map};
 ghost use Rattle.csv.specs.Reading.{AreRecords, default_config, strip_bom};
@@ -10,8 +10,8 @@ ghost use Rattle.droid_pronom.specs.Registry.{Contents};
 ghost use Rattle.droid_export.specs.Rows.{fields};
 ghost use Rattle.droid_export.specs.Text.{shown_rows, text};
 
-/// The text of an export, read as CSV with the default settings of the kit's `csv`, gives back exactly the
-/// fields of its rows, and no more.
+/// States that the kit's `csv`, with its default settings, reads the text of an export back to exactly the fields of
+/// its rows.
 pub fn text_is_read_back()
     ensures { (registry : Contents) (criteria : Filter) (hash : HashKind) (nodes : List Record) →
         AreRecords default_config st.StartRecord (strip_bom (text registry criteria hash nodes)) (map fields (shown_rows registry criteria hash nodes)) }

@@ -1,8 +1,6 @@
-//! The export: the records of a profile as CSV, after DROID's.
+//! The export: writes the records of a profile as CSV, with DROID's columns, filtered by criteria.
 #![tactic(auto)]
 
-mod choosing;
-mod common;
 mod extension;
 mod fault;
 mod filter;
@@ -12,9 +10,11 @@ mod laws;
 mod moment;
 mod node_uri;
 mod rows;
+mod selection;
+mod shared_columns;
 mod table;
 mod text;
-mod writing;
+mod writer;
 
 pub use fault::ExportFault;
 pub use filter::meets;
@@ -22,4 +22,4 @@ pub use laws::text_is_read_back;
 pub use moment::moment_text;
 pub use node_uri::uri;
 pub use text::export_text;
-pub use writing::export;
+pub use writer::export;

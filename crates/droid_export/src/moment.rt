@@ -1,4 +1,4 @@
-//! How a moment is written.
+//! Writes moments as text.
 
 ghost use Rattle.std.specs.Prelude.{◌≡◌, ◌<◌, IfOk, IsAscii};
 ghost use Rattle.droid_export.specs.Moments.{IsMoment, date_of, second_of_day, two_digits};
@@ -8,13 +8,13 @@ use droid_frame::Text;
 use jiff_core::civil::Date;
 use std::alloc::{AllocError, Global};
 
-/// How many seconds a day has.
+/// The number of seconds of a day.
 const DAY: i64 = 86_400;
 
-/// A moment, seconds since 1970-01-01T00:00:00, as `yyyy-mm-ddThh:mm:ss` in UTC. Its date is the one that lies
-/// so many days after 1970-01-01 as the seconds make, rounded down. Only want of memory refuses it.
+/// Writes a moment as `yyyy-mm-ddThh:mm:ss` in UTC. Fails only if memory runs out.
 ///
-/// A moment has to lie from 0001-01-01T00:00:00 to 9999-12-31T23:59:59, so the caller sees to that.
+/// `modified` is in seconds since 1970-01-01T00:00:00. The number of whole days is rounded down, also before 1970. The
+/// caller ensures that the moment lies from 0001-01-01T00:00:00 to 9999-12-31T23:59:59.
 pub fn moment_text(alloc: Global, modified: i64) -> Result<Text, AllocError>
     requires { IsMoment modified }
     ensures { IfOk result (λ text. text ≡ moments.moment_text modified) }
@@ -24,7 +24,7 @@ pub fn moment_text(alloc: Global, modified: i64) -> Result<Text, AllocError>
     Text::copy_of(alloc, text)
 }
 
-/// The bytes of that text. It takes no memory.
+/// Returns the bytes of the text that [`moment_text`] returns. Takes no memory.
 #[tactic(auto, unfolding(crate::specs::Moments::moment_text))]
 pub(crate) fn moment_bytes(modified: i64) -> [u8; 19]
     requires { IsMoment modified }
@@ -70,7 +70,7 @@ fn date_of(modified: i64) -> Civil
     }
 }
 
-/// Two decimal digits.
+/// Returns a number below 100 as two decimal digits.
 fn two_digits(n: u8) -> [u8; 2]
     requires { n < 100 }
     ensures value { result ≡ two_digits n }

@@ -1,4 +1,4 @@
-//! The URI of a node.
+//! Writes the URI of a node.
 
 ghost use Rattle.std.specs.Prelude.{◌≡◌, IfOk};
 ghost use Rattle.droid_export.specs.Uris as uris;
@@ -7,7 +7,7 @@ use droid_frame::{NodeKind, Text};
 use percent_encoding::{AsciiSet, NON_ALPHANUMERIC, ascii_set, percent_encode};
 use std::alloc::{AllocError, Global};
 
-/// The ASCII bytes of a path that are escaped. So is every other byte that isn't ASCII.
+/// The ASCII bytes of a path that are escaped. Every byte that is not ASCII is escaped too.
 const ESCAPED: AsciiSet = ascii_set!(
     NON_ALPHANUMERIC
         .remove(b'-')
@@ -17,9 +17,11 @@ const ESCAPED: AsciiSet = ascii_set!(
         .remove(b'/')
 );
 
-/// The URI of a node with this path: `file:` and the path, with each byte as `%` and two upper-case digits
-/// except ASCII letters, digits, `-`, `.`, `_`, `~` and `/` (RFC 3986, section 2). A folder's ends in `/`.
-/// Only want of memory refuses it. Room for a path of which each byte is escaped is taken at once.
+/// Writes the URI of a node with this path: `file:` and the path, percent-encoded (RFC 3986, section 2).
+///
+/// ASCII letters, digits, `-`, `.`, `_`, `~` and `/` stay. Every other byte is written as `%` and two upper-case
+/// hexadecimal digits. The URI of a folder ends in `/`. Fails only if memory runs out. The text is allocated once, with
+/// room for a path in which every byte is escaped.
 pub fn uri(alloc: Global, path: &str, kind: NodeKind) -> Result<Text, AllocError>
     ensures { IfOk result (λ text. text ≡ uris.uri path.now kind) }
 {
@@ -31,7 +33,7 @@ pub fn uri(alloc: Global, path: &str, kind: NodeKind) -> Result<Text, AllocError
     Ok(Text::from(text))
 }
 
-/// What ends the URI of a node of this kind.
+/// Returns the end of the URI of a node of this kind.
 fn uri_end(kind: NodeKind) -> &'static str
     ensures { result.now ≡ uris.uri_end kind }
 {

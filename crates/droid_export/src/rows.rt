@@ -1,4 +1,4 @@
-//! The rows of a record.
+//! Writes the header and the rows of a record.
 
 ghost use Rattle.std.specs.Prelude.{◌≡◌, ◌++◌, ℕ, List, OnOk, codes, map};
 ghost use Rattle.std.specs.List.{flat_map};
@@ -8,18 +8,18 @@ ghost use Rattle.droid_export.specs.Moments.{IsMoment};
 ghost use Rattle.droid_export.specs.Rows.{header, of_format, row, rows, shown, shown_by};
 ghost use Rattle.droid_export.specs.Rows as spec;
 ghost use Rattle.droid_export.specs.Text.{row_text};
-ghost use Rattle.droid_export.specs.Writing.{Holds, IsCommon};
+ghost use Rattle.droid_export.specs.CsvBuffer.{Holds, IsCommon};
 
-use crate::common::Common;
 use crate::extension::extension;
 use crate::filter::{found_by, mismatch};
+use crate::shared_columns::Common;
 use crate::table::write_record;
 use csv::Writer;
 use droid_frame::{HashKind, Method, NodeKind, Record};
 use droid_pronom::{Format, Registry};
 use std::alloc::{AllocError, Global};
 
-/// Writes the names of the columns, of which one tells the hash.
+/// Writes the names of the columns. One of them depends on the kind of hash.
 pub(crate) fn write_header(writer: &mut Writer<Vec<u8>>, hash: HashKind) -> Result<(), AllocError>
     ensures { OnOk result ((text : List ℕ) → Holds writer.old text → Holds writer.new (text ++ row_text (header hash))) }
 {
@@ -46,7 +46,7 @@ pub(crate) fn write_header(writer: &mut Writer<Vec<u8>>, hash: HashKind) -> Resu
     write_record(writer, &names)
 }
 
-/// The name of the column that shows this hash.
+/// Returns the name of the hash column.
 fn hash_column(hash: HashKind) -> &'static str
     ensures { result.now ≡ spec.hash_column hash }
 {
@@ -57,7 +57,7 @@ fn hash_column(hash: HashKind) -> &'static str
     }
 }
 
-/// Writes the rows of a record: one for each of its formats, in order, or one without a format.
+/// Writes the rows of a record: one for each of its formats, in order, or one row without a format.
 #[tactic(auto, unfolding(crate::specs::Rows::rows))]
 pub(crate) fn write_rows(
     alloc: Global,
@@ -94,7 +94,7 @@ fn write_format_rows(
     Ok(())
 }
 
-/// The registry's format with this PUID.
+/// Returns the registry's format with this PUID.
 #[tactic(auto, unfolding(crate::specs::Rows::format_of))]
 fn format_of<'a>(registry: &'a Registry, puid: &str) -> Option<&'a Format>
     ensures { option_copied result ≡ spec.format_of registry.now puid.now }
@@ -174,8 +174,8 @@ fn method_name(node: &Record) -> &str
     }
 }
 
-/// The status of every record, which is of a folder or a finished file. It takes the record, since all texts of a row
-/// have one lifetime.
+/// Returns the status, which is the same for every record: folders and finished files. It takes the record because all
+/// texts of a row share one lifetime.
 fn status(_node: &Record) -> &str
     ensures { result.now ≡ codes "Done" }
 {

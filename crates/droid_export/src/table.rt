@@ -1,13 +1,13 @@
-//! Records of CSV in a buffer, with each field between double quotes.
+//! Writes CSV records to a buffer, with each field between double quotes.
 
 ghost use Rattle.std.specs.Prelude.{◌≡◌, ◌<◌, ◌++◌, ℕ, List, [], OnOk, IfOk, length, map};
 ghost use Rattle.droid_export.specs.Csv.{line};
-ghost use Rattle.droid_export.specs.Writing.{Holds};
+ghost use Rattle.droid_export.specs.CsvBuffer.{Holds};
 
 use csv::{QuoteStyle, Writer, WriterBuilder};
 use std::alloc::{AllocError, Global};
 
-/// A writer with an empty buffer. It takes no memory.
+/// Makes a writer with an empty buffer. Takes no memory.
 pub(crate) fn new_writer(alloc: Global) -> Writer<Vec<u8>>
     ensures { Holds result [] }
 {
@@ -16,7 +16,7 @@ pub(crate) fn new_writer(alloc: Global) -> Writer<Vec<u8>>
         .from_writer(Vec::new(alloc))
 }
 
-/// Writes a record of at least two fields. A buffer that doesn't grow is the only cause of a refusal.
+/// Writes a record of at least two fields. Fails only if the buffer can't grow.
 pub(crate) fn write_record(writer: &mut Writer<Vec<u8>>, fields: &[&[u8]]) -> Result<(), AllocError>
     requires { 1 < length fields.now }
     ensures { OnOk result ((text : List ℕ) → Holds writer.old text → Holds writer.new (text ++ line (map (λ field. field.now) fields.now))) }
@@ -27,7 +27,7 @@ pub(crate) fn write_record(writer: &mut Writer<Vec<u8>>, fields: &[&[u8]]) -> Re
     }
 }
 
-/// The buffer, with all that was written. A buffer that doesn't grow is the only cause of a refusal.
+/// Returns the buffer with all that was written. Fails only if the buffer can't grow.
 pub(crate) fn finish(writer: Writer<Vec<u8>>) -> Result<Vec<u8>, AllocError>
     ensures { IfOk result (λ bytes. (text : List ℕ) → Holds writer text → bytes.items ≡ text) }
 {

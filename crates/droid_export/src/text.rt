@@ -4,26 +4,25 @@ ghost use Rattle.std.specs.Prelude.{◌≡◌, ◌++◌, ℕ, List, IfOk, OnOk};
 ghost use Rattle.std.specs.List.{flat_map};
 ghost use Rattle.droid_export.specs.Index.{IsIndex};
 ghost use Rattle.droid_export.specs.Text.{HaveMoments, chosen_rows, row_text, text};
-ghost use Rattle.droid_export.specs.Writing.{Holds};
+ghost use Rattle.droid_export.specs.CsvBuffer.{Holds};
 
-use crate::choosing::is_chosen;
 use crate::index::Index;
 use crate::rows::{write_header, write_rows};
+use crate::selection::is_chosen;
 use crate::table::{finish, new_writer};
 use csv::Writer;
 use droid_frame::{Blob, Filter, HashKind, Record};
 use droid_pronom::Registry;
 use std::alloc::{AllocError, Global};
 
-/// The text of an export, as CSV (RFC 4180) with every field between double quotes and a line feed after each
-/// row: the names of the columns, of which one names the hash, and the rows of each record that meets the filter, in
-/// the order of the records. A record has a row for each of its formats, in order, or one whose last four fields are
-/// empty. Of a format that the registry lacks only its identifier is shown. Only want of memory refuses it.
+/// Writes the records that meet the filter as CSV (RFC 4180), and returns the text. Fails only if memory runs out.
 ///
-/// A record's own hash is shown, of whichever kind it is, so the caller names the one that its files have.
+/// Every field stands between double quotes, and a line feed ends each row. The first row has the names of the columns.
+/// Then come the rows of the records, in the order of `records`: one for each format, in order, or one row whose last
+/// four fields are empty. If the registry lacks a format, only the PUID is shown.
 ///
-/// Each record has to be modified at a moment from 0001-01-01T00:00:00 to 9999-12-31T23:59:59, so the caller
-/// sees to that.
+/// `hash` names the hash column only; each row shows the hash of its record. So `hash` has to be the kind that the
+/// profile has. The caller ensures that each record was modified from 0001-01-01T00:00:00 to 9999-12-31T23:59:59.
 #[tactic(auto, unfolding(crate::specs::Text::text))]
 pub fn export_text(
     alloc: Global,

@@ -1,4 +1,4 @@
-//! The header of every export.
+//! The header of an export of a profile with MD5.
 
 /// The names of the columns.
 pub const HEADER: &str =

@@ -1,9 +1,9 @@
-//! Which records a filter lets through.
+//! Records that meet a filter, one by one and in exports.
 
 ghost use Rattle.std.specs.Prelude.{IfOk};
 ghost use Rattle.droid_export.specs.Text.{HaveMoments};
 
-use crate::nodes::{Identified, MD5_OF_NOTHING, everything, file, folder, message, texts};
+use crate::nodes::{Identified, MD5_OF_NOTHING, file, folder, message, texts};
 use droid_export::{export_text, meets};
 use droid_frame::{Criteria, Criterion, Filter, HashKind, Method, NodeKind, Record};
 use droid_pronom::Registry;
@@ -11,7 +11,7 @@ use droid_pronom_sample::SAMPLE;
 use std::alloc::{AllocError, Global};
 use std::test::Fail;
 
-/// A criterion, but that its texts are no list yet.
+/// A criterion in a form that a table can hold.
 #[derive(Clone, Copy)]
 enum Only {
     Method(Method),
@@ -23,8 +23,8 @@ enum Only {
     Ext(&'static [&'static str]),
 }
 
-/// A criterion, and whether it lets through the folder `in`, the file `m.MSG` of 14 bytes with two formats, and the
-/// file `a.b` of no bytes, which nothing was found in.
+/// A criterion, and whether it is met by the folder `in`, by the file `m.MSG` of 14 bytes with two formats, and by the
+/// empty file `a.b`, which is unidentified.
 #[rattlefmt::skip]
 const CRITERIA: [(Only, (bool, bool, bool)); 20] = [
     (Only::Method(Method::Unidentified), (true, false, true)),
@@ -49,19 +49,21 @@ const CRITERIA: [(Only, (bool, bool, bool)); 20] = [
     (Only::Ext(&[""]), (true, false, false)),
 ];
 
-/// What several criteria let through, joined by all and by any.
+/// Several criteria, and which of the three records meet all of them and any of them.
 #[rattlefmt::skip]
-const JOINED: [(&[Only], (bool, bool, bool), (bool, bool, bool)); 7] = [
+const JOINED: [(&[Only], (bool, bool, bool), (bool, bool, bool)); 9] = [
     (&[], (true, true, true), (true, true, true)),
     (&[Only::Ext(&["msg"]), Only::Puid(&["dev/3"])], (false, true, false), (false, true, false)),
     (&[Only::Ext(&["b", "msg"]), Only::Ext(&["MSG"])], (false, true, false), (false, true, true)),
     (&[Only::Puid(&["dev/1"]), Only::Puid(&["dev/3"])], (false, true, false), (false, true, false)),
     (&[Only::Puid(&["dev/1"]), Only::Puid(&["dev/2"])], (false, false, false), (false, true, false)),
     (&[Only::Ext(&[]), Only::Kind(NodeKind::Folder)], (false, false, false), (true, false, false)),
+    (&[Only::Kind(NodeKind::Folder)], (true, false, false), (true, false, false)),
+    (&[Only::Kind(NodeKind::Folder), Only::AtLeast(14)], (false, false, false), (true, true, false)),
     (&[Only::Ext(&["a", "a", "B"]), Only::AtMost(0), Only::Kind(NodeKind::File)], (false, false, true), (false, true, true)),
 ];
 
-/// A filter of some criteria.
+/// Makes a filter of these criteria.
 fn filter_of(alloc: Global, onlies: &[Only], all: bool) -> Result<Filter, AllocError> {
     let mut criteria = Criteria::new(alloc);
     for only in onlies {
@@ -83,7 +85,9 @@ fn criterion_of(alloc: Global, only: Only) -> Result<Criterion, AllocError> {
     Ok(criterion)
 }
 
-/// The folder, the file of two formats, and the file of no bytes.
+/// Makes the folder, the file with two formats and the empty file.
+///
+/// The record of the folder says that it was identified by a signature, which no record of a service does.
 fn three_records(alloc: Global) -> Result<[Record; 3], AllocError>
     ensures { IfOk result (λ it. HaveMoments it) }
 {
@@ -92,100 +96,64 @@ fn three_records(alloc: Global) -> Result<[Record; 3], AllocError>
         mismatch: false,
         puids: &[],
     };
+    let mut top = folder(alloc, 1, "in")?;
+    top.method = Method::Signature;
     Ok([
-        folder(alloc, 1, "in")?,
+        top,
         message(alloc, 2, "m.MSG", true)?,
         file(alloc, 3, "a.b", 0, MD5_OF_NOTHING, nothing)?,
     ])
 }
 
-/// Whether a filter lets these through as it should, asked one by one and in an export.
-fn is_right(
+/// Returns whether the filter of these criteria selects the wanted records, one by one and in an export.
+fn selects(
     alloc: Global,
-    records: &[Record; 3],
-    filter: &Filter,
+    registry: &Registry,
+    (onlies, all): (&[Only], bool),
     wanted: (bool, bool, bool),
-) -> Result<bool, Fail>
-    requires { HaveMoments records.now }
-{
-    let registry = Registry::parse(alloc, SAMPLE.as_bytes())?;
-    let bytes = export_text(alloc, records, &registry, filter, HashKind::Md5)?;
+) -> Result<bool, Fail> {
+    let filter = filter_of(alloc, onlies, all)?;
+    let records = three_records(alloc)?;
+    let bytes = export_text(alloc, &records, registry, &filter, HashKind::Md5)?;
     let text = str::from_utf8(bytes.as_slice())?;
     let shown = (
         text.contains("\"/in\""),
         text.contains("\"/m.MSG\""),
         text.contains("\"/a.b\""),
     );
-    let [folder, message, empty] = records;
+    let [folder, message, empty] = &records;
     let met = (
-        meets(filter, folder),
-        meets(filter, message),
-        meets(filter, empty),
+        meets(&filter, folder),
+        meets(&filter, message),
+        meets(&filter, empty),
     );
     Ok(met == wanted && shown == wanted)
 }
 
 #[test]
 fn each_criterion(rt: HostRuntime) -> Result<(), Fail> {
-    let alloc = rt.alloc();
-    let records = three_records(alloc)?;
+    let registry = Registry::parse(rt.alloc(), SAMPLE.as_bytes())?;
     for (place, (only, wanted)) in CRITERIA.iter().enumerate() {
-        let filter = filter_of(alloc, &[*only], true)?;
-        assert!(rt; is_right(alloc, &records, &filter, *wanted)?, "{place}");
+        assert!(rt;
+            selects(rt.alloc(), &registry, (&[*only], true), *wanted)?,
+            "{place}"
+        );
     }
     Ok(())
 }
 
 #[test]
 fn several_criteria(rt: HostRuntime) -> Result<(), Fail> {
-    let alloc = rt.alloc();
-    let records = three_records(alloc)?;
+    let registry = Registry::parse(rt.alloc(), SAMPLE.as_bytes())?;
     for (place, (onlies, by_all, by_any)) in JOINED.iter().enumerate() {
-        let filter = filter_of(alloc, onlies, true)?;
-        assert!(rt; is_right(alloc, &records, &filter, *by_all)?, "{place}");
-        let filter = filter_of(alloc, onlies, false)?;
-        assert!(rt; is_right(alloc, &records, &filter, *by_any)?, "{place}");
+        assert!(rt;
+            selects(rt.alloc(), &registry, (onlies, true), *by_all)?,
+            "{place}"
+        );
+        assert!(rt;
+            selects(rt.alloc(), &registry, (onlies, false), *by_any)?,
+            "{place}"
+        );
     }
-    Ok(())
-}
-
-#[test]
-fn joined_by_all_and_by_any(rt: HostRuntime) -> Result<(), Fail> {
-    let alloc = rt.alloc();
-    let node = message(alloc, 2, "m.msg", false)?;
-    let mut filter = everything(alloc);
-    assert!(rt; meets(&filter, &node));
-    filter.all = false;
-    assert!(rt; meets(&filter, &node));
-    filter.criteria.push(Criterion::KindIs(NodeKind::Folder))?;
-    assert!(rt; !meets(&filter, &node));
-    filter.criteria.push(Criterion::SizeAtLeast(14))?;
-    assert!(rt; meets(&filter, &node));
-    filter.all = true;
-    assert!(rt; !meets(&filter, &node));
-    Ok(())
-}
-
-/// A folder whose record says that it was found by a signature, which no service's does.
-#[test]
-fn method_of_a_folder(rt: HostRuntime) -> Result<(), Fail> {
-    let alloc = rt.alloc();
-    let mut node = folder(alloc, 1, "in")?;
-    node.method = Method::Signature;
-    assert!(rt;
-        !meets(
-            &filter_of(alloc, &[Only::Method(Method::Signature)], true)?,
-            &node
-        )
-    );
-    assert!(rt;
-        meets(
-            &filter_of(alloc, &[Only::Method(Method::Unidentified)], true)?,
-            &node
-        )
-    );
-    let registry = Registry::parse(alloc, SAMPLE.as_bytes())?;
-    let bytes = export_text(alloc, &[node], &registry, &everything(alloc), HashKind::Md5)?;
-    assert!(rt; !str::from_utf8(bytes.as_slice())?.contains("Signature"));
     Ok(())
 }

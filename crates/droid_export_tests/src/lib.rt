@@ -1,13 +1,12 @@
-//! Tests of the export, over the public calls of `droid_export` and the crates below alone. (Exports of what scripts
-//! deposit stand in tests/program/cases.)
+//! Tests of the export, by the public calls of `droid_export` and the crates below alone.
+//!
+//! Exports of what scripts deposit are tested on the built program, in tests/program/cases.
 #![tactic(auto)]
 
 #[cfg(test)]
 mod columns;
 #[cfg(test)]
 mod filters;
-#[cfg(test)]
-mod hashes;
 #[cfg(test)]
 mod memory;
 #[cfg(test)]
@@ -16,6 +15,8 @@ mod moments;
 mod names;
 #[cfg(test)]
 mod nodes;
+#[cfg(test)]
+mod page;
 #[cfg(test)]
 mod rows;
 #[cfg(test)]

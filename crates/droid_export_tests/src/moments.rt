@@ -1,11 +1,11 @@
-//! Moments as texts.
+//! Texts of moments.
 
 ghost use Rattle.droid_export.specs.Moments.{IsMoment};
 
 use droid_export::moment_text;
 use std::test::Fail;
 
-/// Seconds since 1970-01-01T00:00:00 and their text, by Python's `datetime`.
+/// Seconds since 1970-01-01T00:00:00 and their texts, computed by Python's `datetime`.
 const MOMENTS: [(i64, &str); 37] = [
     (-62135596800, "0001-01-01T00:00:00"),
     (-62104060801, "0001-12-31T23:59:59"),
@@ -46,7 +46,7 @@ const MOMENTS: [(i64, &str); 37] = [
     (86400, "1970-01-02T00:00:00"),
 ];
 
-/// The moment, or 0 where it can't be written.
+/// Returns the moment, or 0 if it is out of range.
 fn in_range(moment: &i64) -> i64
     ensures { IsMoment result }
 {
@@ -64,7 +64,7 @@ fn in_range(moment: &i64) -> i64
 fn moments(rt: HostRuntime) -> Result<(), Fail> {
     for (moment, expected) in &MOMENTS {
         let text = moment_text(rt.alloc(), in_range(moment))?;
-        assert_eq!(rt; text.as_str(), *expected);
+        assert!(rt; text.as_str() == *expected, "{expected}");
     }
     Ok(())
 }

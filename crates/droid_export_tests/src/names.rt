@@ -1,19 +1,19 @@
-//! Names of every byte that UTF-8 has.
+//! Names with every byte that UTF-8 uses.
 
 use crate::columns::HEADER;
 use crate::nodes::{everything, folder};
 use droid_export::{export_text, uri};
-use droid_frame::{Blob, HashKind, NodeKind};
+use droid_frame::{HashKind, NodeKind};
 use droid_pronom::Registry;
 use droid_pronom_sample::SAMPLE;
 use std::alloc::{AllocError, Global};
 use std::test::Fail;
 
-/// Names of files at the top, and the URIs that RFC 3986's escaping gives them, by Python's `urllib.parse.quote`
-/// with the safe characters `/` and `~`. Together they have each byte that a name in UTF-8 can have, at each place
-/// of a character where it can stand (RFC 3629, section 4).
+/// Names of files at the top and their URIs with the escaping of RFC 3986, computed by Python's `urllib.parse.quote`
+/// with the safe characters `/` and `~`. Together they have each byte that a name in UTF-8 can have, at each place of a
+/// character where it can stand (RFC 3629, section 4).
 const NAMES: [(&str, &str); 11] = [
-    // Each byte of ASCII but 0 and `/`, which no name has.
+    // Each byte of ASCII but 0 and `/`, which a name can't have.
     (
         "\u{1}\u{2}\u{3}\u{4}\u{5}\u{6}\u{7}\u{8}\u{9}\u{a}\u{b}\u{c}\u{d}\u{e}\u{f}\u{10}\u{11}\
          \u{12}\u{13}\u{14}\u{15}\u{16}\u{17}\u{18}\u{19}\u{1a}\u{1b}\u{1c}\u{1d}\u{1e}\u{1f} !\"#$\
@@ -23,7 +23,7 @@ const NAMES: [(&str, &str); 11] = [
          %1D%1E%1F%20%21%22%23%24%25%26%27%28%29%2A%2B%2C-.0123456789%3A%3B%3C%3D%3E%3F%40ABCDEFGHIJK\
          LMNOPQRSTUVWXYZ%5B%5C%5D%5E_%60abcdefghijklmnopqrstuvwxyz%7B%7C%7D~%7F",
     ),
-    // Each first byte of two and each second one.
+    // In characters of two bytes, each first and each second byte.
     (
         "\u{80}\u{c1}\u{102}\u{143}\u{184}\u{1c5}\u{206}\u{247}\u{288}\u{2c9}\u{30a}\u{34b}\u{38c}\
          \u{3cd}\u{40e}\u{44f}\u{490}\u{4d1}\u{512}\u{553}\u{594}\u{5d5}\u{616}\u{657}\u{698}\u{6d9}\
@@ -36,7 +36,7 @@ const NAMES: [(&str, &str); 11] = [
          %D0%AC%D1%AD%D2%AE%D3%AF%D4%B0%D5%B1%D6%B2%D7%B3%D8%B4%D9%B5%DA%B6%DB%B7%DC%B8%DD%B9%DE%BA\
          %DF%BB%C2%BC%C3%BD%C4%BE%C5%BF",
     ),
-    // Each first byte of three, each second and each third one.
+    // In characters of three bytes, each first, second and third byte.
     (
         "\u{1005}\u{206a}\u{308f}\u{40f4}\u{5119}\u{617e}\u{71a3}\u{81c8}\u{922d}\u{a252}\u{b2b7}\
          \u{c2dc}\u{d301}\u{e366}\u{f38b}\u{13f0}\u{2415}\u{347a}\u{449f}\u{54c4}\u{6529}\u{754e}\
@@ -52,7 +52,7 @@ const NAMES: [(&str, &str); 11] = [
          %B1%9A%E5%B2%BF%E6%B3%A4%E7%B4%89%E8%B5%AE%E9%B6%93%EA%B7%B8%EB%B8%9D%EC%B9%82%EE%BA%A7%EF\
          %BB%8C%E0%BC%B1%E1%BD%96%E2%BE%BB%E3%BF%A0",
     ),
-    // Each first byte of four and each in the other places, in two names.
+    // In characters of four bytes, each byte at each place, in two names.
     (
         "\u{4014b}\u{81aa0}\u{c23f5}\u{103d0a}\u{4465f}\u{85fb4}\u{c68c9}\u{10721e}\u{48b73}\u{89488}\
          \u{caddd}\u{10b732}\u{4c047}\u{8d99c}\u{ce2f1}\u{10fc06}\u{1055b}\u{51eb0}\u{927c5}\u{d311a}\
@@ -162,42 +162,41 @@ const NAMES: [(&str, &str); 11] = [
     ),
 ];
 
-/// The last five names are of the greatest length in bytes.
+/// Returns whether a file of this name has this URI.
+fn has_uri(alloc: Global, name: &str, expected: &str) -> Result<bool, AllocError> {
+    let path = format!(in alloc; "/{name}")?;
+    let text = uri(alloc, path.as_str(), NodeKind::File)?;
+    Ok(text.as_str() == expected)
+}
+
+/// The last five names have the greatest length, in bytes.
 #[test]
 fn uris_of_names(rt: HostRuntime) -> Result<(), Fail> {
-    let alloc = rt.alloc();
     for (place, (name, expected)) in NAMES.iter().enumerate() {
         assert!(rt; place < 6 || name.len() == 255);
-        let path = format!(in alloc; "/{name}")?;
-        let text = uri(alloc, path.as_str(), NodeKind::File)?;
-        assert_eq!(rt; text.as_str(), *expected);
+        assert!(rt; has_uri(rt.alloc(), name, expected)?, "{name}");
     }
     Ok(())
 }
 
-/// The export of a folder of this name.
-fn text_of_folder(alloc: Global, registry: &Registry, name: &str) -> Result<Blob, AllocError> {
+/// Returns whether the export of a folder of this name is right, if a file of this name has this URI.
+///
+/// The fields have the name as it is, but with each double quote doubled.
+fn has_row(alloc: Global, registry: &Registry, name: &str, uri: &str) -> Result<bool, AllocError> {
     let records = [folder(alloc, 1, name)?];
-    export_text(alloc, &records, registry, &everything(alloc), HashKind::Md5)
-}
-
-/// What it has to be, where the URI of a file of this name is known: the name as it is, but that a double quote is
-/// written twice.
-fn expected_text(alloc: Global, name: &str, uri: &str) -> Result<String, AllocError> {
+    let text = export_text(alloc, &records, registry, &everything(alloc), HashKind::Md5)?;
     let field = name.replace(alloc, "\"", "\"\"")?;
-    format!(in alloc;
+    let expected = format!(in alloc;
         "{HEADER}\"1\",\"\",\"{uri}/\",\"/{field}\",\"{field}\",\"\",\"Done\",\"\",\"Folder\",\"\",\"1970-01-01T00:00:00\",\"false\",\"\",\"\",\"\",\"\",\"\",\"\"\n"
-    )
+    )?;
+    Ok(text.as_slice() == expected.as_bytes())
 }
 
 #[test]
 fn rows_of_names(rt: HostRuntime) -> Result<(), Fail> {
-    let alloc = rt.alloc();
-    let registry = Registry::parse(alloc, SAMPLE.as_bytes())?;
+    let registry = Registry::parse(rt.alloc(), SAMPLE.as_bytes())?;
     for (name, uri) in &NAMES {
-        let text = text_of_folder(alloc, &registry, name)?;
-        let expected = expected_text(alloc, name, uri)?;
-        assert_eq!(rt; text.as_slice(), expected.as_bytes());
+        assert!(rt; has_row(rt.alloc(), &registry, name, uri)?, "{name}");
     }
     Ok(())
 }

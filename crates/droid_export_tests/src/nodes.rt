@@ -35,14 +35,14 @@ pub fn folder(alloc: Global, id: u32, name: &str) -> Result<Record, AllocError>
     })
 }
 
-/// What was found in a file.
+/// The identification of a file.
 #[derive(Clone, Copy)]
 pub struct Identified<'a> {
-    /// How it was identified.
+    /// How the file was identified.
     pub method: Method,
-    /// Whether its extension is none of its formats'.
+    /// Whether its extension contradicts its formats.
     pub mismatch: bool,
-    /// Its formats.
+    /// The PUIDs of its formats.
     pub puids: &'a [&'a str],
 }
 
@@ -72,7 +72,7 @@ pub fn file(
     })
 }
 
-/// The file of 14 bytes `message digest`, of two formats, under this name.
+/// The file of 14 bytes `message digest`, which has two formats, under this name.
 pub fn message(alloc: Global, id: u32, name: &str, mismatch: bool) -> Result<Record, AllocError>
     ensures { IfOk result (λ it. it.modified ≡ pos 0) }
 {

@@ -4,7 +4,7 @@ use droid_export::uri;
 use droid_frame::NodeKind;
 use std::test::Fail;
 
-/// Paths, kinds and the URIs that RFC 3986's escaping gives them, by Python's `urllib.parse.quote` with the safe
+/// Paths, kinds and their URIs with the escaping of RFC 3986, computed by Python's `urllib.parse.quote` with the safe
 /// characters `/` and `~`.
 const URIS: [(&str, NodeKind, &str); 11] = [
     ("/in", NodeKind::Folder, "file:/in/"),
@@ -40,7 +40,7 @@ const URIS: [(&str, NodeKind, &str); 11] = [
 fn uris(rt: HostRuntime) -> Result<(), Fail> {
     for (path, kind, expected) in &URIS {
         let text = uri(rt.alloc(), path, *kind)?;
-        assert_eq!(rt; text.as_str(), *expected);
+        assert!(rt; text.as_str() == *expected, "{expected}");
     }
     Ok(())
 }

@@ -5,7 +5,7 @@ use Rattle.std.specs.List.{AllByRecursion}
 use Rattle.droid_pronom_formats.specs.Registry.{Contents, Signed}
 use Rattle.droid_pronom_formats.specs.Found.{extension_of, Hits, HitsFrom, IsHit, IsBeaten, IsLeft, IsMismatch, IsFoundBy, IsFound}
 use Rattle.droid_pronom_formats.specs.FoundWindows.{HitsWindows, HitsWindowsFrom}
-use Rattle.droid_pronom_formats.specs.declared.found.Found.{Found}
+use Rattle.droid_pronom_formats.specs.declared.identification.Found.{Found}
 use Rattle.droid_pronom_formats.specs.declared.rows.Anchor.{Anchor}
 use Rattle.droid_pronom_formats.specs.declared.rows.Anchor.TheVariants.{Bof, Eof}
 use Rattle.droid_pronom_formats.specs.declared.rows.ByteSequence.{ByteSequence}

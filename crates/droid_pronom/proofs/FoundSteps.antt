@@ -5,9 +5,9 @@ use Rattle.std.specs.Str.{str_to_ascii_lowercase}
 use Rattle.droid_pronom_formats.specs.RegistryFields.{is_puid}
 use Rattle.droid_pronom_formats.specs.Registry.{Contents, AnyOf, IsSigned, IsRegistry}
 use Rattle.droid_frame.specs.types.method.Method.TheVariants as methods
-use Rattle.droid_pronom_formats.specs.declared.found.Found.{Found}
+use Rattle.droid_pronom_formats.specs.declared.identification.Found.{Found}
 use Rattle.droid_pronom_formats.specs.Found.{extension_of, IsHit, IsLeft, IsNamed, IsMismatch, IsFoundBy, Chosen, end, chosen, passed}
-use Rattle.droid_pronom_formats.specs.FoundWindows.{Stands, Tell, without}
+use Rattle.droid_pronom_formats.specs.FoundWindows.{Stands, AreFlagsOf, without}
 use Rattle.droid_pronom_formats.specs.declared.format.Format.{Format}
 use Rattle.droid_pronom_formats.specs.declared.rows.ByteSequence.{ByteSequence}
 use Rattle.droid_pronom_formats.specs.declared.rows.Priority.{Priority}
@@ -39,8 +39,8 @@ without_length (h ∷ hs) [] e = absurd (omega arith)
 without_length (h ∷ hs) (b ∷ bs) e = ap suc (without_length hs bs (omega arith))
 
 pub tell_left : (H : ByteSequence → Type 0) (registry : Contents) (hit beaten : List Bool) → length hit ≡ length beaten
-    → Tell hit (IsHit H registry) → Tell beaten (λ k. AnyOf (λ row. Stands hit row.place × (row.over ≡ k)) registry.priorities)
-    → Tell (without hit beaten) (IsLeft H registry)
+    → AreFlagsOf hit (IsHit H registry) → AreFlagsOf beaten (λ k. AnyOf (λ row. Stands hit row.place × (row.over ≡ k)) registry.priorities)
+    → AreFlagsOf (without hit beaten) (IsLeft H registry)
 tell_left H registry hit beaten e hits beats k = (
   λ s.
       let parts = without_to hit beaten k s in
@@ -71,7 +71,7 @@ named_parts extension signed match_all k (row ∷ rows) a = elim a [
 ]
 
 pub tell_named : (registry : Contents) (extension wanted : List ℕ) (signed named : List Bool) (match_all : Bool) → wanted ≡ str_to_ascii_lowercase extension
-    → Tell signed (IsSigned registry) → Tell named (λ k. AnyOf (SaysNamed wanted signed match_all k) registry.extensions) → Tell named (IsNamed registry extension match_all)
+    → AreFlagsOf signed (IsSigned registry) → AreFlagsOf named (λ k. AnyOf (SaysNamed wanted signed match_all k) registry.extensions) → AreFlagsOf named (IsNamed registry extension match_all)
 tell_named registry extension wanted signed named match_all e signs names k = (
   λ s.
       let parts = named_parts extension signed match_all k registry.extensions (rw e at ((names k).0 s)) in
@@ -83,7 +83,7 @@ tell_named registry extension wanted signed named match_all e signs names k = (
 -- ---- the mismatch
 
 pub tell_mismatch : (H : ByteSequence → Type 0) (registry : Contents) (extension wanted : List ℕ) (left : List Bool) (mismatch : Bool) → wanted ≡ str_to_ascii_lowercase extension
-    → Tell left (IsLeft H registry)
+    → AreFlagsOf left (IsLeft H registry)
     → (IsTrue mismatch ↔ ((wanted ≢ []) × AnyOf (λ row. Stands left row.place) registry.extensions × (AnyOf (λ row. Stands left row.place × (row.extension ≡ wanted)) registry.extensions → ⊥)))
     → (IsTrue mismatch ↔ IsMismatch H registry extension)
 tell_mismatch H registry extension wanted left mismatch e reports says = (
@@ -124,7 +124,7 @@ chosen_puids P k formats puids (passed n more) all = chosen_puids P _ _ _ more a
 -- ---- what is found
 
 module _ (H : ByteSequence → Type 0) (registry : Contents) (name : List ℕ) (match_all : Bool) where
-  pub found_signature : (left : List Bool) (puids : List (List ℕ)) (mismatch : Bool) (wanted : List ℕ) → Tell left (IsLeft H registry) → Chosen (Stands left) 0 registry.formats puids → puids ≢ []
+  pub found_signature : (left : List Bool) (puids : List (List ℕ)) (mismatch : Bool) (wanted : List ℕ) → AreFlagsOf left (IsLeft H registry) → Chosen (Stands left) 0 registry.formats puids → puids ≢ []
       → wanted ≡ str_to_ascii_lowercase (extension_of name)
       → (IsTrue mismatch ↔ ((wanted ≢ []) × AnyOf (λ row. Stands left row.place) registry.extensions × (AnyOf (λ row. Stands left row.place × (row.extension ≡ wanted)) registry.extensions → ⊥)))
       → IsFoundBy H registry name match_all (record { method = methods.Signature; mismatch = mismatch; puids = puids })
@@ -135,8 +135,8 @@ module _ (H : ByteSequence → Type 0) (registry : Contents) (name : List ℕ) (
     mismatch = tell_mismatch H registry (extension_of name) wanted left mismatch e reports says;
   })
 
-  pub found_extension : (left named : List Bool) (puids : List (List ℕ)) → Tell left (IsLeft H registry) → Chosen (Stands left) 0 registry.formats []
-      → Tell named (IsNamed registry (extension_of name) match_all) → Chosen (Stands named) 0 registry.formats puids → puids ≢ []
+  pub found_extension : (left named : List Bool) (puids : List (List ℕ)) → AreFlagsOf left (IsLeft H registry) → Chosen (Stands left) 0 registry.formats []
+      → AreFlagsOf named (IsNamed registry (extension_of name) match_all) → Chosen (Stands named) 0 registry.formats puids → puids ≢ []
       → IsFoundBy H registry name match_all (record { method = methods.Extension; mismatch = false; puids = puids })
   found_extension left named puids reports none names are some = inr (inl (record {
     left = chosen_same (Stands left) (IsLeft H registry) 0 registry.formats [] reports none;
@@ -146,8 +146,8 @@ module _ (H : ByteSequence → Type 0) (registry : Contents) (name : List ℕ) (
     mismatch = refl;
   }))
 
-  pub found_nothing : (left named : List Bool) (puids : List (List ℕ)) → Tell left (IsLeft H registry) → Chosen (Stands left) 0 registry.formats []
-      → Tell named (IsNamed registry (extension_of name) match_all) → Chosen (Stands named) 0 registry.formats puids → puids ≡ []
+  pub found_nothing : (left named : List Bool) (puids : List (List ℕ)) → AreFlagsOf left (IsLeft H registry) → Chosen (Stands left) 0 registry.formats []
+      → AreFlagsOf named (IsNamed registry (extension_of name) match_all) → Chosen (Stands named) 0 registry.formats puids → puids ≡ []
       → IsFoundBy H registry name match_all (record { method = methods.Unidentified; mismatch = false; puids = puids })
   found_nothing left named puids reports none names are e = inr (inr (record {
     left = chosen_same (Stands left) (IsLeft H registry) 0 registry.formats [] reports none;

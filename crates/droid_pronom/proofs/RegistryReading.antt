@@ -13,7 +13,7 @@ use Rattle.droid_pronom_formats.specs.Registry.{Contents}
 use Rattle.droid_pronom.specs.RegistryRecords as faults
 use Rattle.droid_pronom.specs.RegistryRecords.{Draft, RecordFault, Step}
 use Rattle.droid_pronom.specs.RegistryFile.{Outcome, taken, faulty, end, fault_at, taken_count, File, too_long, read}
-use Rattle.droid_pronom.specs.RegistryCalls.{EndsReading, Tells, fault_of, refusal_at}
+use Rattle.droid_pronom.specs.RegistryCalls.{EndsReading, HasOutcome, fault_of, refusal_at}
 use Rattle.droid_pronom.specs.declared.registry.fault.Refusal.{Refusal}
 use Rattle.droid_pronom.specs.declared.registry.fault.Refusal.TheVariants as refusals
 use Rattle.droid_pronom.specs.declared.registry.fault.RegistryFault.{RegistryFault}
@@ -60,7 +60,7 @@ outcome_faulty a b y fields n draft fault step = faulty n.is (rw (← n.fields) 
 
 -- the same, from what the call says of the record
 pub outcome_refused : (a b : Reader (Bor (List ℕ))) (y : List ℕ) (fields : List (List ℕ)) (n : IsNext a b y fields) (draft new : Draft) (refusal : Refusal)
-    → Tells {X = Unit {0}} (Err refusal) new (Step draft fields) → ◌≢◌ {A = Result Contents RegistryFault} (Err (refusal_at refusal (taken_count draft + 1))) (Err registry_faults.Memory)
+    → HasOutcome {X = Unit {0}} (Err refusal) new (Step draft fields) → ◌≢◌ {A = Result Contents RegistryFault} (Err (refusal_at refusal (taken_count draft + 1))) (Err registry_faults.Memory)
     → Outcome draft a.state y (Err (refusal_at refusal (taken_count draft + 1)))
 outcome_refused a b y fields n draft new refusals.Memory reports some = absurd (some refl)
 outcome_refused a b y fields n draft new (refusals.Fault fault) reports some = outcome_faulty a b y fields n draft (fault_of fault) reports

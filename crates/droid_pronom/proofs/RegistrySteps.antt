@@ -4,7 +4,7 @@ use Rattle.droid_pronom_pattern.specs.Patterns.{Element}
 use Rattle.droid_pronom_pattern.specs.PatternText.{Spells}
 use Rattle.droid_pronom.specs.RegistryRecords.{Draft, RecordFault, WithPattern, ReadsAs, Judged, Step, judged, no_text}
 use Rattle.droid_pronom.specs.RegistryRecords as faults
-use Rattle.droid_pronom.specs.RegistryCalls.{Gives, Tells}
+use Rattle.droid_pronom.specs.RegistryCalls.{Gives, HasOutcome}
 use Rattle.droid_pronom_formats.specs.RegistryFields.{kind_of}
 use Rattle.csv.specs.Records.{AllText}
 use Rattle.droid_pronom.specs.declared.registry.fault.Refusal.{Refusal}
@@ -12,14 +12,14 @@ use Rattle.droid_pronom.specs.declared.registry.fault.Refusal.TheVariants as ref
 
 -- the pattern was read, and the rest was done
 pub tells_added : {X H : Type 0} (head : Result H RecordFault) (h : H) (text : List ℕ) (elements : List Element) (added : H → Option (List Element) → Result Draft RecordFault) (result : Result X Refusal) (new : Draft)
-    → head ≡ Ok h → Spells text elements → Gives (λ _. new) result (added h (Some elements)) → Tells result new (WithPattern head text added)
+    → head ≡ Ok h → Spells text elements → Gives (λ _. new) result (added h (Some elements)) → HasOutcome result new (WithPattern head text added)
 tells_added head h text elements added (Ok x) new is spelled gives = rw is (Some elements, spelled, sym gives)
 tells_added head h text elements added (Err refusals.Memory) new is spelled gives = tt
 tells_added head h text elements added (Err (refusals.Fault fault)) new is spelled gives = rw is (Some elements, spelled, sym gives)
 
 -- six texts were judged
 pub tells_step : {X : Type 0} (result : Result X Refusal) (new draft : Draft) (fields : List (List ℕ)) (kind a b c d e : List ℕ)
-    → fields ≡ kind ∷ a ∷ b ∷ c ∷ d ∷ e ∷ [] → AllText fields → Tells result new (Judged draft (kind_of kind) a b c d e) → Tells result new (Step draft fields)
+    → fields ≡ kind ∷ a ∷ b ∷ c ∷ d ∷ e ∷ [] → AllText fields → HasOutcome result new (Judged draft (kind_of kind) a b c d e) → HasOutcome result new (Step draft fields)
 tells_step (Ok x) new draft fields kind a b c d e is text judges = rw is (judged (rw is at text) judges)
 tells_step (Err refusals.Memory) new draft fields kind a b c d e is text judges = tt
 tells_step (Err (refusals.Fault fault)) new draft fields kind a b c d e is text judges = rw is (judged (rw is at text) judges)

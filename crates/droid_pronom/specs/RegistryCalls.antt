@@ -1,4 +1,4 @@
--- What the calls that take one record say of it, by the code's own types.
+-- For proofs: what the calls that add one record promise, in the code's own types.
 use Rattle.std.specs.Prelude.{◌≡◌, ℕ, List, None, Result, Ok, Err, ⊤}
 use Rattle.csv.specs.declared.error.ErrorKind.{ErrorKind}
 use Rattle.csv.specs.declared.error.ErrorKind.TheVariants as csv
@@ -18,7 +18,7 @@ use Rattle.droid_pronom.specs.declared.registry.fault.RegistryFault.TheVariants 
 use Rattle.droid_pronom.specs.declared.registry.record_kind.RecordKind.{RecordKind}
 use Rattle.droid_pronom.specs.declared.registry.record_kind.RecordKind.TheVariants as kinds
 
--- what the code's draft says
+-- the contents of the code's draft
 abbrev pub draft_of : inside.Draft → Draft
 draft_of draft = record { registry = draft.registry; sequences = draft.sequences; current = draft.current }
 
@@ -38,7 +38,7 @@ fault_of faults.UnknownPuid = record_fault.UnknownPuid
 fault_of faults.DuplicatePuid = record_fault.DuplicatePuid
 fault_of faults.TooMany = record_fault.TooMany
 
--- what a call gave, seen by view, is what it had to be, unless memory was refused
+-- the result of a call, seen through `view`, is the expected one, unless memory ran out
 abbrev pub Refuses : {Y : Type 0} → Refusal → Result Y RecordFault → Type 0
 Refuses refusals.Memory expected = ⊤
 Refuses (refusals.Fault fault) expected = expected ≡ Err (fault_of fault)
@@ -47,24 +47,24 @@ abbrev pub Gives : {X Y : Type 0} → (X → Y) → Result X Refusal → Result 
 Gives view (Ok x) expected = expected ≡ Ok (view x)
 Gives view (Err refusal) expected = Refuses refusal expected
 
--- what a call says of an outcome: where it gave a value, the draft is the new one; want of memory says nothing
-abbrev pub Tells : {X : Type 0} → Result X Refusal → Draft → (Result Draft RecordFault → Type 0) → Type 0
-Tells (Ok x) new P = P (Ok new)
-Tells (Err refusals.Memory) new P = ⊤
-Tells (Err (refusals.Fault fault)) new P = P (Err (fault_of fault))
+-- what a call says of an outcome: after a success the draft is the new one; running out of memory says nothing
+abbrev pub HasOutcome : {X : Type 0} → Result X Refusal → Draft → (Result Draft RecordFault → Type 0) → Type 0
+HasOutcome (Ok x) new P = P (Ok new)
+HasOutcome (Err refusals.Memory) new P = ⊤
+HasOutcome (Err (refusals.Fault fault)) new P = P (Err (fault_of fault))
 
--- what a call says of a pattern's text
+-- what a call says of the text of a pattern
 abbrev pub ReportsPattern : Result (List Element) Refusal → List ℕ → Type 0
 ReportsPattern (Ok elements) text = Spells text elements
 ReportsPattern (Err refusals.Memory) text = ⊤
 ReportsPattern (Err (refusals.Fault fault)) text = (fault ≡ faults.BadPattern) × ReadsAs text None
 
--- why a file is not read, where this is why the record with that number was not taken
+-- the error for a whole file, if the record with that number could not be added
 abbrev pub refusal_at : Refusal → ℕ → RegistryFault
 refusal_at refusals.Memory at = registry_faults.Memory
 refusal_at (refusals.Fault fault) at = fault_at (fault_of fault) at
 
--- the errors of `csv` after which a reader of bytes goes no further: memory, or the reader underneath
+-- the errors of `csv` that can end the reading of byte records: out of memory, or a failed reader
 abbrev pub EndsReading : ErrorKind → Type 0
 EndsReading csv.OutOfMemory = ⊤
 EndsReading (csv.Io e) = ⊤

@@ -1,4 +1,4 @@
--- What the bytes of a registry file come to: a registry, or the first fault and the number of its record, from 1.
+-- The outcome of a registry file's bytes: a registry, or the first fault with the number of its record, counted from 1.
 use Rattle.std.specs.Prelude.{◌≡◌, ℕ, ◌+◌, ◌<◌, ◌≤◌, List, [], length, Some, None, Result, Ok, Err}
 use Rattle.csv.specs.Machine.{Read, next_record}
 use Rattle.csv.specs.Reading.{default_config, strip_bom}
@@ -19,15 +19,15 @@ fault_at record_fault.UnknownPuid at = registry_faults.UnknownPuid at
 fault_at record_fault.DuplicatePuid at = registry_faults.DuplicatePuid at
 fault_at record_fault.TooMany at = registry_faults.TooMany at
 
--- nothing was read yet
+-- the draft before the first record
 abbrev pub empty_draft : Draft
 empty_draft = record { registry = nothing; sequences = 0; current = None }
 
--- how many records were taken: each is a row of one of the tables, or a byte sequence
+-- the number of records so far: each is a row of one of the tables, or a byte sequence
 abbrev pub taken_count : Draft → ℕ
 taken_count draft = length draft.registry.formats + length draft.registry.extensions + length draft.registry.priorities + draft.sequences
 
--- The outcome of the bytes that are left, after the records that the draft took. A record is what `csv` reads next with its default settings.
+-- The outcome of the remaining bytes, after the records that are in the draft. A record is what `csv` reads next with its default settings.
 pub data Outcome : Draft → State → List ℕ → Result Contents RegistryFault → Type 0 where
   end : {draft : Draft} {state : State} {bytes : List ℕ}
       → next_record default_config state [] [] bytes ≡ None → Outcome draft state bytes (Ok draft.registry)

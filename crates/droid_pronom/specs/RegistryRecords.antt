@@ -1,4 +1,4 @@
--- What one record does to the registry that was read before it, or what is wrong with it: the first fault in order (this project's own).
+-- What one record adds to the registry of the records before it, or its first fault in a fixed order (this project's own rules).
 use Rattle.std.specs.Prelude.{◌≡◌, ◌≢◌, ℕ, ◌+◌, Bool, true, false, ◌==◌, ◌&&◌, not, nat_lt, List, [], ◌∷◌, length, Option, Some, None, is_none, Result, Ok, Err, ⊤}
 use Rattle.std.specs.Option.{ok_or}
 use Rattle.std.specs.Str.{bytes_eq, str_to_ascii_lowercase}
@@ -20,8 +20,8 @@ pub data RecordFault : Type 0 where
   DuplicatePuid : RecordFault
   TooMany : RecordFault
 
--- What the records so far say: the registry, how many byte sequences its signatures have together, and the place of the
--- format whose signature the next record may go on with.
+-- The registry of the records so far, the number of byte sequences of all its signatures, and the place of the format to
+-- whose signature a B record may now add a byte sequence.
 pub record Draft : Type 0 where
   pub registry : Contents
   pub sequences : ℕ
@@ -41,7 +41,7 @@ check false fault = Err fault
 abbrev pub known : List ℕ → Draft → Result ℕ RecordFault
 known puid draft = ok_or (place_of puid draft.registry.formats) UnknownPuid
 
--- an F record: a format, whose PUID no earlier one has
+-- an F record: a format with a PUID that no earlier format has
 unfoldable pub format_taken : Draft → (puid name version mime empty : List ℕ) → Result Draft RecordFault
 format_taken draft puid name version mime empty = do
   formed ← check (is_puid puid && is_name name && is_note version && is_note mime && is_empty empty) BadRecord
@@ -49,7 +49,7 @@ format_taken draft puid name version mime empty = do
   room ← check (nat_lt (length draft.registry.formats) 4096) TooMany
   Ok (record draft { registry = with_format draft.registry (record { puid = puid; name = name; version = version; mime = mime }); current = None })
 
--- an E record: a format lists an extension, which is kept in lower case
+-- an E record: an extension that a format lists; the registry keeps it in lower case
 unfoldable pub extension_taken : Draft → (puid extension empty more last : List ℕ) → Result Draft RecordFault
 extension_taken draft puid extension empty more last = do
   formed ← check (is_puid puid && is_extension extension && is_empty empty && is_empty more && is_empty last) BadRecord
@@ -57,7 +57,7 @@ extension_taken draft puid extension empty more last = do
   room ← check (nat_lt (length draft.registry.extensions) 16384) TooMany
   Ok (record draft { registry = with_extension draft.registry (record { place = place; extension = str_to_ascii_lowercase extension }); current = None })
 
--- a P record: a format has priority over another
+-- a P record: the priority of one format over another
 unfoldable pub priority_taken : Draft → (puid other empty more last : List ℕ) → Result Draft RecordFault
 priority_taken draft puid other empty more last = do
   formed ← check (is_puid puid && is_puid other && not (bytes_eq puid other) && is_empty empty && is_empty more && is_empty last) BadRecord
@@ -66,12 +66,12 @@ priority_taken draft puid other empty more last = do
   room ← check (nat_lt (length draft.registry.priorities) 16384) TooMany
   Ok (record draft { registry = with_priority draft.registry (record { place = place; over = over }); current = None })
 
--- a pattern's text reads as these elements, or is outside the grammar
+-- the text of a pattern reads as these elements, or does not follow the grammar
 abbrev pub ReadsAs : List ℕ → Option (List Element) → Type 0
 ReadsAs text None = (elements : List Element) → Spells text elements → ⊥
 ReadsAs text (Some elements) = Spells text elements
 
--- the outcome of a record with a pattern: a fault of what stands before it, or what comes of it once it is read
+-- the outcome of a record with a pattern: a fault of the fields before the pattern, or what follows from the pattern
 abbrev pub WithPattern : {H : Type 0} → Result H RecordFault → List ℕ → (H → Option (List Element) → Result Draft RecordFault) → Result Draft RecordFault → Type 0
 WithPattern (Err fault) text added outcome = outcome ≡ Err fault
 WithPattern (Ok head) text added outcome = (pattern : Option (List Element)) × ReadsAs text pattern × (outcome ≡ added head pattern)
@@ -91,7 +91,7 @@ signature_added draft head pattern = do
   room ← check (nat_lt (length draft.registry.signatures) 16384 && nat_lt draft.sequences 32768) TooMany
   Ok (record { registry = with_signature draft.registry (record { place = head.0; sequences = record { offsets = head.1; pattern = elements } ∷ [] }); sequences = draft.sequences + 1; current = Some head.0 })
 
--- both are there and the same
+-- both are there and equal
 abbrev pub is_same_place : Option ℕ → Option ℕ → Bool
 is_same_place None b = false
 is_same_place (Some a) None = false
@@ -111,7 +111,7 @@ sequence_added draft offsets pattern = do
   room ← check (nat_lt draft.sequences 32768) TooMany
   Ok (record draft { registry = with_sequence draft.registry (record { offsets = offsets; pattern = elements }); sequences = draft.sequences + 1 })
 
--- the outcome of six texts, by what the first says that they are about
+-- the outcome of six texts, by the kind that the first one names
 abbrev pub Judged : Draft → Option kinds.Kind → (a b c d e : List ℕ) → Result Draft RecordFault → Type 0
 Judged draft None a b c d e outcome = outcome ≡ Err BadRecord
 Judged draft (Some kinds.Format) a b c d e outcome = format_taken draft a b c d e ≡ outcome
@@ -120,7 +120,7 @@ Judged draft (Some kinds.Priority) a b c d e outcome = priority_taken draft a b 
 Judged draft (Some kinds.Signature) a b c d e outcome = WithPattern (signature_head draft a b c d) e (signature_added draft) outcome
 Judged draft (Some kinds.Sequence) a b c d e outcome = WithPattern (sequence_head draft a b c d) e (sequence_added draft) outcome
 
--- the outcome of a record: its number of fields is judged first, then whether they are text, then what they say
+-- the outcome of a record: first its number of fields is judged, then whether they are UTF-8, then their content
 pub data Step (draft : Draft) : List (List ℕ) → Result Draft RecordFault → Type 0 where
   miscounted : {fields : List (List ℕ)} → length fields ≢ 6 → Step draft fields (Err BadRecord)
   no_text : {fields : List (List ℕ)} → length fields ≡ 6 → (AllText fields → ⊥) → Step draft fields (Err NotUtf8)

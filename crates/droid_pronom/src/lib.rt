@@ -1,12 +1,12 @@
-//! PRONOM's signatures and extensions, and how a file is identified by them.
+//! Reads registries of file formats, and identifies files by signatures and extensions in the way of PRONOM.
 //!
-//! This crate reads registries and identifies files by them. What a registry says, and the steps of
-//! identification, come from `droid_pronom_formats`, and patterns from `droid_pronom_pattern`; what callers need of
-//! both it gives under its own name.
+//! [`Registry::parse`] reads a registry file, and [`Registry::identify`] finds the formats of a file. The rows of a
+//! registry and the steps of identification are those of `droid_pronom_formats`, and patterns those of
+//! `droid_pronom_pattern`. This crate passes on what callers need of both.
 #![tactic(auto)]
 
-mod identify;
 mod registry;
+mod windows;
 
 pub use droid_pronom_formats::{Format, Found, extension, laws};
 pub use droid_pronom_pattern::{Pattern, PatternFault};

@@ -1,6 +1,6 @@
 pub mod BitLemmas
-pub mod KeptLemmas
+pub mod MaskedStepLemmas
 pub mod MoveLemmas
 pub mod RangeLemmas
-pub mod RowLemmas
+pub mod ResizeLemmas
 pub mod SetLemmas

@@ -1,2 +1,2 @@
--- What the calls on rows of bits promise.
+-- What the calls on bit sets promise.
 pub mod Places

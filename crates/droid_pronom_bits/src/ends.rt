@@ -1,9 +1,9 @@
-//! The first and the last words that have a place.
+//! The first and the last word of a bit set that is not 0.
 
 ghost use Rattle.std.specs.Prelude.{◌≡◌, ◌≢◌, ◌<◌, ◌≤◌, ◌^◌, ℕ, MatchOption, true, false, length, slice_index};
 ghost use Rattle.droid_pronom_bits.specs.Places.{IsPlace};
 
-/// Whether there is no place.
+/// Returns whether the set is empty.
 pub(crate) fn has_none(words: &[u64]) -> bool
     ensures none { result ≡ true → (p : ℕ) → IsPlace words.now p → ⊥ }
     ensures some { result ≡ false → (p : ℕ) × IsPlace words.now p }
@@ -14,7 +14,7 @@ pub(crate) fn has_none(words: &[u64]) -> bool
     }
 }
 
-/// The lowest place.
+/// Returns the lowest place of the set.
 pub(crate) fn first_place(words: &[u64]) -> Option<usize>
     requires { length words.now ≤ 2 ^ 57 }
     ensures { MatchOption result ((p : ℕ) → IsPlace words.now p → ⊥)
@@ -24,7 +24,7 @@ pub(crate) fn first_place(words: &[u64]) -> Option<usize>
     Some(64 * place + words[place].trailing_zeros() as usize)
 }
 
-/// The first word that isn't 0.
+/// Returns the index of the first word that is not 0.
 fn first_word(words: &[u64]) -> Option<usize>
     ensures { MatchOption result ((k : ℕ) → slice_index words.now k ≡ 0)
         (λ first. (first < length words.now) × (slice_index words.now first ≢ 0) × ((k : ℕ) → k < first → slice_index words.now k ≡ 0)) }
@@ -37,7 +37,7 @@ fn first_word(words: &[u64]) -> Option<usize>
     None
 }
 
-/// How many words there are up to the last one that isn't 0.
+/// Returns the number of words up to and including the last one that is not 0.
 pub(crate) fn used(words: &[u64]) -> usize
     ensures most { result ≤ length words.now }
     ensures rest { (k : ℕ) → result ≤ k → slice_index words.now k ≡ 0 }

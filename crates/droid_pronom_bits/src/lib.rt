@@ -1,13 +1,16 @@
-//! Sets of places as rows of bits, 64 in a word.
+//! Sets of whole numbers as bit sets of 64-bit words.
+//!
+//! `droid_pronom_pattern` keeps the places that a match has reached so far in a [`BitSet`], and moves all of them
+//! over one element of the pattern at a time.
 #![tactic(auto)]
 
-mod both;
-mod cross;
-mod cut;
+mod bit_set;
+mod combination;
 mod ends;
-mod kept;
-mod row;
+mod gap;
+mod masked_step;
 mod run;
 mod shift;
+mod word_count;
 
-pub use row::Row;
+pub use bit_set::BitSet;

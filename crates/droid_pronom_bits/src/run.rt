@@ -1,13 +1,13 @@
-//! Words whose bits stand next to each other.
+//! Words in which the set bits form one run.
 
 ghost use Rattle.std.specs.Prelude.{◌≡◌, ◌↔◌, ◌<◌, ◌≤◌, ◌-◌, ◌^◌, ℕ, OnOk, length};
 ghost use Rattle.std.specs.Int.{bit_at};
 ghost use Rattle.droid_pronom_bits.specs.Places.{IsPlace};
 
-use crate::cut::clear_past;
+use crate::word_count::clear_past;
 use std::alloc::AllocError;
 
-/// The word with the bits from `low` on that lie below `high`.
+/// Returns the word whose set bits are those from `low` up to, but not including, `high`.
 pub(crate) fn run_of(low: usize, high: usize) -> u64
     ensures { (i : ℕ) → i < 64 → (bit_at result i ≡ 1) ↔ ((low ≤ i) × (i < high)) }
 {
@@ -18,7 +18,7 @@ pub(crate) fn run_of(low: usize, high: usize) -> u64
     lowest(high) - lowest(low)
 }
 
-/// The word with the first `count` bits.
+/// Returns the word whose set bits are the lowest `count`.
 fn lowest(count: usize) -> u64
     requires { count ≤ 64 }
     ensures { result ≡ 2 ^ count - 1 }
@@ -30,7 +30,7 @@ fn lowest(count: usize) -> u64
     }
 }
 
-/// Makes them the words with the places from `low` to `high`.
+/// Replaces the words by those that hold the places from `low` to `high`.
 pub(crate) fn push_runs(words: &mut Vec<u64>, low: usize, high: usize) -> Result<(), AllocError>
     requires { high < 2 ^ 63 }
     ensures { OnOk result ((p : ℕ) → IsPlace words.new.items p ↔ ((low ≤ p) × (p ≤ high))) }
@@ -42,7 +42,7 @@ pub(crate) fn push_runs(words: &mut Vec<u64>, low: usize, high: usize) -> Result
     Ok(())
 }
 
-/// Drops the places before `first`.
+/// Drops the places below `first`.
 fn clear_before(words: &mut [u64], first: usize)
     ensures len { length words.new ≡ length words.old }
     ensures places { (p : ℕ) → IsPlace words.new p ↔ (IsPlace words.old p × (first ≤ p)) }

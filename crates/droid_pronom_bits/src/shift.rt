@@ -1,10 +1,10 @@
-//! Rows of words whose bits are moved.
+//! Moves the bits of all words up.
 
 ghost use Rattle.std.specs.Prelude.{◌≡◌, ◌↔◌, ◌⊎◌, ◌<◌, ◌≤◌, ◌+◌, ◌*◌, ◌-◌, ℕ, length};
 ghost use Rattle.std.specs.Int.{bit_at};
 ghost use Rattle.droid_pronom_bits.specs.Places.{IsPlace, Moves};
 
-/// The word at this place of the words after they were moved by `whole` words and `part` bits.
+/// Returns the word that stands at `place` after all bits have moved up by `whole` words and `part` bits.
 #[inline(always)]
 fn moved(words: &[u64], place: usize, whole: usize, part: u32) -> u64
     requires inside { place < length words.now }
@@ -22,7 +22,7 @@ fn moved(words: &[u64], place: usize, whole: usize, part: u32) -> u64
     high | (words[place - whole - 1] >> (64 - part))
 }
 
-/// The same where words before it give it bits.
+/// Returns the same word as [`moved`], where its bits come from two words below it.
 #[inline(always)]
 fn joined(words: &[u64], place: usize, whole: usize, part: u32) -> u64
     requires inside { (whole < place) × (place < length words.now) }
@@ -33,7 +33,7 @@ fn joined(words: &[u64], place: usize, whole: usize, part: u32) -> u64
     (words[place - whole] << part) | (words[place - whole - 1] >> (64 - part))
 }
 
-/// How many words at the front don't take bits of two words before them.
+/// Returns the number of words at the front that don't take bits from two words below them.
 fn edge(len: usize, whole: usize, part: u32) -> usize
     ensures most { result ≤ len }
     ensures rest { result < len → (whole < result) × (0 < part) }
@@ -44,7 +44,7 @@ fn edge(len: usize, whole: usize, part: u32) -> usize
     len.min(whole.saturating_add(1))
 }
 
-/// Moves each place by `count`; what comes to lie past the last word is lost.
+/// Moves each place up by `count`. A place that would move past the last word is lost.
 pub(crate) fn advance(words: &mut [u64], count: usize)
     ensures len { length words.new ≡ length words.old }
     ensures moves { Moves words.old words.new count count }
@@ -60,7 +60,7 @@ pub(crate) fn advance(words: &mut [u64], count: usize)
     }
 }
 
-/// Adds the place that lies `count` behind, for each place; what comes to lie past the last word is lost.
+/// Adds, for each place, the one that lies `count` above it. A place past the last word is not added.
 fn spread(words: &mut [u64], count: usize)
     ensures len { length words.new ≡ length words.old }
     ensures adds { (q : ℕ) → IsPlace words.new q ↔ (IsPlace words.old q ⊎ ((q < 64 * length words.old) × (count ≤ q) × IsPlace words.old (q - count))) }
@@ -76,7 +76,8 @@ fn spread(words: &mut [u64], count: usize)
     }
 }
 
-/// Adds all places that lie at most `most` behind a place, in a number of rounds that goes by the logarithm of `most`.
+/// Adds all places that lie at most `most` above one of the set. The number of rounds grows with the logarithm of
+/// `most`.
 pub(crate) fn widen(words: &mut [u64], most: usize)
     ensures len { length words.new ≡ length words.old }
     ensures moves { Moves words.old words.new 0 most }

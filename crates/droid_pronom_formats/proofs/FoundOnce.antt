@@ -3,7 +3,7 @@ use Rattle.std.proofs.Common.{◌≡◌, ◌⊎◌, ◌↔◌, ℕ, suc, Bool, t
 use Rattle.droid_frame.specs.types.method.Method.{Method}
 use Rattle.droid_pronom_formats.specs.Found.{extension_of, IsLeft, IsNamed, IsMismatch, IsFoundBy, Chosen, end, chosen, passed}
 use Rattle.droid_pronom_formats.specs.Registry.{Contents}
-use Rattle.droid_pronom_formats.specs.declared.found.Found.{Found}
+use Rattle.droid_pronom_formats.specs.declared.identification.Found.{Found}
 use Rattle.droid_pronom_formats.specs.declared.format.Format.{Format}
 use Rattle.droid_pronom_formats.specs.declared.rows.ByteSequence.{ByteSequence}
 

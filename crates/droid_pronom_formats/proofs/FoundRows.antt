@@ -8,7 +8,7 @@ use Rattle.droid_pronom_formats.specs.declared.format.Format.{Format}
 use Rattle.droid_pronom_formats.specs.declared.rows.Anchor.{Anchor}
 use Rattle.droid_pronom_formats.specs.declared.rows.Anchor.TheVariants.{Bof, Eof}
 use Rattle.droid_pronom_formats.specs.declared.rows.ByteSequence.{ByteSequence}
-use Rattle.droid_pronom_formats.specs.declared.found.Found.{Found}
+use Rattle.droid_pronom_formats.specs.declared.identification.Found.{Found}
 
 abbrev format : List ℕ → Format
 format puid = record { puid = puid; name = codes "A"; version = []; mime = [] }

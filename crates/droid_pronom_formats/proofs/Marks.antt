@@ -1,7 +1,7 @@
 -- Flags that are set one after another, for the rows of a table.
 use Rattle.std.proofs.Common.{◌≡◌, ◌⊎◌, ℕ, ◌<◌, Bool, true, false, List, [], ◌∷◌, length, inl, inr, set, replicate}
 use Rattle.droid_pronom_formats.specs.Registry.{AnyOf}
-use Rattle.droid_pronom_formats.specs.FoundWindows.{Stands, Tell}
+use Rattle.droid_pronom_formats.specs.FoundWindows.{Stands, AreFlagsOf}
 use Rattle.droid_pronom_formats.proofs.Flags.{set_here, set_keeps, set_only, unset}
 
 -- T holds of the places whose flags are set, or of which a row that is left says Q
@@ -13,7 +13,7 @@ pub record Marks {X : Type 0} (Q : ℕ → X → Type 0) (flags : List Bool) (le
 pub marks_start : {X : Type 0} (Q : ℕ → X → Type 0) (n : ℕ) (xs : List X) → Marks Q (replicate n false) xs (λ k. AnyOf (Q k) xs)
 marks_start Q n xs = record { to = λ k t. inr t; from_flag = λ k s. absurd (unset n k s); from_row = λ k a. a }
 
-pub marks_end : {X : Type 0} (Q : ℕ → X → Type 0) (flags : List Bool) (T : ℕ → Type 0) → Marks Q flags [] T → Tell flags T
+pub marks_end : {X : Type 0} (Q : ℕ → X → Type 0) (flags : List Bool) (T : ℕ → Type 0) → Marks Q flags [] T → AreFlagsOf flags T
 marks_end Q flags T m k = (λ s. m.from_flag k s, λ t. elim (m.to k t) [ inl s ↦ s | inr a ↦ absurd a ])
 
 -- the row says Q of this place and no other, and its flag is set

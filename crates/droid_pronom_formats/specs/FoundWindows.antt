@@ -1,4 +1,4 @@
--- How a file is identified from its first and last bytes: what the steps tell of each format.
+-- For proofs: how a file is identified from its first and last bytes, and the flags that the steps return for each format.
 use Rattle.std.specs.Prelude.{◌≡◌, ◌↔◌, ℕ, Bool, true, not, ◌&&◌, List, [], ◌∷◌, Some, slice_get}
 use Rattle.droid_pronom_pattern.specs.Patterns.{BeginsWithin, EndsWithin}
 use Rattle.droid_pronom_formats.specs.declared.rows.Anchor.{Anchor}
@@ -17,11 +17,11 @@ HitsWindows first last sequence = HitsWindowsFrom sequence.offsets.anchor first 
 abbrev pub Stands : List Bool → ℕ → Type 0
 Stands flags k = slice_get flags k ≡ Some true
 
--- the flags that are set are those at the places of which P holds
-abbrev pub Tell : List Bool → (ℕ → Type 0) → Type 0
-Tell flags P = (k : ℕ) → Stands flags k ↔ P k
+-- the flags that are set are those whose places satisfy P
+abbrev pub AreFlagsOf : List Bool → (ℕ → Type 0) → Type 0
+AreFlagsOf flags P = (k : ℕ) → Stands flags k ↔ P k
 
--- which flags of the first list stand where that of the second does not
+-- each flag of the first list, unless the second list has a flag at its place
 abbrev pub without : List Bool → List Bool → List Bool
 without [] other = []
 without (flag ∷ flags) [] = []

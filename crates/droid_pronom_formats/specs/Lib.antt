@@ -1,8 +1,8 @@
--- What a registry says, and the forms of its fields.
+-- The contents of a registry, and the texts that its fields may have.
 pub mod Registry
 pub mod RegistryFields
--- What is found in a file: as a relation, and as a function that computes.
+-- What is found in a file: as a relation, and as a function that can be computed.
 pub mod Found
 pub mod Finding
--- What the steps of identification promise each other.
+-- For proofs: what the steps of identification promise each other.
 pub mod FoundWindows

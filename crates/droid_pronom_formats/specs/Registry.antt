@@ -1,4 +1,4 @@
--- What a registry says: formats, and rows about them. A row names a format by its place, counted from 0.
+-- The contents of a registry: formats, and rows about them. A row names a format by its place, counted from 0.
 use Rattle.std.specs.Prelude.{◌≡◌, ℕ, ◌+◌, ◌<◌, ◌≤◌, IsTrue, List, [], ◌∷◌, length, Option, Some, None, option_map, slice_get, if◌then◌else◌, ◌⊎◌}
 use Rattle.std.specs.List.{AllByRecursion}
 use Rattle.std.specs.Str.{bytes_eq}
@@ -8,7 +8,7 @@ use Rattle.droid_pronom_formats.specs.declared.rows.ListedExtension.{ListedExten
 use Rattle.droid_pronom_formats.specs.declared.rows.Priority.{Priority}
 use Rattle.droid_pronom_formats.specs.declared.rows.ByteSequence.{ByteSequence}
 
--- a signature of the format at a place: it hits where all of its byte sequences do
+-- a signature of the format at a place: it hits if all of its byte sequences hit
 pub record Signed : Type 0 where
   pub place : ℕ
   pub sequences : List ByteSequence
@@ -20,11 +20,11 @@ pub record Contents : Type 0 where
   pub priorities : List Priority
   pub signatures : List Signed
 
--- a registry that says nothing
+-- the empty registry
 abbrev pub nothing : Contents
 nothing = record { formats = []; extensions = []; priorities = []; signatures = [] }
 
--- some item of the list meets P
+-- at least one item of the list satisfies P
 abbrev pub AnyOf : {X : Type 0} → (X → Type 0) → List X → Type 0
 AnyOf P [] = ⊥
 AnyOf P (x ∷ xs) = P x ⊎ AnyOf P xs
@@ -38,15 +38,15 @@ place_of puid (format ∷ formats) = if bytes_eq puid format.puid then Some 0 el
 abbrev pub IsSigned : Contents → ℕ → Type 0
 IsSigned registry k = AnyOf (λ signature. signature.place ≡ k) registry.signatures
 
--- what every registry keeps
+-- what holds of every registry
 pub record IsRegistry (registry : Contents) : Type 0 where
   -- at most 4,096 formats
   pub few : length registry.formats ≤ 4096
-  -- each with a PUID of the stated form and length
+  -- each format has a valid PUID
   pub named : AllByRecursion (λ format. IsTrue (is_puid format.puid)) registry.formats
-  -- no two of them the same: each format is the first one with its PUID
+  -- no two formats have one PUID: each format is the first with its PUID
   pub distinct : (k : ℕ) (format : Format) → slice_get registry.formats k ≡ Some format → place_of format.puid registry.formats ≡ Some k
-  -- each row is about a format that is there
+  -- each row is about a format of the registry
   pub extensions : AllByRecursion (λ row. row.place < length registry.formats) registry.extensions
   pub priorities : AllByRecursion (λ row. (row.place < length registry.formats) × (row.over < length registry.formats)) registry.priorities
   pub signatures : AllByRecursion (λ row. row.place < length registry.formats) registry.signatures

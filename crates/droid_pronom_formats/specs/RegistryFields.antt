@@ -1,4 +1,4 @@
--- What the fields of a registry file's records may be (this project's own).
+-- Which texts the fields of a registry file's records may have (this project's own rules).
 use Rattle.std.specs.Prelude.{ℕ, Bool, ◌==◌, ◌&&◌, ◌||◌, not, nat_le, List, length, Option, Some, None, codes, if◌then◌else◌}
 use Rattle.std.specs.Char.{is_ascii_alphanumeric, is_ascii_digit}
 use Rattle.std.specs.List.{list_all}
@@ -8,7 +8,7 @@ use Rattle.droid_pronom_formats.specs.declared.rows.Anchor.{Anchor}
 use Rattle.droid_pronom_formats.specs.declared.rows.Anchor.TheVariants.{Bof, Eof}
 use Rattle.droid_pronom_formats.specs.declared.rows.Offsets.{Offsets}
 
--- the text has from so many to so many bytes
+-- the text has from `least` to `most` bytes
 abbrev pub has_bytes : ℕ → ℕ → List ℕ → Bool
 has_bytes least most text = nat_le least (length text) && nat_le (length text) most
 
@@ -28,7 +28,7 @@ is_name text = has_bytes 1 255 text
 abbrev pub is_note : List ℕ → Bool
 is_note text = nat_le (length text) 255
 
--- neither `.` nor `/`
+-- any byte but `.` and `/`
 abbrev pub is_extension_byte : ℕ → Bool
 is_extension_byte c = not (c == 46) && not (c == 47)
 
@@ -40,7 +40,7 @@ is_extension text = has_bytes 1 64 text && list_all is_extension_byte text
 abbrev pub is_empty : List ℕ → Bool
 is_empty text = length text == 0
 
--- what 1 to 5 decimal digits stand for, at most 65,535
+-- the number that 1 to 5 decimal digits stand for, at most 65,535
 abbrev pub number_of : List ℕ → Option ℕ
 number_of text =
     if has_bytes 1 5 text && list_all is_ascii_digit text && nat_le (digits_value 10 text) 65535

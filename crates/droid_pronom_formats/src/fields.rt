@@ -1,4 +1,4 @@
-//! The forms of a record's fields.
+//! Checks and reads single fields of a registry file's records.
 
 ghost use Rattle.std.specs.Prelude.{◌≡◌};
 ghost use Rattle.std.specs.Char.{is_ascii_digit};
@@ -7,7 +7,7 @@ ghost use Rattle.droid_pronom_formats.specs.RegistryFields as field;
 
 use crate::rows::{Anchor, Offsets};
 
-/// Whether the text is a PUID: 1 to 32 ASCII letters, digits, `/` and `-`.
+/// Returns whether the text is a PUID: 1 to 32 ASCII letters, digits, `/` and `-`.
 pub fn is_puid(text: &str) -> bool
     ensures { result ≡ field.is_puid text.now }
 {
@@ -27,21 +27,21 @@ fn has_bytes(text: &str, least: usize, most: usize) -> bool
     least <= text.len() && text.len() <= most
 }
 
-/// Whether the text may be a format's name: 1 to 255 bytes.
+/// Returns whether the text may be a format's name: 1 to 255 bytes.
 pub(crate) fn is_name(text: &str) -> bool
     ensures { result ≡ field.is_name text.now }
 {
     has_bytes(text, 1, 255)
 }
 
-/// Whether the text may be a version or a media type: at most 255 bytes.
+/// Returns whether the text may be a version or a media type: at most 255 bytes.
 pub(crate) fn is_note(text: &str) -> bool
     ensures { result ≡ field.is_note text.now }
 {
     text.len() <= 255
 }
 
-/// Whether the text is an extension: 1 to 64 bytes, none of them a dot or a slash.
+/// Returns whether the text is an extension: 1 to 64 bytes, none of them a dot or a slash.
 pub(crate) fn is_extension(text: &str) -> bool
     ensures { result ≡ field.is_extension text.now }
 {
@@ -54,7 +54,7 @@ fn are_extension_bytes(text: &str) -> bool
     text.bytes().all(|c| c != b'.' && c != b'/')
 }
 
-/// The number that 1 to 5 decimal digits stand for, where it is at most 65,535.
+/// Reads a number of 1 to 5 decimal digits, at most 65,535.
 pub(crate) fn number_of(text: &str) -> Option<u16>
     ensures { result ≡ field.number_of text.now }
 {
@@ -71,7 +71,7 @@ fn are_digits(text: &str) -> bool
     text.bytes().all(|c| c.is_ascii_digit())
 }
 
-/// The anchor of a byte sequence.
+/// Reads the anchor of a byte sequence: `BOF` or `EOF`.
 pub(crate) fn anchor_of(text: &str) -> Option<Anchor>
     ensures { result ≡ field.anchor_of text.now }
 {
@@ -84,7 +84,7 @@ pub(crate) fn anchor_of(text: &str) -> Option<Anchor>
     }
 }
 
-/// Where a byte sequence may stand, by three fields.
+/// Reads the three fields that say where a byte sequence may match. `min` must not exceed `max`.
 pub fn offsets_of(anchor: &str, min: &str, max: &str) -> Option<Offsets>
     ensures { result ≡ field.offsets_of anchor.now min.now max.now }
 {

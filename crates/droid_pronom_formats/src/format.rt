@@ -1,16 +1,16 @@
-//! A format of the registry.
+//! A format of a registry.
 
 use droid_frame::Text;
 
-/// A format, as its record in the registry file gives it.
+/// A format, with the texts of its record in the registry file.
 #[derive(Debug, Drop)]
 pub struct Format {
-    /// PRONOM's persistent unique identifier, as `fmt/95`: 1 to 32 ASCII letters, digits, `/` and `-`.
+    /// PRONOM's persistent unique identifier, such as `fmt/95`: 1 to 32 ASCII letters, digits, `/` and `-`.
     pub puid: Text,
-    /// The name, which isn't empty. Each of the three texts has at most 255 bytes.
+    /// The name, 1 to 255 bytes.
     pub name: Text,
-    /// The version, or nothing.
+    /// The version, at most 255 bytes. It may be empty.
     pub version: Text,
-    /// The media type, or nothing.
+    /// The media type, at most 255 bytes. It may be empty.
     pub mime: Text,
 }

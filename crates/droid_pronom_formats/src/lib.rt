@@ -1,26 +1,27 @@
-//! File formats, what a registry says of each, and the steps of identification.
+//! File formats: the rows of a registry, the rules for its fields, and the steps of identification over plain slices.
 //!
-//! `droid_pronom` reads a registry and identifies files by it, and gives `Format`, `Found`, `extension`
-//! and the laws of this crate under its own name.
+//! This crate defines what a registry is and which formats a file has. It knows no registry file and keeps no
+//! registry: `droid_pronom` does both, calls these steps, and passes on `Format`, `Found`, `extension` and the laws
+//! under its own name. Use `droid_pronom`.
 #![tactic(auto)]
 
 mod fields;
 mod format;
-mod found;
-mod identify;
+mod identification;
 pub mod laws;
-mod lower;
+mod letter_case;
 mod record_forms;
 mod rows;
+mod steps;
 
 pub use fields::{is_puid, offsets_of};
 pub use format::Format;
-pub use found::Found;
-pub use identify::chosen::puids_of;
-pub use identify::extension::extension;
-pub use identify::hits::hit_formats;
-pub use identify::left::{beaten_formats, unbeaten};
-pub use identify::named::{is_mismatch, named_formats};
-pub use lower::lower_case;
+pub use identification::Found;
+pub use letter_case::lower_case;
 pub use record_forms::{is_format, is_listing, is_priority};
 pub use rows::{Anchor, ByteSequence, ListedExtension, Offsets, Priority, Signature};
+pub use steps::extension::extension;
+pub use steps::hits::hit_formats;
+pub use steps::listings::{is_mismatch, named_formats};
+pub use steps::priority::{beaten_formats, unbeaten};
+pub use steps::puids::puids_of;

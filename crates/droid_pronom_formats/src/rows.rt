@@ -1,4 +1,4 @@
-//! What a registry says of its formats. A row names a format by its place, counted from 0.
+//! The rows of a registry's tables. A row names a format by its place in the registry, counted from 0.
 
 ghost use Rattle.std.specs.Prelude.{◌≡◌, ◌++◌, ◌∷◌, [], IfOk, OnOk, OnErr};
 
@@ -7,30 +7,30 @@ use droid_pronom_pattern::Pattern;
 use std::alloc::{AllocError, Global};
 use std::marker::Model;
 
-/// A format lists an extension, which is kept in lower case.
+/// An extension that a format lists, in lower case.
 #[derive(Debug, Drop)]
 pub struct ListedExtension {
     pub place: u32,
     pub extension: Text,
 }
 
-/// A format has priority over another.
+/// The format at `place` has priority over the one at `over`.
 #[derive(Clone, Copy, Debug)]
 pub struct Priority {
     pub place: u32,
     pub over: u32,
 }
 
-/// The end of a file from which offsets count.
+/// The end of a file from which the offsets of a byte sequence count.
 #[derive(Clone, Copy, Debug, PartialEq, Eq)]
 pub enum Anchor {
-    /// The beginning: from the first byte of the file to the first byte of the match.
+    /// The beginning: the offset is the number of bytes before the match.
     Bof,
-    /// The end: from the last byte of the match to the end of the file.
+    /// The end: the offset is the number of bytes after the match.
     Eof,
 }
 
-/// Where a byte sequence may stand: at an offset from `min` to `max` from the anchor.
+/// The offsets at which a byte sequence may match: from `min` to `max`, both included.
 #[derive(Clone, Copy, Debug)]
 pub struct Offsets {
     pub anchor: Anchor,
@@ -38,14 +38,14 @@ pub struct Offsets {
     pub max: u16,
 }
 
-/// A pattern, and where it may stand.
+/// A byte sequence: a pattern and the offsets at which it may match.
 #[derive(Debug, Drop)]
 pub struct ByteSequence {
     pub offsets: Offsets,
     pub pattern: Pattern,
 }
 
-/// A signature of a format: it hits where all of its byte sequences do.
+/// A signature of a format. It hits if all of its byte sequences hit.
 #[derive(Debug, Drop)]
 pub struct Signature {
     place: u32,
@@ -61,7 +61,7 @@ impl Model for Signature {
 }
 
 impl Signature {
-    /// A signature with its first byte sequence. Only want of memory refuses it.
+    /// Makes a signature with its first byte sequence. Fails only if memory runs out.
     pub fn new(alloc: Global, place: u32, first: ByteSequence) -> Result<Signature, AllocError>
         ensures { IfOk result (λ signature. signature ≡ record { place = place; sequences = first ∷ [] }) }
     {
@@ -70,7 +70,7 @@ impl Signature {
         Ok(Signature { place, sequences })
     }
 
-    /// Adds a byte sequence. Only want of memory refuses it, and the signature is then as it was.
+    /// Adds a byte sequence. Fails only if memory runs out, and then leaves the signature as it was.
     pub fn push(&mut self, sequence: ByteSequence) -> Result<(), AllocError>
         ensures ok { OnOk result (self.new ≡ record self.old { sequences = self.old.sequences ++ sequence ∷ [] }) }
         ensures err { OnErr result (self.new ≡ self.old) }
@@ -79,14 +79,14 @@ impl Signature {
         Ok(())
     }
 
-    /// The place of the format that the signature is of.
+    /// Returns the place of the signature's format.
     pub fn place(&self) -> u32
         ensures { result ≡ self.now.place }
     {
         self.place
     }
 
-    /// The byte sequences, all of which have to hit.
+    /// Returns the byte sequences, all of which have to hit.
     pub fn sequences(&self) -> &[ByteSequence]
         ensures { result.now ≡ self.now.sequences }
     {

@@ -2,8 +2,8 @@
 use Rattle.std.proofs.Common.{◌≡◌, Result, Err, sym, ap, ◌∙◌}
 use Rattle.std.specs.Result.{IsErrAnd, IsErrOf}
 use Rattle.std.proofs.lemmas.Result.{err_from_is_err_and}
-use Rattle.droid_pronom_pattern.specs.declared.fault.PatternFault.{PatternFault}
-use Rattle.droid_pronom_pattern.specs.declared.fault.PatternFault.TheVariants.{BadPattern}
+use Rattle.droid_pronom_pattern.specs.declared.pattern_fault.PatternFault.{PatternFault}
+use Rattle.droid_pronom_pattern.specs.declared.pattern_fault.PatternFault.TheVariants.{BadPattern}
 
 -- what is answered as BadPattern was one before
 pub passed_on : {T U : Type 0} (r : Result T PatternFault) (f : PatternFault) → IsErrAnd r (λ y. y ≡ f) → IsErrOf r BadPattern → IsErrOf {T = U} (Err f) BadPattern

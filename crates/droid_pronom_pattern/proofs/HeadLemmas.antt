@@ -4,7 +4,7 @@ use Rattle.std.specs.Prelude.{IsTrue, IfSome, is_some, not}
 use Rattle.std.proofs.lemmas.Bool.{false≢true}
 use Rattle.std.proofs.lemmas.List.{get_or-take, get_or-drop}
 use Rattle.memchr.specs.Find.{IsFirstByte}
-use Rattle.droid_pronom_pattern.specs.declared.toward.Toward.TheVariants as toward
+use Rattle.droid_pronom_pattern.specs.declared.direction.Direction.TheVariants as direction
 use Rattle.droid_pronom_pattern.specs.declared.class.Class.{Class}
 use Rattle.droid_pronom_pattern.specs.Patterns.{Element, BeginsWithin}
 use Rattle.droid_pronom_pattern.specs.Tokens.{accepts, element_of_class}
@@ -30,8 +30,8 @@ not_found test hay (Some j) none e is first k below passes = absurd (false≢tru
 pub class_at : (class : Class) (bytes : List ℕ) (p : ℕ) (b : Bool) → (IsTrue b ↔ ((p < length bytes) × (accepts class (get_or bytes p 0) ≡ true)))
     → (q : ℕ) → Leads (element_of_class class) bytes p q ↔ (IsTrue b × (q ≡ p + 1))
 class_at class bytes p b says q = (
-  λ h. let (s, inside, from, passes, to) = (class_steps toward.End class bytes p q).0 h in (says.1 (omega arith, rw (← from) at passes), omega arith),
-  λ (is, to). let w = says.0 is in (class_steps toward.End class bytes p q).1 (p, (let near = w.0 in omega arith), refl, w.1, to),
+  λ h. let (s, inside, from, passes, to) = (class_steps direction.End class bytes p q).0 h in (says.1 (omega arith, rw (← from) at passes), omega arith),
+  λ (is, to). let w = says.0 is in (class_steps direction.End class bytes p q).1 (p, (let near = w.0 in omega arith), refl, w.1, to),
 )
 
 -- an element fails

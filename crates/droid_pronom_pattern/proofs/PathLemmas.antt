@@ -2,8 +2,8 @@
 use Rattle.std.proofs.Common.{◌≡◌, ◌↔◌, ℕ, ◌+◌, ◌-◌, ◌<◌, ◌≤◌, min, Bool, true, false, not, get_or, List, [], ◌∷◌, ◌++◌, length, take, drop, refl, sym, ap, ◌∙◌, arith, take-add, drop-drop, take_at, drop_at, take-take, length-append, length-take, length-drop}
 use Rattle.std.proofs.lemmas.List.{drop-take, drop_more, take_rest, take_more, take_all}
 use Rattle.std.proofs.lemmas.Bool.{not-true, not_from_false, false_from_ne_true}
-use Rattle.droid_pronom_pattern.specs.declared.toward.Toward.{Toward}
-use Rattle.droid_pronom_pattern.specs.declared.toward.Toward.TheVariants as toward
+use Rattle.droid_pronom_pattern.specs.declared.direction.Direction.{Direction}
+use Rattle.droid_pronom_pattern.specs.declared.direction.Direction.TheVariants as direction
 use Rattle.droid_pronom_pattern.specs.Patterns.{Element, Lang, BeginsWithin, EndsWithin, MatchesTo}
 use Rattle.droid_pronom_pattern.specs.Positions.{Path, Reaches, IsAt, IsInside, place_of}
 use Rattle.droid_pronom_bits.specs.Places.{IsPlace}
@@ -79,7 +79,7 @@ begins_from es bytes low high starts says = (
 -- one step on
 pub begins_more : {B : Type 0} (e : Element) (es : List Element) (bytes : List ℕ) (from to : ℕ → Type 0)
     → (B ↔ ((p : ℕ) × from p × ((q : ℕ) × Path (e ∷ es) bytes p q)))
-    → Reaches toward.End e bytes from to
+    → Reaches direction.End e bytes from to
     → B ↔ ((p : ℕ) × to p × ((q : ℕ) × Path es bytes p q))
 begins_more e es bytes from to so_far step = (
   λ b. let (p, position, (q, (r, leads, path))) = so_far.0 b in (r, (step r).1 (p, position, leads), (q, path)),
@@ -112,10 +112,10 @@ ends_from es bytes low high ends says = (
       },
 )
 
--- one step on, toward the start
+-- one more step toward the start
 pub ends_more : {B : Type 0} (e : Element) (es : List Element) (bytes : List ℕ) (from to : ℕ → Type 0)
     → (B ↔ ((q : ℕ) × from q × ((p : ℕ) × (p ≤ length bytes) × Path (es ++ e ∷ []) bytes p q)))
-    → Reaches toward.Start e bytes from to
+    → Reaches direction.Start e bytes from to
     → B ↔ ((q : ℕ) × to q × ((p : ℕ) × (p ≤ length bytes) × Path es bytes p q))
 ends_more e es bytes from to so_far step = (
   λ b.
@@ -146,13 +146,13 @@ ends_last bytes positions empty none some inside so_far = (
   λ b. let (q, position, more) = so_far.0 b in not_from_false empty (false_from_ne_true empty (λ e. none e q position)),
 )
 
--- a row inside the bytes has a place exactly where it has a position
-pub at_none : (way : Toward) (bytes row : List ℕ) → ((p : ℕ) → IsPlace row p → ⊥) → (p : ℕ) → IsAt way bytes row p → ⊥
-at_none way bytes row none p (near, place) = none (place_of way (length bytes) p) place
+-- a bit set inside the bytes has a place exactly where it has a position
+pub at_none : (way : Direction) (bytes bits : List ℕ) → ((p : ℕ) → IsPlace bits p → ⊥) → (p : ℕ) → IsAt way bytes bits p → ⊥
+at_none way bytes bits none p (near, place) = none (place_of way (length bytes) p) place
 
-pub at_some : (way : Toward) (bytes row : List ℕ) → IsInside bytes row → ((p : ℕ) × IsPlace row p) → (p : ℕ) × IsAt way bytes row p
-at_some toward.End bytes row inside (p, place) = (p, (inside p place, place))
-at_some toward.Start bytes row inside (p, place) =
+pub at_some : (way : Direction) (bytes bits : List ℕ) → IsInside bytes bits → ((p : ℕ) × IsPlace bits p) → (p : ℕ) × IsAt way bytes bits p
+at_some direction.End bytes bits inside (p, place) = (p, (inside p place, place))
+at_some direction.Start bytes bits inside (p, place) =
     let near = inside p place in
     let back : length bytes - (length bytes - p) ≡ p = omega arith in
     (length bytes - p, (omega arith, rw back place))
@@ -178,7 +178,7 @@ rest_and_last xs x some read =
     let all : length xs - 1 + 1 ≡ length xs = omega arith in
     sym (take_all (length xs) xs (omega arith)) ∙ ap (λ n. take n xs) (sym all) ∙ take_more xs (length xs - 1) x (omega arith) ∙ ap (λ y. take (length xs - 1) xs ++ y ∷ []) (sym read)
 
-pub reached_inside : (e : Element) (bytes : List ℕ) (from to : ℕ → Type 0) → Reaches toward.Start e bytes from to → (q : ℕ) → to q → q ≤ length bytes
+pub reached_inside : (e : Element) (bytes : List ℕ) (from to : ℕ → Type 0) → Reaches direction.Start e bytes from to → (q : ℕ) → to q → q ≤ length bytes
 reached_inside e bytes from to step q position = let (p, before, leads) = (step q).0 position in omega (arith, leads.ordered, leads.inside)
 
 -- what stands before a position of the first bytes is what stands before it in all

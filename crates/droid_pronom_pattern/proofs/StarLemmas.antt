@@ -1,4 +1,4 @@
--- Stars beside one another: what is kept of them, and what they lead to.
+-- Stars in a row: their cell, and the positions that they lead to.
 use Rattle.std.proofs.Common.{◌≡◌, ◌↔◌, ℕ, zero, suc, ◌+◌, ◌≤◌, get_or, set, replicate, List, [], ◌∷◌, ◌++◌, length, take, map, sym, ap, ◌∙◌, arith, append_assoc, length-take}
 use Rattle.std.proofs.Math.Seq.{set-append_seam}
 use Rattle.std.proofs.lemmas.List.{map-append, flat_map_more, replicate-append-replicate, take_all, take_more}
@@ -7,7 +7,7 @@ use Rattle.std.specs.List.{flat_map}
 use Rattle.droid_pronom_pattern.specs.declared.cell.Cell.{Cell}
 use Rattle.droid_pronom_pattern.specs.declared.cell.Cell.TheVariants as cells
 use Rattle.droid_pronom_pattern.specs.declared.token.Token.{Token}
-use Rattle.droid_pronom_pattern.specs.declared.toward.Toward.TheVariants as toward
+use Rattle.droid_pronom_pattern.specs.declared.direction.Direction.TheVariants as direction
 use Rattle.droid_pronom_pattern.specs.Tokens.{element_of}
 use Rattle.droid_pronom_pattern.specs.Patterns.{Element, OpenGap}
 use Rattle.droid_pronom_pattern.specs.Positions.{Leads, Path, Reaches}
@@ -90,7 +90,7 @@ told_cell {B} pool left here rest bytes p first so_far =
 -- and at one of several
 pub begins_cell : {B : Type 0} (pool : List ℕ) (left : List Cell) (here : Cell) (rest : List Cell) (bytes : List ℕ) (from to : ℕ → Type 0) → left ≡ here ∷ rest
     → (B ↔ ((p : ℕ) × from p × ((q : ℕ) × Path (flat_map (elements_at pool) left) bytes p q)))
-    → Reaches toward.End (element_at pool here) bytes from to
+    → Reaches direction.End (element_at pool here) bytes from to
     → B ↔ ((p : ℕ) × to p × ((q : ℕ) × Path (flat_map (elements_at pool) rest) bytes p q))
 begins_cell {B} pool left here rest bytes from to first so_far step =
     let es = flat_map (elements_at pool) rest in
@@ -115,10 +115,10 @@ last_path pool before here bytes p q =
           rw whole ((Path-append es (elements_at pool here ++ []) bytes p q).1 (r, one, (cell_path pool here [] bytes r q).1 other)),
     )
 
--- the last cell of what is left, toward the start
+-- the last of the remaining cells, toward the start
 pub ends_cell : {B : Type 0} (pool : List ℕ) (left before : List Cell) (here : Cell) (bytes : List ℕ) (from to : ℕ → Type 0) → left ≡ before ++ here ∷ []
     → (B ↔ ((q : ℕ) × from q × ((p : ℕ) × (p ≤ length bytes) × Path (flat_map (elements_at pool) left) bytes p q)))
-    → Reaches toward.Start (element_at pool here) bytes from to
+    → Reaches direction.Start (element_at pool here) bytes from to
     → B ↔ ((q : ℕ) × to q × ((p : ℕ) × (p ≤ length bytes) × Path (flat_map (elements_at pool) before) bytes p q))
 ends_cell {B} pool left before here bytes from to last so_far step =
     let es = flat_map (elements_at pool) before in

@@ -6,8 +6,8 @@ use Rattle.droid_pronom_bits.proofs.BitLemmas.{place_below}
 use Rattle.std.proofs.lemmas.List.Elements.{Contains-append_left, Contains-append_right, Contains-append_cases}
 use Rattle.memchr.specs.Find.{OccursAt}
 use Rattle.memchr.proofs.lemmas.MatchLemmas.{OccursAt-part, OccursAt-from_part}
-use Rattle.droid_pronom_pattern.specs.declared.toward.Toward.{Toward}
-use Rattle.droid_pronom_pattern.specs.declared.toward.Toward.TheVariants as toward
+use Rattle.droid_pronom_pattern.specs.declared.direction.Direction.{Direction}
+use Rattle.droid_pronom_pattern.specs.declared.direction.Direction.TheVariants as direction
 use Rattle.droid_pronom_pattern.specs.declared.class.Class.{Class}
 use Rattle.droid_pronom_pattern.specs.declared.class.Class.TheVariants as classes
 use Rattle.droid_pronom_pattern.specs.Patterns.{Element, Choice, Gap, OpenGap, AnyByte}
@@ -72,37 +72,37 @@ literal_leads literal bytes p h =
     record { ordered = omega arith; inside = omega arith; matched = (0, omega arith, rw (gone, OccursAt-part bytes literal p h) refl) }
 
 -- where a step over so many bytes begins, if the first of them has this position
-abbrev pub origin : Toward → ℕ → ℕ → ℕ
-origin toward.End width s = s
-origin toward.Start width s = s + width
+abbrev pub origin : Direction → ℕ → ℕ → ℕ
+origin direction.End width s = s
+origin direction.Start width s = s + width
 
 -- how far that step leads from the position of the first of the bytes
-abbrev pub shift_of : Toward → ℕ → ℕ
-shift_of toward.End width = width
-shift_of toward.Start width = 0
+abbrev pub shift_of : Direction → ℕ → ℕ
+shift_of direction.End width = width
+shift_of direction.Start width = 0
 
 -- A step over so many bytes, of which the first has the position s and passes T.
-abbrev pub FixedStep : Toward → (ℕ → Type 0) → ℕ → ℕ → ℕ → ℕ → Type 0
+abbrev pub FixedStep : Direction → (ℕ → Type 0) → ℕ → ℕ → ℕ → ℕ → Type 0
 FixedStep way T width len p q = (s : ℕ) × (s + width ≤ len) × (p ≡ origin way width s) × T s × (q ≡ s + shift_of way width)
 
-pub class_steps : (way : Toward) (class : Class) (bytes : List ℕ) (p q : ℕ)
+pub class_steps : (way : Direction) (class : Class) (bytes : List ℕ) (p q : ℕ)
     → Steps way (element_of_class class) bytes p q ↔ FixedStep way (λ s. accepts class (get_or bytes s 0) ≡ true) 1 (length bytes) p q
-class_steps toward.End class bytes p q = (
+class_steps direction.End class bytes p q = (
   λ h. let parts = leads_class class bytes p q h in (p, omega (arith, h.inside, parts.0), refl, parts.1, parts.0),
   λ (s, inside, from, passes, to). rw (from, to) (class_leads class bytes s inside passes),
 )
-class_steps toward.Start class bytes p q = (
+class_steps direction.Start class bytes p q = (
   λ h. let parts = leads_class class bytes q p h in (q, omega (arith, h.inside, parts.0), parts.0, parts.1, omega arith),
   λ (s, inside, from, passes, to). let here : q ≡ s = omega arith in rw (from, here) (class_leads class bytes s inside passes),
 )
 
-pub literal_steps : (way : Toward) (literal bytes : List ℕ) (p q : ℕ)
+pub literal_steps : (way : Direction) (literal bytes : List ℕ) (p q : ℕ)
     → Steps way (Choice (literal ∷ [])) bytes p q ↔ FixedStep way (OccursAt bytes literal) (length literal) (length bytes) p q
-literal_steps toward.End literal bytes p q = (
+literal_steps direction.End literal bytes p q = (
   λ h. let parts = leads_literal literal bytes p q h in (p, omega (arith, h.inside, parts.0), refl, parts.1, parts.0),
   λ (s, inside, from, occurs, to). rw (from, to) (literal_leads literal bytes s occurs),
 )
-literal_steps toward.Start literal bytes p q = (
+literal_steps direction.Start literal bytes p q = (
   λ h. let parts = leads_literal literal bytes q p h in (q, omega (arith, h.inside, parts.0), parts.0, parts.1, omega arith),
   λ (s, inside, from, occurs, to). let here : q ≡ s = omega arith in rw (from, here) (literal_leads literal bytes s occurs),
 )
@@ -118,13 +118,13 @@ leads_either xs ys bytes p q =
           (λ (b : Leads (Choice ys) bytes p q). record { ordered = b.ordered; inside = b.inside; matched = Contains-append_right xs ys part b.matched }) h,
     )
 
-choice_either : (way : Toward) (xs ys : List (List ℕ)) (bytes : List ℕ) (p q : ℕ)
+choice_either : (way : Direction) (xs ys : List (List ℕ)) (bytes : List ℕ) (p q : ℕ)
     → Steps way (Choice (xs ++ ys)) bytes p q ↔ (Steps way (Choice xs) bytes p q ⊎ Steps way (Choice ys) bytes p q)
-choice_either toward.End xs ys bytes p q = leads_either xs ys bytes p q
-choice_either toward.Start xs ys bytes p q = leads_either xs ys bytes q p
+choice_either direction.End xs ys bytes p q = leads_either xs ys bytes p q
+choice_either direction.Start xs ys bytes p q = leads_either xs ys bytes q p
 
 -- one more alternative
-pub choice_more : (way : Toward) (before : List (List ℕ)) (next : List ℕ) (bytes : List ℕ) (from to found new : ℕ → Type 0)
+pub choice_more : (way : Direction) (before : List (List ℕ)) (next : List ℕ) (bytes : List ℕ) (from to found new : ℕ → Type 0)
     → Reaches way (Choice before) bytes from to → Reaches way (Choice (next ∷ [])) bytes from found
     → ((q : ℕ) → new q ↔ (to q ⊎ found q))
     → Reaches way (Choice (before ++ next ∷ [])) bytes from new
@@ -137,26 +137,26 @@ choice_more way before next bytes from to found new so_far here both q =
     )
 
 -- what a step over one byte of a class leads to, in places
-pub one_reaches : (way : Toward) (class : Class) (bytes old new : List ℕ)
+pub one_reaches : (way : Direction) (class : Class) (bytes old new : List ℕ)
     → ((q : ℕ) → IsPlace new q ↔ ((p : ℕ) × IsPlace old p × (q ≡ p + 1) × (p < length bytes) × (accepts class (byte_behind way bytes p) ≡ true)))
     → Reaches way (element_of_class class) bytes (IsAt way bytes old) (IsAt way bytes new)
-one_reaches toward.End class bytes old new says q =
+one_reaches direction.End class bytes old new says q =
     let here = says q in (
       λ (near, h). let (p, place, next, inside, passes) = here.0 h in
-          (p, (omega arith, place), (class_steps toward.End class bytes p q).1 (p, omega arith, refl, passes, next)),
+          (p, (omega arith, place), (class_steps direction.End class bytes p q).1 (p, omega arith, refl, passes, next)),
       λ (p, (near, place), step).
-          let (s, inside, from, passes, to) = (class_steps toward.End class bytes p q).0 step in
+          let (s, inside, from, passes, to) = (class_steps direction.End class bytes p q).0 step in
           (omega arith, here.1 (p, place, omega arith, omega arith, rw (← from) at passes)),
     )
-one_reaches toward.Start class bytes old new says q =
+one_reaches direction.Start class bytes old new says q =
     let len = length bytes in (
       λ (near, h).
           let (i, place, next, inside, passes) = (says (len - q)).0 h in
           let back : len - (q + 1) ≡ i = omega arith in
           let same : len - 1 - i ≡ q = omega arith in
-          (q + 1, (omega arith, rw back place), (class_steps toward.Start class bytes (q + 1) q).1 (q, omega arith, refl, rw same at passes, omega arith)),
+          (q + 1, (omega arith, rw back place), (class_steps direction.Start class bytes (q + 1) q).1 (q, omega arith, refl, rw same at passes, omega arith)),
       λ (p, (near, place), step).
-          let (s, inside, from, passes, to) = (class_steps toward.Start class bytes p q).0 step in
+          let (s, inside, from, passes, to) = (class_steps direction.Start class bytes p q).0 step in
           let here : q ≡ s = omega arith in
           let byte : len - 1 - (len - p) ≡ s = omega arith in
           (omega arith, (says (len - q)).1 (len - p, place, omega arith, omega arith, rw byte passes)),
@@ -167,20 +167,20 @@ pub one_inside : (T : ℕ → Type 0) (bytes old new : List ℕ)
 one_inside T bytes old new says q h = let (p, place, next, inside, passes) = (says q).0 h in omega arith
 
 -- a gap leads over so many bytes
-pub Crosses : Toward → (least most len p q : ℕ) → Type 0
-Crosses toward.End least most len p q = (p + least ≤ q) × (q ≤ p + most) × (q ≤ len)
-Crosses toward.Start least most len p q = (q + least ≤ p) × (p ≤ q + most) × (p ≤ len)
+pub Crosses : Direction → (least most len p q : ℕ) → Type 0
+Crosses direction.End least most len p q = (p + least ≤ q) × (q ≤ p + most) × (q ≤ len)
+Crosses direction.Start least most len p q = (q + least ≤ p) × (p ≤ q + most) × (p ≤ len)
 
 -- what a gap leads to, in places
-pub gap_reaches : (way : Toward) (e : Element) (least most : ℕ) (bytes old new : List ℕ)
+pub gap_reaches : (way : Direction) (e : Element) (least most : ℕ) (bytes old new : List ℕ)
     → ((p q : ℕ) → p ≤ length bytes → q ≤ length bytes → Leads e bytes p q ↔ ((p + least ≤ q) × (q ≤ p + most)))
     → ((q : ℕ) → IsPlace new q ↔ ((q ≤ length bytes) × ((p : ℕ) × IsPlace old p × (p + least ≤ q) × (q ≤ p + most))))
     → Reaches way e bytes (IsAt way bytes old) (IsAt way bytes new)
-gap_reaches toward.End e least most bytes old new leads says q = (
+gap_reaches direction.End e least most bytes old new leads says q = (
   λ (near, h). let (far, (p, place, low, high)) = (says q).0 h in (p, (omega arith, place), (leads p q (omega arith) near).1 (low, high)),
   λ (p, (near, place), step). let inside = step.inside in let (low, high) = (leads p q near inside).0 step in (inside, (says q).1 (inside, (p, place, low, high))),
 )
-gap_reaches toward.Start e least most bytes old new leads says q =
+gap_reaches direction.Start e least most bytes old new leads says q =
     let len = length bytes in (
       λ (near, h).
           let (far, (i, place, low, high)) = (says (len - q)).0 h in
@@ -220,14 +220,14 @@ any_leads bytes p q near inside =
     )
 
 -- after no byte of a literal
-pub chain_none : (way : Toward) (bytes literal old : List ℕ) → IsChain way bytes literal 0 old old
+pub chain_none : (way : Direction) (bytes literal old : List ℕ) → IsChain way bytes literal 0 old old
 chain_none way bytes literal old q = (
   λ h. (q, h, omega arith, λ j below. absurd (omega arith)),
   λ (p, place, same, each). let here : q ≡ p = omega arith in rw here place,
 )
 
 -- after one more
-pub chain_more : (way : Toward) (bytes literal : List ℕ) (count wanted : ℕ) (old mid new : List ℕ) → wanted ≡ byte_behind way literal count
+pub chain_more : (way : Direction) (bytes literal : List ℕ) (count wanted : ℕ) (old mid new : List ℕ) → wanted ≡ byte_behind way literal count
     → ((q : ℕ) → IsPlace new q ↔ ((p : ℕ) × IsPlace mid p × (q ≡ p + 1) × (p < length bytes) × (accepts (classes.Byte wanted) (byte_behind way bytes p) ≡ true)))
     → IsChain way bytes literal count old mid → IsChain way bytes literal (count + 1) old new
 chain_more way bytes literal count wanted old mid new is one so_far q = (
@@ -248,7 +248,7 @@ chain_more way bytes literal count wanted old mid new is one so_far q = (
       (one q).1 (p + count, (so_far (p + count)).1 (p, place, refl, λ j below. each j (omega arith)), omega arith, last.0, eq-eqb _ _ (last.1 ∙ sym is)),
 )
 
-pub chain_inside : (way : Toward) (bytes literal : List ℕ) (count : ℕ) (old new : List ℕ) → IsInside bytes old → IsChain way bytes literal count old new → IsInside bytes new
+pub chain_inside : (way : Direction) (bytes literal : List ℕ) (count : ℕ) (old new : List ℕ) → IsInside bytes old → IsChain way bytes literal count old new → IsInside bytes new
 chain_inside way bytes literal count old new inside chain q h =
     let (p, place, far, each) = (chain q).0 h in
     elim (cases_lt 0 count) [
@@ -257,17 +257,17 @@ chain_inside way bytes literal count old new inside chain q h =
     ]
 
 -- what a run of bytes leads to, in places
-pub chain_reaches : (way : Toward) (bytes literal old new : List ℕ) → IsChain way bytes literal (length literal) old new
+pub chain_reaches : (way : Direction) (bytes literal old new : List ℕ) → IsChain way bytes literal (length literal) old new
     → Reaches way (Choice (literal ∷ [])) bytes (IsAt way bytes old) (IsAt way bytes new)
-chain_reaches toward.End bytes literal old new chain q = (
+chain_reaches direction.End bytes literal old new chain q = (
   λ (near, h).
       let (p, place, far, each) = (chain q).0 h in
-      (p, (omega arith, place), (literal_steps toward.End literal bytes p q).1 (p, omega arith, refl, record { fits = omega arith; reads = λ j below. (each j below).1 }, far)),
+      (p, (omega arith, place), (literal_steps direction.End literal bytes p q).1 (p, omega arith, refl, record { fits = omega arith; reads = λ j below. (each j below).1 }, far)),
   λ (p, (near, place), step).
-      let (s, inside, from, occurs, to) = (literal_steps toward.End literal bytes p q).0 step in
+      let (s, inside, from, occurs, to) = (literal_steps direction.End literal bytes p q).0 step in
       (omega arith, (chain q).1 (s, rw from at place, to, λ j below. (omega arith, occurs.reads j below))),
 )
-chain_reaches toward.Start bytes literal old new chain q =
+chain_reaches direction.Start bytes literal old new chain q =
     let len = length bytes in
     let n = length literal in (
       λ (near, h).
@@ -278,9 +278,9 @@ chain_reaches toward.Start bytes literal old new chain q =
           let byte : len - 1 - (i + (n - 1 - j)) ≡ q + j = omega arith in
           let letter : n - 1 - (n - 1 - j) ≡ j = omega arith in
           rw (byte, letter) at w in
-          (len - i, (omega arith, rw back place), (literal_steps toward.Start literal bytes (len - i) q).1 (q, omega arith, omega arith, record { fits = omega arith; reads = reads }, omega arith)),
+          (len - i, (omega arith, rw back place), (literal_steps direction.Start literal bytes (len - i) q).1 (q, omega arith, omega arith, record { fits = omega arith; reads = reads }, omega arith)),
       λ (p, (near, place), step).
-          let (s, inside, from, occurs, to) = (literal_steps toward.Start literal bytes p q).0 step in
+          let (s, inside, from, occurs, to) = (literal_steps direction.Start literal bytes p q).0 step in
           let here : q ≡ s = omega arith in (
             omega arith,
             (chain (len - q)).1 (
@@ -294,8 +294,8 @@ chain_reaches toward.Start bytes literal old new chain q =
           ),
     )
 
--- the positions of two rows together
-pub at_join : (way : Toward) (bytes one other new : List ℕ) → ((p : ℕ) → IsPlace new p ↔ (IsPlace one p ⊎ IsPlace other p))
+-- the union of the positions of two sets
+pub at_join : (way : Direction) (bytes one other new : List ℕ) → ((p : ℕ) → IsPlace new p ↔ (IsPlace one p ⊎ IsPlace other p))
     → (q : ℕ) → IsAt way bytes new q ↔ (IsAt way bytes one q ⊎ IsAt way bytes other q)
 at_join way bytes one other new both q =
     let here = both (place_of way (length bytes) q) in (
@@ -307,15 +307,15 @@ pub inside_join : (bytes one other new : List ℕ) → ((p : ℕ) → IsPlace ne
 inside_join bytes one other new both a b p h = ⊎_elim (λ x. a p x) (λ x. b p x) ((both p).0 h)
 
 -- no alternative leads anywhere
-pub choice_none : (way : Toward) (bytes : List ℕ) (from : ℕ → Type 0) → Reaches way (Choice []) bytes from (IsAt way bytes [])
+pub choice_none : (way : Direction) (bytes : List ℕ) (from : ℕ → Type 0) → Reaches way (Choice []) bytes from (IsAt way bytes [])
 choice_none way bytes from q = (
   λ (near, h). let below = place_below [] (place_of way (length bytes) q) h in absurd (omega arith),
   λ (p, before, step). absurd (nowhere way p q step),
 )
   where
-    nowhere : (way : Toward) (p q : ℕ) → Steps way (Choice []) bytes p q → ⊥
-    nowhere toward.End p q step = let below = step.matched.1 in omega arith
-    nowhere toward.Start p q step = let below = step.matched.1 in omega arith
+    nowhere : (way : Direction) (p q : ℕ) → Steps way (Choice []) bytes p q → ⊥
+    nowhere direction.End p q step = let below = step.matched.1 in omega arith
+    nowhere direction.Start p q step = let below = step.matched.1 in omega arith
 
 pub none_inside : (bytes : List ℕ) → IsInside bytes []
 none_inside bytes p h = let below = place_below [] p h in absurd (omega arith)

@@ -1,13 +1,13 @@
--- What is kept of a pattern: three bytes for each element or run of stars, and a pool for what has no room in them.
+-- The compact form of a pattern: three bytes for each element or run of stars, and a pool for what doesn't fit into three bytes.
 use Rattle.std.specs.Prelude.{ℕ, zero, suc, ◌+◌, ◌*◌, ◌/◌, ◌%◌, List, [], ◌∷◌, ◌++◌, length, take, drop, replicate}
 use Rattle.std.specs.List.{flat_map}
 use Rattle.droid_pronom_pattern.specs.declared.short.Short.{Short}
 use Rattle.droid_pronom_pattern.specs.declared.cell.Cell.{Cell}
 use Rattle.droid_pronom_pattern.specs.declared.cell.Cell.TheVariants as cells
-use Rattle.droid_pronom_pattern.specs.declared.packed.Packed.{Packed}
+use Rattle.droid_pronom_pattern.specs.declared.compact_form.Packed.{Packed}
 use Rattle.droid_pronom_pattern.specs.Patterns.{Element, Byte, AnyByte, Gap, OpenGap, Range, Except, Choice}
 
--- the number that two bytes are
+-- the number that two bytes stand for
 abbrev pub number_of : Short → ℕ
 number_of short = 256 * short.high + short.low
 
@@ -21,23 +21,23 @@ front_number [] = 0
 front_number (x ∷ []) = 0
 front_number (high ∷ low ∷ rest) = 256 * high + low
 
--- so many runs of bytes, each behind its length
+-- the first `count` runs of bytes, each after its length
 abbrev pub runs_in : ℕ → List ℕ → List (List ℕ)
 runs_in zero bytes = []
 runs_in (suc count) bytes = take (front_number bytes) (drop 2 bytes) ∷ runs_in count (drop (front_number bytes) (drop 2 bytes))
 
--- the alternatives, behind their number
+-- the alternatives, after their number
 abbrev pub alternatives_in : List ℕ → List (List ℕ)
 alternatives_in bytes = runs_in (front_number bytes) (drop 2 bytes)
 
--- how these are written
+-- the bytes of a run with its length
 abbrev pub run_bytes : List ℕ → List ℕ
 run_bytes run = number_bytes (length run) ++ run
 
 abbrev pub choice_bytes : List (List ℕ) → List ℕ
 choice_bytes alternatives = number_bytes (length alternatives) ++ flat_map run_bytes alternatives
 
--- a gap, by its least length and by how much more it may have
+-- a gap, from its least length and the number of further bytes that it may have
 abbrev pub gap_in : List ℕ → Element
 gap_in bytes = Gap (front_number bytes) (front_number bytes + front_number (drop 2 bytes))
 
@@ -52,7 +52,7 @@ element_at pool (cells.Stars more) = OpenGap 0
 element_at pool (cells.Gap at) = gap_in (drop (number_of at) pool)
 element_at pool (cells.Choice at) = Choice (alternatives_in (drop (number_of at) pool))
 
--- how many times more: only stars are joined
+-- how many more times: only stars are joined
 abbrev pub more_of : Cell → ℕ
 more_of (cells.Byte b) = 0
 more_of (cells.Range low high) = 0

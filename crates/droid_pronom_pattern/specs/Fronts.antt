@@ -1,4 +1,4 @@
--- What stands at the front of a text, and between the marks of an element.
+-- The element at the front of a text, and the text between the marks of an element.
 use Rattle.std.specs.Prelude.{◌≡◌, ℕ, ◌≤◌, List, [], ◌∷◌, ◌++◌, codes}
 use Rattle.droid_pronom_pattern.specs.Patterns.{Element, Byte, AnyByte, Gap, OpenGap, Range, Except, Choice}
 use Rattle.droid_pronom_pattern.specs.PatternText.{IsPair, IsNumber, SpellsBytes, SpellsGap, SpellsElement}
@@ -14,7 +14,7 @@ pub record IsOnlyFront (text : List ℕ) (e : Element) (rest : List ℕ) : Type 
 abbrev pub HasNoFront : List ℕ → Type 0
 HasNoFront text = (e : Element) (front rest : List ℕ) → text ≡ front ++ rest → SpellsElement front e → ⊥
 
--- what stands between braces
+-- the text between braces
 abbrev pub SpellsInBraces : List ℕ → Element → Type 0
 SpellsInBraces body (Gap n m) = SpellsGap body n m
 SpellsInBraces body (OpenGap n) = (digits : List ℕ) × (body ≡ digits ++ codes "-*") × IsNumber digits n
@@ -24,7 +24,7 @@ SpellsInBraces body (Range low high) = ⊥
 SpellsInBraces body (Except b) = ⊥
 SpellsInBraces body (Choice alternatives) = ⊥
 
--- what stands between brackets
+-- the text between brackets
 abbrev pub SpellsInBrackets : List ℕ → Element → Type 0
 SpellsInBrackets body (Range low high) =
     (from : List ℕ) × (to : List ℕ) × (body ≡ from ++ (codes ":" ++ to)) × SpellsBytes from (low ∷ []) × SpellsBytes to (high ∷ []) × (low ≤ high)
@@ -35,7 +35,7 @@ SpellsInBrackets body (Gap n m) = ⊥
 SpellsInBrackets body (OpenGap n) = ⊥
 SpellsInBrackets body (Choice alternatives) = ⊥
 
--- what two characters stand for
+-- the element that two characters stand for
 abbrev pub SpellsInPair : ℕ → ℕ → Element → Type 0
 SpellsInPair first second (Byte b) = IsPair first second b
 SpellsInPair first second AnyByte = (first ≡ 63) × (second ≡ 63)

@@ -1,10 +1,10 @@
--- What the public calls promise: the language of patterns, and how they are written.
+-- What the public calls promise: which bytes a pattern matches, and how it is written.
 pub mod PatternText
 pub mod Patterns
 pub mod LangTest
--- What the steps of reading and matching promise each other.
+-- For proofs: what the private steps of reading and matching promise each other.
 pub mod Fronts
 pub mod Tokens
 pub mod Cells
 pub mod Positions
-pub mod Classes
+pub mod ClassCaches

@@ -1,13 +1,13 @@
--- How a pattern is written (PRONOM's syntax for byte sequences, narrowed).
+-- How a pattern is written: a part of PRONOM's syntax for byte sequences.
 use Rattle.std.specs.Prelude.{◌≡◌, ◌⊎◌, ℕ, ◌+◌, ◌*◌, ◌≤◌, ◌<◌, true, List, [], ◌∷◌, ◌++◌, length, All, codes}
 use Rattle.std.specs.Char.{digit_value}
 use Rattle.droid_pronom_pattern.specs.Patterns.{Element, Byte, AnyByte, Gap, OpenGap, Range, Except, Choice, has_byte}
 
--- two hexadecimal digits, in either case, write a byte
+-- two hexadecimal digits, in either case, stand for a byte
 abbrev pub IsPair : ℕ → ℕ → ℕ → Type 0
 IsPair high low byte = (digit_value high < 16) × (digit_value low < 16) × (byte ≡ 16 * digit_value high + digit_value low)
 
--- each byte is written in two digits
+-- each byte is written as two digits
 abbrev pub SpellsBytes : List ℕ → List ℕ → Type 0
 SpellsBytes text [] = text ≡ []
 SpellsBytes text (b ∷ bytes) = (high : ℕ) × (low : ℕ) × (rest : List ℕ) × (text ≡ high ∷ low ∷ rest) × IsPair high low b × SpellsBytes rest bytes
@@ -31,11 +31,11 @@ SpellsGap text n m =
     (IsNumber text n × (m ≡ n))
     ⊎ ((low : List ℕ) × (high : List ℕ) × (text ≡ low ++ (codes "-" ++ high)) × IsNumber low n × IsNumber high m × (n ≤ m))
 
--- an alternative: one or more bytes in digits
+-- an alternative: one or more bytes, each as two digits
 abbrev pub SpellsAlternative : List ℕ → List ℕ → Type 0
 SpellsAlternative text bytes = SpellsBytes text bytes × (0 < length bytes)
 
--- one or more alternatives with bars between them
+-- one or more alternatives, separated by `|`
 abbrev pub SpellsChoice : List ℕ → List (List ℕ) → Type 0
 SpellsChoice text [] = ⊥
 SpellsChoice text (a ∷ []) = SpellsAlternative text a
@@ -60,7 +60,7 @@ abbrev pub SpellsAll : List ℕ → List Element → Type 0
 SpellsAll text [] = text ≡ []
 SpellsAll text (e ∷ es) = (front : List ℕ) × (back : List ℕ) × (text ≡ front ++ back) × SpellsElement front e × SpellsAll back es
 
--- The text of a pattern: at most 4,096 bytes, and some element is no gap.
+-- The text of a pattern: at most 4,096 bytes, and at least one element is not a gap.
 pub record Spells (text : List ℕ) (es : List Element) : Type 0 where
   pub short : length text ≤ 4096
   pub elements : SpellsAll text es

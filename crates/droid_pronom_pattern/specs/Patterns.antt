@@ -1,4 +1,4 @@
--- What a pattern is made of, and which bytes it matches (PRONOM's byte sequences, narrowed).
+-- What a pattern is made of, and which bytes it matches: a part of PRONOM's byte sequences.
 use Rattle.std.specs.Prelude.{◌≡◌, ◌≢◌, ℕ, ◌+◌, ◌-◌, ◌≤◌, Bool, true, false, not, List, [], ◌∷◌, ◌++◌, length, take, drop, Contains}
 use Rattle.std.specs.List.{list_any}
 
@@ -18,9 +18,9 @@ abbrev pub Matches : Element → List ℕ → Type 0
 Matches (Byte b) bytes = bytes ≡ b ∷ []
 -- any one byte
 Matches AnyByte bytes = length bytes ≡ 1
--- any bytes, from the least to the most many
+-- any bytes, from `least` to `most` of them
 Matches (Gap least most) bytes = (least ≤ length bytes) × (length bytes ≤ most)
--- any bytes, so many or more
+-- any bytes, `least` of them or more
 Matches (OpenGap least) bytes = least ≤ length bytes
 -- one byte from the low to the high one, both included
 Matches (Range low high) bytes = (x : ℕ) × (bytes ≡ x ∷ []) × (low ≤ x) × (x ≤ high)
@@ -29,7 +29,7 @@ Matches (Except b) bytes = (x : ℕ) × (bytes ≡ x ∷ []) × (x ≢ b)
 -- one of the alternatives
 Matches (Choice alternatives) bytes = Contains alternatives bytes
 
--- The bytes that a pattern matches: they are cut into as many parts as it has elements, each matched by its element.
+-- The bytes that a pattern matches: they can be cut into one part for each element, so that each element matches its part.
 abbrev pub Lang : List Element → List ℕ → Type 0
 Lang [] bytes = bytes ≡ []
 Lang (e ∷ es) bytes = (front : List ℕ) × (back : List ℕ) × (bytes ≡ front ++ back) × Matches e front × Lang es back
@@ -40,7 +40,7 @@ pub record MatchesFrom (es : List Element) (bytes : List ℕ) (at : ℕ) : Type 
   pub inside : at + count ≤ length bytes
   pub matched : Lang es (take count (drop at bytes))
 
--- a match ends before this position
+-- a match ends just before this position
 pub record MatchesTo (es : List Element) (bytes : List ℕ) (end : ℕ) : Type 0 where
   pub count : ℕ
   pub inside : count ≤ end
@@ -74,6 +74,6 @@ is_gap (Range low high) = false
 is_gap (Except b) = false
 is_gap (Choice alternatives) = false
 
--- some element is no gap, so that a match has a byte
+-- at least one element is not a gap, so that a match has at least one byte
 abbrev pub has_byte : List Element → Bool
 has_byte es = list_any (λ e. not (is_gap e)) es

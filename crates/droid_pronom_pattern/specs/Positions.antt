@@ -1,10 +1,10 @@
--- Sets of positions in the bytes, and how an element leads from one to another.
+-- Positions in the bytes, and how an element leads from one position to another.
 use Rattle.std.specs.Prelude.{◌≡◌, ◌↔◌, ℕ, ◌+◌, ◌-◌, ◌*◌, ◌≤◌, ◌<◌, true, List, [], ◌∷◌, length, take, drop, slice_index, All}
 use Rattle.droid_pronom_bits.specs.Places.{IsPlace}
-use Rattle.droid_pronom_pattern.specs.declared.toward.Toward.{Toward}
-use Rattle.droid_pronom_pattern.specs.declared.toward.Toward.TheVariants as toward
+use Rattle.droid_pronom_pattern.specs.declared.direction.Direction.{Direction}
+use Rattle.droid_pronom_pattern.specs.declared.direction.Direction.TheVariants as direction
 use Rattle.droid_pronom_pattern.specs.declared.class.Class.{Class}
-use Rattle.droid_pronom_pattern.specs.declared.classes.ClassRow.{ClassRow}
+use Rattle.droid_pronom_pattern.specs.declared.class_set.ClassSet.{ClassSet}
 use Rattle.droid_pronom_pattern.specs.Patterns.{Element, Matches}
 use Rattle.droid_pronom_pattern.specs.Tokens.{accepts}
 
@@ -14,44 +14,44 @@ pub record Leads (e : Element) (bytes : List ℕ) (from to : ℕ) : Type 0 where
   pub inside : to ≤ length bytes
   pub matched : Matches e (take (to - from) (drop from bytes))
 
--- one step over an element, toward the end or the start of the bytes
-abbrev pub Steps : Toward → Element → List ℕ → ℕ → ℕ → Type 0
-Steps toward.End e bytes p q = Leads e bytes p q
-Steps toward.Start e bytes p q = Leads e bytes q p
+-- one step over an element, toward the end or toward the start of the bytes
+abbrev pub Steps : Direction → Element → List ℕ → ℕ → ℕ → Type 0
+Steps direction.End e bytes p q = Leads e bytes p q
+Steps direction.Start e bytes p q = Leads e bytes q p
 
--- the positions after a step from some of these
-abbrev pub Reaches : Toward → Element → List ℕ → (ℕ → Type 0) → (ℕ → Type 0) → Type 0
+-- `to` holds exactly the positions that one step reaches from a position of `from`
+abbrev pub Reaches : Direction → Element → List ℕ → (ℕ → Type 0) → (ℕ → Type 0) → Type 0
 Reaches way e bytes from to = (q : ℕ) → to q ↔ ((p : ℕ) × from p × Steps way e bytes p q)
 
--- A row of bits counts positions from where the steps come from: from the start, or from the end of so many bytes.
-abbrev pub place_of : Toward → ℕ → ℕ → ℕ
-place_of toward.End len p = p
-place_of toward.Start len p = len - p
+-- A bit set counts positions in the direction of the steps: from the start, or from the end of `len` bytes.
+abbrev pub place_of : Direction → ℕ → ℕ → ℕ
+place_of direction.End len p = p
+place_of direction.Start len p = len - p
 
--- a position in the bytes is in the row
-abbrev pub IsAt : Toward → List ℕ → List ℕ → ℕ → Type 0
-IsAt way bytes row p = (p ≤ length bytes) × IsPlace row (place_of way (length bytes) p)
+-- a position in the bytes is in the bit set
+abbrev pub IsAt : Direction → List ℕ → List ℕ → ℕ → Type 0
+IsAt way bytes bits p = (p ≤ length bytes) × IsPlace bits (place_of way (length bytes) p)
 
--- the row has no place past the bytes
+-- the bit set has no place past the end of the bytes
 abbrev pub IsInside : List ℕ → List ℕ → Type 0
-IsInside bytes row = (p : ℕ) → IsPlace row p → p ≤ length bytes
+IsInside bytes bits = (p : ℕ) → IsPlace bits p → p ≤ length bytes
 
--- the byte behind a place, in the direction of the steps
-abbrev pub byte_behind : Toward → List ℕ → ℕ → ℕ
-byte_behind toward.End bytes p = slice_index bytes p
-byte_behind toward.Start bytes p = slice_index bytes (length bytes - 1 - p)
+-- the next byte after a place, in the direction of the steps
+abbrev pub byte_behind : Direction → List ℕ → ℕ → ℕ
+byte_behind direction.End bytes p = slice_index bytes p
+byte_behind direction.Start bytes p = slice_index bytes (length bytes - 1 - p)
 
--- the places of the row, as far as it goes, are those behind which a byte of the class stands
-abbrev pub IsRowOf : Toward → List ℕ → Class → List ℕ → Type 0
-IsRowOf way bytes class row =
-    (p : ℕ) → p < 64 * length row → IsPlace row p ↔ ((p < length bytes) × (accepts class (byte_behind way bytes p) ≡ true))
+-- as far as the bit set has words, its places are those whose next byte is in the class
+abbrev pub IsSetOf : Direction → List ℕ → Class → List ℕ → Type 0
+IsSetOf way bytes class bits =
+    (p : ℕ) → p < 64 * length bits → IsPlace bits p ↔ ((p < length bytes) × (accepts class (byte_behind way bytes p) ≡ true))
 
--- each of the rows that are kept is that of its class
-abbrev pub AreRowsOf : Toward → List ℕ → List ClassRow → Type 0
-AreRowsOf way bytes rows = All (λ it. IsRowOf way bytes it.class it.row) rows
+-- each cached set is the set of its class
+abbrev pub AreSetsOf : Direction → List ℕ → List ClassSet → Type 0
+AreSetsOf way bytes sets = All (λ it. IsSetOf way bytes it.class it.bits) sets
 
--- The places after the first bytes of a literal, so many of them, in the direction of the steps.
-abbrev pub IsChain : Toward → (bytes literal : List ℕ) → ℕ → (old new : List ℕ) → Type 0
+-- the places after the first `count` bytes of a literal, in the direction of the steps
+abbrev pub IsChain : Direction → (bytes literal : List ℕ) → ℕ → (old new : List ℕ) → Type 0
 IsChain way bytes literal count old new =
     (q : ℕ) → IsPlace new q ↔ ((p : ℕ) × IsPlace old p × (q ≡ p + count)
     × ((j : ℕ) → j < count → (p + j < length bytes) × (byte_behind way bytes (p + j) ≡ byte_behind way literal j)))

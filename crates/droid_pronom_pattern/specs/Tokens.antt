@@ -1,4 +1,4 @@
--- The tokens of a pattern, as the elements that they stand for.
+-- The elements that the tokens of a pattern stand for.
 use Rattle.std.specs.Prelude.{ℕ, ◌+◌, Bool, not, ◌&&◌, ◌==◌, nat_le, map}
 use Rattle.droid_pronom_pattern.specs.declared.class.Class.{Class}
 use Rattle.droid_pronom_pattern.specs.declared.class.Class.TheVariants as classes
@@ -6,7 +6,7 @@ use Rattle.droid_pronom_pattern.specs.declared.token.Token.{Token}
 use Rattle.droid_pronom_pattern.specs.declared.token.Token.TheVariants as tokens
 use Rattle.droid_pronom_pattern.specs.Patterns.{Element, Byte, AnyByte, Gap, OpenGap, Range, Except, Choice}
 
--- whether a byte passes the test
+-- whether a byte is in the class
 abbrev pub accepts : Class → ℕ → Bool
 accepts (classes.Byte b) x = x == b
 accepts (classes.Range low high) x = nat_le low x && nat_le x high

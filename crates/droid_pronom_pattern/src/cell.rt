@@ -1,44 +1,43 @@
-//! An element of a pattern, or several stars, in three bytes.
+//! The cells of a compact pattern, three bytes each.
 
 ghost use Rattle.std.specs.Prelude.{◌≡◌, ◌↔◌, ◌+◌, ◌++◌, ℕ, List, IfSome, IsTrue, OnOk};
 ghost use Rattle.droid_pronom_pattern.specs.Cells.{element_at, elements_at};
-ghost use Rattle.droid_pronom_pattern.specs.Positions.{Leads, Reaches, IsAt, IsInside, AreRowsOf};
+ghost use Rattle.droid_pronom_pattern.specs.Positions.{Leads, Reaches, IsAt, IsInside, AreSetsOf};
 
 use crate::class::Class;
-use crate::classes::{ClassRow, one};
+use crate::class_set::{ClassSet, one};
+use crate::direction::Direction;
 use crate::pool::{rest_from, short_of};
 use crate::short::{Short, front_number};
 use crate::step::choice;
-use crate::toward::Toward;
-use droid_pronom_bits::Row;
+use droid_pronom_bits::BitSet;
 use std::alloc::{AllocError, Global};
 
-/// An element of a pattern, or several stars, as they are kept: what needs more than two bytes stands at a
-/// place of a pool.
+/// An element of a pattern, or several stars in a row. What needs more than two bytes stands in the pool, at `at`.
 #[derive(Clone, Copy)]
 pub(crate) enum Cell {
-    /// This byte.
+    /// Exactly this byte.
     Byte(u8),
     /// A byte from `low` to `high`, both included.
     Range { low: u8, high: u8 },
-    /// Any byte but this.
+    /// Any byte but this one.
     Except(u8),
     /// Any one byte.
     AnyByte,
-    /// Any bytes, at least `least` of them.
+    /// Any bytes, at least `least`.
     OpenGap { least: Short },
-    /// Any bytes, and then `more` times any bytes again: stars beside one another.
+    /// One star and `more` further stars.
     Stars { more: Short },
-    /// Any bytes: how many at least, and how many more at most, are two numbers in the pool.
+    /// A gap. The pool has its least length and the number of further bytes that it may have.
     Gap { at: Short },
-    /// One of the runs of bytes in the pool.
+    /// A choice between the runs of bytes in the pool.
     Choice { at: Short },
 }
 
 const _: () = prove!(size_of::<Cell>() == 3);
 
 impl Cell {
-    /// Whether it matches at this place, where it is one byte; `None` where it isn't.
+    /// Returns whether the cell matches the byte at this place, or `None` if the cell may match other than one byte.
     pub(crate) fn passes(&self, pool: &[u8], bytes: &[u8], place: usize) -> Option<bool>
         ensures { IfSome result (λ passes. (q : ℕ) → Leads (element_at pool.now self.now) bytes.now place q ↔ (IsTrue passes × (q ≡ place + 1))) }
     {
@@ -55,7 +54,7 @@ impl Cell {
         }
     }
 
-    /// The one cell that stands for this one and the next, where there is such a cell.
+    /// Joins this cell and the next one, if one cell can stand for both.
     pub(crate) fn joined(self, next: Cell) -> Option<Cell>
         ensures { IfSome result (λ cell. (pool : List ℕ) → elements_at pool cell ≡ elements_at pool self ++ elements_at pool next) }
     {
@@ -73,43 +72,57 @@ impl Cell {
         })
     }
 
-    /// Makes the places those after a step over this element.
+    /// Replaces the places by those after this element.
     pub(crate) fn step(
         &self,
         pool: &[u8],
-        rows: &mut Vec<ClassRow>,
-        row: &mut Row,
+        sets: &mut Vec<ClassSet>,
+        bits: &mut BitSet,
         alloc: Global,
         bytes: &[u8],
-        toward: Toward,
+        direction: Direction,
     ) -> Result<(), AllocError>
-        requires rows { AreRowsOf toward bytes.now rows.old.items }
-        requires inside { IsInside bytes.now row.old }
-        ensures rows { AreRowsOf toward bytes.now rows.new.items }
-        ensures inside { OnOk result (IsInside bytes.now row.new) }
-        ensures reaches { OnOk result (Reaches toward (element_at pool.now self.now) bytes.now (IsAt toward bytes.now row.old) (IsAt toward bytes.now row.new)) }
+        requires sets { AreSetsOf direction bytes.now sets.old.items }
+        requires inside { IsInside bytes.now bits.old }
+        ensures sets { AreSetsOf direction bytes.now sets.new.items }
+        ensures inside { OnOk result (IsInside bytes.now bits.new) }
+        ensures reaches { OnOk result (Reaches direction (element_at pool.now self.now) bytes.now (IsAt direction bytes.now bits.old) (IsAt direction bytes.now bits.new)) }
     {
         let len = bytes.len();
         match self {
-            Cell::Byte(wanted) => one(rows, row, Class::Byte(*wanted), alloc, bytes, toward),
+            Cell::Byte(wanted) => one(sets, bits, Class::Byte(*wanted), alloc, bytes, direction),
             Cell::Range { low, high } => {
                 let (low, high) = (*low, *high);
-                one(rows, row, Class::Range { low, high }, alloc, bytes, toward)
+                one(
+                    sets,
+                    bits,
+                    Class::Range { low, high },
+                    alloc,
+                    bytes,
+                    direction,
+                )
             }
-            Cell::Except(barred) => one(rows, row, Class::Except(*barred), alloc, bytes, toward),
-            Cell::AnyByte => row.cross(1, 0, len),
-            Cell::OpenGap { least } => row.cross(least.get(), len, len),
-            // A star behind a star leads to nothing new.
-            Cell::Stars { .. } => row.cross(0, len, len),
+            Cell::Except(barred) => one(
+                sets,
+                bits,
+                Class::Except(*barred),
+                alloc,
+                bytes,
+                direction,
+            ),
+            Cell::AnyByte => bits.cross(1, 0, len),
+            Cell::OpenGap { least } => bits.cross(least.get(), len, len),
+            // Another star reaches no further places.
+            Cell::Stars { .. } => bits.cross(0, len, len),
             Cell::Gap { at } => {
                 let gap = rest_from(pool, at.get());
                 let least = front_number(gap);
                 let more = front_number(rest_from(gap, 2));
-                row.cross(least, more, len)
+                bits.cross(least, more, len)
             }
             Cell::Choice { at } => {
                 let packed = rest_from(pool, at.get());
-                choice(rows, row, packed, alloc, bytes, toward)
+                choice(sets, bits, packed, alloc, bytes, direction)
             }
         }
     }

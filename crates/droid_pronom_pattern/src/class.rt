@@ -1,21 +1,21 @@
-//! Tests of one byte.
+//! Classes of bytes.
 
 ghost use Rattle.std.specs.Prelude.{◌≡◌, ◌↔◌, ◌<◌, IsTrue, true, length, slice_index};
 ghost use Rattle.droid_pronom_pattern.specs.Tokens.{accepts};
 
-/// What one byte of a match has to be.
+/// A class of bytes that one element of a pattern accepts.
 #[derive(Clone, Copy, PartialEq, Eq)]
 pub(crate) enum Class {
-    /// This byte.
+    /// Exactly this byte.
     Byte(u8),
     /// A byte from `low` to `high`, both included.
     Range { low: u8, high: u8 },
-    /// Any byte but this.
+    /// Any byte but this one.
     Except(u8),
 }
 
 impl Class {
-    /// Whether the byte passes.
+    /// Returns whether the byte is in the class.
     pub(crate) fn accepts(self, byte: u8) -> bool
         ensures { result ≡ accepts self byte }
     {
@@ -26,7 +26,7 @@ impl Class {
         }
     }
 
-    /// Whether a byte that passes stands at this place.
+    /// Returns whether there is a byte at this place and it is in the class.
     pub(crate) fn is_at(self, bytes: &[u8], place: usize) -> bool
         ensures { IsTrue result ↔ ((place < length bytes.now) × (accepts self (slice_index bytes.now place) ≡ true)) }
     {
@@ -37,7 +37,9 @@ impl Class {
         }
     }
 
-    /// In which slot its row is kept: one for each byte, each barred byte, and each first and each last byte of a range.
+    /// Returns the slot of the class in the cache of bit sets.
+    ///
+    /// There is a slot for each byte, each excluded byte, each first byte of a range and each last byte of a range.
     pub(crate) fn slot(self) -> usize
         ensures { result < 1024 }
     {

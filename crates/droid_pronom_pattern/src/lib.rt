@@ -1,21 +1,21 @@
-//! The patterns of PRONOM's byte sequences: their text, and the bytes that they match.
+//! The patterns of PRONOM's byte sequences: reads their text and finds the bytes that they match.
 #![tactic(auto)]
 
 mod cell;
 mod class;
-mod classes;
-mod fault;
-mod head;
-mod packed;
+mod class_cache;
+mod class_set;
+mod compact_form;
+mod direct_match;
+mod direction;
+mod parser;
 mod pattern;
+mod pattern_fault;
 mod pool;
-mod reading;
 mod short;
 mod step;
 mod token;
-mod toward;
-mod window;
 
-pub use fault::PatternFault;
+pub use class_cache::ClassCache;
 pub use pattern::Pattern;
-pub use window::Classes;
+pub use pattern_fault::PatternFault;

@@ -1,25 +1,28 @@
-//! Byte sequences of signatures: their text, and the bytes that they match.
+//! The pattern of a byte sequence.
 
 ghost use Rattle.std.specs.Prelude.{◌≡◌, ◌↔◌, ◌≤◌, List, length, IsTrue, IfOk, IfSome, OnErr, IsErrOf};
 ghost use Rattle.droid_pronom_pattern.specs.Patterns.{Element, MatchesFrom, MatchesTo, BeginsWithin, EndsWithin};
 ghost use Rattle.droid_pronom_pattern.specs.PatternText.{Spells};
-ghost use Rattle.droid_pronom_pattern.specs.Classes.{AreOf};
+ghost use Rattle.droid_pronom_pattern.specs.ClassCaches.{AreOf};
 
-use crate::fault::PatternFault;
-use crate::head::settled_at;
-use crate::packed::{Packed, pack};
-use crate::reading::tokens_of;
+use crate::class_cache::ClassCache;
+use crate::compact_form::{Packed, pack};
+use crate::direct_match::settled_at;
+use crate::direction::Direction;
+use crate::parser::tokens_of;
+use crate::pattern_fault::PatternFault;
 use crate::token::any_byte;
-use crate::toward::Toward;
-use crate::window::Classes;
 use std::alloc::{AllocError, Global};
 use std::fmt;
 use std::marker::Model;
 
-/// How many bytes the text of a pattern may have: this project's own limit.
+/// The most bytes that the text of a pattern may have. This limit is the project's own.
 const TEXT_LIMIT: usize = 4096;
 
-/// A byte sequence of a signature, in PRONOM's syntax. Contracts see the list of its elements.
+/// The pattern of a byte sequence, in a part of PRONOM's syntax. Contracts see the list of its elements.
+///
+/// Matching keeps sets of places and needs no backtracking: its time grows with the number of elements and the number
+/// of bytes, not with the product of the gaps.
 #[derive(Drop)]
 pub struct Pattern {
     packed: Packed,
@@ -43,14 +46,15 @@ impl fmt::Debug for Pattern {
 }
 
 impl Pattern {
-    /// Reads the text of a pattern: `61` is that byte, `??` any byte, `{3}`, `{2-5}`, `{2-*}` and
-    /// `*` a gap of so many bytes, `[61:7A]` a byte of a range, `[!61]` any other byte, and
-    /// `(61|6263)` one of several runs of bytes. A text has at most 4,096 bytes, and some element
-    /// is no gap. `BadPattern` says that the text is not of this form.
+    /// Reads the text of a pattern.
+    ///
+    /// `61` is that byte, `??` any byte, `{3}`, `{2-5}`, `{2-*}` and `*` a gap of that many bytes, `[61:7A]` a byte
+    /// of a range, `[!61]` any other byte, and `(61|6263)` one of several runs of bytes. A text has at most 4,096
+    /// bytes, and at least one element is not a gap. Any other text is an error, `BadPattern`.
     pub fn read(alloc: Global, text: &str) -> Result<Pattern, PatternFault>
-        // What is read is spelled so.
+        // The text spells the pattern that is returned.
         ensures spelled { IfOk result (λ pattern. Spells text.now pattern) }
-        // A text spells one pattern at most, and that is read, unless memory is refused.
+        // A text spells at most one pattern.
         ensures only { (es : List Element) → Spells text.now es → IfOk result (λ pattern. pattern ≡ es) }
         ensures bad { IsErrOf result PatternFault.BadPattern → (es : List Element) → Spells text.now es → ⊥ }
     {
@@ -66,33 +70,34 @@ impl Pattern {
         Ok(Pattern { packed })
     }
 
-    /// Whether a match begins at this position.
+    /// Returns whether a match begins at this position.
     pub fn matches_from(&self, alloc: Global, bytes: &[u8], at: usize) -> Result<bool, AllocError>
         requires { at ≤ length bytes.now }
         ensures { IfOk result (λ found. IsTrue found ↔ MatchesFrom self.now bytes.now at) }
     {
-        let mut classes = Classes::new(alloc);
+        let mut classes = ClassCache::new(alloc);
         self.begins_with(alloc, bytes, at, at, &mut classes)
     }
 
-    /// Whether a match ends before this position.
+    /// Returns whether a match ends just before this position.
     pub fn matches_to(&self, alloc: Global, bytes: &[u8], end: usize) -> Result<bool, AllocError>
         requires { end ≤ length bytes.now }
         ensures { IfOk result (λ found. IsTrue found ↔ MatchesTo self.now bytes.now end) }
     {
-        let mut classes = Classes::new(alloc);
+        let mut classes = ClassCache::new(alloc);
         self.ends_with(alloc, &bytes[..end], 0, 0, &mut classes)
     }
 
-    /// Whether a match begins at an offset from `low` to `high`, with what is kept of these bytes between
-    /// one pattern and the next.
+    /// Returns whether a match begins at an offset from `low` to `high`.
+    ///
+    /// `classes` caches what is known of these bytes, so that the next pattern is faster.
     pub fn begins_with(
         &self,
         alloc: Global,
         bytes: &[u8],
         low: usize,
         high: usize,
-        classes: &mut Classes,
+        classes: &mut ClassCache,
     ) -> Result<bool, AllocError>
         requires { AreOf bytes.now classes.old }
         ensures classes { AreOf bytes.now classes.new }
@@ -103,10 +108,10 @@ impl Pattern {
                 return Ok(found);
             }
         }
-        self.begins_in_rows(alloc, bytes, low, high, classes)
+        self.begins_by_sets(alloc, bytes, low, high, classes)
     }
 
-    /// Whether a match begins at this offset, where the bytes there tell it; `None` where rows have to.
+    /// Returns whether a match begins at this offset if the bytes there decide it, and `None` if sets are needed.
     fn settled_from(&self, bytes: &[u8], at: usize) -> Option<bool>
         ensures { IfSome result (λ found. IsTrue found ↔ BeginsWithin self.now bytes.now at at) }
     {
@@ -116,14 +121,14 @@ impl Pattern {
         settled_at(&self.packed.cells, &self.packed.pool, bytes, at)
     }
 
-    /// The same as `begins_with`, by rows of places.
-    fn begins_in_rows(
+    /// Does the work of `begins_with` by sets of places.
+    fn begins_by_sets(
         &self,
         alloc: Global,
         bytes: &[u8],
         low: usize,
         high: usize,
-        classes: &mut Classes,
+        classes: &mut ClassCache,
     ) -> Result<bool, AllocError>
         requires { AreOf bytes.now classes.old }
         ensures classes { AreOf bytes.now classes.new }
@@ -142,21 +147,22 @@ impl Pattern {
                 &mut classes.places,
                 alloc,
                 bytes,
-                Toward::End,
+                Direction::End,
             )?;
         }
         Ok(!classes.places.is_empty())
     }
 
-    /// Whether a match ends at an offset from `low` to `high` before the end of the bytes, with what is
-    /// kept of these bytes between one pattern and the next.
+    /// Returns whether a match ends at an offset from `low` to `high` before the end of the bytes.
+    ///
+    /// `classes` caches what is known of these bytes, so that the next pattern is faster.
     pub fn ends_with(
         &self,
         alloc: Global,
         bytes: &[u8],
         low: usize,
         high: usize,
-        classes: &mut Classes,
+        classes: &mut ClassCache,
     ) -> Result<bool, AllocError>
         requires { AreOf bytes.now classes.old }
         ensures classes { AreOf bytes.now classes.new }
@@ -176,7 +182,7 @@ impl Pattern {
                 &mut classes.places,
                 alloc,
                 bytes,
-                Toward::Start,
+                Direction::Start,
             )?;
             rest = before;
         }

@@ -1,4 +1,4 @@
-//! Runs of bytes behind one another in a pool.
+//! The pool of a pattern: runs of bytes one after another, each after its length.
 
 ghost use Rattle.std.specs.Prelude.{◌≡◌, ◌++◌, take, drop, map, IfOk, OnOk};
 ghost use Rattle.droid_pronom_pattern.specs.Cells.{front_number, choice_bytes};
@@ -6,7 +6,7 @@ ghost use Rattle.droid_pronom_pattern.specs.Cells.{front_number, choice_bytes};
 use crate::short::{front_number, put_number};
 use std::alloc::AllocError;
 
-/// The bytes from this place on; none where there are no more.
+/// Returns the bytes from this place on. Past the end there are none.
 pub(crate) fn rest_from(bytes: &[u8], place: usize) -> &[u8]
     ensures { result.now ≡ drop place bytes.now }
 {
@@ -14,7 +14,7 @@ pub(crate) fn rest_from(bytes: &[u8], place: usize) -> &[u8]
     &bytes[place..]
 }
 
-/// The run of bytes at the front, behind its length, and what stands after it.
+/// Splits off the first run, which stands after its length. Returns the run and the bytes after it.
 pub(crate) fn cut_run(bytes: &[u8]) -> (&[u8], &[u8])
     ensures run { result.0.now ≡ take (front_number bytes.now) (drop 2 bytes.now) }
     ensures after { result.1.now ≡ drop (front_number bytes.now) (drop 2 bytes.now) }
@@ -23,7 +23,7 @@ pub(crate) fn cut_run(bytes: &[u8]) -> (&[u8], &[u8])
     rest.split_at(front_number(bytes).min(rest.len()))
 }
 
-/// Writes how many alternatives there are, and each behind its length.
+/// Writes the number of alternatives, then the length and the bytes of each.
 pub(crate) fn put_choice(pool: &mut Vec<u8>, alternatives: &[Vec<u8>]) -> Result<(), AllocError>
     ensures { OnOk result (pool.new.items ≡ pool.old.items ++ choice_bytes (map (λ v. v.items) alternatives.now)) }
 {
@@ -37,7 +37,7 @@ pub(crate) fn put_choice(pool: &mut Vec<u8>, alternatives: &[Vec<u8>]) -> Result
     Ok(())
 }
 
-/// The number, if two bytes hold it: all that a text of a pattern's length asks for does.
+/// Returns the number if two bytes can hold it. Each number that a pattern of at most 4,096 bytes needs fits.
 pub(crate) fn short_of(number: usize) -> Result<u16, AllocError>
     ensures { IfOk result (λ short. short ≡ number) }
 {

@@ -5,7 +5,7 @@ ghost use Rattle.droid_pronom_pattern.specs.Cells.{number_of, number_bytes, fron
 
 use std::alloc::AllocError;
 
-/// A number up to 65,535 as two bytes, the high one first, so that what has it needs no more room than bytes.
+/// A number up to 65,535 as two bytes, the high one first. Unlike a `u16` it needs no alignment.
 #[derive(Clone, Copy)]
 pub(crate) struct Short {
     high: u8,
@@ -13,7 +13,7 @@ pub(crate) struct Short {
 }
 
 impl Short {
-    /// The two bytes of this number.
+    /// Splits the number into two bytes.
     pub(crate) fn new(number: u16) -> Short
         ensures { number_of result ≡ number }
     {
@@ -23,7 +23,7 @@ impl Short {
         }
     }
 
-    /// The number that they are.
+    /// Returns the number.
     pub(crate) fn get(self) -> usize
         ensures value { result ≡ number_of self }
         ensures small { result < 65536 }
@@ -32,7 +32,7 @@ impl Short {
     }
 }
 
-/// Writes the two bytes of this number behind those of the pool.
+/// Adds the two bytes of this number to the end of the pool.
 pub(crate) fn put_number(pool: &mut Vec<u8>, number: u16) -> Result<(), AllocError>
     ensures { OnOk result (pool.new.items ≡ pool.old.items ++ number_bytes number) }
 {
@@ -41,7 +41,7 @@ pub(crate) fn put_number(pool: &mut Vec<u8>, number: u16) -> Result<(), AllocErr
     pool.extend_from_slice(&[high, low])
 }
 
-/// The number in the first two bytes; 0 where there are fewer.
+/// Returns the number in the first two bytes, and 0 if there are fewer.
 pub(crate) fn front_number(bytes: &[u8]) -> usize
     ensures value { result ≡ front_number bytes.now }
     ensures small { result < 65536 }

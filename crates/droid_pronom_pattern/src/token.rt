@@ -1,4 +1,4 @@
-//! An element of a pattern, as it is read.
+//! The tokens of a pattern's text.
 
 ghost use Rattle.std.specs.Prelude.{◌≡◌, map};
 ghost use Rattle.droid_pronom_pattern.specs.Patterns.{is_gap, has_byte};
@@ -6,35 +6,35 @@ ghost use Rattle.droid_pronom_pattern.specs.Tokens.{element_of};
 
 use crate::class::Class;
 
-/// An element of a pattern.
+/// An element of a pattern, as the parser returns it.
 #[derive(Drop)]
 pub(crate) enum Token {
-    /// One byte that passes a test.
+    /// One byte of a class.
     One(Class),
     /// Any one byte.
     AnyByte,
-    /// Any bytes: at least `least` of them, and at most `more` more than that.
+    /// Any bytes: at least `least`, and at most `least + more`.
     Gap { least: u16, more: u16 },
-    /// Any bytes, at least `least` of them.
+    /// Any bytes, at least `least`.
     OpenGap { least: u16 },
     /// One of these runs of bytes.
     Choice(Vec<Vec<u8>>),
 }
 
 impl Token {
-    /// Whether the element is a gap, which may match no byte.
+    /// Returns whether the element is a gap. A gap may match no byte at all.
     pub(crate) fn is_gap(&self) -> bool
         ensures { result ≡ is_gap (element_of self.now) }
     {
         matches!(self, Token::Gap { .. } | Token::OpenGap { .. })
     }
 
-    /// Whether the element is a star: any bytes, none included.
+    /// Returns whether the element is a star: any number of any bytes.
     pub(crate) fn is_star(&self) -> bool {
         matches!(self, Token::OpenGap { least: 0 })
     }
 
-    /// How many bytes of a pool it takes.
+    /// Returns the number of bytes of the pool that the element needs.
     pub(crate) fn pool_len(&self) -> usize {
         match self {
             Token::One(_) | Token::AnyByte | Token::OpenGap { .. } => 0,
@@ -44,7 +44,7 @@ impl Token {
     }
 }
 
-/// How many bytes these runs take, each behind its length.
+/// Returns the number of bytes of the pool that these runs need, each with its length.
 fn runs_len(runs: &[Vec<u8>]) -> usize {
     let mut len = 0usize;
     for run in runs {
@@ -53,7 +53,7 @@ fn runs_len(runs: &[Vec<u8>]) -> usize {
     len
 }
 
-/// Whether some element is no gap.
+/// Returns whether at least one element is not a gap.
 pub(crate) fn any_byte(tokens: &[Token]) -> bool
     ensures { result ≡ has_byte (map element_of tokens.now) }
 {

@@ -1,10 +1,10 @@
-//! Patterns alone.
+//! Patterns, without a registry.
 
 use droid_pronom::{Pattern, PatternFault};
 use std::alloc::Global;
 use std::test::Fail;
 
-/// Texts that are no pattern.
+/// Texts that are not patterns.
 const BAD: [&str; 34] = [
     "",
     "6",
@@ -42,7 +42,7 @@ const BAD: [&str; 34] = [
     "'61'",
 ];
 
-/// A pattern, bytes, and whether a match begins at the first byte and ends after the last.
+/// A pattern, bytes, and whether a match begins at the first byte and whether one ends after the last.
 const MATCHES: [(&str, &[u8], bool, bool); 41] = [
     ("6a", b"j", true, true),
     ("6A", b"j", true, true),
@@ -100,7 +100,7 @@ fn texts_that_are_no_pattern(rt: HostRuntime) {
     }
 }
 
-/// Whether a match begins at the first byte, and whether one ends after the last.
+/// Returns whether a match begins at the first byte, and whether one ends after the last.
 fn ends_of(alloc: Global, text: &str, bytes: &[u8]) -> Result<(bool, bool), PatternFault> {
     let pattern = Pattern::read(alloc, text)?;
     let from = pattern.matches_from(alloc, bytes, 0)?;
@@ -120,7 +120,7 @@ fn matches_from_the_first_and_to_the_last_byte(rt: HostRuntime) -> Result<(), Fa
     Ok(())
 }
 
-/// Bytes, a place in them, and whether a match of `(61|6263)64` begins there and ends before it.
+/// Bytes, a place in them, and whether a match of `(61|6263)64` begins there and whether one ends just before it.
 const PLACES: [(&[u8], usize, bool, bool); 6] = [
     (b"zzad", 4, false, true),
     (b"zzadz", 5, false, false),
@@ -141,28 +141,6 @@ fn matches_at_other_places(rt: HostRuntime) -> Result<(), Fail> {
     Ok(())
 }
 
-/// A text has at most 4,096 bytes.
-#[test]
-fn longest_text(rt: HostRuntime) -> Result<(), Fail> {
-    let alloc = rt.alloc();
-    let mut text = String::new(alloc);
-    for _ in 0..2_048 {
-        text.push_str("61")?;
-    }
-    let bytes = vec![in alloc; b'a'; 2_048]?;
-    let pattern = Pattern::read(alloc, text.as_str())?;
-    assert!(rt; pattern.matches_from(alloc, &bytes, 0)?);
-    assert!(rt; !pattern.matches_from(alloc, &bytes, 1)?);
-    text.push_str("61")?;
-    assert!(rt;
-        matches!(
-            Pattern::read(alloc, text.as_str()),
-            Err(PatternFault::BadPattern)
-        )
-    );
-    Ok(())
-}
-
 #[test]
 fn texts_of_faults(rt: HostRuntime) -> Result<(), Fail> {
     for (fault, expected) in &[
@@ -172,16 +150,5 @@ fn texts_of_faults(rt: HostRuntime) -> Result<(), Fail> {
         let text = format!(in rt.alloc(); "{fault}")?;
         assert_eq!(rt; text.as_str(), *expected);
     }
-    Ok(())
-}
-
-#[test]
-fn wide_gaps(rt: HostRuntime) -> Result<(), Fail> {
-    let alloc = rt.alloc();
-    let zeros = vec![in alloc; 0u8; 65536]?;
-    let gaps = Pattern::read(alloc, "{0-65535}{0-65535}61")?;
-    assert!(rt; !gaps.matches_from(alloc, &zeros, 0)?);
-    let backward = Pattern::read(alloc, "61{0-65535}{0-65535}")?;
-    assert!(rt; !backward.matches_to(alloc, &zeros, 65536)?);
     Ok(())
 }

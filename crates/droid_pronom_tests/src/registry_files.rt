@@ -1,4 +1,4 @@
-//! Registry files: what they come to, and their limits.
+//! Registry files and their faults. (Their limits are tested in tests/program/registry.sh.)
 
 use droid_frame::Noted;
 use droid_pronom::{Registry, RegistryFault};
@@ -8,7 +8,7 @@ use std::io;
 use std::io::{Error, ErrorKind, Read};
 use std::test::Fail;
 
-/// The first record, and what the file comes to.
+/// Whole files, and the result of reading them.
 const FIRST_RECORDS: [(&[u8], &str); 4] = [
     (b"", "0 formats"),
     (b"E,dev/9,x,,,", "UnknownPuid at 1"),
@@ -16,7 +16,7 @@ const FIRST_RECORDS: [(&[u8], &str); 4] = [
     (b"F,dev/1,\xff,,\n", "BadRecord at 1"),
 ];
 
-/// The records after `F,dev/1,A,,,`, and what the file comes to.
+/// The records after `F,dev/1,A,,,`, and the result of reading the file.
 const RECORDS: [(&str, &str); 40] = [
     ("", "1 formats"),
     ("\n\r\n", "1 formats"),
@@ -69,9 +69,12 @@ const RECORDS: [(&str, &str); 40] = [
     ("E,dev/1,x,,,\nE,dev/9,x,,,\n", "UnknownPuid at 3"),
 ];
 
-/// What a file comes to, in words.
-fn outcome(alloc: Global, bytes: &[u8]) -> Result<String, AllocError> {
-    match Registry::parse(alloc, bytes) {
+/// Describes the result of reading a registry file.
+fn description(
+    alloc: Global,
+    outcome: Result<Registry, RegistryFault>,
+) -> Result<String, AllocError> {
+    match outcome {
         Ok(registry) => {
             let count = registry.len();
             format!(in alloc; "{count} formats")
@@ -80,128 +83,68 @@ fn outcome(alloc: Global, bytes: &[u8]) -> Result<String, AllocError> {
     }
 }
 
-/// The faults of a record that bytes in the place of the sample's own, or its end, can come to.
-const RECORD_FAULTS: [&str; 5] = [
-    "BadRecord at ",
-    "NotUtf8 at ",
-    "DuplicatePuid at ",
-    "UnknownPuid at ",
-    "BadPattern at ",
-];
-
-/// Whether a file comes to a registry or to such a fault.
-fn is_judged(outcome: &str) -> bool {
-    outcome.ends_with(" formats") || RECORD_FAULTS.iter().any(|name| outcome.starts_with(name))
+/// Returns whether the bytes of a registry file have this result.
+fn comes_to(alloc: Global, bytes: &[u8], expected: &str) -> Result<bool, AllocError> {
+    let text = description(alloc, Registry::parse(alloc, bytes))?;
+    Ok(text.as_str() == expected)
 }
 
 #[test]
 fn registry_faults(rt: HostRuntime) -> Result<(), Fail> {
     let alloc = rt.alloc();
     for (bytes, expected) in &FIRST_RECORDS {
-        assert_eq!(rt; outcome(alloc, bytes)?.as_str(), *expected);
+        assert!(rt; comes_to(alloc, bytes, expected)?, "{expected}");
     }
     for (records, expected) in &RECORDS {
         let text = format!(in alloc; "F,dev/1,A,,,\n{records}")?;
-        assert_eq!(rt;
-            outcome(alloc, text.as_str().as_bytes())?.as_str(),
-            *expected,
+        assert!(rt;
+            comes_to(alloc, text.as_str().as_bytes(), expected)?,
             "after {records:?}"
         );
     }
     Ok(())
 }
 
+/// Returns whether the fourth format of the sample is there, with its four texts, and no fifth.
+fn ends_with_plain(registry: &Registry) -> bool {
+    let is_plain = match registry.format(3) {
+        Some(format) => {
+            format.puid.as_str() == "dev/4"
+                && format.name.as_str() == "Plain"
+                && format.version.as_str() == ""
+                && format.mime.as_str() == "text/plain"
+        }
+        None => false,
+    };
+    is_plain && registry.format(4).is_none()
+}
+
+/// Returns whether the look-ups of the sample by PUID and its number of formats are right.
+fn has_places(registry: &Registry) -> bool {
+    registry.by_puid("dev/3") == Some(2)
+        && registry.by_puid("dev/5") == None
+        && registry.len() == 4
+        && !registry.is_empty()
+}
+
 #[test]
 fn formats_of_the_sample(rt: HostRuntime) -> Result<(), Fail> {
     let registry = Registry::parse(rt.alloc(), SAMPLE.as_bytes())?;
-    assert_eq!(rt; registry.len(), 4);
-    assert!(rt; !registry.is_empty());
-    let plain = registry.format(3).ok_or("no fourth format")?;
-    assert_eq!(rt; plain.puid.as_str(), "dev/4");
-    assert_eq!(rt; plain.name.as_str(), "Plain");
-    assert_eq!(rt; plain.version.as_str(), "");
-    assert_eq!(rt; plain.mime.as_str(), "text/plain");
-    assert!(rt; registry.format(4).is_none());
-    assert_eq!(rt; registry.by_puid("dev/3"), Some(2));
-    assert_eq!(rt; registry.by_puid("dev/5"), None);
+    assert!(rt; ends_with_plain(&registry));
+    assert!(rt; has_places(&registry));
     Ok(())
 }
 
 #[test]
-fn parts_of_the_sample(rt: HostRuntime) -> Result<(), Fail> {
-    let alloc = rt.alloc();
-    for end in 0..=SAMPLE.len() {
-        let text = outcome(alloc, &SAMPLE.as_bytes()[..end])?;
-        assert!(rt; is_judged(text.as_str()), "{text} at {end}");
-    }
-    let mut bytes = SAMPLE.as_bytes().to_vec(alloc)?;
-    for place in 0..bytes.len() {
-        for byte in [0x00, 0x22, 0x2c, 0xff] {
-            let old = bytes[place];
-            bytes[place] = byte;
-            let text = outcome(alloc, bytes.as_slice())?;
-            assert!(rt; is_judged(text.as_str()), "{text} with {byte} at {place}");
-            bytes[place] = old;
-        }
-    }
+fn a_file_without_records(rt: HostRuntime) -> Result<(), Fail> {
+    let registry = Registry::parse(rt.alloc(), b"\n\n")?;
+    assert!(rt; registry.is_empty() && registry.len() == 0);
     Ok(())
 }
 
-/// Some formats and 16,384 times the row.
-fn repeated(alloc: Global, formats: &str, row: &str) -> Result<String, AllocError> {
-    let mut text = String::from_str(alloc, formats)?;
-    for _ in 0..16_384 {
-        text.push_str(row)?;
-    }
-    Ok(text)
-}
-
-#[test]
-fn limits_of_rows(rt: HostRuntime) -> Result<(), Fail> {
-    let alloc = rt.alloc();
-    for (formats, row, last, at) in &[
-        ("F,a,A,,,\n", "E,a,x,,,\n", "E,a,x,,,\n", 16_386u64),
-        ("F,a,A,,,\nF,b,B,,,\n", "P,a,b,,,\n", "P,b,a,,,\n", 16_387),
-        ("F,a,A,,,\n", "S,a,BOF,0,0,61\n", "S,a,BOF,0,0,61\n", 16_386),
-        (
-            "F,a,A,,,\n",
-            "S,a,BOF,0,0,61\nB,a,EOF,0,0,62\n",
-            "B,a,BOF,0,0,61\n",
-            32_770,
-        ),
-    ] {
-        let mut text = repeated(alloc, formats, row)?;
-        let full = Registry::parse(alloc, text.as_str().as_bytes())?;
-        assert_eq!(rt; full.len(), formats.len() / 9);
-        text.push_str(last)?;
-        let found = match Registry::parse(alloc, text.as_str().as_bytes()) {
-            Err(RegistryFault::TooMany { at }) => at,
-            _ => 0,
-        };
-        assert_eq!(rt; found, *at);
-    }
-    Ok(())
-}
-
-#[test]
-fn limit_of_bytes(rt: HostRuntime) -> Result<(), Fail> {
-    let alloc = rt.alloc();
-    let mut lines = vec![in alloc; b'\n'; 16_777_216]?;
-    assert_eq!(rt; outcome(alloc, lines.as_slice())?.as_str(), "0 formats");
-    lines.push(b'\n')?;
-    assert_eq!(rt; outcome(alloc, lines.as_slice())?.as_str(), "TooLong");
-    let mut reader = lines.as_slice();
-    assert!(rt;
-        matches!(
-            Registry::read(alloc, &mut reader),
-            Err(RegistryFault::TooLong)
-        )
-    );
-    Ok(())
-}
-
-/// A reader of some bytes, a few at a time. Each second read is interrupted, so many times in all,
-/// and a read fails once where so many bytes are left.
+/// A reader that returns at most three bytes at a time.
+///
+/// Every second read is interrupted, `interruptions` times in all. One read fails when `fails_at` bytes are left.
 #[derive(Drop)]
 struct Halting<'a> {
     bytes: &'a [u8],
@@ -228,7 +171,7 @@ impl Read for Halting<'_> {
     }
 }
 
-/// Interruptions, how many bytes are left where a read fails, and what the file comes to.
+/// The number of interruptions, the number of bytes left when a read fails, and the result.
 const READERS: [(u32, Option<usize>, &str); 6] = [
     (0, None, "4 formats"),
     (64, None, "4 formats"),
@@ -248,16 +191,9 @@ fn readers(rt: HostRuntime) -> Result<(), Fail> {
             is_next: false,
             fails_at: *fails_at,
         });
-        let text = match Registry::read(alloc, &mut reader) {
-            Ok(registry) => {
-                let count = registry.len();
-                format!(in alloc; "{count} formats")?
-            }
-            Err(fault) => format!(in alloc; "{fault}")?,
-        };
-        assert_eq!(rt;
-            text.as_str(),
-            *expected,
+        let text = description(alloc, Registry::read(alloc, &mut reader))?;
+        assert!(rt;
+            text.as_str() == *expected,
             "after {interruptions} interruptions"
         );
     }

@@ -1,4 +1,4 @@
-//! Why a registry file was not read.
+//! The errors of reading a registry file.
 
 ghost use Rattle.std.specs.Prelude.{◌≡◌};
 ghost use Rattle.droid_pronom.specs.declared.registry.fault.Refusal.TheVariants.{Memory};
@@ -8,7 +8,7 @@ ghost use Rattle.droid_pronom.specs.RegistryRecords.{check};
 use std::alloc::AllocError;
 use thiserror::Error;
 
-/// Why a registry file was not read. `at` is the number of the first record at fault, from 1.
+/// Why a registry file could not be read. `at` is the number of the first faulty record, counted from 1.
 #[derive(Debug, Drop, Error)]
 pub enum RegistryFault {
     /// The file has more than 16,777,216 bytes.
@@ -17,25 +17,25 @@ pub enum RegistryFault {
     /// The reader failed, or was interrupted more than 64 times.
     #[error("Read")]
     Read,
-    /// Memory was refused.
+    /// Out of memory.
     #[error("Memory")]
     Memory,
-    /// A field isn't UTF-8.
+    /// A field is not UTF-8.
     #[error("NotUtf8 at {at}")]
     NotUtf8 { at: u64 },
-    /// The record hasn't six fields, or a field is not of its form, or the record may not stand there.
+    /// The record does not have six fields, or a field is not valid, or the record may not stand there.
     #[error("BadRecord at {at}")]
     BadRecord { at: u64 },
-    /// The pattern of a byte sequence is outside the grammar.
+    /// The pattern of a byte sequence does not follow the grammar.
     #[error("BadPattern at {at}")]
     BadPattern { at: u64 },
-    /// The record names a PUID that no earlier record gives a format.
+    /// No earlier record defines a format with the PUID that this record names.
     #[error("UnknownPuid at {at}")]
     UnknownPuid { at: u64 },
-    /// An earlier record gives a format this PUID.
+    /// An earlier record already defines a format with this PUID.
     #[error("DuplicatePuid at {at}")]
     DuplicatePuid { at: u64 },
-    /// The record is one more of its kind than a registry may have.
+    /// The registry already has as many records of this kind as it may have.
     #[error("TooMany at {at}")]
     TooMany { at: u64 },
 }
@@ -51,12 +51,12 @@ pub(crate) enum Fault {
     TooMany,
 }
 
-/// Why one record was not taken.
+/// Why one record could not be added.
 #[derive(Debug, Drop)]
 pub(crate) enum Refusal {
-    /// Memory was refused.
+    /// Out of memory.
     Memory,
-    /// The record is at fault.
+    /// The record is faulty.
     Fault(Fault),
 }
 
@@ -69,7 +69,7 @@ impl From<AllocError> for Refusal {
 }
 
 impl Refusal {
-    /// Why the file is not read, where this is why the record with this number was not taken.
+    /// Returns the error for the whole file, if the record with the number `at` could not be added.
     pub(crate) fn at(self, at: u64) -> RegistryFault
         ensures { result ≡ refusal_at self at }
     {
@@ -85,7 +85,7 @@ impl Refusal {
     }
 }
 
-/// The fault, unless the condition holds.
+/// Returns the fault, unless the condition holds.
 pub(crate) fn check(holds: bool, fault: Fault) -> Result<(), Refusal>
     ensures { Gives (λ _. tt) result (check holds (fault_of fault)) }
 {

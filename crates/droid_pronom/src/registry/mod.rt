@@ -1,4 +1,4 @@
-//! The registry: formats, and what tells them apart.
+//! The registry.
 
 ghost use Rattle.std.specs.Prelude.{◌≡◌, ◌≢◌, ℕ, List, ◌+◌, ◌-◌, ◌<◌, ◌≤◌, ◌++◌, ◌∷◌, [], length, take, drop, min, IsTrue, IfSome, option_map, Some, None, Err, IfOk, IsErrOf, OnOk, OnErr, slice_get, true, ◌↔◌};
 ghost use Rattle.std.specs.Option.{option_copied};
@@ -8,16 +8,16 @@ ghost use Rattle.droid_pronom_formats.specs.RegistryFields.{is_puid};
 ghost use Rattle.droid_pronom.specs.RegistryFile.{File};
 ghost use Rattle.droid_frame.specs.Seen.{IsSound, ReportsFault};
 
+mod csv_error;
 mod draft;
 pub mod fault;
 mod record_kind;
 mod row_text;
-mod unread;
 
-use crate::identify::identify_windows;
+use crate::registry::csv_error::csv_fault;
 use crate::registry::draft::Draft;
 use crate::registry::fault::RegistryFault;
-use crate::registry::unread::unread;
+use crate::windows::identify_windows;
 use csv::ReaderBuilder;
 use droid_frame::{InputFault, SteadyRead, read_to_end};
 use droid_pronom_formats::{ByteSequence, Format, Found, ListedExtension, Priority, Signature};
@@ -25,16 +25,18 @@ use std::alloc::{AllocError, Global};
 use std::collections::BTreeMap;
 use std::marker::Model;
 
-/// How many bytes a registry file may have.
+/// The most bytes that a registry file may have.
 const BYTES_LIMIT: usize = 16_777_216;
-/// How many formats a registry may have.
+/// The most formats that a registry may have.
 pub(crate) const FORMATS_LIMIT: usize = 4_096;
 
-/// The formats of a registry file, with their extensions, priorities and signatures.
+/// A registry: formats with their extensions, priorities and signatures.
+///
+/// docs/REGISTRY.md describes its file.
 #[derive(Drop)]
 pub struct Registry {
     formats: Vec<Format>,
-    // The place of each PUID.
+    // The place of each format by its PUID.
     places: BTreeMap<String, u32>,
     // Whether the format at each place has a signature.
     signed: Vec<bool>,
@@ -59,15 +61,17 @@ impl Registry {
     ghost use Rattle.droid_pronom_formats.specs.Registry.{nothing, place_of, IsRegistry, IsSigned};
     ghost use Rattle.droid_pronom.specs.RegistryGrowth.{with_format, with_extension, with_priority, with_signature, with_sequence};
 
-    /// Reads a registry file. It is CSV as `csv` reads it with its default settings and no header;
-    /// the first faulty record is answered, by its number.
+    /// Reads a registry file: CSV as the kit's `csv` reads it with its default settings, without a header.
+    ///
+    /// The file has at most 16,777,216 bytes. An error names the first faulty record by its number, counted from 1. A
+    /// file without any record is a registry without formats, which identifies nothing: see [`Registry::is_empty`].
     pub fn parse(alloc: Global, bytes: &[u8]) -> Result<Registry, RegistryFault>
         ensures { result ≢ Err RegistryFault.Memory → File bytes.now result }
     {
         if bytes.len() > BYTES_LIMIT {
             return Err(RegistryFault::TooLong);
         }
-        // The number of fields is judged with the rest of a record, so the reader lets each pass.
+        // `Draft::take` judges the number of fields, so the reader accepts any number.
         let reader = ReaderBuilder::new()
             .has_headers(false)
             .flexible(true)
@@ -75,7 +79,7 @@ impl Registry {
         let mut draft = Draft::new(alloc);
         for row in reader.into_byte_records() {
             match row {
-                Err(error) => return Err(unread(error)),
+                Err(error) => return Err(csv_fault(error)),
                 Ok(row) => {
                     let at = draft.records() + 1;
                     if let Err(refusal) = draft.take(alloc, row) {
@@ -87,13 +91,14 @@ impl Registry {
         Ok(draft.registry)
     }
 
-    /// Reads a registry file from a reader, to its end, and then as `parse` does. `TooLong` comes
-    /// before any record is looked at; `Read` says that the reader failed, or was interrupted more
-    /// than 64 times.
+    /// Reads a registry file from a reader.
+    ///
+    /// It first reads to the end. `TooLong` comes before any record is looked at. `Read` means that the reader failed,
+    /// or was interrupted more than 64 times. All other errors are those of [`Registry::parse`].
     pub fn read<R: SteadyRead>(alloc: Global, reader: &mut R) -> Result<Registry, RegistryFault>
-        // Where the reader tells its bytes: what they come to.
+        // If the bytes of the reader are known, the result is that of these bytes.
         ensures reads { (bytes : List ℕ) → R.remaining reader.old ≡ Some bytes → result ≢ Err RegistryFault.Memory → result ≢ Err RegistryFault.Read → File bytes result }
-        // `Read` comes exactly where the reader failed or was interrupted for the 65th time.
+        // `Read` comes exactly if the reader failed or was interrupted for the 65th time.
         ensures fault { IsSound (R.seen reader.old) → ReportsFault (R.seen reader.old).interruptions (R.seen reader.new) (IsErrOf result RegistryFault.Read) }
     {
         match read_to_end(alloc, reader, BYTES_LIMIT) {
@@ -104,7 +109,7 @@ impl Registry {
         }
     }
 
-    /// A registry with no format. It takes no memory.
+    /// Makes a registry without formats. Takes no memory.
     pub(crate) fn new(alloc: Global) -> Registry
         ensures { result ≡ nothing }
     {
@@ -118,7 +123,7 @@ impl Registry {
         }
     }
 
-    /// How many formats there are.
+    /// Returns the number of formats.
     pub fn len(&self) -> usize
         ensures count { result ≡ length self.now.formats }
         ensures rules { IsRegistry self.now }
@@ -126,21 +131,21 @@ impl Registry {
         self.formats.len()
     }
 
-    /// Whether there is no format.
+    /// Returns whether the registry has no format at all. Such a registry identifies no file.
     pub fn is_empty(&self) -> bool
         ensures { IsTrue result ↔ (self.now.formats ≡ []) }
     {
         self.formats.is_empty()
     }
 
-    /// The format at this place, counted from 0, or `None` past the end.
+    /// Returns the format at this place, counted from 0, or `None` past the end.
     pub fn format(&self, place: u32) -> Option<&Format>
         ensures { option_copied result ≡ slice_get self.now.formats place }
     {
         self.formats.get(place as usize)
     }
 
-    /// The place of the format with this PUID, byte for byte.
+    /// Returns the place of the format with this PUID, compared byte for byte.
     pub fn by_puid(&self, puid: &str) -> Option<u32>
         ensures place { result ≡ place_of puid.now self.now.formats }
         // The format at that place has the PUID.
@@ -150,10 +155,14 @@ impl Registry {
         self.places.get(puid).copied()
     }
 
-    /// Identifies a file by its name and its first and last bytes: by signatures, and where they
-    /// leave no format, by the extension of the name. Both slices have the same length, and
-    /// matches lie wholly inside them. With `match_all` an extension names each format that
-    /// lists it, without it those that have no signature. Only want of memory refuses it.
+    /// Identifies a file by its name and its first and last bytes.
+    ///
+    /// Signatures come first. If they give no format, the extension of the name decides: with `match_all` it names
+    /// each format that lists it, and without `match_all` only those that have no signature.
+    ///
+    /// `first` and `last` have the same length, at most 65,536 bytes and at most `size`, the size of the file; in a
+    /// short file they are the same bytes. A match has to lie wholly inside one of them. Fails only if memory runs
+    /// out.
     pub fn identify(
         &self,
         alloc: Global,
@@ -166,8 +175,8 @@ impl Registry {
         requires same { length first.now ≡ length last.now }
         requires few { length first.now ≤ 65536 }
         requires inside { length first.now ≤ size }
-        // What is found in every file of that size which begins and ends with these bytes, under
-        // every scan limit that leaves so many of them.
+        // This is what is found in every file of that size that begins and ends with these bytes, under every
+        // scan limit for which the windows have this length.
         ensures found { IfOk result (λ found. (file : List ℕ) (scan_limit : ℕ) → length file ≡ size → min scan_limit size ≡ length first.now → take (length first.now) file ≡ first.now → drop (size - length first.now) file ≡ last.now → IsFound self.now name.now file scan_limit match_all found) }
         ensures few { IfOk result (λ found. length found.puids ≤ 4096) }
         ensures puids { IfOk result (λ found. AllByRecursion (λ puid. IsTrue (is_puid puid)) found.puids) }
@@ -177,14 +186,14 @@ impl Registry {
         identify_windows(alloc, self, name, first, last, match_all)
     }
 
-    /// The formats in order.
+    /// Returns the formats in order.
     pub(crate) fn formats(&self) -> &[Format]
         ensures { result.now ≡ self.now.formats }
     {
         self.formats.as_slice()
     }
 
-    /// The extensions that the formats list, in lower case.
+    /// Returns the extensions that the formats list, in lower case.
     pub(crate) fn extensions(&self) -> &[ListedExtension]
         ensures value { result.now ≡ self.now.extensions }
         ensures placed { AllByRecursion (λ row. row.place < length self.now.formats) self.now.extensions }
@@ -192,21 +201,21 @@ impl Registry {
         self.extensions.as_slice()
     }
 
-    /// Which format has priority over which.
+    /// Returns the priorities between formats.
     pub(crate) fn priorities(&self) -> &[Priority]
         ensures { result.now ≡ self.now.priorities }
     {
         self.priorities.as_slice()
     }
 
-    /// The signatures.
+    /// Returns the signatures.
     pub(crate) fn signatures(&self) -> &[Signature]
         ensures { result.now ≡ self.now.signatures }
     {
         self.signatures.as_slice()
     }
 
-    /// Whether the format at each place has a signature.
+    /// Returns, for each format, whether it has a signature.
     pub(crate) fn signed(&self) -> &[bool]
         ensures len { length result.now ≡ length self.now.formats }
         ensures each { (k : ℕ) → (slice_get result.now k ≡ Some true) ↔ IsSigned self.now k }
@@ -214,7 +223,7 @@ impl Registry {
         self.signed.as_slice()
     }
 
-    /// Adds a format. Only want of memory refuses it, and the registry is then as it was.
+    /// Adds a format. Fails only if memory runs out, and then leaves the registry as it was.
     pub(crate) fn push_format(&mut self, alloc: Global, format: Format) -> Result<(), AllocError>
         requires few { length self.old.formats < 4096 }
         requires named { IsTrue (is_puid format.puid) }
@@ -232,7 +241,7 @@ impl Registry {
         Ok(())
     }
 
-    /// Adds an extension that a format lists. Only want of memory refuses it.
+    /// Adds an extension that a format lists. Fails only if memory runs out.
     pub(crate) fn push_extension(&mut self, row: ListedExtension) -> Result<(), AllocError>
         requires { row.place < length self.old.formats }
         ensures ok { OnOk result (self.new ≡ with_extension self.old row) }
@@ -242,7 +251,7 @@ impl Registry {
         Ok(())
     }
 
-    /// Adds a priority. Only want of memory refuses it.
+    /// Adds a priority. Fails only if memory runs out.
     pub(crate) fn push_priority(&mut self, row: Priority) -> Result<(), AllocError>
         requires place { row.place < length self.old.formats }
         requires over { row.over < length self.old.formats }
@@ -253,7 +262,7 @@ impl Registry {
         Ok(())
     }
 
-    /// Adds a signature. Only want of memory refuses it.
+    /// Adds a signature. Fails only if memory runs out.
     pub(crate) fn push_signature(&mut self, signature: Signature) -> Result<(), AllocError>
         requires { signature.place < length self.old.formats }
         ensures ok { OnOk result (self.new ≡ with_signature self.old signature) }
@@ -265,7 +274,7 @@ impl Registry {
         Ok(())
     }
 
-    /// Adds a byte sequence to the last signature, if there is one. Only want of memory refuses it.
+    /// Adds a byte sequence to the last signature, if there is one. Fails only if memory runs out.
     pub(crate) fn push_sequence(&mut self, sequence: ByteSequence) -> Result<(), AllocError>
         ensures ok { OnOk result (self.new ≡ with_sequence self.old sequence) }
         ensures err { OnErr result (self.new ≡ self.old) }

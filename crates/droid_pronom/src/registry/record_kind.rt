@@ -1,10 +1,10 @@
-//! What a record is about.
+//! The kinds of records.
 
 ghost use Rattle.std.specs.Prelude.{◌≡◌, option_map};
 ghost use Rattle.droid_pronom_formats.specs.RegistryFields as field;
 ghost use Rattle.droid_pronom.specs.RegistryCalls.{kind_is};
 
-/// What a record is about: its first field is the letter.
+/// The kind of a record. The letter is the record's first field.
 #[derive(Clone, Copy, Debug, PartialEq, Eq)]
 pub(crate) enum RecordKind {
     /// `F`: a format.
@@ -19,7 +19,7 @@ pub(crate) enum RecordKind {
     Sequence,
 }
 
-/// What a record is about, by its first field.
+/// Returns the kind of a record by its first field.
 pub(crate) fn kind_of(text: &str) -> Option<RecordKind>
     ensures { option_map kind_is result ≡ field.kind_of text.now }
 {

@@ -1,4 +1,4 @@
-//! The six texts of a record.
+//! The six texts of a record, and its pattern.
 
 ghost use Rattle.std.specs.Prelude.{◌≡◌, [], ◌∷◌, length};
 ghost use Rattle.csv.specs.Records.{fields_of};
@@ -21,7 +21,7 @@ pub(crate) struct RowText<'a> {
 }
 
 impl<'a> RowText<'a> {
-    /// The texts of a record that has six.
+    /// Borrows the six texts of a record.
     pub(crate) fn of(row: &'a StringRecord) -> RowText<'a>
         requires { length (fields_of row.now) ≡ 6 }
         ensures { fields_of row.now ≡ result.kind.now ∷ result.puid.now ∷ result.second.now ∷ result.third.now ∷ result.fourth.now ∷ result.fifth.now ∷ [] }
@@ -37,7 +37,7 @@ impl<'a> RowText<'a> {
     }
 }
 
-/// The pattern of a byte sequence.
+/// Reads the pattern of a byte sequence.
 pub(crate) fn pattern_of(alloc: Global, text: &str) -> Result<Pattern, Refusal>
     ensures { ReportsPattern result text.now }
 {

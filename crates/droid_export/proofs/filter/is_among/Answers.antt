@@ -1,6 +1,6 @@
 use Rattle.std.proofs.Common.{◌∙◌, sym, arith}
 use Rattle.std.specs.Str.{bytes_eq}
-use Rattle.droid_export.proofs.Places.{any_found, any_next, any_end, some_is_there}
+use Rattle.droid_export.proofs.ListPlaces.{any_found, any_next, any_end, some_is_there}
 use Rattle.droid_export.proofs.filter.is_among.Goals as goal
 use Rattle.droid_export.proofs.filter.is_among.Goals.{in-Some+else-eq, in_default}
 

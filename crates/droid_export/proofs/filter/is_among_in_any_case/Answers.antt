@@ -2,7 +2,7 @@ use Rattle.std.proofs.Common.{sym, arith}
 use Rattle.std.specs.Str.{str_eq_ignore_ascii_case}
 use Rattle.std.proofs.lemmas.Bool.{false_from_ne_true}
 use Rattle.std.proofs.lemmas.Slice.Eq.{bytes_eq-Decides}
-use Rattle.droid_export.proofs.Places.{any_found, any_next, any_end, some_is_there}
+use Rattle.droid_export.proofs.ListPlaces.{any_found, any_next, any_end, some_is_there}
 use Rattle.droid_export.proofs.filter.is_among_in_any_case.Goals as goal
 use Rattle.droid_export.proofs.filter.is_among_in_any_case.Goals.{in-Some+else-eq_ignore_ascii_case, in_default}
 

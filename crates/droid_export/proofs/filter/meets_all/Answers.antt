@@ -1,6 +1,6 @@
 use Rattle.std.proofs.Common.{◌∙◌, sym, arith}
 use Rattle.droid_export.specs.Filters.{is_met}
-use Rattle.droid_export.proofs.Places.{all_missed, all_next, all_end, some_is_there}
+use Rattle.droid_export.proofs.ListPlaces.{all_missed, all_next, all_end, some_is_there}
 use Rattle.droid_export.proofs.filter.meets_all.Goals as goal
 use Rattle.droid_export.proofs.filter.meets_all.Goals.{in-Some+else-not-is_met, in_default}
 

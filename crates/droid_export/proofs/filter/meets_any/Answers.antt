@@ -1,6 +1,6 @@
 use Rattle.std.proofs.Common.{◌∙◌, sym, arith}
 use Rattle.droid_export.specs.Filters.{is_met}
-use Rattle.droid_export.proofs.Places.{any_found, any_next, any_end, some_is_there}
+use Rattle.droid_export.proofs.ListPlaces.{any_found, any_next, any_end, some_is_there}
 use Rattle.droid_export.proofs.filter.meets_any.Goals as goal
 use Rattle.droid_export.proofs.filter.meets_any.Goals.{in-Some+else-is_met, in_default}
 

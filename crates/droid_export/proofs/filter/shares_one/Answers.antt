@@ -1,6 +1,6 @@
 use Rattle.std.proofs.Common.{◌∙◌, sym, arith}
 use Rattle.droid_export.specs.Filters.{is_among}
-use Rattle.droid_export.proofs.Places.{any_found, any_next, any_end, some_is_there}
+use Rattle.droid_export.proofs.ListPlaces.{any_found, any_next, any_end, some_is_there}
 use Rattle.droid_export.proofs.filter.shares_one.Goals as goal
 use Rattle.droid_export.proofs.filter.shares_one.Goals.{in-Some+else-is_among, in_default}
 

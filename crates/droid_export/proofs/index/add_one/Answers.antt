@@ -1,6 +1,6 @@
 use Rattle.std.proofs.Common.{string_bytes}
 use Rattle.std.proofs.lemmas.Map.Text.{btree_map_updates_text}
-use Rattle.droid_export.proofs.Indexing.{one_added}
+use Rattle.droid_export.proofs.IndexContents.{one_added}
 use Rattle.droid_export.proofs.index.add_one.Goals as goal
 
 pub returns : goal.returns

@@ -1,6 +1,6 @@
 use Rattle.std.specs.BTreeMap.{get_by_text}
 use Rattle.std.proofs.lemmas.Map.Text.{btree_map_updates_text}
-use Rattle.droid_export.proofs.Indexing.{items_or, removed}
+use Rattle.droid_export.proofs.IndexContents.{items_or, removed}
 use Rattle.droid_export.proofs.index.taken.Goals as goal
 
 pub returns-clause-value : goal.returns-clause-value

@@ -7,7 +7,7 @@ use Rattle.droid_frame.specs.types.hash_kind.HashKind.{HashKind}
 use Rattle.droid_export.specs.Csv.{quoted, joined, line}
 use Rattle.droid_export.specs.Rows.{Row, fields, header}
 use Rattle.droid_export.specs.Text.{chosen_rows, row_text, shown_rows, text}
-use Rattle.droid_export.proofs.ReadingBack.{read_rows}
+use Rattle.droid_export.proofs.CsvRoundTrip.{read_rows}
 use Rattle.droid_export.proofs.laws.text_is_read_back.Goals as goal
 
 -- the text begins with no byte order mark

@@ -4,9 +4,9 @@ use Rattle.std.proofs.lemmas.List.{append-nil, take_all}
 use Rattle.std.proofs.lemmas.List.Folds.{flat_map-map}
 use Rattle.droid_export.specs.Rows.{Row, row, shown}
 use Rattle.droid_export.specs.Text.{row_text}
-use Rattle.droid_export.specs.Writing.{Holds}
-use Rattle.droid_export.proofs.Growing.{grown}
-use Rattle.droid_export.proofs.Places.{some_is_there}
+use Rattle.droid_export.specs.CsvBuffer.{Holds}
+use Rattle.droid_export.proofs.TextConcatenation.{grown}
+use Rattle.droid_export.proofs.ListPlaces.{some_is_there}
 use Rattle.droid_export.proofs.rows.write_format_rows.Goals as goal
 use Rattle.droid_export.proofs.rows.write_format_rows.Goals.{in-Some+in_ok-write_row, in_default}
 

@@ -2,7 +2,7 @@ use Rattle.std.proofs.Common.{ℕ, List, ◌++◌, take}
 use Rattle.std.specs.List.{flat_map}
 use Rattle.droid_export.specs.Rows.{row, shown}
 use Rattle.droid_export.specs.Text.{row_text}
-use Rattle.droid_export.specs.Writing.{Holds}
+use Rattle.droid_export.specs.CsvBuffer.{Holds}
 use Rattle.droid_export.proofs.rows.write_format_rows.Given as goal
 
 -- the rows of the first formats were written

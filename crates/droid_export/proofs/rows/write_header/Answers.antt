@@ -2,7 +2,7 @@ use Rattle.std.proofs.Common.{◌≡◌, ◌∙◌, ℕ, List, ◌++◌, subst}
 use Rattle.std.proofs.lemmas.Result.{on_ok_weaker}
 use Rattle.droid_export.specs.Csv.{line}
 use Rattle.droid_export.specs.Rows.{fields, hash_column, header}
-use Rattle.droid_export.specs.Writing.{Holds}
+use Rattle.droid_export.specs.CsvBuffer.{Holds}
 use Rattle.droid_export.proofs.rows.write_header.Goals as goal
 
 pub returns : goal.returns

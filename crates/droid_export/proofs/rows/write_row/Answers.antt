@@ -2,7 +2,7 @@ use Rattle.std.proofs.Common.{◌≡◌, ℕ, List, [], ◌∷◌, ◌++◌, ref
 use Rattle.std.specs.Option.{option_copied}
 use Rattle.droid_export.specs.Csv.{line}
 use Rattle.droid_export.specs.Rows.{fields, row, shown_by}
-use Rattle.droid_export.specs.Writing.{Holds}
+use Rattle.droid_export.specs.CsvBuffer.{Holds}
 use Rattle.std.proofs.lemmas.Result.{on_ok_weaker}
 use Rattle.droid_export.proofs.rows.write_row.Goals as goal
 

@@ -3,8 +3,8 @@ use Rattle.std.specs.List.{flat_map}
 use Rattle.std.proofs.lemmas.Result.{on_ok_weaker}
 use Rattle.droid_export.specs.Rows.{Row}
 use Rattle.droid_export.specs.Text.{row_text}
-use Rattle.droid_export.specs.Writing.{Holds}
-use Rattle.droid_export.proofs.Growing.{no_formats, some_formats}
+use Rattle.droid_export.specs.CsvBuffer.{Holds}
+use Rattle.droid_export.proofs.TextConcatenation.{no_formats, some_formats}
 use Rattle.droid_export.proofs.rows.write_rows.Goals as goal
 
 pub returns-then-is_empty : goal.returns-then-is_empty

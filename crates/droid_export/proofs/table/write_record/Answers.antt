@@ -3,7 +3,7 @@ use Rattle.std.specs.Io.KnownBytes.{Appends}
 use Rattle.csv.specs.Writing as csv
 use Rattle.csv.specs.declared.writer.QuoteStyle.TheVariants as style
 use Rattle.droid_export.specs.Csv.{line}
-use Rattle.droid_export.specs.Writing.{always}
+use Rattle.droid_export.specs.CsvBuffer.{always}
 use Rattle.droid_export.proofs.CsvText.{line_same}
 use Rattle.std.proofs.lemmas.List.{length-map}
 use Rattle.droid_export.proofs.table.write_record.Goals as goal

@@ -3,8 +3,8 @@ use Rattle.std.specs.List.{flat_map}
 use Rattle.std.proofs.lemmas.List.{take_all}
 use Rattle.droid_frame.specs.types.record.Record.{Record}
 use Rattle.droid_export.specs.Text.{chosen_rows, row_text}
-use Rattle.droid_export.specs.Writing.{Holds}
-use Rattle.droid_export.proofs.Growing.{kept, passed_over}
+use Rattle.droid_export.specs.CsvBuffer.{Holds}
+use Rattle.droid_export.proofs.TextConcatenation.{kept, passed_over}
 use Rattle.droid_export.proofs.text.write_records.Goals as goal
 use Rattle.droid_export.proofs.text.write_records.Goals.{then-chosen+in_ok-write_rows, else-chosen}
 

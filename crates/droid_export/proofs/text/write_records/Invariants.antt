@@ -1,7 +1,7 @@
 use Rattle.std.proofs.Common.{ℕ, List, ◌++◌, take}
 use Rattle.std.specs.List.{flat_map}
 use Rattle.droid_export.specs.Text.{chosen_rows, row_text}
-use Rattle.droid_export.specs.Writing.{Holds}
+use Rattle.droid_export.specs.CsvBuffer.{Holds}
 use Rattle.droid_export.proofs.text.write_records.Given as goal
 
 -- the rows of the first records were written

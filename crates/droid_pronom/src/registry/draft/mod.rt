@@ -1,8 +1,8 @@
-//! A registry while its records are read.
+//! A registry that is being read.
 
 ghost use Rattle.std.specs.Prelude.{◌≡◌, ◌<◌, ◌^◌, length, IfOk};
 ghost use Rattle.csv.specs.Records.{fields_of};
-ghost use Rattle.droid_pronom.specs.RegistryCalls.{draft_of, Gives, Tells};
+ghost use Rattle.droid_pronom.specs.RegistryCalls.{draft_of, Gives, HasOutcome};
 ghost use Rattle.droid_pronom_formats.specs.RegistryFields as field;
 ghost use Rattle.droid_pronom.specs.RegistryFile.{empty_draft, taken_count};
 ghost use Rattle.droid_pronom.specs.RegistryRecords.{Step, Judged, known};
@@ -17,23 +17,23 @@ use crate::registry::row_text::RowText;
 use csv::{ByteRecord, StringRecord};
 use std::alloc::Global;
 
-/// How many records each may list an extension, give a priority or begin a signature.
+/// The most records of each of three kinds: E, P and S.
 const ROWS_LIMIT: usize = 16_384;
-/// How many fields a record has.
+/// The number of fields of each record.
 const FIELDS: usize = 6;
 
-/// What the records so far say.
+/// The registry that the records so far make, and what is needed to judge the next record.
 #[derive(Drop)]
 pub(crate) struct Draft {
     pub registry: Registry,
-    /// How many byte sequences the signatures have together.
+    /// The number of byte sequences of all signatures together.
     pub sequences: u32,
-    /// The place of the format whose signature the next record may go on with.
+    /// The place of the format to whose signature a B record may now add a byte sequence.
     pub current: Option<u32>,
 }
 
 impl Draft {
-    /// Nothing was read yet. It takes no memory.
+    /// Makes the draft before the first record. Takes no memory.
     pub(crate) fn new(alloc: Global) -> Draft
         ensures { draft_of result ≡ empty_draft }
     {
@@ -44,7 +44,7 @@ impl Draft {
         }
     }
 
-    /// How many records were taken: each is a row of one of the tables, or a byte sequence.
+    /// Returns the number of records so far. Each is a row of one of the tables, or a byte sequence.
     pub(crate) fn records(&self) -> u64
         ensures count { result ≡ taken_count (draft_of self.now) }
         ensures small { result < 2 ^ 63 }
@@ -56,9 +56,9 @@ impl Draft {
             + sequences
     }
 
-    /// Takes the next record.
+    /// Adds the next record, or returns what is wrong with it.
     pub(crate) fn take(&mut self, alloc: Global, row: ByteRecord) -> Result<(), Refusal>
-        ensures { Tells result (draft_of self.new) (Step (draft_of self.old) (fields_of row)) }
+        ensures { HasOutcome result (draft_of self.new) (Step (draft_of self.old) (fields_of row)) }
     {
         if row.len() != FIELDS {
             return Err(Refusal::Fault(Fault::BadRecord));
@@ -69,9 +69,9 @@ impl Draft {
         self.judge(alloc, RowText::of(&row))
     }
 
-    /// Takes a record of six texts.
+    /// Adds a record of six texts, or returns what is wrong with it.
     fn judge(&mut self, alloc: Global, row: RowText) -> Result<(), Refusal>
-        ensures { Tells result (draft_of self.new) (Judged (draft_of self.old) (field.kind_of row.entry.kind.now) row.entry.puid.now row.entry.second.now row.entry.third.now row.entry.fourth.now row.entry.fifth.now) }
+        ensures { HasOutcome result (draft_of self.new) (Judged (draft_of self.old) (field.kind_of row.entry.kind.now) row.entry.puid.now row.entry.second.now row.entry.third.now row.entry.fourth.now row.entry.fifth.now) }
     {
         let RowText {
             kind,
@@ -99,7 +99,7 @@ impl Draft {
         }
     }
 
-    /// The place of an earlier format.
+    /// Returns the place of an earlier format by its PUID.
     pub(crate) fn known(&self, puid: &str) -> Result<u32, Refusal>
         ensures gives { Gives (λ place. place) result (known puid.now (draft_of self.now)) }
         ensures below { IfOk result (λ place. place < length self.now.registry.formats) }

@@ -1,8 +1,8 @@
-//! What is taken of a record that begins a signature or goes on with one.
+//! S and B records: a new signature, and one more byte sequence of the signature before it.
 
 ghost use Rattle.std.specs.Prelude.{◌≡◌, ◌<◌, ◌&&◌, nat_lt, Some, length, IfOk};
 ghost use Rattle.droid_pronom_formats.specs.Registry.{place_of};
-ghost use Rattle.droid_pronom.specs.RegistryCalls.{draft_of, Gives, Tells};
+ghost use Rattle.droid_pronom.specs.RegistryCalls.{draft_of, Gives, HasOutcome};
 ghost use Rattle.droid_pronom.specs.RegistryRecords.{WithPattern, signature_head, signature_added, sequence_head, sequence_added, is_same_place};
 
 use crate::registry::draft::{Draft, ROWS_LIMIT};
@@ -11,11 +11,11 @@ use crate::registry::row_text::pattern_of;
 use droid_pronom_formats::{ByteSequence, Offsets, Signature, is_puid, offsets_of};
 use std::alloc::Global;
 
-/// How many byte sequences a registry may have.
+/// The most byte sequences that a registry may have.
 const SEQUENCES_LIMIT: u32 = 32_768;
 
 impl Draft {
-    /// Where a new signature's first byte sequence may stand, and the place of its format.
+    /// Reads the fields of an S record before its pattern: the place of the format and the offsets.
     #[tactic(auto, unfolding(crate::specs::RegistryRecords::signature_head))]
     fn signature_head(
         &self,
@@ -35,7 +35,7 @@ impl Draft {
         Ok((place, offsets))
     }
 
-    /// Takes an S record.
+    /// Adds an S record, or returns what is wrong with it.
     #[tactic(auto, unfolding(crate::specs::RegistryRecords::signature_added))]
     pub(crate) fn take_signature(
         &mut self,
@@ -46,21 +46,21 @@ impl Draft {
         max: &str,
         pattern: &str,
     ) -> Result<(), Refusal>
-        ensures { Tells result (draft_of self.new) (WithPattern (signature_head (draft_of self.old) puid.now anchor.now min.now max.now) pattern.now (signature_added (draft_of self.old))) }
+        ensures { HasOutcome result (draft_of self.new) (WithPattern (signature_head (draft_of self.old) puid.now anchor.now min.now max.now) pattern.now (signature_added (draft_of self.old))) }
     {
         let (place, offsets) = self.signature_head(puid, anchor, min, max)?;
         let pattern = pattern_of(alloc, pattern)?;
         self.add_signature(alloc, place, ByteSequence { offsets, pattern })
     }
 
-    /// Whether there is room for one more signature and its first byte sequence.
+    /// Returns whether the limits allow one more signature with a byte sequence.
     fn has_room(&self) -> bool
         ensures { result ≡ (nat_lt (length self.now.registry.signatures) 16384 && nat_lt self.now.sequences 32768) }
     {
         self.registry.signatures().len() < ROWS_LIMIT && self.sequences < SEQUENCES_LIMIT
     }
 
-    /// Adds a signature with its first byte sequence.
+    /// Adds a signature with its first byte sequence, within the limits.
     #[tactic(auto, unfolding(crate::specs::RegistryRecords::signature_added))]
     fn add_signature(
         &mut self,
@@ -79,7 +79,7 @@ impl Draft {
         Ok(())
     }
 
-    /// Whether the record just before is an S or a B with this PUID.
+    /// Returns whether the record just before is an S or a B with this PUID.
     fn goes_on(&self, puid: &str) -> bool
         ensures { result ≡ is_same_place self.now.current (place_of puid.now self.now.registry.formats) }
     {
@@ -89,7 +89,7 @@ impl Draft {
         }
     }
 
-    /// Where one more byte sequence of the last signature may stand.
+    /// Reads the fields of a B record before its pattern: the offsets.
     #[tactic(auto, unfolding(crate::specs::RegistryRecords::sequence_head))]
     fn sequence_head(
         &self,
@@ -107,7 +107,7 @@ impl Draft {
         Ok(offsets)
     }
 
-    /// Takes a B record.
+    /// Adds a B record, or returns what is wrong with it.
     #[tactic(auto, unfolding(crate::specs::RegistryRecords::sequence_added))]
     pub(crate) fn take_sequence(
         &mut self,
@@ -118,14 +118,14 @@ impl Draft {
         max: &str,
         pattern: &str,
     ) -> Result<(), Refusal>
-        ensures { Tells result (draft_of self.new) (WithPattern (sequence_head (draft_of self.old) puid.now anchor.now min.now max.now) pattern.now (sequence_added (draft_of self.old))) }
+        ensures { HasOutcome result (draft_of self.new) (WithPattern (sequence_head (draft_of self.old) puid.now anchor.now min.now max.now) pattern.now (sequence_added (draft_of self.old))) }
     {
         let offsets = self.sequence_head(puid, anchor, min, max)?;
         let pattern = pattern_of(alloc, pattern)?;
         self.add_sequence(ByteSequence { offsets, pattern })
     }
 
-    /// Adds a byte sequence to the last signature.
+    /// Adds a byte sequence to the last signature, within the limit.
     #[tactic(auto, unfolding(crate::specs::RegistryRecords::sequence_added))]
     fn add_sequence(&mut self, sequence: ByteSequence) -> Result<(), Refusal>
         ensures { Gives (λ _. draft_of self.new) result (sequence_added (draft_of self.old) sequence.offsets (Some sequence.pattern)) }

@@ -1,4 +1,4 @@
-//! What is taken of a record that adds a row to a table.
+//! F, E and P records: a format, an extension and a priority.
 
 ghost use Rattle.droid_pronom.specs.RegistryCalls.{draft_of, Gives};
 ghost use Rattle.droid_pronom.specs.RegistryRecords.{format_taken, extension_taken, priority_taken};
@@ -13,7 +13,7 @@ use droid_pronom_formats::{
 use std::alloc::Global;
 
 impl Draft {
-    /// Takes an F record.
+    /// Adds an F record, or returns what is wrong with it.
     #[tactic(auto, unfolding(crate::specs::RegistryRecords::format_taken))]
     pub(crate) fn take_format(
         &mut self,
@@ -43,7 +43,7 @@ impl Draft {
         Ok(())
     }
 
-    /// Takes an E record.
+    /// Adds an E record, or returns what is wrong with it.
     #[tactic(auto, unfolding(crate::specs::RegistryRecords::extension_taken))]
     pub(crate) fn take_extension(
         &mut self,
@@ -72,7 +72,7 @@ impl Draft {
         Ok(())
     }
 
-    /// Takes a P record.
+    /// Adds a P record, or returns what is wrong with it.
     #[tactic(auto, unfolding(crate::specs::RegistryRecords::priority_taken))]
     pub(crate) fn take_priority(
         &mut self,

@@ -1,6 +1,6 @@
 -- All places, without those before the first and past the last.
 use Rattle.std.proofs.Common.{◌++◌, take, drop, length, ◌∙◌, ◌+◌, ◌/◌}
-use Rattle.droid_pronom_bits.proofs.RowLemmas.{written_back}
+use Rattle.droid_pronom_bits.proofs.ResizeLemmas.{written_back}
 use Rattle.droid_pronom_bits.proofs.RangeLemmas.{refilled, full_places, between}
 use Rattle.droid_pronom_bits.proofs.run.push_runs.Goals as goal
 

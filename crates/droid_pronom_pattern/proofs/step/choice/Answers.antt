@@ -15,26 +15,26 @@ loop-init c =
     let whole : count - 0 ≡ count = omega arith in
     let first : runs_in (count - 0) c.rest_from-rest.result.now ≡ alternatives_in packed = ap (λ n. runs_in n c.rest_from-rest.result.now) whole ∙ ap (runs_in count) c.rest_from-rest.ensures in
     rw c.new-found.ensures (record {
-      rows = c.requires.rows;
+      sets = c.requires.sets;
       inside = none_inside c.args.bytes.now;
-      so_far = ([], first, choice_none c.args.toward c.args.bytes.now (IsAt c.args.toward c.args.bytes.now c.args.row.now));
+      so_far = ([], first, choice_none c.args.direction c.args.bytes.now (IsAt c.args.direction c.args.bytes.now c.args.bits.now));
     })
 
 pub loop-preserved : goal.loop-preserved
 loop-preserved c =
     let run = c.cut_run.result.0.now in
     let bytes = c.args.bytes.now in
-    let way = c.args.toward in
+    let way = c.args.direction in
     let (done, all, reached) = c.loop.invariant.so_far in
     let chain = rw c.in_ok-set_from.ensures at c.in_ok-follow.ensures.chain in
     record {
-      rows = c.follow.ensures.rows;
-      inside = inside_join bytes c.loop.found c.follow.new.row c.join.new.self c.in_ok-join.ensures c.loop.invariant.inside (chain_inside way bytes run _ c.args.row.now c.follow.new.row c.requires.inside chain);
+      sets = c.follow.ensures.sets;
+      inside = inside_join bytes c.loop.found c.follow.new.bits c.join.new.self c.in_ok-join.ensures c.loop.invariant.inside (chain_inside way bytes run _ c.args.bits.now c.follow.new.bits c.requires.inside chain);
       so_far = (
         done ++ run ∷ [],
         rw (c.cut_run.ensures.run, c.cut_run.ensures.after) (runs_left (front_number c.args.packed.now) c.loop.counter done c.loop.rest.now _ (omega arith) all),
-        choice_more way done run bytes (IsAt way bytes c.args.row.now) (IsAt way bytes c.loop.found) (IsAt way bytes c.follow.new.row) (IsAt way bytes c.join.new.self)
-            reached (chain_reaches way bytes run c.args.row.now c.follow.new.row chain) (at_join way bytes c.loop.found c.follow.new.row c.join.new.self c.in_ok-join.ensures),
+        choice_more way done run bytes (IsAt way bytes c.args.bits.now) (IsAt way bytes c.loop.found) (IsAt way bytes c.follow.new.bits) (IsAt way bytes c.join.new.self)
+            reached (chain_reaches way bytes run c.args.bits.now c.follow.new.bits chain) (at_join way bytes c.loop.found c.follow.new.bits c.join.new.self c.in_ok-join.ensures),
       );
     }
 

@@ -5,8 +5,8 @@ use Rattle.droid_pronom_pattern.proofs.step.follow.Goals as goal
 
 pub loop-place-preserved : goal.loop-place-preserved
 loop-place-preserved c = (
-  c.one.ensures.rows,
-  chain_more c.args.toward c.args.bytes.now c.args.literal.now c.loop-place.place c.byte_behind-wanted.result c.args.row.now c.loop-place.row c.one.new.row
+  c.one.ensures.sets,
+  chain_more c.args.direction c.args.bytes.now c.args.literal.now c.loop-place.place c.byte_behind-wanted.result c.args.bits.now c.loop-place.bits c.one.new.bits
       c.byte_behind-wanted.ensures c.in_ok-one.ensures.moved c.loop-place.invariant.1,
 )
 

@@ -1,7 +1,7 @@
 use Rattle.std.proofs.Common.{Bool, ◌||◌, ◌&&◌, ◌==◌, sym, ap, ◌∙◌, arith}
 use Rattle.droid_export.specs.Index.{asks_extension, asks_identifier}
-use Rattle.droid_export.proofs.Indexing.{more_criteria}
-use Rattle.droid_export.proofs.Places.{some_is_there}
+use Rattle.droid_export.proofs.IndexContents.{more_criteria}
+use Rattle.droid_export.proofs.ListPlaces.{some_is_there}
 use Rattle.droid_export.proofs.index.Index.build.Goals as goal
 use Rattle.droid_export.proofs.index.Index.build.Goals.{in-Some+in_ok-add, in_default}
 

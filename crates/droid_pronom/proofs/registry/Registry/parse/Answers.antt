@@ -60,7 +60,7 @@ returns c = λ _.
     let s = rw c.in-None.is at ((c.next.ensures.steps inv.2 inv.0).0 inv.1) in
     read c.if-bytes-gt-BYTES_LIMIT.false (inv.7 _ (outcome_end c.loop-row.row-iterator.rdr c.next.new.self.rdr inv.5 [] (draft_of c.loop-row.draft) inv.3 inv.6 s))
 
-pub unread-requires : goal.unread-requires
-unread-requires c =
+pub csv_fault-requires : goal.csv_fault-requires
+csv_fault-requires c =
     let inv = c.loop-row.invariant in
     ends_reading c.loop-row.row-iterator.rdr c.next.new.self.rdr (error_kind c.in-Err.error) inv.4 (rw (c.in-Some.is, c.in-Err.is) at ((c.next.ensures.steps inv.2 inv.0).0 inv.1))

@@ -1,4 +1,4 @@
--- Nothing is kept yet.
+-- Nothing is cached yet.
 use Rattle.droid_pronom_pattern.proofs.pattern.Pattern.matches_from.Goals as goal
 
 pub begins_with-requires : goal.begins_with-requires

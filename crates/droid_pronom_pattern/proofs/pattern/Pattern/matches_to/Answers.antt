@@ -4,7 +4,7 @@ use Rattle.std.specs.Prelude.{take}
 use Rattle.droid_pronom_pattern.proofs.PathLemmas.{ends_at}
 use Rattle.droid_pronom_pattern.proofs.pattern.Pattern.matches_to.Goals as goal
 
--- nothing is kept yet
+-- nothing is cached yet
 pub ends_with-requires : goal.ends_with-requires
 ends_with-requires c = c.new-classes.ensures (take c.args.end c.args.bytes.now)
 

@@ -1,0 +1,23 @@
+//! Collects the PUIDs of the formats that were found.
+
+ghost use Rattle.std.specs.Prelude.{◌≡◌, IfOk, length};
+ghost use Rattle.droid_pronom_formats.specs.Found.{Chosen};
+ghost use Rattle.droid_pronom_formats.specs.FoundWindows.{Stands};
+
+use crate::format::Format;
+use droid_frame::Texts;
+use std::alloc::{AllocError, Global};
+
+/// Returns the PUIDs of the formats whose flags are set, in order.
+pub fn puids_of(alloc: Global, formats: &[Format], flags: &[bool]) -> Result<Texts, AllocError>
+    requires { length flags.now ≡ length formats.now }
+    ensures { IfOk result (λ puids. Chosen (Stands flags.now) 0 formats.now puids) }
+{
+    let mut puids = Texts::new(alloc);
+    for (place, format) in formats.iter().enumerate() {
+        if flags[place] {
+            puids.push(format.puid.try_clone(alloc)?)?;
+        }
+    }
+    Ok(puids)
+}
