@@ -17,6 +17,6 @@ fn example_of_the_page(rt: HostRuntime) -> Result<(), Fail> {
     let sealed = file.seal()?;
     assert!(rt; sealed.size == 5);
     let windows = file.windows();
-    assert!(rt; windows.first == b"He" && windows.last == b"lo");
+    assert!(rt; windows.first == b"He".as_slice() && windows.last == b"lo".as_slice());
     Ok(())
 }
