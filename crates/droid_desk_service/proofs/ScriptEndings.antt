@@ -6,8 +6,8 @@ use Rattle.std.proofs.KnownBytes.{Keeps-refl}
 use Rattle.std.proofs.lemmas.Bool.{eqb-true, eqb-false}
 use Rattle.droid_desk_service.specs.declared.ending.Ending.{Ending}
 use Rattle.droid_desk_service.specs.declared.ending.Ending.TheVariants.{Done, Registry, NoService, Script, Stream, Send, Socket, BadLine}
-use Rattle.droid_lines_script.specs.declared.fault.ScriptFault.{ScriptFault}
-use Rattle.droid_lines_script.specs.declared.fault.ScriptFault.TheVariants.{TooLong, Read, Memory, Write}
+use Rattle.droid_lines_script.specs.declared.script_fault.ScriptFault.{ScriptFault}
+use Rattle.droid_lines_script.specs.declared.script_fault.ScriptFault.TheVariants.{TooLong, Read, Memory, Write}
 use Rattle.droid_lines.specs.Tallies.{Counts}
 use Rattle.droid_lines.specs.declared.tally.Tally.{Tally}
 use Rattle.droid_core.specs.declared.service.Service.{Service}

@@ -5,7 +5,7 @@ use Rattle.std.proofs.lemmas.Bool.{eqb-true, eqb-false}
 use Rattle.droid_wire.specs.Cores.{Core}
 use Rattle.droid_desk_service.specs.declared.ending.Ending.TheVariants.{Done, BadLine, Send}
 use Rattle.droid_desk_service.specs.Sends.{SendEndsAs, sending_end_of}
-use Rattle.droid_lines_send.specs.declared.fault.SendFault.{SendFault}
+use Rattle.droid_lines_send.specs.declared.send_fault.SendFault.{SendFault}
 use Rattle.droid_lines.specs.declared.tally.Tally.{Tally}
 use Rattle.droid_frame.specs.Seen.{ReportsFault}
 use Rattle.droid_lines_send.specs.Sending.{SendsAll, SendsFront}

@@ -12,8 +12,8 @@ use Rattle.std.specs.declared.io.buffered.BufReader.{BufReader}
 use Rattle.std.proofs.KnownBytes.{prepend_known-nil}
 use Rattle.droid_wire.specs.Serving.{Outcome}
 use Rattle.droid_wire.specs.declared.ended.Ended.{Ended}
-use Rattle.droid_wire.specs.declared.fault.ServeFault.{ServeFault}
-use Rattle.droid_wire.specs.declared.fault.ServeFault.TheVariants as faults
+use Rattle.droid_wire.specs.declared.serve_fault.ServeFault.{ServeFault}
+use Rattle.droid_wire.specs.declared.serve_fault.ServeFault.TheVariants as faults
 
 pub stream_ends : (known left old new : Option (List ℕ)) (setting : Setting) (history : History) (after : Service) (r : Result Ended ServeFault)
     → IfSome known (λ input. Outcome setting history stream_turns input left old new after r)

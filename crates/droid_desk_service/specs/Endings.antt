@@ -4,8 +4,8 @@ use Rattle.std.specs.List.{count_by}
 use Rattle.std.specs.Io.KnownBytes.{Keeps}
 use Rattle.droid_desk_service.specs.declared.ending.Ending.{Ending}
 use Rattle.droid_desk_service.specs.declared.ending.Ending.TheVariants.{Done, Registry, NoService, Script, Stream, Send, Socket, BadLine}
-use Rattle.droid_lines_script.specs.declared.fault.ScriptFault.{ScriptFault}
-use Rattle.droid_lines_script.specs.declared.fault.ScriptFault.TheVariants.{TooLong, Read, Memory, Write}
+use Rattle.droid_lines_script.specs.declared.script_fault.ScriptFault.{ScriptFault}
+use Rattle.droid_lines_script.specs.declared.script_fault.ScriptFault.TheVariants.{TooLong, Read, Memory, Write}
 use Rattle.droid_core.specs.declared.service.Service.{Service}
 use Rattle.droid_core.specs.Identified.{IsOf}
 use Rattle.droid_core.specs.Limits.{Limits}
@@ -18,8 +18,8 @@ use Rattle.droid_pronom.specs.declared.registry.fault.RegistryFault.{RegistryFau
 use Rattle.droid_pronom.specs.declared.registry.fault.RegistryFault.TheVariants as registry_faults
 use Rattle.droid_store.specs.declared.fault.StoreFault.{StoreFault}
 use Rattle.droid_store.specs.declared.fault.StoreFault.TheVariants as store_faults
-use Rattle.droid_wire.specs.declared.fault.ServeFault.{ServeFault}
-use Rattle.droid_wire.specs.declared.fault.ServeFault.TheVariants as serve_faults
+use Rattle.droid_wire.specs.declared.serve_fault.ServeFault.{ServeFault}
+use Rattle.droid_wire.specs.declared.serve_fault.ServeFault.TheVariants as serve_faults
 use Rattle.droid_lines_send.specs.Faults.{frame_fault_name}
 use Rattle.droid_lines_script.specs.Scripts.{RunsAll, RunsFront, IsTooLong, is_bad}
 

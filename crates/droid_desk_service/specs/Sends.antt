@@ -4,7 +4,7 @@ use Rattle.droid_wire.specs.Cores.{Core}
 use Rattle.droid_desk_service.specs.declared.ending.Ending.{Ending}
 use Rattle.droid_desk_service.specs.declared.ending.Ending.TheVariants.{Done, Registry, NoService, Script, Stream, Send, Socket, BadLine}
 use Rattle.droid_desk_service.specs.Endings.{after_lines}
-use Rattle.droid_lines_send.specs.declared.fault.SendFault.{SendFault}
+use Rattle.droid_lines_send.specs.declared.send_fault.SendFault.{SendFault}
 use Rattle.droid_lines.specs.declared.tally.Tally.{Tally}
 use Rattle.droid_lines_send.specs.Sending.{SendsAll, SendsFront}
 

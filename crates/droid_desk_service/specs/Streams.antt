@@ -7,7 +7,7 @@ use Rattle.droid_core.specs.Histories.{History}
 use Rattle.droid_core.specs.Setting.{Setting}
 use Rattle.droid_wire.specs.Serving.{Outcome}
 use Rattle.droid_wire.specs.declared.ended.Ended.{Ended}
-use Rattle.droid_wire.specs.declared.fault.ServeFault.{ServeFault}
+use Rattle.droid_wire.specs.declared.serve_fault.ServeFault.{ServeFault}
 
 -- how many frames of a stream are answered at the most
 abbrev pub stream_turns : ℕ

@@ -3,7 +3,7 @@
 
 use std::io::{self, ErrorKind, Read, Write};
 
-/// Where a stream is interrupted: how many bytes stand before, and how many calls are interrupted there.
+/// Where a stream is interrupted: after how many bytes, and how many calls are interrupted there.
 pub type Place = (usize, u32);
 
 /// No interruption.
@@ -12,26 +12,26 @@ pub const NOWHERE: Place = (0, 0);
 /// How a stream behaves before it stops.
 #[derive(Clone, Copy)]
 pub struct Manner {
-    /// How many bytes it gives or takes at a time.
+    /// The most bytes that it reads or takes in one call.
     pub width: usize,
-    /// How many of its first calls are interrupted.
+    /// The number of its first calls that are interrupted.
     pub interruptions: u32,
-    /// Where it is interrupted besides.
+    /// Further places where it is interrupted.
     pub places: [Place; 3],
 }
 
-/// As many bytes as are asked for, without an interruption.
+/// Reads or takes as many bytes as it is asked to, without an interruption.
 pub const STEADY: Manner = Manner {
     width: usize::MAX,
     interruptions: 0,
     places: [NOWHERE; 3],
 };
 
-/// One byte at a time.
+/// Reads or takes one byte in each call.
 pub const BYTE_BY_BYTE: Manner = Manner { width: 1, ..STEADY };
 
 impl Manner {
-    /// Whether the call after so many bytes is interrupted.
+    /// Returns whether the call after this many bytes is interrupted.
     fn interrupts(&mut self, before: usize) -> bool {
         if self.interruptions > 0 {
             self.interruptions -= 1;
@@ -46,7 +46,7 @@ impl Manner {
         false
     }
 
-    /// How many bytes it gives or takes after so many: none past the next interruption.
+    /// Returns how many bytes the next call may read or take: none past the next interruption.
     fn width(&self, before: usize) -> usize {
         let mut width = self.width;
         for (at, times) in &self.places {
@@ -61,13 +61,14 @@ impl Manner {
 /// How a stream stops.
 #[derive(Clone, Copy)]
 pub enum Stop {
-    /// It answers an error.
+    /// It returns an error.
     Fails,
-    /// It gives or takes no byte.
+    /// It reads or takes no byte.
     Ends,
 }
 
-/// A reader of some bytes, which stops behind them. It fails once: whoever asks again gets what is behind the fault.
+/// A reader of some bytes, which stops after them. It fails once: a caller that reads again gets the bytes behind the
+/// fault.
 #[derive(Drop)]
 pub struct ShakyReader<'a> {
     bytes: &'a [u8],
@@ -77,7 +78,7 @@ pub struct ShakyReader<'a> {
 }
 
 impl<'a> ShakyReader<'a> {
-    /// A reader that stops in this way behind the bytes, and ends then.
+    /// Makes a reader that stops in this way after the bytes, and then ends.
     pub fn new(bytes: &'a [u8], stop: Stop, manner: Manner) -> ShakyReader<'a> {
         let behind_the_fault = match stop {
             Stop::Fails => Some(b"".as_slice()),
@@ -91,7 +92,7 @@ impl<'a> ShakyReader<'a> {
         }
     }
 
-    /// A reader that fails between the bytes and those behind the fault.
+    /// Makes a reader that fails between the bytes and those behind the fault.
     pub fn broken(bytes: &'a [u8], behind: &'a [u8], manner: Manner) -> ShakyReader<'a> {
         ShakyReader {
             bytes,
@@ -101,7 +102,7 @@ impl<'a> ShakyReader<'a> {
         }
     }
 
-    /// How many bytes weren't read, those behind a fault that is to come left out.
+    /// Returns how many bytes weren't read, without those behind a fault that has yet to come.
     pub fn left(&self) -> usize {
         self.bytes.len()
     }
@@ -127,7 +128,7 @@ impl Read for ShakyReader<'_> {
     }
 }
 
-/// A writer that takes so many bytes, then stops once, and then takes all.
+/// A writer that takes a number of bytes, then stops once, and then takes all.
 #[derive(Drop)]
 pub struct ShakyWriter {
     taken: Vec<u8>,
@@ -138,7 +139,7 @@ pub struct ShakyWriter {
 }
 
 impl ShakyWriter {
-    /// A writer that stops in this way behind so many bytes.
+    /// Makes a writer that stops in this way after this many bytes.
     pub fn new(taken: Vec<u8>, room: usize, stop: Stop, manner: Manner) -> ShakyWriter {
         ShakyWriter {
             taken,
@@ -149,12 +150,12 @@ impl ShakyWriter {
         }
     }
 
-    /// The bytes that it took.
+    /// Returns the bytes that it took.
     pub fn taken(&self) -> &[u8] {
         self.taken.as_slice()
     }
 
-    /// How often it was flushed.
+    /// Returns how often it was flushed.
     pub fn flushes(&self) -> u32 {
         self.flushes
     }

@@ -12,19 +12,20 @@ abbrev pub AddsRead : Seen → Seen → Result ℕ Error → Type 0
 AddsRead old new (Ok count) = new ≡ old
 AddsRead old new (Err error) = AddsError old new error
 
--- known bytes lost some at their front, fewer than were wanted
+-- known bytes lost some at their front, fewer than `wanted`
 pub record ConsumesFewer (old new : Option (List ℕ)) (wanted : ℕ) : Type 0 where
   pub bytes : List ℕ
   pub consumed : Consumes old new bytes
   pub fewer : length bytes < wanted
 
--- known bytes lost so many at their front
+-- known bytes lost exactly `count` bytes at their front
 pub record ConsumesSoMany (old new : Option (List ℕ)) (count : ℕ) : Type 0 where
   pub bytes : List ℕ
   pub consumed : Consumes old new bytes
   pub counted : length bytes ≡ count
 
--- what was read where no input came of at most so many bytes: one byte more; or at most so many
+-- what was read where an input of at most `limit` bytes could not be read: `limit` + 1 bytes if it is too long, else at
+-- most `limit`
 abbrev pub ReadsNoInput : InputFault → Option (List ℕ) → Option (List ℕ) → ℕ → Type 0
 ReadsNoInput TooLong old new limit = ConsumesSoMany old new (limit + 1)
 ReadsNoInput Memory old new limit = ConsumesFewer old new (limit + 1)

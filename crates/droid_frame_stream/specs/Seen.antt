@@ -1,4 +1,4 @@
--- What a stream did so far, and what each call adds to it (this project's own).
+-- What a stream did so far, and what each call adds to it (this project's own rule).
 use Rattle.std.specs.Prelude.{◌≡◌, ℕ, ◌+◌, ◌≤◌, ◌⊎◌, Result, Ok, Err}
 use Rattle.std.specs.IoError.{error_kind}
 use Rattle.std.specs.declared.io.Error.{Error}
@@ -10,7 +10,7 @@ use Rattle.droid_frame_stream.specs.declared.seen.Condition.TheVariants.{Sound, 
 abbrev pub IsSound : Seen → Type 0
 IsSound seen = seen.condition ≡ Sound
 
--- a stream that wasn't used yet, and one that is never interrupted and never fails
+-- a stream that wasn't used yet; also a stream that is never interrupted and never fails
 abbrev pub fresh : Seen
 fresh = record { interruptions = 0; condition = Sound }
 
@@ -22,7 +22,7 @@ after_interruption seen = record { interruptions = seen.interruptions + 1; condi
 abbrev pub after_failure : Seen → Seen
 after_failure seen = record { interruptions = seen.interruptions; condition = Failed }
 
--- what an error of a sound stream adds: an interruption is one more, and any other error is a failure
+-- what an error of a sound stream adds: an interruption adds one, and any other error is a failure
 pub record AddsError (old new : Seen) (error : Error) : Type 0 where
   pub interruption : error_kind error ≡ Interrupted → new ≡ after_interruption old
   pub failure : (error_kind error ≡ Interrupted → ⊥) → new ≡ after_failure old
@@ -46,11 +46,11 @@ pub record IsInterruptedTooOften (start : ℕ) (seen : Seen) : Type 0 where
   pub sound : IsSound seen
   pub once_too_often : seen.interruptions ≡ start + 65
 
--- why a stream is given up
+-- a stream is given up: it failed, or was interrupted for the 65th time
 abbrev pub GivesUp : ℕ → Seen → Type 0
 GivesUp start seen = Fails start seen ⊎ IsInterruptedTooOften start seen
 
--- a fault of the stream comes exactly where the stream is given up; with any other answer it lasts
+-- a call reports the fault exactly where the stream is given up; with any other result the stream lasted
 pub record ReportsFault (start : ℕ) (seen : Seen) (is_fault : Type 0) : Type 0 where
   pub fault : is_fault → GivesUp start seen
   pub otherwise : (is_fault → ⊥) → Lasts start seen

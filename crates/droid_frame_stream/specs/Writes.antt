@@ -5,24 +5,25 @@ use Rattle.std.specs.declared.io.Error.{Error}
 use Rattle.droid_frame_stream.specs.declared.seen.Seen.{Seen}
 use Rattle.droid_frame_stream.specs.Seen.{AddsError, Counts, GivesUp, Lasts, after_failure}
 
--- there is room for so many bytes; `None` is a writer with no end of room, or one of whose room nothing is known
+-- there is room for `count` bytes; `None` is a writer whose room has no end or isn't known
 abbrev pub HasRoom : Option ℕ → ℕ → Type 0
 HasRoom None count = Unit {0}
 HasRoom (Some room) count = count ≤ room
 
--- there is less room
+-- there is room for fewer than `count` bytes
 abbrev pub LacksRoom : Option ℕ → ℕ → Type 0
 LacksRoom None count = ⊥
 LacksRoom (Some room) count = room < count
 
--- so many bytes went out
+-- the room shrank by `count` bytes, or it has no end before and after
 abbrev pub Takes : Option ℕ → Option ℕ → ℕ → Type 0
 Takes None None count = Unit {0}
 Takes None (Some after) count = ⊥
 Takes (Some before) None count = ⊥
 Takes (Some before) (Some after) count = before ≡ after + count
 
--- what a write of so many bytes adds that took some of them: taking none of some is a failure, where there is room
+-- what a write of `length` bytes adds that took `count` of them: taking none of some is a failure, unless there is no
+-- room
 pub record AddsTaken (old new : Seen) (room : Option ℕ) (length count : ℕ) : Type 0 where
   pub taken : 0 < count → new ≡ old
   pub nothing : length ≡ 0 → new ≡ old
@@ -41,12 +42,12 @@ LeavesRoom old new (Err error) = Takes old new 0
 
 -- ---- one frame or text
 
--- a writer that lasts is full
+-- a writer that lasts has no room left
 pub record IsFull (start : ℕ) (seen : Seen) (room : Option ℕ) : Type 0 where
   pub lasts : Lasts start seen
   pub full : room ≡ Some 0
 
--- why a writer stops: it is given up, or full
+-- a writer stops: it is given up, or has no room left
 abbrev pub WriterStops : ℕ → Seen → Option ℕ → Type 0
 WriterStops start seen room = GivesUp start seen ⊎ IsFull start seen room
 
@@ -55,14 +56,15 @@ abbrev pub WritesOn : {T E : Type 0} → ℕ → Seen → Option ℕ → ℕ →
 WritesOn start seen room count (Ok value) = Counts start seen count
 WritesOn start seen room count (Err fault) = WriterStops start seen room
 
--- known bytes grew by exactly the first bytes, up to the count, which began at `before`; and some were left
+-- known bytes grew by exactly the first of `bytes`, but not all; the count of written bytes went from `before` to
+-- `count`
 pub record StopsWithin (old new : Option (List ℕ)) (bytes : List ℕ) (before count : ℕ) : Type 0 where
   pub counts_on : before ≤ count
   pub some_left : count - before < length bytes
   pub front : Appends old new (take (count - before) bytes)
 
--- a fault comes exactly where the writer is given up, or lasts and had less room than for so many bytes; where all went out,
--- it lasts and had room for them
+-- a call reports a fault exactly where the writer is given up, or lasts and had room for fewer than `size` bytes; where
+-- all bytes were written, it lasts and had room for them
 pub record ReportsWrite (start : ℕ) (seen : Seen) (room : Option ℕ) (size : ℕ) (is_fault : Type 0) : Type 0 where
   pub fault : is_fault → GivesUp start seen ⊎ (Lasts start seen × LacksRoom room size)
   pub otherwise : (is_fault → ⊥) → Lasts start seen × HasRoom room size

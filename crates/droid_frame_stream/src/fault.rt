@@ -1,4 +1,4 @@
-//! Why reading or writing stopped.
+//! The faults of reading and writing.
 
 ghost use Rattle.std.specs.Prelude.{◌≡◌};
 
@@ -13,10 +13,10 @@ pub struct ReadFault;
 /// Why an input could not be read to its end.
 #[derive(Clone, Copy, Debug, PartialEq, Eq, Error)]
 pub enum InputFault {
-    /// It has more bytes than it may have.
+    /// It has more bytes than the limit.
     #[error("the input is too long")]
     TooLong,
-    /// Memory was refused.
+    /// Out of memory.
     #[error("memory was refused")]
     Memory,
     /// The reader failed, or was interrupted more than 64 times.
@@ -48,6 +48,6 @@ impl From<AllocError> for InputFault {
 #[derive(Clone, Copy, Debug, PartialEq, Eq, Error)]
 #[error("the output could not be written past its first {written} bytes")]
 pub struct WriteFault {
-    /// How many bytes went out: exactly the first ones.
+    /// The number of bytes written: exactly the first ones.
     pub written: usize,
 }

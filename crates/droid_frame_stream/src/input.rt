@@ -5,30 +5,30 @@ ghost use Rattle.std.specs.Io.KnownBytes.{IsAtEnd};
 ghost use Rattle.droid_frame_stream.specs.Seen.{IsSound, ReportsFault};
 ghost use Rattle.droid_frame_stream.specs.Reads.{ReadsNoInput};
 
+use crate::buffer::read_some;
 use crate::fault::InputFault;
-use crate::reading::read_some;
 use crate::retries::Retries;
 use crate::steady::SteadyRead;
 use std::alloc::Global;
 
-/// How many bytes are read at a time.
+/// The most bytes that one read asks for.
 const CHUNK: usize = 8_192;
 
-/// Reads all bytes of an input that has at most `limit`. An interrupted read is tried again, 64 times over the
-/// whole input. No more than one byte past the limit is read.
+/// Reads an input of at most `limit` bytes to its end. An interrupted read is tried again, up to 64 times over the
+/// whole input. Of a longer input only one byte past the limit is read.
 pub fn read_to_end<R: SteadyRead>(
     alloc: Global,
     reader: &mut R,
     limit: usize,
 ) -> Result<Vec<u8>, InputFault>
     requires { limit + 1 < 2 ^ 64 }
-    // All that the input had came.
+    // The result is all of the input.
     ensures whole { IfOk result (λ input. IfSome (R.remaining reader.old) (λ bytes. input.items ≡ bytes)) }
     ensures end { OnOk result (IsAtEnd (R.remaining reader.new)) }
     ensures within { IfOk result (λ input. length input.items ≤ limit) }
-    // Where it is too long, one byte more than the limit was read; on another fault no more than the limit.
+    // An input that is too long was read one byte past the limit; with any other fault no more than the limit was read.
     ensures err { IfErr result (λ fault. ReadsNoInput fault (R.remaining reader.old) (R.remaining reader.new) limit) }
-    // `Read` comes exactly where the reader failed or was interrupted for the 65th time.
+    // `Read` is returned exactly if the reader failed or was interrupted for the 65th time.
     ensures fault { IsSound (R.seen reader.old) → ReportsFault (R.seen reader.old).interruptions (R.seen reader.new) (IsErrOf result InputFault.Read) }
 {
     let mut input = Vec::new(alloc);

@@ -1,4 +1,4 @@
-//! Streams of which nothing is known beforehand, and what they did is noted.
+//! Any stream of std, with a record of what it did.
 
 ghost use Rattle.std.specs.Prelude.{◌≡◌, None};
 ghost use Rattle.droid_frame_stream.specs.Seen.{fresh};
@@ -7,17 +7,17 @@ use crate::seen::Seen;
 use crate::steady::{SteadyRead, SteadyWrite};
 use std::io::{self, Read, Write};
 
-/// Any stream of std's, as a file, a socket, a terminal or a vector, with what it did so far.
+/// A stream of std (a file, a socket, a terminal or a vector) with a record of what it did.
 #[derive(Drop)]
 pub struct Noted<S> {
     /// The stream itself.
     pub stream: S,
-    /// What it did since it was taken up; each read and write adds to it.
+    /// What it did since [`Noted::new`]. Each read and write adds to it.
     pub seen: Seen,
 }
 
 impl<S> Noted<S> {
-    /// Takes up a stream.
+    /// Starts the record of a stream.
     pub fn new(stream: S) -> Noted<S>
         ensures stream { result.stream ≡ stream }
         ensures seen { result.seen ≡ fresh }

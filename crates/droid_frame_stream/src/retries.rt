@@ -1,4 +1,4 @@
-//! Counting the interruptions that are tried again.
+//! The count of interruptions that are tried again.
 
 ghost use Rattle.std.specs.Prelude.{◌≡◌, ℕ, ◌+◌, ◌≤◌, IsTrue, MatchBool};
 ghost use Rattle.droid_frame_stream.specs.declared.seen.Seen.{Seen};
@@ -7,10 +7,11 @@ ghost use Rattle.droid_frame_stream.specs.Seen.{AddsError, Counts, GivesUp};
 use std::io::{Error, ErrorKind};
 use std::marker::Model;
 
-/// How many interrupted reads or writes are tried again within one frame, file or text.
+/// The most interrupted reads or writes that are tried again within one frame, file or text.
 pub const RETRY_LIMIT: u32 = 64;
 
-/// How many were tried again so far, over all calls for one frame, file or text. Contracts see the number.
+/// Counts the interruptions that were tried again so far, over all calls for one frame, file or text. Contracts see the
+/// number.
 #[derive(Drop)]
 pub struct Retries {
     count: u32,
@@ -25,14 +26,14 @@ impl Model for Retries {
 }
 
 impl Retries {
-    /// None so far.
+    /// Starts at zero.
     pub fn new() -> Retries
         ensures { result ≡ 0 }
     {
         Retries { count: 0 }
     }
 
-    /// Whether the call that answered this error is tried again: it was interrupted, and that is counted.
+    /// Returns whether the call that returned this error is tried again. If so, counts the interruption.
     pub(crate) fn allow(&mut self, error: &Error) -> bool
         ensures bound { self.new ≤ 64 }
         ensures one { IsTrue result → self.new ≡ self.old + 1 }

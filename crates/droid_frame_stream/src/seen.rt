@@ -1,32 +1,32 @@
-//! What a stream did so far.
+//! The record of what a stream did so far.
 
 ghost use Rattle.std.specs.Prelude.{◌≡◌};
 ghost use Rattle.droid_frame_stream.specs.Seen.{AddsError, IsSound, after_failure, fresh};
 
 use std::io::{Error, ErrorKind};
 
-/// Whether a stream has failed: it answered an error other than an interruption, or took no byte of a write.
+/// Whether a stream has failed: it returned an error other than an interruption, or took no byte of a write.
 #[derive(Clone, Copy, Debug, PartialEq, Eq)]
 pub enum Condition {
     /// It hasn't failed.
     Sound,
-    /// It failed, and wasn't used since.
+    /// It failed, and wasn't used after that.
     Failed,
-    /// It failed, and was used since.
+    /// It failed, and was used after that.
     UsedSince,
 }
 
 /// What a stream did so far.
 #[derive(Clone, Copy, Debug, PartialEq, Eq)]
 pub struct Seen {
-    /// How many reads or writes were interrupted before it failed.
+    /// The number of reads or writes that were interrupted before it failed.
     pub interruptions: u64,
     /// Whether it has failed.
     pub condition: Condition,
 }
 
 impl Seen {
-    /// What a stream did that wasn't used yet: nothing.
+    /// Returns the record of a stream that wasn't used yet.
     pub fn fresh() -> Seen
         ensures { result ≡ fresh }
     {
@@ -36,7 +36,7 @@ impl Seen {
         }
     }
 
-    /// Notes a call that gave or took what it was to.
+    /// Notes a call that succeeded.
     pub(crate) fn note_success(&mut self)
         ensures sound { IsSound self.old → self.new ≡ self.old }
         ensures used { (IsSound self.old → ⊥) → self.new.condition ≡ Condition.UsedSince }
@@ -58,8 +58,8 @@ impl Seen {
         };
     }
 
-    /// Notes an error, and gives it back. An interruption that can't be counted any more, after 2^64 - 1 others, comes
-    /// back as another error, which is a failure.
+    /// Notes an error and returns it. After 2^64 - 1 interruptions no further one can be counted: it is noted and
+    /// returned as a failure.
     pub(crate) fn note_error(&mut self, error: Error) -> Error
         ensures sound { IsSound self.old → AddsError self.old self.new result }
         ensures used { (IsSound self.old → ⊥) → self.new.condition ≡ Condition.UsedSince }

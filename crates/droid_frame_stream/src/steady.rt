@@ -1,7 +1,7 @@
-//! Streams that tell what they did.
+//! Streams whose contracts record what they did.
 //!
-//! A stream fails where it answers an error other than an interruption, or takes no byte of a write. std's
-//! traits say nothing of that, so all streams here come by these traits.
+//! A stream fails if it returns an error other than an interruption, or takes no byte of a write. The traits of std say
+//! nothing of failures, so this project reads and writes through these traits.
 
 ghost use Rattle.std.specs.Prelude.{◌≡◌, ℕ, Option, Some, None, length};
 ghost use Rattle.std.specs.Io.{ReadsAtMost, WritesAtMost};
@@ -14,13 +14,12 @@ ghost use Rattle.droid_frame_stream.specs.Writes.{AddsWrite, LeavesRoom};
 
 use std::io::{self, Read, Write};
 
-/// A reader that tells what it did.
+/// A reader whose contract records what it did.
 pub trait SteadyRead: Read {
     /// How often it was interrupted, and whether it has failed.
     ghost seen: { Self → Seen };
 
-    /// Reads as `read` does: as many bytes as it likes, up to the buffer's length, and none at the end of the
-    /// input.
+    /// Reads as `read` does: any number of bytes up to the buffer's length, and none at the end of the input.
     fn read_on(&mut self, buffer: &mut [u8]) -> io::Result<usize>
         ensures bound { ReadsAtMost result buffer.new }
         ensures bytes { ReadConsumes (Self.remaining self.old) (Self.remaining self.new) result buffer.new }
@@ -28,16 +27,15 @@ pub trait SteadyRead: Read {
         ensures used { (IsSound (seen self.old) → ⊥) → (seen self.new).condition ≡ UsedSince };
 }
 
-/// A writer that tells what it did.
+/// A writer whose contract records what it did.
 pub trait SteadyWrite: Write {
     /// How often it was interrupted, and whether it has failed.
     ghost seen: { Self → Seen };
 
-    /// For how many bytes it has room; `None` where there is no end of room, or nothing is known of it.
+    /// The number of bytes that it still has room for. `None`: its room has no end, or nothing is known of it.
     ghost room: { Self → Option ℕ };
 
-    /// Writes as `write` does: the first bytes, as many as it likes. Where it has room and takes no byte, it
-    /// has failed.
+    /// Writes as `write` does: any number of the first bytes. If it has room and takes no byte, it has failed.
     fn write_on(&mut self, bytes: &[u8]) -> io::Result<usize>
         ensures bound { WritesAtMost result bytes.now }
         ensures bytes { WriteAppends (Self.contents self.old) (Self.contents self.new) result bytes.now }

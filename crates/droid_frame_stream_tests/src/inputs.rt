@@ -16,7 +16,7 @@ use std::io::{Write, sink};
 use std::process::Abort;
 use std::test::Fail;
 
-/// So many bytes, each another than the next.
+/// Returns this many bytes, each different from the next.
 fn bytes_of(alloc: Global, count: usize) -> Result<Vec<u8>, AllocError> {
     let mut bytes = Vec::new(alloc);
     let mut next = 0u8;
@@ -27,7 +27,7 @@ fn bytes_of(alloc: Global, count: usize) -> Result<Vec<u8>, AllocError> {
     Ok(bytes)
 }
 
-// An input that has as many bytes as it may is whole; of a longer one, one byte past the limit is read.
+// An input as long as the limit is read whole; of a longer one, one byte past the limit is read.
 #[test]
 fn inputs_and_their_limits(rt: HostRuntime) -> Result<(), Fail> {
     for count in [0usize, 1, 8_191, 8_192, 8_193, 20_000] {
@@ -61,7 +61,7 @@ fn comes_whole(alloc: Global, bytes: &[u8], manner: Manner, limit: usize) -> boo
     }
 }
 
-/// Whether the input is too long where it may have so many bytes less, or has not so many.
+/// Returns whether the input is too long for a limit that is this many bytes lower, and wasn't read further.
 fn is_too_long(alloc: Global, bytes: &[u8], manner: Manner, less: usize) -> bool {
     let Some(limit) = bytes.len().checked_sub(less) else {
         return true;
@@ -73,7 +73,7 @@ fn is_too_long(alloc: Global, bytes: &[u8], manner: Manner, less: usize) -> bool
         && reader.seen == Seen::fresh()
 }
 
-// A reader that fails once and would go on isn't asked again, wherever in the input it fails.
+// After a reader fails it isn't read again, wherever in the input it fails.
 #[test]
 fn inputs_that_fail(rt: HostRuntime) -> Result<(), Fail> {
     for front in [b"".as_slice(), b"a", b"abc"] {
@@ -88,7 +88,7 @@ fn inputs_that_fail(rt: HostRuntime) -> Result<(), Fail> {
     Ok(())
 }
 
-/// Whether the reader fails, and its four last bytes are left.
+/// Returns whether the reader fails, and its last four bytes are left.
 fn fails_once(alloc: Global, reader: &mut Noted<ShakyReader<'_>>) -> bool {
     let fault = read_to_end(alloc, reader, 100).err();
     fault == Some(InputFault::Read)
@@ -96,13 +96,13 @@ fn fails_once(alloc: Global, reader: &mut Noted<ShakyReader<'_>>) -> bool {
         && reader.seen.condition == Condition::Failed
 }
 
-/// A manner with these interruptions.
+/// Returns a manner with these interruptions.
 fn interrupted(places: [Place; 3]) -> Manner {
     with_places(usize::MAX, &places)
 }
 
-/// Sixty-four interruptions of one input are tried again, wherever they come, and the next is a fault: how many are
-/// seen, and whether the input comes.
+/// Sixty-four interruptions of one input are tried again, wherever they come, and the next is a fault. Each row: how
+/// many are seen, and whether the input is read.
 const INTERRUPTED: [([Place; 3], u64, bool); 9] = [
     ([(0, 64), NOWHERE, NOWHERE], 64, true),
     ([(0, 65), NOWHERE, NOWHERE], 65, false),
@@ -131,7 +131,7 @@ fn each_interrupted(rt: &impl Abort, alloc: Global, rows: &[([Place; 3], u64, bo
     }
 }
 
-/// Whether all of `abcdef` comes, or else a fault.
+/// Returns whether all of `abcdef` is read, or else a fault is returned.
 fn is_so(alloc: Global, reader: &mut Noted<ShakyReader<'_>>, comes: bool) -> bool {
     match read_to_end(alloc, reader, 6) {
         Ok(input) => comes && input.as_slice() == b"abcdef".as_slice(),
@@ -150,7 +150,7 @@ fn buffers(rt: HostRuntime) {
     assert!(rt; count == Ok(2) && buffer == *b"xy" && slice == b"z".as_slice());
 }
 
-/// Whether the second of two buffers is filled so after 32 interruptions and so many more.
+/// Returns whether the second of two buffers is filled after 32 interruptions and this many more.
 fn fills(more: u32, second: Result<usize, ReadFault>, filled: &[u8]) -> bool {
     let manner = interrupted([(1, 32), (4, more), NOWHERE]);
     let mut reader = reader_of(b"abcdefg", manner);
@@ -173,8 +173,8 @@ fn interruptions_past_the_count(rt: HostRuntime) {
     assert!(rt; is_seen(&reader.seen, u64::MAX, Condition::Failed));
 }
 
-/// For how many bytes a writer has room, how it stops then, where it is interrupted, and how many of nine bytes it
-/// takes.
+/// A row: how many bytes a writer has room for, how it stops after them, where it is interrupted, and how many of nine
+/// bytes it takes.
 type Writing = (usize, Stop, [Place; 3], usize);
 
 const WRITINGS: [Writing; 6] = [
@@ -186,7 +186,7 @@ const WRITINGS: [Writing; 6] = [
     (9, Stop::Fails, [(0, 20), (3, 20), (6, 25)], 6),
 ];
 
-// Two parts of a text over one count: what went out is told over both, and a flush goes on to the stream.
+// Two parts of a text with one count: the fault counts the bytes of both, and a flush reaches the stream.
 #[test]
 fn parts_of_a_text(rt: HostRuntime) -> Result<(), Fail> {
     each_writing(&rt, rt.alloc(), &WRITINGS)

@@ -1,12 +1,12 @@
-//! Where streams are interrupted, and what is seen of it.
+//! Interruptions of streams, and what was noted of them.
 
 use droid_frame::{Condition, Seen};
 use droid_frame_shaky::{Manner, Place, STEADY};
 
-/// Interruptions of one frame, and the place of the last.
+/// Interruptions of one frame, and the position of the last.
 pub type Row = ([Place; 3], usize);
 
-/// A manner with these interruptions.
+/// Returns a manner with these interruptions.
 pub fn with_places(width: usize, places: &[Place; 3]) -> Manner {
     Manner {
         width,
@@ -15,7 +15,7 @@ pub fn with_places(width: usize, places: &[Place; 3]) -> Manner {
     }
 }
 
-/// The places with one interruption more before the last.
+/// Returns the places with one more interruption before the last.
 pub fn once_more(places: &[Place; 3], last: usize) -> [Place; 3] {
     let mut more = *places;
     for (at, times) in &mut more {
@@ -26,7 +26,7 @@ pub fn once_more(places: &[Place; 3], last: usize) -> [Place; 3] {
     more
 }
 
-/// Whether so many interruptions were seen, and the stream is in this condition.
+/// Returns whether this many interruptions were noted, and the stream is in this condition.
 pub fn is_seen(seen: &Seen, interruptions: u64, condition: Condition) -> bool {
     seen.interruptions == interruptions && seen.condition == condition
 }

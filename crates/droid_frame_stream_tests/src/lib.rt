@@ -1,4 +1,5 @@
-//! Tests of frames, replies and texts on streams, over the public calls of `droid_frame` and `droid_frame_stream` alone.
+//! Tests of frames, replies and texts on streams, over the public calls of `droid_frame` and `droid_frame_stream`
+//! alone.
 #![tactic(auto)]
 
 #[cfg(test)]

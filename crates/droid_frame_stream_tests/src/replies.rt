@@ -8,7 +8,7 @@ use droid_frame_vectors::{FINISHED, FINISHED_WITH_SHA256, MADE, NODES_REACHED};
 use std::alloc::Global;
 use std::process::Abort;
 
-/// Writes the reply of a frame; how that ends, where the bytes are a reply's.
+/// Writes the reply of a frame, if its bytes are a reply's, and returns how that ended.
 fn written(
     alloc: Global,
     bytes: &[u8],
@@ -44,7 +44,7 @@ fn ends(
     }
 }
 
-// A writer that fails after so many bytes took exactly these, in the header, the fields and the list.
+// A writer that fails after a number of bytes took exactly these, in the header, the fields and the list.
 #[test]
 fn writes_cut_short(rt: HostRuntime) {
     for bytes in [MADE, FINISHED, NODES_REACHED, FINISHED_WITH_SHA256] {
@@ -54,7 +54,7 @@ fn writes_cut_short(rt: HostRuntime) {
     }
 }
 
-/// For how many bytes a writer has room that ends otherwise than it should, where one does.
+/// Returns how many bytes the first writer has room for that ends otherwise than it should, if there is one.
 fn wrong_room(alloc: Global, bytes: &[u8], manner: Manner) -> Option<usize> {
     let all = bytes.len();
     for room in 0..=all {
@@ -86,7 +86,7 @@ const REPLIES: [(&[u8], Row); 9] = [
     (PART, ([(0, 20), (18, 20), (34, 24)], 34)),
 ];
 
-// The count is one for the whole frame.
+// The whole frame has one count.
 #[test]
 fn replies_interrupted(rt: HostRuntime) {
     each_reply_interrupted(&rt, rt.alloc(), &REPLIES);
@@ -107,7 +107,7 @@ fn each_reply_interrupted(rt: &impl Abort, alloc: Global, rows: &[(&[u8], Row)])
     }
 }
 
-/// Whether writing this reply ends so over a writer with these interruptions, which never failed.
+/// Returns whether writing this reply ends like this over a writer with these interruptions, which never failed.
 fn stays_sound(
     alloc: Global,
     bytes: &[u8],

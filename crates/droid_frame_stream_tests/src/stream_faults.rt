@@ -21,7 +21,7 @@ const INTERRUPTED: [Row; 8] = [
     ([(7, 20), (18, 20), (25, 24)], 25),
 ];
 
-// The count is one for the whole frame, its header and its body: 64 are tried again, and the next is a fault.
+// The whole frame has one count, for its header and its body: 64 are tried again, and the next is a fault.
 #[test]
 fn reads_interrupted(rt: HostRuntime) {
     each_read_interrupted(&rt, rt.alloc(), &INTERRUPTED, 1);
@@ -37,13 +37,13 @@ fn each_read_interrupted(rt: &impl Abort, alloc: Global, rows: &[Row], width: us
     }
 }
 
-/// Whether the frame comes after 64 interruptions.
+/// Returns whether the frame is read after 64 interruptions.
 fn comes_after(alloc: Global, vector: &Vector, manner: Manner) -> bool {
     let mut reader = reader_of(vector.bytes, manner);
     comes(alloc, &mut reader, vector) && is_seen(&reader.seen, 64, Condition::Sound)
 }
 
-/// Whether the 65th interruption, behind so many of these bytes, is a fault.
+/// Returns whether the 65th interruption, after this many of these bytes, is a fault.
 fn fails_at(alloc: Global, bytes: &[u8], manner: Manner, last: usize) -> bool {
     let mut reader = reader_of(bytes, manner);
     fault_of(alloc, &mut reader) == Some(FrameFault::Read)
@@ -51,7 +51,7 @@ fn fails_at(alloc: Global, bytes: &[u8], manner: Manner, last: usize) -> bool {
         && bytes.len().checked_sub(last) == Some(reader.stream.left())
 }
 
-// The count begins anew with the next frame.
+// The count starts again with the next frame.
 #[test]
 fn reads_interrupted_in_each_frame(rt: HostRuntime) -> Result<(), Fail> {
     let mut twice = Vec::from_slice(rt.alloc(), FOLDER.bytes)?;
@@ -68,8 +68,7 @@ fn comes_twice(alloc: Global, bytes: &[u8], manner: Manner, vector: &Vector) -> 
         && is_end(alloc, &mut reader)
 }
 
-// A reader that fails once, at each place within a frame and where one would begin, and would give the rest
-// then: it isn't asked again.
+// A reader that fails once, at each byte of a frame and before one, and has more bytes after that: it isn't read again.
 #[test]
 fn readers_that_fail(rt: HostRuntime) {
     each_reader_fails(&rt, rt.alloc(), &VECTORS, STEADY);
@@ -88,7 +87,7 @@ fn each_reader_fails(rt: &impl Abort, alloc: Global, vectors: &[Vector], manner:
     }
 }
 
-/// The first place in these bytes at which a reader fails and that isn't a fault, or the reader is asked again.
+/// Returns the first position at which a reader fails without a fault, or is read again.
 fn asked_again(alloc: Global, bytes: &[u8], manner: Manner) -> Option<usize> {
     for cut in 0..bytes.len() {
         let (front, behind) = bytes.split_at(cut);
@@ -105,7 +104,7 @@ fn asked_again(alloc: Global, bytes: &[u8], manner: Manner) -> Option<usize> {
     None
 }
 
-/// Whether the frame comes, then the fault, and then the frame again.
+/// Returns whether the frame is read, then the fault, and then the frame again.
 fn fails_between(alloc: Global, vector: &Vector, manner: Manner) -> bool {
     let mut reader = Noted::new(ShakyReader::broken(vector.bytes, vector.bytes, manner));
     comes(alloc, &mut reader, vector)
@@ -113,7 +112,8 @@ fn fails_between(alloc: Global, vector: &Vector, manner: Manner) -> bool {
         && comes(alloc, &mut reader, vector)
 }
 
-/// Whether writing the frame of a vector ends so, and exactly the bytes that the answer speaks of were taken.
+/// Returns whether writing the frame of a vector ends like this, and exactly the bytes that the result counts were
+/// taken.
 fn ends(
     alloc: Global,
     vector: &Vector,
@@ -129,8 +129,8 @@ fn ends(
     Ok(answer == wanted && took(&writer.stream, vector.bytes, answer))
 }
 
-// What is written is the vector; a writer that fails once after so many bytes, or takes no byte once, and would take
-// the rest then, took exactly these.
+// What is written is the vector. A writer that fails once after a number of bytes, or takes no byte once, and could
+// take more after that, took exactly these.
 #[test]
 fn write_whole_and_cut(rt: HostRuntime) -> Result<(), Fail> {
     for manner in [STEADY, BYTE_BY_BYTE] {
@@ -154,7 +154,7 @@ fn each_whole_and_cut(
     Ok(())
 }
 
-/// For how many bytes a writer has room that ends otherwise than it should, where one does.
+/// Returns how many bytes the first writer has room for that ends otherwise than it should, if there is one.
 fn wrong_room(
     alloc: Global,
     vector: &Vector,
@@ -171,7 +171,7 @@ fn wrong_room(
     Ok(None)
 }
 
-// The count is one for all of the frame's parts: 64 are tried again, and the next is a fault.
+// All parts of the frame have one count: 64 are tried again, and the next is a fault.
 #[test]
 fn writes_interrupted(rt: HostRuntime) -> Result<(), Fail> {
     each_write_interrupted(&rt, rt.alloc(), &INTERRUPTED, 1)?;

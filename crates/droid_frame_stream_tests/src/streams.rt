@@ -7,7 +7,7 @@ use std::alloc::Global;
 use std::process::Abort;
 use std::test::Fail;
 
-/// How long the first front of these bytes is that doesn't end within a frame or isn't read to its end, where one is.
+/// Returns the length of the first front of these bytes that doesn't end within a frame or isn't read to its end.
 fn uncut(alloc: Global, bytes: &[u8], manner: Manner) -> Option<usize> {
     for cut in 1..bytes.len() {
         let mut reader = reader_of(&bytes[..cut], manner);
@@ -19,13 +19,13 @@ fn uncut(alloc: Global, bytes: &[u8], manner: Manner) -> Option<usize> {
     None
 }
 
-/// Whether the frame comes, and then the end.
+/// Returns whether the frame is read, and then the end.
 fn comes_alone(alloc: Global, vector: &Vector, manner: Manner) -> bool {
     let mut reader = reader_of(vector.bytes, manner);
     comes(alloc, &mut reader, vector) && is_end(alloc, &mut reader)
 }
 
-// Whole, byte by byte, and cut after each byte: what comes depends on the bytes alone.
+// Whole, byte by byte, and cut after each byte: the result depends on the bytes alone.
 #[test]
 fn read_whole_and_cut(rt: HostRuntime) {
     for manner in [STEADY, BYTE_BY_BYTE] {
@@ -41,7 +41,7 @@ fn each_whole_and_cut(rt: &impl Abort, alloc: Global, vectors: &[Vector], manner
     }
 }
 
-// One after the other: each read leaves the next.
+// One after another: each read leaves the next frame.
 #[test]
 fn read_in_turn(rt: HostRuntime) -> Result<(), Fail> {
     let mut stream = Vec::new(rt.alloc());
@@ -64,8 +64,8 @@ fn each_in_turn(alloc: Global, stream: &[u8], vectors: &[Vector], manner: Manner
     is_end(alloc, &mut reader)
 }
 
-/// Versions and lengths of bodies in headers, and what is wrong. The version comes before the length, and the end of
-/// the bytes before both.
+/// Versions and lengths of bodies in headers, and the fault of each. The version is judged before the length, and the
+/// end of the bytes before both.
 const REFUSED: [(u8, u32, FrameFault); 13] = [
     (1, 1_048_641, FrameFault::TooLong),
     (1, 4_194_368, FrameFault::TooLong),
@@ -82,7 +82,7 @@ const REFUSED: [(u8, u32, FrameFault); 13] = [
     (0, 0xffff_ffff, FrameFault::BadVersion),
 ];
 
-/// A header with these fields, of client 1 and number 1.
+/// Returns a header with these fields, of client 1 and number 1.
 fn header(version: u8, length: u32) -> [u8; 18] {
     let [a, b, c, d] = length.to_be_bytes();
     [version, 5, 0, 0, 0, 1, 0, 0, 0, 0, 0, 0, 0, 1, a, b, c, d]
@@ -116,11 +116,11 @@ fn read_no_further(rt: HostRuntime) -> Result<(), Fail> {
     Ok(())
 }
 
-/// Versions, and as many bytes as a body of each may have.
+/// Versions, and the most bytes in a body of each.
 const LONGEST: [(u8, usize); 2] = [(1, 1_048_640), (2, 4_194_368)];
 
-// The longest body of each version comes whole, and one growth is all that it takes: where memory is refused, nothing
-// of the body was read.
+// The longest body of each version is read whole, with one allocation. If that is refused, nothing of the body was
+// read.
 #[test]
 fn longest_bodies(rt: HostRuntime) -> Result<(), Fail> {
     for (version, length) in LONGEST {
@@ -143,8 +143,7 @@ fn longest_comes(alloc: Global, bytes: &[u8], length: usize) -> bool {
     }
 }
 
-// Asks again where memory was refused, so it passes whichever growth is refused. The header alone was read
-// then.
+// Reads again if memory was refused, so it passes whichever allocation is refused. Only the header was read then.
 #[test]
 fn growths_refused(rt: HostRuntime) {
     each_growth_refused(&rt, rt.alloc(), &VECTORS);
@@ -169,7 +168,8 @@ fn comes_or_is_out_of_memory(alloc: Global, vector: &Vector) -> bool {
     }
 }
 
-/// How writing the frame of a vector to so much room ends, and whether the room was filled with a front of its bytes.
+/// Returns how writing the frame of a vector into this much room ends, and whether the room was filled with its first
+/// bytes.
 fn written(
     alloc: Global,
     vector: &Vector,

@@ -5,13 +5,13 @@ use droid_frame::WriteFault;
 use droid_frame_shaky::{Place, ShakyWriter, Stop};
 use std::alloc::Global;
 
-/// A writer that takes all, with these interruptions.
+/// Makes a writer that takes all, with these interruptions.
 pub fn interrupted(alloc: Global, width: usize, places: &[Place; 3]) -> ShakyWriter {
     let manner = with_places(width, places);
     ShakyWriter::new(Vec::new(alloc), usize::MAX, Stop::Fails, manner)
 }
 
-/// How writing so many bytes ends where so many of them are taken.
+/// Returns how writing `all` bytes has to end if `taken` of them are taken.
 pub fn ended(taken: usize, all: usize) -> Result<(), WriteFault> {
     if taken < all {
         return Err(WriteFault { written: taken });
@@ -19,7 +19,7 @@ pub fn ended(taken: usize, all: usize) -> Result<(), WriteFault> {
     Ok(())
 }
 
-/// Whether the writer took exactly the bytes that the answer speaks of.
+/// Returns whether the writer took exactly the bytes that the result counts.
 pub fn took(writer: &ShakyWriter, bytes: &[u8], answer: Result<(), WriteFault>) -> bool {
     let count = match answer {
         Ok(()) => bytes.len(),

@@ -9,8 +9,8 @@ use Rattle.droid_lines.specs.InFront.{SameInFront, line_of, with_front, with_wor
 use Rattle.droid_lines.specs.Lines.{head_at, line_value, numbered_line, request_fits, request_value, request_where_fitting, text_line, text_request, unnumbered_line, version_at, where_fitting}
 use Rattle.droid_lines.specs.Requests.{request_words}
 use Rattle.droid_lines.specs.Words.{number_below, number_word, word_at}
-use Rattle.droid_lines.specs.declared.parse.Line.{Line}
-use Rattle.droid_lines.specs.declared.parse.VersionedRequest.{VersionedRequest}
+use Rattle.droid_lines.specs.declared.parser.Line.{Line}
+use Rattle.droid_lines.specs.declared.parser.VersionedRequest.{VersionedRequest}
 use Rattle.droid_lines.proofs.FrontWords.{IsVersion1, IsVersion2, digits_are_a_word, marked_the_same, number_has_digits, text_the_same, version_1_here, version_2_here, version_cases, word_here}
 
 -- ---- what the text asks for

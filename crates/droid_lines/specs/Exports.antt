@@ -1,4 +1,4 @@
--- What stands after the word `export`, and the criteria of a filter (this project's own).
+-- The text after the word `export`, and the criteria of a filter (this project's own rule).
 use Rattle.std.specs.Prelude.{ℕ, ◌^◌, if◌then◌else◌, Bool, true, false, List, [], ◌∷◌, codes, Option, Some, None}
 use Rattle.std.specs.List.{slice_split}
 use Rattle.std.specs.Str.{bytes_eq}
@@ -43,11 +43,11 @@ most_word word = do
   size ← number_below (2 ^ 64) word
   Some (SizeAtMost size)
 
--- the texts between commas; of no bytes, one empty text
+-- the texts between commas; an empty value gives one empty text
 unfoldable pub list_word : List ℕ → List (List ℕ)
 list_word word = slice_split (is_byte 44) word
 
--- what stands before the `=` of a criterion, and what stands after it
+-- the text before the `=` of a criterion, and the text after it
 unfoldable pub criterion_of : List ℕ → List ℕ → Option Criterion
 criterion_of name value =
     if bytes_eq name (codes "method") then method_word value
@@ -66,7 +66,7 @@ criterion_word word = do
 
 -- ---- filters
 
--- each of them, where all are some
+-- all values, if none is missing
 abbrev pub every : {A B : Type 0} → (A → Option B) → List A → Option (List B)
 every read [] = Some []
 every read (x ∷ xs) = do
@@ -104,7 +104,7 @@ filter_after (Some text) = filter_words text
 
 -- ---- exports
 
--- `PROFILE FROM MAX`, and what stands after the space, if any
+-- `PROFILE FROM MAX`, and the text after the space, if any
 unfoldable pub export_place : List ℕ → Option (ℕ × ℕ × ℕ × Option (List ℕ))
 export_place text = do
   profile ← number_word (2 ^ 32) text

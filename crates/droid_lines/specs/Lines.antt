@@ -1,4 +1,4 @@
--- The lines of a script, and what each asks for (this project's own).
+-- The lines of a script, and the request of each (this project's own rule).
 use Rattle.std.specs.Prelude.{ℕ, ◌^◌, ◌==◌, ◌&&◌, nat_le, if◌then◌else◌, Bool, true, false, List, [], ◌∷◌, length, codes, Option, Some, None}
 use Rattle.std.specs.List.{slice_split, list_all}
 use Rattle.std.specs.Str.{bytes_eq}
@@ -14,8 +14,8 @@ use Rattle.droid_frame.specs.Reading.{◌>>=◌, text_at}
 use Rattle.droid_frame.specs.Versions.{is_version}
 use Rattle.droid_lines.specs.Requests.{request_words}
 use Rattle.droid_lines.specs.Words.{number_word, word_at}
-use Rattle.droid_lines.specs.declared.parse.Line.{Line}
-use Rattle.droid_lines.specs.declared.parse.VersionedRequest.{VersionedRequest}
+use Rattle.droid_lines.specs.declared.parser.Line.{Line}
+use Rattle.droid_lines.specs.declared.parser.VersionedRequest.{VersionedRequest}
 
 -- ---- lines
 
@@ -29,7 +29,7 @@ without_empty_end (part ∷ next ∷ parts) = part ∷ without_empty_end (next �
 without_empty_end ([] ∷ []) = []
 without_empty_end ((byte ∷ bytes) ∷ []) = (byte ∷ bytes) ∷ []
 
--- the input cut at its line feeds; what stands after the last one is a line unless it is empty
+-- the input cut at its line feeds; the text after the last one is a line unless it is empty
 unfoldable pub lines_of : List ℕ → List (List ℕ)
 lines_of input = without_empty_end (slice_split is_line_feed input)
 
@@ -57,7 +57,7 @@ is_md5 kinds.Nothing = false
 is_md5 kinds.Md5 = true
 is_md5 kinds.Sha256 = false
 
--- version 1 can ask for MD5 alone, and version 2 for each hash
+-- version 1 has MD5 alone, and version 2 every kind of hash
 abbrev pub hash_fits : ℕ → Request → Bool
 hash_fits version (CreateProfile scan_limit match_all hash) = if version == 1 then is_md5 hash else true
 hash_fits version _ = true
@@ -75,17 +75,17 @@ abbrev pub version_by : List ℕ → Option (List ℕ × List ℕ) → ℕ × Li
 version_by text None = (1, text)
 version_by text (Some word) = if bytes_eq word.0 (codes "v2") then (2, word.1) else (1, text)
 
--- `v2 ` in front makes a line one of version 2, and what stands after it is the line; any other is one of version 1
+-- a line with `v2 ` in front is of version 2, and the text after it is the line; any other line is of version 1
 unfoldable pub version_at : List ℕ → ℕ × List ℕ
 version_at text = version_by text (word_at text)
 
--- ---- what a line asks for
+-- ---- the request of a line
 
--- the line, where its request fits into a frame of its version
+-- the line, if its request fits into a frame of its version
 unfoldable pub where_fitting : Line → Option Line
 where_fitting line = if request_fits line.version line.request then Some line else None
 
--- `C N KIND`: the client, the number, the word of the kind, and what stands after the space
+-- `C N KIND`: the client, the number, the word of the kind, and the text after the space
 unfoldable pub head_at : List ℕ → Option (ℕ × ℕ × List ℕ × List ℕ)
 head_at text = do
   client ← number_word (2 ^ 32) text
@@ -104,7 +104,7 @@ numbered_line version text = do
 unfoldable pub text_line : List ℕ → Option Line
 text_line text = numbered_line (version_at text).0 (version_at text).1
 
--- what a line asks for; there is none where the line is bad
+-- the request of a line; a bad line has none
 unfoldable pub line_value : List ℕ → Option Line
 line_value bytes = do
   text ← text_at bytes
@@ -112,7 +112,7 @@ line_value bytes = do
 
 -- ---- lines without client and number
 
--- the request, where it fits into a frame of its version
+-- the request, if it fits into a frame of its version
 unfoldable pub request_where_fitting : VersionedRequest → Option VersionedRequest
 request_where_fitting asked = if request_fits asked.version asked.request then Some asked else None
 
@@ -127,7 +127,7 @@ unnumbered_line version text = do
 unfoldable pub text_request : List ℕ → Option VersionedRequest
 text_request text = unnumbered_line (version_at text).0 (version_at text).1
 
--- the request of a line that has no client and number, and its version; there is none where the line is bad
+-- the request and version of a line without client and number; a bad line has none
 unfoldable pub request_value : List ℕ → Option VersionedRequest
 request_value bytes = do
   text ← text_at bytes

@@ -1,4 +1,4 @@
--- How replies are printed (this project's own).
+-- How replies are printed (this project's own rule).
 use Rattle.std.specs.Prelude.{ℕ, Bool, if◌then◌else◌, List, [], ◌∷◌, ◌++◌, length, codes, Option, Some, None}
 use Rattle.std.specs.Fmt.{decimal}
 use Rattle.std.specs.List.{flat_map}
@@ -15,7 +15,7 @@ use Rattle.droid_frame.specs.types.reply.Reply.{Reply}
 use Rattle.droid_frame.specs.types.reply.Reply.TheVariants.{Made, Node, Taken, Finished, Abandoned, Progress, Part, Refused}
 use Rattle.droid_frame.specs.Refusals.{refusal_number}
 
--- what a file's formats were found by
+-- the method that found a file's formats
 abbrev pub method_text : Method → List ℕ
 method_text Unidentified = codes "none"
 method_text Signature = codes "Signature"
@@ -28,7 +28,7 @@ truth_text truth = if truth then codes "true" else codes "false"
 abbrev pub after_commas : List (List ℕ) → List ℕ
 after_commas texts = flat_map (λ text. codes "," ++ text) texts
 
--- the identifiers of formats with a comma between each two, or `-` where there is none
+-- the identifiers of formats with commas between them, or `-` if there is none
 unfoldable pub puids_text : List (List ℕ) → List ℕ
 puids_text [] = codes "-"
 puids_text (first ∷ others) = first ++ after_commas others
@@ -38,25 +38,25 @@ limit_text limits.Profiles = codes "profiles"
 limit_text limits.Nodes = codes "nodes"
 limit_text limits.Unfinished = codes "unfinished"
 
--- what a refusal tells beside its number
+-- what a refusal prints after its number
 abbrev pub detail_text : Refusal → List ℕ
 detail_text (TooFarAhead missing) = codes " " ++ decimal missing
 detail_text (Incomplete missing) = codes " " ++ decimal missing
 detail_text (LimitReached which) = codes " " ++ limit_text which
 detail_text _ = []
 
--- the digits of a hash in lower case, or `-` where there is none
+-- the digits of a hash in lower case, or `-` if there is none
 abbrev pub hash_text : HashValue → List ℕ
 hash_text values.Nothing = codes "-"
 hash_text (values.Md5 digest) = encode_lower digest
 hash_text (values.Sha256 digest) = encode_lower digest
 
--- what is told of a finished file: method, mismatch, its hash, and its formats
+-- the line of a finished file: method, mismatch, hash and formats
 unfoldable pub finished_text : Method → Bool → HashValue → List (List ℕ) → List ℕ
 finished_text method mismatch hash puids =
     codes "finished " ++ (method_text method ++ (codes " " ++ (truth_text mismatch ++ (codes " " ++ (hash_text hash ++ (codes " " ++ puids_text puids))))))
 
--- the line of a reply; that of a part of an export tells how many bytes follow
+-- the line of a reply; for a part of an export it says how many bytes follow
 unfoldable pub reply_text : Reply → List ℕ
 reply_text (Made profile) = codes "made " ++ decimal profile
 reply_text (Node id) = codes "node " ++ decimal id
@@ -67,12 +67,12 @@ reply_text (Progress held missing) = codes "progress " ++ (decimal held ++ (code
 reply_text (Part as_of total bytes) = codes "part " ++ (decimal as_of ++ (codes " " ++ (decimal total ++ (codes " " ++ decimal (length bytes)))))
 reply_text (Refused refusal) = codes "refused " ++ (decimal (refusal_number refusal) ++ detail_text refusal)
 
--- what stands for a line: its reply, or that it is bad
+-- what a line of a script prints: its reply, or that it is bad
 unfoldable pub answer_text : Option Reply → List ℕ
 answer_text None = codes "bad line"
 answer_text (Some reply) = reply_text reply
 
--- what follows after the line feed: the bytes of a part of an export, and nothing more
+-- what follows after the line feed: the bytes of a part of an export, otherwise nothing
 unfoldable pub following_bytes : Option Reply → List ℕ
 following_bytes (Some (Part as_of total bytes)) = bytes
 following_bytes _ = []

@@ -1,4 +1,4 @@
--- What stands after the word of each kind of request (this project's own).
+-- The text after the word for each kind of request (this project's own rule).
 use Rattle.std.specs.Prelude.{ℕ, ℤ, ◌^◌, ◌==◌, if◌then◌else◌, List, [], length, codes, Option, Some, None}
 use Rattle.std.specs.Result.{result_ok}
 use Rattle.std.specs.Str.{bytes_eq}
@@ -11,7 +11,7 @@ use Rattle.droid_frame.specs.Reading.{◌>>=◌}
 use Rattle.droid_lines.specs.Exports.{export_words}
 use Rattle.droid_lines.specs.Words.{number_below, number_word, signed_word, truth_word, word_at}
 
--- the hash that a profile's files get: `none`, `md5` or `sha256`
+-- the kind of hash for a profile's files: `none`, `md5` or `sha256`
 unfoldable pub hash_word : List ℕ → Option HashKind
 hash_word word =
     if bytes_eq word (codes "none") then Some kinds.Nothing
@@ -39,7 +39,7 @@ hashed_create_words text = do
 unfoldable pub create_words : ℕ → List ℕ → Option Request
 create_words version text = if version == 1 then plain_create_words text else hashed_create_words text
 
--- `PROFILE PARENT MODIFIED`, and what stands after the space
+-- `PROFILE PARENT MODIFIED`, and the text after the space
 unfoldable pub node_place : List ℕ → Option (ℕ × ℕ × ℤ × List ℕ)
 node_place text = do
   profile ← number_word (2 ^ 32) text
@@ -47,7 +47,7 @@ node_place text = do
   modified ← signed_word parent.1
   Some (profile.0, parent.0, modified.0, modified.1)
 
--- `PROFILE PARENT MODIFIED NAME`: the name is all that stands after the space, and may be empty
+-- `PROFILE PARENT MODIFIED NAME`: the name is all of the text after the space, and may be empty
 unfoldable pub folder_words : List ℕ → Option Request
 folder_words text = do
   place ← node_place text
@@ -67,7 +67,7 @@ file_words text = do
   sizes ← file_sizes place.3
   Some (AddFile place.0 place.1 place.2 sizes.0 sizes.1 sizes.2)
 
--- `PROFILE FILE INDEX`, and what stands after the space
+-- `PROFILE FILE INDEX`, and the text after the space
 unfoldable pub piece_place : List ℕ → Option (ℕ × ℕ × ℕ × List ℕ)
 piece_place text = do
   profile ← number_word (2 ^ 32) text
@@ -111,7 +111,7 @@ status_words text = do
   place ← file_place text
   Some (Status place.0 place.1)
 
--- what stands after the word of a kind of request, in a line of this version
+-- the request in the text after a kind's word, in a line of this version
 unfoldable pub request_words : ℕ → List ℕ → List ℕ → Option Request
 request_words version kind text =
     if bytes_eq kind (codes "create") then create_words version text

@@ -1,4 +1,4 @@
-//! What stands after the word `export`, and the criteria of a filter.
+//! The text after the word `export`, and the criteria of a filter.
 
 ghost use Rattle.std.specs.Prelude.{◌≡◌, IfOk};
 ghost use Rattle.std.specs.Option.{option_map};
@@ -8,7 +8,7 @@ use crate::words::{first_word, name_and_value, u32_in, u32_word, u64_in, u64_wor
 use droid_frame::{Criteria, Criterion, Filter, Method, NodeKind, Request, Text, Texts};
 use std::alloc::{AllocError, Global};
 
-/// `PROFILE FROM MAX` or `PROFILE FROM MAX JOIN CRITERION ..`.
+/// Parses `PROFILE FROM MAX` or `PROFILE FROM MAX JOIN CRITERION ..`.
 #[tactic(auto, unfolding(crate::specs::Exports::export_words))]
 pub fn parse_export(alloc: Global, text: &str) -> Result<Option<Request>, AllocError>
     ensures { IfOk result (λ request. request ≡ export_words text.now) }
@@ -27,7 +27,7 @@ pub fn parse_export(alloc: Global, text: &str) -> Result<Option<Request>, AllocE
     }))
 }
 
-/// `PROFILE FROM MAX`, and the text after the space, where there is one.
+/// Parses `PROFILE FROM MAX`. Returns it with the text after the space, if there is one.
 #[tactic(auto, unfolding(crate::specs::Exports::export_place))]
 fn export_place(text: &str) -> Option<(u32, u64, u32, Option<&str>)>
     ensures { option_map (λ x. (x.0, x.1, x.2, option_map (λ rest. rest.now) x.3)) result ≡ export_place text.now }
@@ -38,7 +38,7 @@ fn export_place(text: &str) -> Option<(u32, u64, u32, Option<&str>)>
     Some((profile, from, u32_in(max)?, rest))
 }
 
-/// The filter after MAX: without one, every record passes.
+/// Parses the filter after MAX. Without one every record passes.
 #[tactic(auto, unfolding(crate::specs::Exports::filter_after))]
 fn filter_after(alloc: Global, text: Option<&str>) -> Result<Option<Filter>, AllocError>
     ensures { IfOk result (λ filter. filter ≡ filter_after (option_map (λ text. text.now) text.entry)) }
@@ -52,7 +52,7 @@ fn filter_after(alloc: Global, text: Option<&str>) -> Result<Option<Filter>, All
     }
 }
 
-/// `JOIN CRITERION ..`.
+/// Parses `JOIN CRITERION ..`.
 #[tactic(auto, unfolding(crate::specs::Exports::filter_words))]
 fn parse_filter(alloc: Global, text: &str) -> Result<Option<Filter>, AllocError>
     ensures { IfOk result (λ filter. filter ≡ filter_words text.now) }
@@ -77,7 +77,7 @@ fn criteria_after(alloc: Global, text: Option<&str>) -> Result<Option<Criteria>,
     }
 }
 
-/// `CRITERION ..`.
+/// Parses `CRITERION ..`.
 fn parse_criteria(alloc: Global, text: &str) -> Result<Option<Criteria>, AllocError>
     ensures { IfOk result (λ criteria. criteria ≡ criteria_words text.now) }
 {
@@ -91,7 +91,7 @@ fn parse_criteria(alloc: Global, text: &str) -> Result<Option<Criteria>, AllocEr
     Ok(Some(criteria))
 }
 
-/// `NAME=VALUE`.
+/// Parses `NAME=VALUE`.
 #[tactic(auto, unfolding(crate::specs::Exports::criterion_word))]
 fn parse_criterion(alloc: Global, word: &str) -> Result<Option<Criterion>, AllocError>
     ensures { IfOk result (λ criterion. criterion ≡ criterion_word word.now) }
@@ -195,7 +195,7 @@ fn kind_in(word: &str) -> Option<Criterion>
     }
 }
 
-/// The texts between commas; of no bytes, one empty text.
+/// Returns the texts between commas. An empty value gives one empty text.
 fn texts_in(alloc: Global, value: &str) -> Result<Texts, AllocError>
     ensures { IfOk result (λ texts. texts ≡ list_word value.now) }
 {

@@ -1,10 +1,10 @@
-//! Laws of lines: each stands on a function that does nothing, and is proved with it.
+//! Laws of lines. Each law is the contract of a function that does nothing.
 
 ghost use Rattle.droid_lines.specs.InFront.{AskTheSame};
 
-/// A line that [`parse_request_line`](crate::parse_request_line) reads asks for what the same line asks for with a client
-/// and a number in front, as [`parse_line`](crate::parse_line) reads it; and the one is bad exactly where the
-/// other is.
+/// [`parse_request_line`](crate::parse_request_line) reads from a line the same request as
+/// [`parse_line`](crate::parse_line) from that line with a client and a number in front. The one line is bad exactly if
+/// the other is.
 pub fn lines_ask_the_same()
     ensures { AskTheSame }
 {}

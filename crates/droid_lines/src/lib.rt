@@ -1,19 +1,18 @@
-//! The lines of a script, and how replies are printed.
+//! Requests and replies as lines of text.
 //!
-//! A line of text asks for what a request asks for, and each reply has a line of text. This crate reads the
-//! one and prints the other.
+//! [`parse_line`] reads the request of a line of a script, [`print_reply`] prints a reply as a line.
 #![tactic(auto)]
 
-mod cut;
 mod exports;
 pub mod laws;
-mod parse;
-mod print;
+mod line_feeds;
+mod parser;
+mod printer;
 mod requests;
 mod tally;
 mod words;
 
-pub use cut::{line_end, next_line};
-pub use parse::{Line, VersionedRequest, parse_line, parse_request_line};
-pub use print::{print_answer, print_reply};
+pub use line_feeds::{line_end, next_line};
+pub use parser::{Line, VersionedRequest, parse_line, parse_request_line};
+pub use printer::{print_answer, print_reply};
 pub use tally::Tally;

@@ -1,4 +1,4 @@
-//! What stands after the word of each kind of request.
+//! The text after the word for each kind of request.
 
 ghost use Rattle.std.specs.Prelude.{◌≡◌, IfOk, codes};
 ghost use Rattle.std.specs.Option.{option_map};
@@ -12,8 +12,7 @@ use droid_frame::{Blob, HashKind, Request, Text};
 use hex::FromHexError;
 use std::alloc::{AllocError, Global};
 
-/// The request of the kind that this word names in a line of this version, or `None` where the text is no such
-/// request.
+/// Parses the text after a kind's word, in a line of this version. `None`: the text is no request of that kind.
 #[tactic(auto, unfolding(crate::specs::Requests::request_words))]
 pub fn parse_request(
     alloc: Global,
@@ -44,7 +43,7 @@ pub fn parse_request(
     }
 }
 
-/// `LIMIT ALL` in version 1, and `LIMIT ALL HASH` in version 2.
+/// Parses `LIMIT ALL` in version 1, and `LIMIT ALL HASH` in version 2.
 #[tactic(auto, unfolding(crate::specs::Requests::create_words))]
 fn parse_create(version: u8, text: &str) -> Option<Request>
     ensures { result ≡ create_words version text.now }
@@ -56,7 +55,7 @@ fn parse_create(version: u8, text: &str) -> Option<Request>
     }
 }
 
-/// `LIMIT ALL HASH`.
+/// Parses `LIMIT ALL HASH`.
 #[tactic(auto, unfolding(crate::specs::Requests::hashed_create_words))]
 fn parse_hashed_create(text: &str) -> Option<Request>
     ensures { result ≡ hashed_create_words text.now }
@@ -72,7 +71,7 @@ fn parse_hashed_create(text: &str) -> Option<Request>
     })
 }
 
-/// The hash that a profile's files get: `none`, `md5` or `sha256`.
+/// Parses the kind of hash for a profile's files: `none`, `md5` or `sha256`.
 #[tactic(auto, unfolding(crate::specs::Requests::hash_word))]
 fn hash_in(word: &str) -> Option<HashKind>
     ensures { result ≡ hash_word word.now }
@@ -88,7 +87,7 @@ fn hash_in(word: &str) -> Option<HashKind>
     }
 }
 
-/// `LIMIT ALL`: the profile gets MD5.
+/// Parses `LIMIT ALL`. The profile gets MD5.
 #[tactic(auto, unfolding(crate::specs::Requests::plain_create_words))]
 fn parse_plain_create(text: &str) -> Option<Request>
     ensures { result ≡ plain_create_words text.now }
@@ -102,7 +101,7 @@ fn parse_plain_create(text: &str) -> Option<Request>
     })
 }
 
-/// `PROFILE PARENT MODIFIED NAME`.
+/// Parses `PROFILE PARENT MODIFIED NAME`.
 #[tactic(auto, unfolding(crate::specs::Requests::folder_words))]
 fn parse_folder(alloc: Global, text: &str) -> Result<Option<Request>, AllocError>
     ensures { IfOk result (λ request. request ≡ folder_words text.now) }
@@ -119,7 +118,7 @@ fn parse_folder(alloc: Global, text: &str) -> Result<Option<Request>, AllocError
     }))
 }
 
-/// `PROFILE PARENT MODIFIED SIZE PIECESIZE NAME`.
+/// Parses `PROFILE PARENT MODIFIED SIZE PIECESIZE NAME`.
 #[tactic(auto, unfolding(crate::specs::Requests::file_words))]
 fn parse_file(alloc: Global, text: &str) -> Result<Option<Request>, AllocError>
     ensures { IfOk result (λ request. request ≡ file_words text.now) }
@@ -141,7 +140,7 @@ fn parse_file(alloc: Global, text: &str) -> Result<Option<Request>, AllocError>
     }))
 }
 
-/// `PROFILE FILE INDEX HEX`.
+/// Parses `PROFILE FILE INDEX HEX`.
 #[tactic(auto, unfolding(crate::specs::Requests::piece_words))]
 fn parse_piece(alloc: Global, text: &str) -> Result<Option<Request>, AllocError>
     ensures { IfOk result (λ request. request ≡ piece_words text.now) }
@@ -184,7 +183,7 @@ fn parse_status(text: &str) -> Option<Request>
     Some(Request::Status { profile, file })
 }
 
-/// `PROFILE PARENT MODIFIED`, and the text after the space.
+/// Parses `PROFILE PARENT MODIFIED`. Returns it with the text after the space.
 #[tactic(auto, unfolding(crate::specs::Requests::node_place))]
 fn node_place(text: &str) -> Option<(u32, u32, i64, &str)>
     ensures { option_map (λ x. (x.0, x.1, x.2, x.3.now)) result ≡ node_place text.now }
@@ -195,7 +194,7 @@ fn node_place(text: &str) -> Option<(u32, u32, i64, &str)>
     Some((profile, parent, modified, rest))
 }
 
-/// `SIZE PIECESIZE NAME`.
+/// Parses `SIZE PIECESIZE NAME`.
 #[tactic(auto, unfolding(crate::specs::Requests::file_sizes))]
 fn file_sizes(text: &str) -> Option<(u64, u32, &str)>
     ensures { option_map (λ x. (x.0, x.1, x.2.now)) result ≡ file_sizes text.now }
@@ -205,7 +204,7 @@ fn file_sizes(text: &str) -> Option<(u64, u32, &str)>
     Some((size, piece_size, name))
 }
 
-/// `PROFILE FILE INDEX`, and the text after the space.
+/// Parses `PROFILE FILE INDEX`. Returns it with the text after the space.
 #[tactic(auto, unfolding(crate::specs::Requests::piece_place))]
 fn piece_place(text: &str) -> Option<(u32, u32, u32, &str)>
     ensures { option_map (λ x. (x.0, x.1, x.2, x.3.now)) result ≡ piece_place text.now }
@@ -216,7 +215,7 @@ fn piece_place(text: &str) -> Option<(u32, u32, u32, &str)>
     Some((profile, file, index, rest))
 }
 
-/// `PROFILE FILE`.
+/// Parses `PROFILE FILE`.
 #[tactic(auto, unfolding(crate::specs::Requests::file_place))]
 fn file_place(text: &str) -> Option<(u32, u32)>
     ensures { result ≡ file_place text.now }
@@ -225,7 +224,7 @@ fn file_place(text: &str) -> Option<(u32, u32)>
     Some((profile, u32_in(rest)?))
 }
 
-/// The bytes of a piece: two hexadecimal digits for each, or `-` for none.
+/// Parses the bytes of a piece: two hexadecimal digits for each, or `-` for none.
 #[tactic(auto, unfolding(crate::specs::Requests::bytes_word))]
 fn bytes_in(alloc: Global, word: &str) -> Result<Option<Blob>, AllocError>
     ensures { IfOk result (λ bytes. bytes ≡ bytes_word word.now) }

@@ -1,19 +1,19 @@
-//! How many lines were handled.
+//! The count of handled lines.
 
 ghost use Rattle.std.specs.Prelude.{◌≡◌, ◌+◌, ◌<◌, ◌≤◌, ◌^◌};
 ghost use Rattle.droid_lines.specs.Tallies.{with_one_more};
 
-/// How many lines were handled, and how many of them were bad.
+/// Counts the handled lines, and the bad ones among them.
 #[derive(Clone, Copy, Debug, PartialEq, Eq)]
 pub struct Tally {
     /// All lines, the bad ones among them.
     pub lines: u64,
-    /// The lines that ask for nothing.
+    /// The lines that hold no request.
     pub bad: u64,
 }
 
 impl Tally {
-    /// Counts one line more.
+    /// Counts one more line.
     pub fn count(&mut self, is_bad: bool)
         requires { (self.old.bad ≤ self.old.lines) × (self.old.lines + 1 < 2 ^ 64) }
         ensures { self.new ≡ with_one_more is_bad self.old }

@@ -4,14 +4,14 @@ ghost use Rattle.std.specs.Prelude.{◌≡◌, ◌==◌, ◌^◌, slice_index};
 ghost use Rattle.std.specs.Option.{option_map};
 ghost use Rattle.droid_lines.specs.Words.{cut_at, first_word, number_below, signed_number, truth_word, number_word, signed_word};
 
-/// The text before the first space, and the text after it.
+/// Returns the text before the first space, and the text after it.
 pub fn word(text: &str) -> Option<(&str, &str)>
     ensures { option_map (λ x. (x.0.now, x.1.now)) result ≡ cut_at 32 text.now }
 {
     text.split_once(' ')
 }
 
-/// The first word, and the text after the space, where there is one.
+/// Returns the first word, and the text after the space, if there is one.
 #[tactic(auto, unfolding(crate::specs::Words::first_word))]
 pub fn first_word(text: &str) -> (&str, Option<&str>)
     ensures { (result.0.now, option_map (λ x. x.now) result.1) ≡ first_word text.now }
@@ -22,14 +22,14 @@ pub fn first_word(text: &str) -> (&str, Option<&str>)
     }
 }
 
-/// The name before the `=` of a word, and the value after it.
+/// Returns the name before the `=` of a word, and the value after it.
 pub fn name_and_value(word: &str) -> Option<(&str, &str)>
     ensures { option_map (λ x. (x.0.now, x.1.now)) result ≡ cut_at 61 word.now }
 {
     word.split_once('=')
 }
 
-/// A number of 32 bits as the first word, and the text after the space.
+/// Reads an unsigned 32-bit number as the first word. Returns it with the text after the space.
 #[tactic(auto, unfolding(crate::specs::Words::number_word))]
 pub fn u32_word(text: &str) -> Option<(u32, &str)>
     ensures { option_map (λ x. (x.0, x.1.now)) result ≡ number_word (2 ^ 32) text.now }
@@ -38,7 +38,7 @@ pub fn u32_word(text: &str) -> Option<(u32, &str)>
     Some((u32_in(word)?, rest))
 }
 
-/// A number of 64 bits as the first word, and the text after the space.
+/// Reads an unsigned 64-bit number as the first word. Returns it with the text after the space.
 #[tactic(auto, unfolding(crate::specs::Words::number_word))]
 pub fn u64_word(text: &str) -> Option<(u64, &str)>
     ensures { option_map (λ x. (x.0, x.1.now)) result ≡ number_word (2 ^ 64) text.now }
@@ -47,7 +47,7 @@ pub fn u64_word(text: &str) -> Option<(u64, &str)>
     Some((u64_in(word)?, rest))
 }
 
-/// A number of 64 bits with a sign as the first word, and the text after the space.
+/// Reads a signed 64-bit number as the first word. Returns it with the text after the space.
 #[tactic(auto, unfolding(crate::specs::Words::signed_word))]
 pub fn i64_word(text: &str) -> Option<(i64, &str)>
     ensures { option_map (λ x. (x.0, x.1.now)) result ≡ signed_word text.now }
@@ -56,7 +56,7 @@ pub fn i64_word(text: &str) -> Option<(i64, &str)>
     Some((i64_in(word)?, rest))
 }
 
-/// A truth value: `0` or `1`.
+/// Reads a truth value: `0` or `1`.
 #[tactic(auto, unfolding(crate::specs::Words::truth_word))]
 pub fn truth_in(word: &str) -> Option<bool>
     ensures { result ≡ truth_word word.now }
@@ -70,7 +70,7 @@ pub fn truth_in(word: &str) -> Option<bool>
     }
 }
 
-/// A number of 32 bits in decimal digits. Unlike `parse`, it takes no `+`.
+/// Reads an unsigned 32-bit number in decimal digits. Unlike `parse`, it accepts no `+`.
 pub fn u32_in(word: &str) -> Option<u32>
     ensures { result ≡ number_below (2 ^ 32) word.now }
 {
@@ -80,7 +80,7 @@ pub fn u32_in(word: &str) -> Option<u32>
     word.parse().ok()
 }
 
-/// A number of 64 bits in decimal digits. Unlike `parse`, it takes no `+`.
+/// Reads an unsigned 64-bit number in decimal digits. Unlike `parse`, it accepts no `+`.
 pub fn u64_in(word: &str) -> Option<u64>
     ensures { result ≡ number_below (2 ^ 64) word.now }
 {

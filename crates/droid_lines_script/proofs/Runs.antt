@@ -8,7 +8,7 @@ use Rattle.droid_frame.specs.types.frame.Frame.{Frame}
 use Rattle.droid_frame.specs.Bodies.{SpellsRequest, request_kind, request_body}
 use Rattle.droid_frame.specs.Frames.{frame_bytes, spelling}
 use Rattle.droid_frame.specs.types.reply.Reply.{Reply}
-use Rattle.droid_lines.specs.declared.parse.Line.{Line}
+use Rattle.droid_lines.specs.declared.parser.Line.{Line}
 use Rattle.droid_core.specs.declared.service.Service.{Service}
 use Rattle.droid_core.specs.Setting.{Setting}
 use Rattle.droid_core.specs.Histories.{History, command, answer, next, Handles}

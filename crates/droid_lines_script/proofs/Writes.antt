@@ -2,12 +2,13 @@
 use Rattle.std.proofs.Common.{◌≡◌, ℕ, ◌-◌, ◌≤◌, List, length, take, drop, Option, Some, None, Result, Ok, Err, sym, subst, OnErr, IfErr, IfSome}
 use Rattle.std.specs.Prelude.{IsErrAnd, IsErrOf}
 use Rattle.std.proofs.lemmas.List.{take-append-drop}
+use Rattle.droid_frame.specs.StreamWrites.{Stops}
 use Rattle.droid_frame.specs.Writes.{StopsWithin}
 use Rattle.droid_frame.specs.stream_types.fault.InputFault.{InputFault}
 use Rattle.droid_frame.specs.stream_types.fault.InputFault.TheVariants as inputs
 use Rattle.droid_lines.specs.Lines.{lines_of}
-use Rattle.droid_lines_script.specs.declared.fault.ScriptFault.{ScriptFault}
-use Rattle.droid_lines_script.specs.declared.fault.ScriptFault.TheVariants.{Write}
+use Rattle.droid_lines_script.specs.declared.script_fault.ScriptFault.{ScriptFault}
+use Rattle.droid_lines_script.specs.declared.script_fault.ScriptFault.TheVariants.{Memory, Write}
 use Rattle.droid_frame.specs.InTurn.{AtMost}
 use Rattle.droid_lines_script.specs.Scripts.{WritesFront, reading_fault}
 
@@ -15,6 +16,11 @@ use Rattle.droid_lines_script.specs.Scripts.{WritesFront, reading_fault}
 pub front_written : (old new : Option (List ℕ)) (text : List ℕ) (before count : ℕ) → StopsWithin old new text before count → WritesFront old new text
 front_written old new text before count stops =
     record { written = take (count - before) text; unwritten = drop (count - before) text; cut = sym (take-append-drop (count - before) text); writes = stops.front }
+
+-- they aren't all of it
+pub part_written : (old new : Option (List ℕ)) (text line : List ℕ) (before count : ℕ) → text ≡ line → StopsWithin old new text before count → Stops old new line (count - before)
+part_written old new text line before count is stops =
+    subst (λ (l : List ℕ). Stops old new l (count - before)) is (record { some_left = stops.some_left; front = stops.front })
 
 -- ---- a fact for one variant
 
@@ -42,3 +48,8 @@ no_write {T} (Ok value) input is e = absurd is
 no_write {T} (Err fault) inputs.TooLong is e = absurd cc
 no_write {T} (Err fault) inputs.Memory is e = absurd cc
 no_write {T} (Err fault) inputs.Read is e = absurd cc
+
+-- refused memory is no fault of writing
+pub of_memory : {T : Type 0} (r : Result T ScriptFault) → IsErrAnd r (λ fault. fault ≡ Memory) → IsErrOf r Write → ⊥
+of_memory {T} (Ok value) is e = absurd is
+of_memory {T} (Err fault) is e = absurd cc

@@ -1,23 +1,23 @@
-//! The lines of a script, one after the other.
+//! The run of a script, line after line.
 
 ghost use Rattle.std.specs.Prelude.{◌≡◌, ◌≤◌, ◌∷◌, [], None, Option, IfOk, IfErr, IsErrOf, OnOk, OnErr, is_none, length};
-ghost use Rattle.droid_frame.specs.Seen.{IsSound, ReportsFault};
+ghost use Rattle.droid_frame.specs.Seen.{IsSound};
 ghost use Rattle.droid_core.specs.Histories.{History};
 ghost use Rattle.droid_core.specs.Setting.{Setting};
 ghost use Rattle.droid_lines.specs.Lines.{lines_of, line_value};
 ghost use Rattle.droid_lines.specs.Tallies.{Counts};
 ghost use Rattle.droid_lines_script.specs.Scripts.{RunsAll, RunsFront, LineAnswered, IsOfHandling, WritesAnswer, is_bad};
 ghost use Rattle.droid_frame.specs.types.reply.Reply.{Reply};
-ghost use Rattle.droid_frame.specs.InTurn.{ReportsFaultInTurn};
+ghost use Rattle.droid_frame.specs.InTurn.{ReportsFaultInOne, ReportsFaultInTurn};
 ghost use Rattle.droid_core.specs.Standing.{StandsFor, limits_of, registry_of};
 
-use crate::fault::ScriptFault;
+use crate::script_fault::ScriptFault;
 use droid_core::Service;
 use droid_frame::{Progress, Reply, SteadyWrite, request_frame, write_all};
 use droid_lines::{Tally, next_line, parse_line, print_answer};
 use std::alloc::{AllocError, Global};
 
-/// Handles the lines of the input, and writes what each prints.
+/// Handles the lines of the input, and writes what each prints. Returns how many there were.
 pub fn run_lines<W: SteadyWrite>(
     alloc: Global,
     service: &mut Service,
@@ -45,7 +45,7 @@ pub fn run_lines<W: SteadyWrite>(
     Ok(tally)
 }
 
-/// Handles one line, and writes what it prints. The answer is whether the line is bad.
+/// Handles one line, and writes what it prints. Returns whether the line is bad.
 fn run_line<W: SteadyWrite>(
     alloc: Global,
     service: &mut Service,
@@ -60,8 +60,8 @@ fn run_line<W: SteadyWrite>(
     ensures limits { limits_of service.new ≡ limits_of service.old }
     ensures registry { registry_of service.new ≡ registry_of service.old }
     ensures reported { IsSound (W.seen writer.old) → W.room writer.old ≡ None →
-        ReportsFault (W.seen writer.old).interruptions (W.seen writer.new) (IsErrOf result ScriptFault.Write) × (W.room writer.new ≡ None) }
-    ensures wrote { OnOk result ((answer : Option Reply) × WritesAnswer W.contents answer writer.old writer.new) }
+        ReportsFaultInOne W.seen (WritesAnswer W.contents) writer.old writer.new (IsErrOf result ScriptFault.Write) × (W.room writer.new ≡ None) }
+    ensures wrote { OnOk result ((answer : Option Reply) × (WritesAnswer W.contents).whole answer writer.old writer.new) }
     ensures handling { IfErr result IsOfHandling }
 {
     let answer = handle_line(alloc, service, line)?;
@@ -70,7 +70,7 @@ fn run_line<W: SteadyWrite>(
     Ok(answer.is_none())
 }
 
-/// The reply to the request of a line, or `None` where the line is bad. On an error nothing was handled.
+/// Returns the reply to the request of a line, or `None` if the line is bad. After an error nothing was handled.
 fn handle_line(
     alloc: Global,
     service: &mut Service,

@@ -10,7 +10,7 @@ use Rattle.droid_frame.specs.types.frame.Frame.{Frame}
 use Rattle.droid_frame.specs.types.refusal.Refusal.{Refusal}
 use Rattle.droid_frame.specs.types.reply.Reply.{Reply}
 use Rattle.droid_frame.specs.types.reply.Reply.TheVariants.{Made, Node, Taken, Finished, Abandoned, Progress, Part, Refused}
-use Rattle.droid_lines.specs.declared.parse.VersionedRequest.{VersionedRequest}
+use Rattle.droid_lines.specs.declared.parser.VersionedRequest.{VersionedRequest}
 use Rattle.droid_wire_client.specs.declared.heard.Heard.{Heard}
 use Rattle.droid_wire_client.specs.declared.heard.Heard.TheVariants as heard
 use Rattle.droid_wire_client.specs.declared.slot.Slot.{Slot}

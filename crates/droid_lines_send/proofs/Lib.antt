@@ -1,5 +1,6 @@
 pub mod Feeds
 pub mod Holding
+pub mod LineFaults
 pub mod Numbering
 pub mod Passing
 pub mod PassingOn

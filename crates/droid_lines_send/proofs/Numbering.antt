@@ -6,7 +6,7 @@ use Rattle.std.proofs.lemmas.List.{length-set}
 use Rattle.droid_frame.specs.Frames.{frame_bytes}
 use Rattle.droid_frame.specs.types.frame.Frame.{Frame}
 use Rattle.droid_frame.specs.types.reply.Reply.{Reply}
-use Rattle.droid_lines.specs.declared.parse.VersionedRequest.{VersionedRequest}
+use Rattle.droid_lines.specs.declared.parser.VersionedRequest.{VersionedRequest}
 use Rattle.droid_wire_client.specs.Cores.{Core, core_hearing, core_submitting, new_slot, next_frame, next_number, slot_at, slot_hearing, slots_hearing}
 use Rattle.droid_wire_client.specs.declared.slot.Slot.{Slot}
 use Rattle.droid_lines_send.specs.Exchanges.{Exchange, GoodLine, LinesSent, sent_bytes}

@@ -7,8 +7,8 @@ use Rattle.droid_frame.proofs.Scopes.{lasts}
 use Rattle.droid_wire_client.specs.Cores.{Core}
 use Rattle.droid_lines_send.specs.Reading.{CountsUnless}
 use Rattle.droid_lines_send.specs.Sending.{IsOfReading}
-use Rattle.droid_lines_send.specs.declared.fault.SendFault.{SendFault}
-use Rattle.droid_lines_send.specs.declared.fault.SendFault.TheVariants.{Lines}
+use Rattle.droid_lines_send.specs.declared.send_fault.SendFault.{SendFault}
+use Rattle.droid_lines_send.specs.declared.send_fault.SendFault.TheVariants.{Lines}
 use Rattle.droid_lines_send.specs.Stopping.{LineStops}
 
 pub fault_is : {T : Type 0} (r : Result T SendFault) (fault of : SendFault) → IsErrAnd r (λ e. e ≡ fault) → IsErrOf r of → fault ≡ of

@@ -5,14 +5,14 @@ use Rattle.std.specs.Io.KnownBytes.{Appends, Keeps}
 use Rattle.std.proofs.KnownBytes.{Appends-nil, Consumes-nil, Keeps-refl}
 use Rattle.droid_frame.specs.Frames.{frame_bytes}
 use Rattle.droid_frame.specs.types.frame.Frame.{Frame}
-use Rattle.droid_lines.specs.declared.parse.VersionedRequest.{VersionedRequest}
+use Rattle.droid_lines.specs.declared.parser.VersionedRequest.{VersionedRequest}
 use Rattle.droid_wire_client.specs.Cores.{Core, core_submitting, next_frame, next_number}
 use Rattle.droid_wire_client.specs.declared.heard.Heard.{Heard}
 use Rattle.droid_wire_client.specs.declared.heard.Heard.TheVariants as heard
 use Rattle.droid_lines.specs.Lines.{request_value}
 use Rattle.droid_lines.specs.Printed.{answer_line}
-use Rattle.droid_lines_send.specs.declared.fault.SendFault.{SendFault}
-use Rattle.droid_lines_send.specs.declared.fault.SendFault.TheVariants.{Lines, Memory, NumbersUsedUp, Frames, Closed, Replies, Malformed, Stranger, Repeated, Text}
+use Rattle.droid_lines_send.specs.declared.send_fault.SendFault.{SendFault}
+use Rattle.droid_lines_send.specs.declared.send_fault.SendFault.TheVariants.{Lines, Memory, NumbersUsedUp, Frames, Closed, Replies, Malformed, Stranger, Repeated, Text}
 use Rattle.droid_lines_send.specs.Exchanges.{Hears}
 use Rattle.droid_lines_send.specs.Steps.{LineDone, ReplyComes, Takes, TakesNone}
 use Rattle.droid_lines_send.specs.Stopping.{Exchanged, IsHeardAs, LineStops, ReadsOne, RequestStops, StopsAt, Undone, Unheard}

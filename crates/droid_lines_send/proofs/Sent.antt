@@ -11,7 +11,7 @@ use Rattle.droid_lines.specs.Lines.{lines_of}
 use Rattle.droid_lines.specs.Tallies.{Counts, with_one_more}
 use Rattle.droid_lines.specs.declared.tally.Tally.{Tally}
 use Rattle.droid_lines.proofs.Tallies.{counts_one_more}
-use Rattle.droid_lines_send.specs.declared.fault.SendFault.{SendFault}
+use Rattle.droid_lines_send.specs.declared.send_fault.SendFault.{SendFault}
 use Rattle.droid_lines_send.specs.Exchanges.{Exchange, LineSent, LinesSent, came_bytes, is_bad, printed, sent_bytes}
 use Rattle.droid_lines_send.specs.Reading.{GivesLine}
 use Rattle.droid_lines_send.specs.Sending.{IsOfReading, Sends, SendsAll, SendsFront}

@@ -1,11 +1,11 @@
--- Requests that are sent, and the replies that come back (this project's own).
+-- Requests that are sent, and the replies that come back (this project's own rule).
 use Rattle.std.specs.Prelude.{◌≡◌, ◌≢◌, ℕ, ◌^◌, Bool, List, [], ◌∷◌, Option, Some, None, is_none}
 use Rattle.droid_frame.specs.Frames.{frame_bytes}
 use Rattle.droid_frame.specs.Replies.{SpellsReply}
 use Rattle.droid_frame.specs.Streams.{IsReadable}
 use Rattle.droid_frame.specs.types.frame.Frame.{Frame}
 use Rattle.droid_frame.specs.types.reply.Reply.{Reply}
-use Rattle.droid_lines.specs.declared.parse.VersionedRequest.{VersionedRequest}
+use Rattle.droid_lines.specs.declared.parser.VersionedRequest.{VersionedRequest}
 use Rattle.droid_wire_client.specs.Cores.{Core, core_hearing, core_submitting, heard_of, next_frame, next_number}
 use Rattle.droid_wire_client.specs.declared.heard.Heard.{Heard}
 use Rattle.droid_wire_client.specs.declared.heard.Heard.TheVariants as heard
@@ -18,21 +18,21 @@ pub record Exchange : Type 0 where
   pub came : Frame
   pub reply : Reply
 
--- the core takes such a reply: it is an answer or a refusal
+-- the core takes the reply: it is an answer or a refusal
 abbrev pub IsTaken : Heard → Type 0
 IsTaken heard.Answered = Unit {0}
 IsTaken heard.Refused = Unit {0}
 IsTaken heard.Repeated = ⊥
 IsTaken heard.Stranger = ⊥
 
--- the frame holds this reply, the core hears it as this, and is left so
+-- the frame holds this reply, which means `heard` to the core and leads to the core `after`
 pub record Hears (core : Core) (frame : Frame) (reply : Reply) (heard : Heard) (after : Core) : Type 0 where
   pub spelled : SpellsReply frame.version frame.kind frame.body reply
   pub heard_is : heard_of core frame.version frame.client frame.number reply ≡ heard
   pub after_is : after ≡ core_hearing core frame.version frame.client frame.number reply
 
--- The core submits the request, whose frame is sent in its version and under the next number; a frame comes, and the
--- core hears the reply that it holds as this.
+-- The core submits the request, whose frame is sent in its version and with the next number. Then a frame comes, and
+-- the reply that it holds means `heard` to the core.
 pub record Exchanges (core : Core) (asked : VersionedRequest) (exchange : Exchange) (heard : Heard) (after : Core) : Type 0 where
   pub number_left : next_number core ≢ 2 ^ 63
   pub sent_is : exchange.sent ≡ next_frame core asked.version asked.request
@@ -49,7 +49,7 @@ pub record GoodLine (core : Core) (line : List ℕ) (exchange : Exchange) (after
   pub taken : IsTaken heard
   pub exchanges : Exchanges core asked exchange heard after
 
--- a bad line asks for nothing, sends nothing and leaves the core as it was
+-- a bad line has no request, sends nothing and leaves the core unchanged
 pub record BadLine (core : Core) (line : List ℕ) (after : Core) : Type 0 where
   pub asks : request_value line ≡ None
   pub same : after ≡ core
@@ -59,20 +59,20 @@ abbrev pub LineSent : Core → List ℕ → Option Exchange → Core → Type 0
 LineSent core line None after = BadLine core line after
 LineSent core line (Some exchange) after = GoodLine core line exchange after
 
--- lines, one after the other, each from the core that the one before left
+-- lines, one after another, each from the core after the one before
 abbrev pub LinesSent : Core → List (List ℕ) → List (Option Exchange) → Core → Type 0
 LinesSent core [] [] after = after ≡ core
 LinesSent core [] (exchange ∷ exchanges) after = ⊥
 LinesSent core (line ∷ lines) [] after = ⊥
 LinesSent core (line ∷ lines) (exchange ∷ exchanges) after = (middle : Core) × LineSent core line exchange middle × LinesSent middle lines exchanges after
 
--- a line that asks for nothing
+-- a line without a request
 abbrev pub is_bad : List ℕ → Bool
 is_bad line = is_none (request_value line)
 
 -- ---- what goes over the streams for a line
 
--- its request's frame
+-- the frame of its request
 abbrev pub sent_bytes : Option Exchange → List ℕ
 sent_bytes None = []
 sent_bytes (Some exchange) = frame_bytes exchange.sent

@@ -1,20 +1,20 @@
--- What the faults of the parts are to sending, and what the program calls them (this project's own).
+-- The faults of sending, from the faults of its parts, and their names (this project's own rule).
 use Rattle.std.specs.Prelude.{ℕ, List, codes}
 use Rattle.droid_frame.specs.declared.stream.fault.FrameFault.{FrameFault}
 use Rattle.droid_frame.specs.declared.stream.fault.FrameFault.TheVariants as frames
-use Rattle.droid_wire_client.specs.declared.fault.SubmitFault.{SubmitFault}
-use Rattle.droid_wire_client.specs.declared.fault.SubmitFault.TheVariants as submits
-use Rattle.droid_wire_client.specs.declared.fault.HearFault.{HearFault}
-use Rattle.droid_wire_client.specs.declared.fault.HearFault.TheVariants as hears
-use Rattle.droid_lines_send.specs.declared.fault.SendFault.{SendFault}
-use Rattle.droid_lines_send.specs.declared.fault.SendFault.TheVariants.{Lines, Memory, NumbersUsedUp, Frames, Closed, Replies, Malformed, Stranger, Repeated, Text}
+use Rattle.droid_wire_client.specs.declared.client_fault.SubmitFault.{SubmitFault}
+use Rattle.droid_wire_client.specs.declared.client_fault.SubmitFault.TheVariants as submits
+use Rattle.droid_wire_client.specs.declared.client_fault.HearFault.{HearFault}
+use Rattle.droid_wire_client.specs.declared.client_fault.HearFault.TheVariants as hears
+use Rattle.droid_lines_send.specs.declared.send_fault.SendFault.{SendFault}
+use Rattle.droid_lines_send.specs.declared.send_fault.SendFault.TheVariants.{Lines, Memory, NumbersUsedUp, Frames, Closed, Replies, Malformed, Stranger, Repeated, Text}
 
--- a request that is not submitted
+-- a request could not be submitted
 abbrev pub submit_fault : SubmitFault → SendFault
 submit_fault submits.NumbersUsedUp = NumbersUsedUp
 submit_fault submits.Memory = Memory
 
--- a reply that is not heard
+-- a reply was not taken
 abbrev pub hear_fault : HearFault → SendFault
 hear_fault hears.Malformed = Malformed
 hear_fault hears.Memory = Memory

@@ -1,4 +1,4 @@
--- Sending the lines of a script, one after the other (this project's own).
+-- Sending the lines of a script, one after another (this project's own rule).
 use Rattle.std.specs.Prelude.{◌≡◌, ℕ, ◌⊎◌, List, ◌∷◌, ◌++◌, Option, IfSome}
 use Rattle.std.specs.Io.KnownBytes.{Appends, Consumes}
 use Rattle.std.specs.List.{flat_map}
@@ -6,13 +6,13 @@ use Rattle.droid_wire_client.specs.Cores.{Core}
 use Rattle.droid_lines.specs.Lines.{lines_of}
 use Rattle.droid_lines.specs.Tallies.{Counts}
 use Rattle.droid_lines.specs.declared.tally.Tally.{Tally}
-use Rattle.droid_lines_send.specs.declared.fault.SendFault.{SendFault}
-use Rattle.droid_lines_send.specs.declared.fault.SendFault.TheVariants.{Lines, Memory}
+use Rattle.droid_lines_send.specs.declared.send_fault.SendFault.{SendFault}
+use Rattle.droid_lines_send.specs.declared.send_fault.SendFault.TheVariants.{Lines, Memory}
 use Rattle.droid_lines_send.specs.Exchanges.{Exchange, LinesSent, came_bytes, is_bad, printed, sent_bytes}
 use Rattle.droid_lines_send.specs.Stopping.{LineStops, Undone}
 
--- These lines were sent, one after the other: the frames of their requests were written, the frames of their replies
--- were read, and what each line prints was written.
+-- These lines were sent, one after another: the frames of their requests were written, the frames of their replies were
+-- read, and what each line prints was written.
 pub record Sends (core : Core) (lines : List (List ℕ)) (input left old_frames new_frames old_text new_text : Option (List ℕ)) (after : Core) : Type 0 where
   pub exchanges : List (Option Exchange)
   pub sent : LinesSent core lines exchanges after
@@ -40,14 +40,13 @@ pub record StopsAtFirst (fault : SendFault) (core : Core) (others : List (List �
   pub first : others ≡ line ∷ more
   pub stops : LineStops fault core line input left old_frames new_frames old_text new_text after
 
--- it came at the first of the lines that were left, or no further line could be read
+-- the fault came at the first of the lines that were left, or the next line could not be read
 abbrev pub Stops : SendFault → Core → List (List ℕ) → Option (List ℕ) → Option (List ℕ) → Option (List ℕ) → Option (List ℕ) → Option (List ℕ) → Option (List ℕ) → Core → Type 0
 Stops fault core others input left old_frames new_frames old_text new_text after =
     StopsAtFirst fault core others input left old_frames new_frames old_text new_text after
     ⊎ (IsOfReading fault × Undone core input left old_frames new_frames old_text new_text after)
 
--- The first lines of the script, where it is known, were sent, which left the core and the streams so; and then a
--- fault came.
+-- The first lines of the script, where it is known, were sent, and then a fault came.
 pub record SendsFront (fault : SendFault) (core : Core) (script input left old_frames new_frames old_text new_text : Option (List ℕ)) (after : Core) : Type 0 where
   pub front : List (List ℕ)
   pub others : List (List ℕ)

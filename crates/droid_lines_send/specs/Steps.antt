@@ -1,4 +1,4 @@
--- What the parts of sending one line give. No public clause names these: they only serve proofs.
+-- For proofs alone: the outcomes of the parts of sending one line.
 use Rattle.std.specs.Prelude.{◌≡◌, ◌≢◌, ℕ, ◌^◌, ◌⊎◌, List, [], Option, Some, IfSome, Result, Ok, Err, Bool}
 use Rattle.std.specs.Io.KnownBytes.{Appends, Consumes, IsAtEnd, Keeps}
 use Rattle.droid_frame.specs.Frames.{frame_bytes}
@@ -6,13 +6,13 @@ use Rattle.droid_frame.specs.Replies.{SpellsReply}
 use Rattle.droid_frame.specs.StreamReads.{ReadsNoFrame, Tells}
 use Rattle.droid_frame.specs.types.frame.Frame.{Frame}
 use Rattle.droid_frame.specs.types.reply.Reply.{Reply}
-use Rattle.droid_lines.specs.declared.parse.VersionedRequest.{VersionedRequest}
+use Rattle.droid_lines.specs.declared.parser.VersionedRequest.{VersionedRequest}
 use Rattle.droid_wire_client.specs.Cores.{Core, core_submitting, next_frame, next_number}
 use Rattle.droid_wire_client.specs.declared.heard.Heard.{Heard}
 use Rattle.droid_wire_client.specs.declared.heard.Heard.TheVariants as heard
 use Rattle.droid_lines.specs.Printed.{answer_line}
-use Rattle.droid_lines_send.specs.declared.fault.SendFault.{SendFault}
-use Rattle.droid_lines_send.specs.declared.fault.SendFault.TheVariants.{Memory, NumbersUsedUp, Frames, Closed, Replies, Malformed, Stranger, Repeated}
+use Rattle.droid_lines_send.specs.declared.send_fault.SendFault.{SendFault}
+use Rattle.droid_lines_send.specs.declared.send_fault.SendFault.TheVariants.{Memory, NumbersUsedUp, Frames, Closed, Replies, Malformed, Stranger, Repeated}
 use Rattle.droid_lines_send.specs.Exchanges.{Exchange, Hears, IsTaken, LineSent, came_bytes, is_bad, printed, sent_bytes}
 use Rattle.droid_lines_send.specs.Stopping.{ReadsOne, WritesFront}
 
@@ -33,7 +33,7 @@ ReplyComes input left (Err Closed) = IsAtEnd input × Consumes input left []
 ReplyComes input left (Err (Replies fault)) = IfSome input (Tells fault) × ReadsNoFrame input left
 ReplyComes input left (Err _) = ⊥
 
--- the core takes a reply, and this is what it prints
+-- the core takes a reply, which prints `text`
 pub record Takes (core : Core) (frame : Frame) (after : Core) (text : List ℕ) : Type 0 where
   pub reply : Reply
   pub heard : Heard
@@ -41,7 +41,7 @@ pub record Takes (core : Core) (frame : Frame) (after : Core) (text : List ℕ) 
   pub hears : Hears core frame reply heard after
   pub prints : text ≡ answer_line (Some reply)
 
--- it takes none
+-- the core takes no reply
 abbrev pub TakesNone : SendFault → Core → Frame → Core → Type 0
 TakesNone Malformed core frame after = (after ≡ core) × ((reply : Reply) → ¬ SpellsReply frame.version frame.kind frame.body reply)
 TakesNone Memory core frame after = ((after ≡ core) × (frame.kind ≡ 132)) ⊎ ((text : List ℕ) × Takes core frame after text)

@@ -1,4 +1,4 @@
-//! A request's frame is sent, and the frame of its reply read.
+//! One exchange: the frame of a request is sent, and the frame of its reply is read.
 
 ghost use Rattle.std.specs.Prelude.{◌≡◌, ◌≤◌, ◌^◌, None, OnOk, OnErr, IsErr, IsErrOf};
 ghost use Rattle.std.specs.Io.KnownBytes.{Appends};
@@ -6,11 +6,11 @@ ghost use Rattle.droid_frame.specs.Seen.{IsSound, ReportsFault};
 ghost use Rattle.droid_frame.specs.Bodies.{Fits};
 ghost use Rattle.droid_frame.specs.Frames.{frame_bytes};
 ghost use Rattle.droid_wire_client.specs.Cores.{Core, core_submitting, next_frame, next_number};
-ghost use Rattle.droid_lines.specs.declared.parse.VersionedRequest.{VersionedRequest};
+ghost use Rattle.droid_lines.specs.declared.parser.VersionedRequest.{VersionedRequest};
 ghost use Rattle.droid_lines_send.specs.Steps.{ReplyComes, RequestGoes};
 ghost use Rattle.droid_lines_send.specs.Stopping.{WritesFront};
 
-use crate::fault::SendFault;
+use crate::send_fault::SendFault;
 use droid_frame::{
     Arrival, Frame, FrameFault, SteadyRead, SteadyWrite, WriteFault, read_frame, write_frame,
 };
@@ -18,7 +18,7 @@ use droid_lines::VersionedRequest;
 use droid_wire_client::Client;
 use std::alloc::Global;
 
-/// Submits a request in its version, and sends its frame.
+/// Submits a request in its version, and writes its frame.
 pub(crate) fn send_request<F: SteadyWrite>(
     client: &mut Client,
     asked: VersionedRequest,
@@ -36,7 +36,7 @@ pub(crate) fn send_request<F: SteadyWrite>(
     }
 }
 
-/// Writes the frame of the request that was submitted last.
+/// Writes the frame of the request submitted last.
 fn write_newest<F: SteadyWrite>(client: &Client, frames: &mut F) -> Result<(), WriteFault>
     requires { (core : Core) × (asked : VersionedRequest) × Fits asked.version asked.request × (client.now ≡ core_submitting core asked.version asked.request) }
     ensures ok { (core : Core) (asked : VersionedRequest) → client.now ≡ core_submitting core asked.version asked.request →

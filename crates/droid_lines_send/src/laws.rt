@@ -1,10 +1,9 @@
-//! Laws of sending: each stands on a function that does nothing, and is proved with it.
+//! Laws of sending. Each law is the contract of a function that does nothing.
 
 ghost use Rattle.droid_lines_send.specs.Numbering.{FramesAreNumbered};
 
-/// The frames that [`send`](crate::send) writes are those of the good lines' requests, in their order, from the
-/// client that was given and under numbers that follow one another from its next number on. Bad lines take no
-/// number.
+/// [`send`](crate::send) writes the frames of the good lines' requests, in order, from the given client, with
+/// consecutive numbers from the client's next number on. Bad lines take no number.
 pub fn frames_are_numbered()
     ensures { FramesAreNumbered }
 {}

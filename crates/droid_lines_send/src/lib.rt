@@ -1,13 +1,12 @@
-//! The client's end of a stream: requests come as lines of text, their frames are sent, and the replies that
-//! come back are printed.
+//! A client that sends the requests of lines of text to a service and prints the replies.
 #![tactic(auto)]
 
 mod exchange;
-mod fault;
 pub mod laws;
 mod line_reader;
-mod printing;
-mod sending;
+mod reply_text;
+mod send_fault;
+mod sender;
 
-pub use fault::{SendFault, frame_fault_name};
-pub use sending::send;
+pub use send_fault::{SendFault, frame_fault_name};
+pub use sender::send;

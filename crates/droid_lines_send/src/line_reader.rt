@@ -1,4 +1,4 @@
-//! Reading lines one at a time.
+//! A reader of lines, one at a time.
 
 ghost use Rattle.std.specs.Prelude.{◌≡◌, ◌<◌, ◌≤◌, ◌-◌, ℕ, List, [], IfOk, IfErr, IfSome, IsErrOf, OnOk, OnErr, MatchBool, length, take, drop};
 ghost use Rattle.std.specs.Io.KnownBytes.{Consumes, IsAtEnd, Keeps, prepend_known};
@@ -7,22 +7,22 @@ ghost use Rattle.droid_frame.specs.Seen.{Counts, CountsOn};
 ghost use Rattle.droid_lines_send.specs.Reading.{CountsUnless, GivesLine, Moves, where_some};
 ghost use Rattle.droid_lines_send.specs.Sending.{IsOfReading};
 
-use crate::fault::SendFault;
+use crate::send_fault::SendFault;
 use droid_frame::{ReadFault, Retries, SteadyRead, read_some};
 use droid_lines::line_end;
 use std::alloc::{AllocError, Global};
 use std::marker::Model;
 
-/// How many bytes are read at a time.
+/// The most bytes that one read asks for.
 const CHUNK: usize = 8_192;
 
-/// What was read of some lines and not given out yet. Contracts see these bytes.
+/// The bytes that were read but not returned as lines yet. Contracts see these bytes.
 #[derive(Drop)]
 pub(crate) struct LineReader {
     chunk: [u8; CHUNK],
-    // They stand from here
+    // The bytes start here,
     from: usize,
-    // up to here.
+    // and end before this index.
     to: usize,
 }
 
@@ -35,7 +35,7 @@ impl Model for LineReader {
 }
 
 impl LineReader {
-    /// Nothing yet.
+    /// Starts with no bytes.
     pub(crate) fn new() -> LineReader
         ensures { result ≡ [] }
     {
@@ -46,8 +46,8 @@ impl LineReader {
         }
     }
 
-    /// The next line, without its line feed, or `None` where no line is left. The last line may have no line
-    /// feed. An interrupted read is tried again, 64 times over all lines that are read with this count.
+    /// Returns the next line without its line feed, or `None` if no line is left. The last line may have no line feed.
+    /// An interrupted read is tried again, up to 64 times over all lines read with these `retries`.
     pub(crate) fn next_line<L: SteadyRead>(
         &mut self,
         alloc: Global,
@@ -57,7 +57,7 @@ impl LineReader {
         ensures line { IfOk result (λ line. IfSome (prepend_known self.old (L.remaining reader.old)) (λ script.
             GivesLine script (prepend_known self.new (L.remaining reader.new)) (option_map (λ line. line.items) line))) }
         ensures faults { IfErr result IsOfReading }
-        // `Lines` comes exactly where the reader failed or was interrupted for the 65th time since the count began.
+        // `Lines` is returned exactly if the reader failed or was interrupted for the 65th time since the count began.
         ensures counts { (start : ℕ) → Counts start (L.seen reader.old) retries.old →
             CountsUnless start (L.seen reader.new) retries.new (IsErrOf result SendFault.Lines) }
     {
@@ -70,8 +70,8 @@ impl LineReader {
         Ok(Some(line))
     }
 
-    /// Moves the bytes before the first line feed to the end of the line, and drops the line feed; all bytes, where
-    /// there is none. The answer is whether there was one.
+    /// Moves the bytes before the first line feed to the end of the line, and drops the line feed. Without a line feed,
+    /// moves all bytes. Returns whether there was one.
     fn move_line(&mut self, line: &mut Vec<u8>) -> Result<bool, AllocError>
         ensures { IfOk result (λ fed. Moves fed self.old self.new line.old.items line.new.items) }
     {
@@ -90,7 +90,7 @@ impl LineReader {
         }
     }
 
-    /// Reads some more bytes, where there are none. The answer is whether any came.
+    /// Reads more bytes after all others were returned. Returns whether any came.
     fn refill<L: SteadyRead>(
         &mut self,
         reader: &mut L,
@@ -108,7 +108,7 @@ impl LineReader {
     }
 }
 
-/// What stands after the last line feed, which is no line where it is empty.
+/// Returns the text after the last line feed as a line, or `None` if it is empty.
 fn last_line(line: Vec<u8>) -> Option<Vec<u8>>
     ensures { option_map (λ line. line.items) result ≡ where_some line.items }
 {

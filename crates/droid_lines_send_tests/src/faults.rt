@@ -1,4 +1,4 @@
-//! What the faults of a sending say: their names, which the program prints.
+//! The names of the faults of sending, as the program prints them.
 
 use droid_frame::FrameFault;
 use droid_lines_send::SendFault;
@@ -28,7 +28,7 @@ fn names(rt: HostRuntime) -> Result<(), Fail> {
     each_says(&rt, rt.alloc(), &NAMES)
 }
 
-/// Whether the fault is printed so.
+/// Returns whether the fault is displayed like this.
 fn says(alloc: Global, fault: &SendFault, text: &str) -> Result<bool, Fail> {
     Ok(format!(in alloc; "{fault}")?.as_str() == text)
 }

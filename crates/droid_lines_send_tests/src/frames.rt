@@ -20,7 +20,7 @@ pub const NODE: &[u8] =
 pub const REFUSED: &[u8] =
     b"\x01\x88\x00\x00\x00\x07\x00\x00\x00\x00\x00\x00\x00\x01\x00\x00\x00\x01\x0a";
 
-/// In version 2 a profile with SHA-256, its reply, and the end of a file.
+/// In version 2 a request for a profile with SHA-256, its reply, and a request to finish a file.
 pub const CREATE_2: &[u8] =
     b"\x02\x01\x00\x00\x00\x07\x00\x00\x00\x00\x00\x00\x00\x01\x00\x00\x00\x06\x00\x01\x00\x00\x00\x02";
 
@@ -30,11 +30,11 @@ pub const MADE_2: &[u8] =
 pub const FINISH_2: &[u8] =
     b"\x02\x05\x00\x00\x00\x07\x00\x00\x00\x00\x00\x00\x00\x02\x00\x00\x00\x08\x00\x00\x00\x01\x00\x00\x00\x01";
 
-/// The end of an empty file, without a hash.
+/// The reply about a finished empty file, without a hash.
 pub const FINISHED_2: &[u8] =
     b"\x02\x84\x00\x00\x00\x07\x00\x00\x00\x00\x00\x00\x00\x02\x00\x00\x00\x0b\x02\x00\x00\x00\x01\x05dev/4";
 
-/// The parts, one after the other.
+/// Joins the parts.
 pub fn joined(alloc: Global, parts: &[&[u8]]) -> Result<Vec<u8>, AllocError> {
     let mut bytes = Vec::new(alloc);
     for part in parts {

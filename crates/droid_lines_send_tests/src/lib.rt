@@ -1,7 +1,8 @@
-//! Tests of sending, over streams in memory. (What the built program does with a service's replies stands in
-//! tests/program/wire.)
+//! Tests of sending, over streams in memory. Tests of the built program with a service are in tests/program/wire.
 #![tactic(auto)]
 
+#[cfg(test)]
+mod broken_session;
 #[cfg(test)]
 mod faults;
 #[cfg(test)]
@@ -9,8 +10,8 @@ mod frames;
 #[cfg(test)]
 mod memory;
 #[cfg(test)]
+mod page;
+#[cfg(test)]
 mod scripts;
 #[cfg(test)]
-mod sending;
-#[cfg(test)]
-mod stopping;
+mod session;

@@ -1,6 +1,6 @@
-// The test passes too where any one allocation is refused: tests/memory refuses each in turn.
-//! Want of memory: sending says so, and what was written before is a front of what a whole sending writes; the same
-//! sending again gives the whole.
+// The test also passes if any one allocation is refused: tests/memory refuses each in turn.
+//! Out of memory: sending reports it, and what was written before is the first part of what it writes in full. Sending
+//! again writes it in full.
 
 use crate::frames::{CREATE, MADE, joined};
 use droid_frame::FrameFault;
@@ -12,7 +12,7 @@ use std::test::Fail;
 
 const LINES: &[u8] = b"create 65536 0\nstatus\nfinish 1 1\nexport 1 0 4 all ext=txt\n";
 
-/// What each line writes as a frame, which is nothing for a bad one, and what it prints.
+/// The frame of each line, which is empty for a bad one, and what the line prints.
 const REQUESTS: [&[u8]; 4] = [CREATE, b"", FINISH, EXPORT];
 
 const PRINTED: [&[u8]; 4] = [
@@ -34,7 +34,7 @@ const EXPORT: &[u8] =
 const PART: &[u8] =
     b"\x01\x87\x00\x00\x00\x07\x00\x00\x00\x00\x00\x00\x00\x03\x00\x00\x00\x14\x00\x00\x00\x00\x00\x00\x00\x02\x00\x00\x00\x00\x00\x00\x01\x28\"ID\"";
 
-/// How sending the lines ended, with how many bytes it wrote as frames and printed.
+/// How sending the lines ended, and how many bytes of frames and of text it wrote.
 #[derive(Drop)]
 struct Outcome {
     ended: Result<Tally, SendFault>,
@@ -52,7 +52,7 @@ impl Outcome {
     }
 }
 
-/// Sends the lines by client 7 from number 1 on, into these buffers, so that writing takes no memory.
+/// Sends the lines as client 7 from number 1 on, into these buffers, so that writing allocates nothing.
 fn sent(alloc: Global, replies: &[u8], frames: &mut [u8], text: &mut [u8]) -> Outcome {
     let mut client = Client::new(alloc, 7, 1);
     let (mut lines, mut input) = (LINES, replies);
@@ -73,13 +73,13 @@ fn sent(alloc: Global, replies: &[u8], frames: &mut [u8], text: &mut [u8]) -> Ou
     }
 }
 
-/// Whether memory was refused: for a line, its request, what it prints or the list of a reply; or for the body of a
+/// Returns whether memory ran out: for a line, its request, what it prints or the list of a reply; or for the body of a
 /// reply's frame.
 fn is_of_memory(fault: SendFault) -> bool {
     fault == SendFault::Memory || fault == SendFault::Replies(FrameFault::Memory)
 }
 
-/// Whether these bytes are these parts, one after the other.
+/// Returns whether these bytes are these parts, one after another.
 fn are_joined(bytes: &[u8], parts: &[&[u8]]) -> bool {
     let mut rest = bytes;
     for part in parts {
@@ -91,7 +91,7 @@ fn are_joined(bytes: &[u8], parts: &[&[u8]]) -> bool {
     rest.is_empty()
 }
 
-/// Whether the first so many lines were sent, and of the next at most its frame.
+/// Returns whether the first `count` lines were sent, and of the next at most its frame.
 fn is_front(done: usize, frames: &[u8], text: &[u8]) -> bool {
     let (done, more) = (done.min(4), done.saturating_add(1).min(4));
     are_joined(text, &PRINTED[..done])

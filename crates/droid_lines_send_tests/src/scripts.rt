@@ -1,16 +1,16 @@
-//! Scripts, the frames of replies, and what comes of them.
+//! Scripts, the frames of the replies, and the outcome of sending.
 
 use crate::frames::{
     CREATE, CREATE_2, FINISH_2, FINISHED_2, FOLDER, MADE, MADE_2, NODE, REFUSED, joined,
 };
-use crate::sending::{LINES, Outcome, Streams, sent, steady};
+use crate::session::{LINES, Outcome, Streams, sent, steady};
 use droid_frame_shaky::{STEADY, ShakyReader, Stop};
 use droid_lines::Tally;
 use droid_lines_send::SendFault;
 use std::alloc::Global;
 use std::test::Fail;
 
-/// Sends these lines, where these frames come back.
+/// Sends these lines, to which these frames come back.
 fn sent_lines(alloc: Global, lines: &[u8], parts: &[&[u8]]) -> Result<Outcome, Fail> {
     let replies = joined(alloc, parts)?;
     let streams = Streams {

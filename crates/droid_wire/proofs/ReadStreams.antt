@@ -12,7 +12,7 @@ use Rattle.droid_core.specs.declared.service.Service.{Service}
 use Rattle.droid_core.specs.Histories.{History}
 use Rattle.droid_core.specs.Setting.{Setting}
 use Rattle.droid_wire.specs.declared.ended.Ended.TheVariants.{Closed, Turns}
-use Rattle.droid_wire.specs.declared.fault.ServeFault.TheVariants as faults
+use Rattle.droid_wire.specs.declared.serve_fault.ServeFault.TheVariants as faults
 use Rattle.droid_wire.specs.Serving.{Handled}
 use Rattle.droid_wire.specs.WhatWasRead.{ReadFramesAreAnswered}
 

@@ -1,18 +1,24 @@
 -- One turn of serving a stream.
-use Rattle.std.proofs.Common.{◌≡◌, ℕ, ◌+◌, ◌-◌, List, length, take, Option, Some, None, Ok, Err, IfSome, refl, subst, arith}
+use Rattle.std.proofs.Common.{◌≡◌, ℕ, ◌+◌, ◌-◌, List, length, take, [], Option, Some, None, Ok, Err, IfSome, refl, subst, arith, inl, inr}
+use Rattle.std.specs.Prelude.{◌⊎◌}
 use Rattle.std.specs.Io.KnownBytes.{Appends, Consumes}
 use Rattle.droid_frame.specs.Frames.{frame_bytes}
 use Rattle.droid_frame.specs.Replies.{HasReplySpelling, reply_bytes}
 use Rattle.droid_frame.specs.ReplyFrames.{reply_frame}
+use Rattle.droid_frame.specs.Seen.{GivesUp, Lasts, ReportsFault}
+use Rattle.droid_frame.specs.StreamReads.{ReadsNoFrame}
 use Rattle.droid_frame.specs.StreamWrites.{Stops}
 use Rattle.droid_frame.specs.Streams.{IsReadable}
 use Rattle.droid_frame.specs.types.frame.Frame.{Frame}
 use Rattle.droid_frame.specs.types.reply.Reply.{Reply}
+use Rattle.droid_frame.specs.Writes.{LacksRoom, ReportsWrite}
+use Rattle.droid_frame.specs.stream_types.seen.Seen.{Seen}
+use Rattle.droid_frame.proofs.StreamFrames.{no_frame_in_short}
 use Rattle.droid_core.specs.Standing.{StandsFor}
 use Rattle.droid_core.specs.declared.service.Service.{Service}
 use Rattle.droid_core.specs.Histories.{History, Handles}
 use Rattle.droid_core.specs.Setting.{Setting}
-use Rattle.droid_wire.specs.declared.fault.ServeFault.TheVariants as faults
+use Rattle.droid_wire.specs.declared.serve_fault.ServeFault.TheVariants as faults
 use Rattle.droid_wire.specs.Steps.{Turn, TurnGives}
 
 turn_is : (setting : Setting) (history : History) (input : List ℕ) (left : Option (List ℕ)) (after : Service) (frame : Frame) (reply : Reply)
@@ -56,3 +62,18 @@ gives_cut setting history (Some input) left old new before after count size fram
         written = subst (λ (n : ℕ). Appends old new (take n (reply_frame frame.version frame.client frame.number reply))) here stops.front;
       },
     )
+
+-- where the input ended, nothing was read
+pub reads_nothing : (old new : Option (List ℕ)) → Consumes old new [] → ReadsNoFrame old new
+reads_nothing old new consumed = record { bytes = []; consumed = consumed; no_frame = no_frame_in_short [] (omega arith); within = inl (omega arith) }
+
+-- ---- a writer with no end of room
+
+no_room_lacks : (start : ℕ) (seen : Seen) (size : ℕ) → GivesUp start seen ⊎ (Lasts start seen × LacksRoom None size) → GivesUp start seen
+no_room_lacks start seen size (inl up) = up
+no_room_lacks start seen size (inr full) = absurd full.1
+
+-- its fault is that it is given up
+pub endless_write : (start : ℕ) (seen : Seen) (room : Option ℕ) (size : ℕ) (P Q : Type 0) → room ≡ None → ReportsWrite start seen room size P → P → Q → ReportsFault start seen Q
+endless_write start seen None size P Q endless reported p q = record { fault = λ _. no_room_lacks start seen size (reported.fault p); otherwise = λ not. absurd (not q) }
+endless_write start seen (Some room) size P Q endless reported p q = absurd cc

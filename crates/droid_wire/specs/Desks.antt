@@ -1,4 +1,4 @@
--- What a service is to a schedule, and what may come of a request there (this project's own).
+-- A service as a schedule sees it, and the outcomes of a request there (this project's own rule).
 use Rattle.std.specs.Prelude.{◌≡◌, ◌≢◌, ℕ, nat_lt, Bool, true, false, List, [], ◌∷◌, ◌++◌, Some, None, is_some}
 use Rattle.droid_frame.specs.types.frame.Frame.{Frame}
 use Rattle.droid_frame.specs.types.refusal.Refusal.{Refusal}
@@ -13,7 +13,7 @@ pub use Rattle.droid_core.specs.Verdicts.{is_refused}
 abbrev pub is_command : Frame → Bool
 is_command frame = nat_lt frame.kind 7
 
--- a service: which frames spell a request, a request's mark, what it is answered, and the history after it
+-- a service: which frames spell a request, the mark of a request, its answer, and the history after it
 pub record Desk : Type 0 where
   pub is_spelled : Frame → Bool
   pub mark : Frame → List ℕ
@@ -32,9 +32,9 @@ pub record IsAccepted (desk : Desk) (entry : Entry) : Type 0 where
   pub marked : entry.mark ≡ desk.mark entry.frame
   pub accepted : is_refused entry.reply ≡ false
 
--- what may come of a request
+-- the outcomes of a request
 pub data Answering (desk : Desk) (history : History) (frame : Frame) : Type 0 where
-  -- it is kept, and is answered again
+  -- it is kept, and gets the kept reply
   Again : (entry : Entry) → kept history frame.client frame.number ≡ Some entry → desk.answer history frame ≡ entry.reply
       → desk.next history frame ≡ history → Answering desk history frame
   -- it is a command under a new number, and is accepted
@@ -43,7 +43,7 @@ pub data Answering (desk : Desk) (history : History) (frame : Frame) : Type 0 wh
   -- it is refused, and not for a number used again
   Refuses : (refusal : Refusal) → refusal ≢ NumberReused → desk.answer history frame ≡ Refused refusal
       → desk.next history frame ≡ history → Answering desk history frame
-  -- it is a query, and is told
+  -- it is a query, and is answered
   Tells : is_command frame ≡ false → is_refused (desk.answer history frame) ≡ false
       → desk.next history frame ≡ history → Answering desk history frame
 
@@ -51,6 +51,6 @@ pub data Answering (desk : Desk) (history : History) (frame : Frame) : Type 0 wh
 abbrev pub IsItsOwn : Desk → History → Frame → Type 0
 IsItsOwn desk history frame = (entry : Entry) → kept history frame.client frame.number ≡ Some entry → IsAccepted desk entry × (entry.frame ≡ frame)
 
--- each request whose number is new, or is kept with this very request, comes to one of these
+-- each request whose number is new, or is kept with this very request, has one of these outcomes
 pub record IsDesk (desk : Desk) : Type 0 where
   pub comes : (history : History) (frame : Frame) → IsItsOwn desk history frame → Answering desk history frame

@@ -1,4 +1,4 @@
--- What a client keeps, and its steps.
+-- A client's core: what it keeps, and its steps.
 pub use Rattle.droid_wire_client.specs.Cores
 pub mod Desks
 pub mod Schedules

@@ -1,4 +1,4 @@
--- Schedules of deliveries: what may happen between clients' cores and a service (this project's own).
+-- Schedules of deliveries: what may happen between clients' cores and a service (this project's own rule).
 use Rattle.std.specs.Prelude.{◌≡◌, ◌≢◌, ℕ, ◌^◌, ◌≤◌, nat_lt, if◌then◌else◌, true, false, List, [], ◌∷◌, ◌++◌, map, slice_set, Contains, count_by, Option, Some, None}
 use Rattle.std.specs.List.{slice_get}
 use Rattle.droid_frame.specs.types.frame.Frame.{Frame}
@@ -18,7 +18,7 @@ pub record Sent : Type 0 where
   pub number : ℕ
   pub reply : Reply
 
--- what there is at a moment
+-- the state at one moment
 pub record Moment : Type 0 where
   pub history : History
   pub cores : List Core
@@ -26,7 +26,7 @@ pub record Moment : Type 0 where
   pub frames : List Frame
   pub replies : List Sent
 
--- what the service was wanting, and refused a request for
+-- what the service was out of, and refused a request for
 pub data Want : Type 0 where
   OfMemory : Want
   OfStore : Want
@@ -37,11 +37,11 @@ pub data Event : Type 0 where
   Submits : (core version : ℕ) (request : Request) → Event
   -- a frame that was submitted arrives at the service, which answers it
   Arrives : (frame : ℕ) → Event
-  -- the same, and the service is wanting
+  -- the same, and the service refuses it for lack of storage or memory
   FailsForMemory : (frame : ℕ) (failure : Want) → Event
-  -- a reply that was sent arrives at a core, which hears it
+  -- a reply that was sent arrives at a core, which takes it
   Replies : (core : ℕ) (reply : ℕ) → Event
-  -- the same, and the core refuses it for want of memory
+  -- the same, and the core is out of memory for it
   Drops : (core : ℕ) (reply : ℕ) → Event
 
 -- new cores of these clients, each with its first number, and nothing sent
@@ -79,7 +79,7 @@ abbrev pub refusal_for : Want → Refusal
 refusal_for OfMemory = Memory
 refusal_for OfStore = Store
 
--- a request that isn't spelled is never answered so
+-- a request that isn't spelled never gets this reply
 abbrev pub wanted : Desk → Moment → Want → Option Frame → Moment
 wanted desk moment failure None = moment
 wanted desk moment failure (Some frame) =
@@ -110,12 +110,12 @@ happens desk moment (FailsForMemory frame failure) = wanted desk moment failure 
 happens desk moment (Replies core reply) = replied moment core (slice_get moment.cores core) (slice_get moment.replies reply)
 happens desk moment (Drops core reply) = moment
 
--- what a whole schedule leaves
+-- the state after a whole schedule
 abbrev pub run : Desk → List Event → Moment → Moment
 run desk [] moment = moment
 run desk (event ∷ events) moment = run desk events (happens desk moment event)
 
--- ---- what is said of them
+-- ---- properties of a state
 
 -- frames of one client under one number are equal
 abbrev pub AreOnes : List Frame → Type 0
@@ -129,7 +129,7 @@ pub record IsOnlyEntry (history : History) (frame : Frame) (reply : Reply) : Typ
   pub is_request : entry.frame ≡ frame
   pub is_reply : entry.reply ≡ reply
 
--- at some event this very request arrived, and this is what the service answered
+-- at some event this very request arrived, and the service answered this
 pub record WasAnswer (desk : Desk) (from : Moment) (events : List Event) (frame : Frame) (reply : Reply) : Type 0 where
   pub before : List Event
   pub which : ℕ
@@ -138,8 +138,8 @@ pub record WasAnswer (desk : Desk) (from : Moment) (events : List Event) (frame 
   pub arriving : slice_get (run desk before from).frames which ≡ Some frame
   pub is_reply : reply ≡ desk.answer (run desk before from).history frame
 
--- what a held answer is: the request was submitted; a command's is its one entry's reply, and a query's is
--- what the service answered it at some event
+-- a held answer: its request was submitted; for a command it is the reply in the one entry, for a query what the
+-- service answered to it at some event
 pub record IsHeld (desk : Desk) (from : Moment) (events : List Event) (core : Core) (number : ℕ) (reply : Reply) : Type 0 where
   pub frame : Frame
   pub submitted : Contains (run desk events from).frames frame
@@ -157,7 +157,7 @@ AreHeld desk from events = (which number : ℕ) (core : Core) (reply : Reply) �
 abbrev pub AreOnce : Moment → Type 0
 AreOnce moment = (frame : Frame) → Contains moment.frames frame → count_by (is_under frame.client frame.number) moment.history ≤ 1
 
--- no reply says that a number was used again
+-- no reply refuses a request because its number was used for another
 abbrev pub NoneReused : Moment → Type 0
 NoneReused moment = (sent : Sent) → Contains moment.replies sent → sent.reply ≢ Refused NumberReused
 
@@ -165,10 +165,10 @@ abbrev pub core_answer : Option Core → ℕ → Option Reply
 core_answer None number = None
 core_answer (Some core) number = answer_of core number
 
--- the answer that this core holds to this number
+-- the answer that this core holds for this number
 abbrev pub answer_at : Moment → ℕ → ℕ → Option Reply
 answer_at moment which number = core_answer (slice_get moment.cores which) number
 
--- no two cores are of one client
+-- no two cores belong to one client
 abbrev pub AreApart : List (ℕ × ℕ) → Type 0
 AreApart clients = (which other : ℕ) (one two : ℕ × ℕ) → slice_get clients which ≡ Some one → slice_get clients other ≡ Some two → one.0 ≡ two.0 → which ≡ other

@@ -1,4 +1,4 @@
--- What serving a stream gives: which of its frames were handled, and what was written (this project's own).
+-- The outcome of serving a stream: which of its frames were handled, and what was written (this project's own rule).
 use Rattle.std.specs.Prelude.{◌≡◌, ℕ, ◌<◌, ◌≤◌, List, [], ◌∷◌, ◌++◌, length, take, Option, Some, Result, Ok, Err}
 use Rattle.std.specs.Io.KnownBytes.{Appends}
 use Rattle.std.specs.List.{AllByRecursion, flat_map}
@@ -14,24 +14,24 @@ use Rattle.droid_core.specs.Histories.{History}
 use Rattle.droid_core.specs.Setting.{Setting}
 use Rattle.droid_wire.specs.declared.ended.Ended.{Ended}
 use Rattle.droid_wire.specs.declared.ended.Ended.TheVariants.{Closed, Turns}
-use Rattle.droid_wire.specs.declared.fault.ServeFault.{ServeFault}
-use Rattle.droid_wire.specs.declared.fault.ServeFault.TheVariants as faults
+use Rattle.droid_wire.specs.declared.serve_fault.ServeFault.{ServeFault}
+use Rattle.droid_wire.specs.declared.serve_fault.ServeFault.TheVariants as faults
 
--- the replies' frames, one after the other, each with its request's version, client and number
+-- the replies' frames, one after another, each with the version, client and number of its request
 abbrev pub reply_frames : List Frame → List Reply → List ℕ
 reply_frames [] replies = []
 reply_frames (frame ∷ frames) [] = []
 reply_frames (frame ∷ frames) (reply ∷ replies) = reply_frame frame.version frame.client frame.number reply ++ reply_frames frames replies
 
--- these frames were read from the front of the input, which leaves a rest, and were handled one after the
--- other, with these replies
+-- these frames were read from the front of the input, which leaves `rest`, and were handled one after another, with
+-- these replies
 pub record Handled (setting : Setting) (history : History) (input rest : List ℕ) (frames : List Frame) (replies : List Reply) (after : Service) : Type 0 where
   pub readable : AllByRecursion IsReadable frames
   pub joined : input ≡ flat_map frame_bytes frames ++ rest
   pub runs : Runs setting history frames replies after
 
--- frames were handled, of which there are so many and which leave a rest of the input of which something is
--- said; and what was written is all their reply frames
+-- frames were handled, and all their reply frames were written; P holds for the number of frames and the rest of the
+-- input
 pub record Serves (setting : Setting) (history : History) (input : List ℕ) (old new : Option (List ℕ)) (after : Service) (P : ℕ → List ℕ → Type 0) : Type 0 where
   pub frames : List Frame
   pub replies : List Reply
@@ -40,8 +40,8 @@ pub record Serves (setting : Setting) (history : History) (input : List ℕ) (ol
   pub written : Appends old new (reply_frames frames replies)
   pub ends : P (length frames) rest
 
--- frames were handled, and of their reply frames exactly the first so many bytes were written: all but the
--- last one's, and of that not all
+-- frames were handled, and exactly the first `count` bytes of their reply frames were written: all frames but the last,
+-- and of the last one not all
 pub record ServesCut (setting : Setting) (history : History) (turns : ℕ) (input : List ℕ) (left old new : Option (List ℕ)) (after : Service) (count : ℕ) : Type 0 where
   pub frames : List Frame
   pub replies : List Reply
@@ -55,9 +55,9 @@ pub record ServesCut (setting : Setting) (history : History) (turns : ℕ) (inpu
   pub short : count < length (reply_frames (frames ++ last_frame ∷ []) (replies ++ last_reply ∷ []))
   pub written : Appends old new (take count (reply_frames (frames ++ last_frame ∷ []) (replies ++ last_reply ∷ [])))
 
--- What serving so many turns of an input gives, of which this is left then:
--- as many frames were answered; or fewer, and nothing is left; or fewer, and what is left begins with no
--- frame, for this reason, or could not be read; or a reply could not be written
+-- The outcome of serving `turns` frames of an input, which leaves `left` of it. Turns: that many frames were answered.
+-- Closed: fewer were, and nothing is left. A frame's fault: fewer were answered, and the rest begins with no frame for
+-- this reason, or could not be read. A write fault: a reply could not be written.
 abbrev pub Outcome : Setting → History → ℕ → List ℕ → Option (List ℕ) → Option (List ℕ) → Option (List ℕ) → Service → Result Ended ServeFault → Type 0
 Outcome setting history turns input left old new after (Ok Turns) = Serves setting history input old new after (λ count rest. (count ≡ turns) × (left ≡ Some rest))
 Outcome setting history turns input left old new after (Ok Closed) = Serves setting history input old new after (λ count rest. (count < turns) × (rest ≡ []) × (left ≡ Some []))
@@ -65,8 +65,8 @@ Outcome setting history turns input left old new after (Err (faults.Frame fault)
     Serves setting history input old new after (λ count rest. (count < turns) × Tells fault rest × ReadsNoFrame (Some rest) left)
 Outcome setting history turns input left old new after (Err (faults.Write written)) = ServesCut setting history turns input left old new after written
 
--- requests more were handled, at most so many, in order and each with one reply; the service stands for the history after
--- them, but for those that were refused for want of memory
+-- at most `most` more requests were handled, in order and each with one reply; the service stands for the history after
+-- them, except for those that it refused because memory ran out
 pub record GoesOnFrom (setting : Setting) (history : History) (most : ℕ) (service : Service) : Type 0 where
   pub requests : List Frame
   pub replies : List Reply

@@ -1,4 +1,4 @@
--- What one turn of serving a stream gives. No public clause names these: they only serve proofs.
+-- For proofs alone: the outcome of one turn of serving a stream.
 use Rattle.std.specs.Prelude.{◌≡◌, ℕ, ◌-◌, ◌<◌, ◌≤◌, List, [], ◌++◌, length, take, Option, Some, None, Result, Ok, Err}
 use Rattle.std.specs.Io.KnownBytes.{Appends}
 use Rattle.droid_frame.specs.Frames.{frame_bytes}
@@ -12,10 +12,10 @@ use Rattle.droid_core.specs.Standing.{StandsFor}
 use Rattle.droid_core.specs.declared.service.Service.{Service}
 use Rattle.droid_core.specs.Histories.{History, Handles}
 use Rattle.droid_core.specs.Setting.{Setting}
-use Rattle.droid_wire.specs.declared.fault.ServeFault.{ServeFault}
-use Rattle.droid_wire.specs.declared.fault.ServeFault.TheVariants as faults
+use Rattle.droid_wire.specs.declared.serve_fault.ServeFault.{ServeFault}
+use Rattle.droid_wire.specs.declared.serve_fault.ServeFault.TheVariants as faults
 
--- a frame was read from the front of the input, which leaves this, and was handled
+-- a frame was read from the front of the input, which leaves `left`, and was handled
 pub record Turn (setting : Setting) (history : History) (input : List ℕ) (left : Option (List ℕ)) (after : Service) (frame : Frame) (reply : Reply) : Type 0 where
   pub rest : List ℕ
   pub readable : IsReadable frame
@@ -24,7 +24,7 @@ pub record Turn (setting : Setting) (history : History) (input : List ℕ) (left
   pub handles : Handles setting history frame reply (StandsFor setting after)
   pub spelled : HasReplySpelling frame.version reply
 
--- and its reply was written, of so many bytes
+-- and its reply frame of `size` bytes was written
 pub record Answered (setting : Setting) (history : History) (input : List ℕ) (left old new : Option (List ℕ)) (after : Service) (size : ℕ) : Type 0 where
   pub frame : Frame
   pub reply : Reply
@@ -32,7 +32,7 @@ pub record Answered (setting : Setting) (history : History) (input : List ℕ) (
   pub written : Appends old new (reply_frame frame.version frame.client frame.number reply)
   pub size_is : size ≡ length (reply_frame frame.version frame.client frame.number reply)
 
--- or only the first so many bytes of it, which are not all
+-- or only the first `size` bytes of it, which are not all
 pub record Cut (setting : Setting) (history : History) (input : List ℕ) (left old new : Option (List ℕ)) (after : Service) (size : ℕ) : Type 0 where
   pub frame : Frame
   pub reply : Reply
@@ -45,7 +45,7 @@ pub record Idle (before after : Service) (old new : Option (List ℕ)) : Type 0 
   pub service : after ≡ before
   pub written : Appends old new []
 
--- what one turn gives, after so many bytes were written in the turns before
+-- the outcome of one turn, where the turns before wrote `count` bytes
 abbrev pub TurnGives : Setting → History → List ℕ → Option (List ℕ) → Option (List ℕ) → Option (List ℕ) → Service → Service → ℕ → Result (Option ℕ) ServeFault → Type 0
 TurnGives setting history input left old new before after count (Ok (Some size)) = Answered setting history input left old new after size
 TurnGives setting history input left old new before after count (Ok None) = Idle before after old new × (input ≡ []) × (left ≡ Some [])

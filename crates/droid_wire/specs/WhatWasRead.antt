@@ -1,4 +1,4 @@
--- What was handled and written, by the bytes that were read.
+-- What was handled and written, in terms of the bytes that were read.
 use Rattle.std.specs.Prelude.{ℕ, List, take, Option, Some, Result, Ok, Err}
 use Rattle.std.specs.Io.KnownBytes.{Appends, Consumes}
 use Rattle.droid_frame.specs.Streams.{Frames}
@@ -9,11 +9,11 @@ use Rattle.droid_core.specs.declared.service.Service.{Service}
 use Rattle.droid_core.specs.Histories.{History}
 use Rattle.droid_core.specs.Setting.{Setting}
 use Rattle.droid_wire.specs.declared.ended.Ended.{Ended}
-use Rattle.droid_wire.specs.declared.fault.ServeFault.{ServeFault}
-use Rattle.droid_wire.specs.declared.fault.ServeFault.TheVariants as faults
+use Rattle.droid_wire.specs.declared.serve_fault.ServeFault.{ServeFault}
+use Rattle.droid_wire.specs.declared.serve_fault.ServeFault.TheVariants as faults
 use Rattle.droid_wire.specs.Serving.{Outcome, reply_frames}
 
--- of these bytes, all were written; or, where writing failed, the first so many
+-- all of these bytes; or, where writing failed, the first `written` of them
 abbrev pub sent : Result Ended ServeFault → List ℕ → List ℕ
 sent (Ok ended) bytes = bytes
 sent (Err (faults.Frame fault)) bytes = bytes
@@ -30,7 +30,7 @@ pub record ServesRead (setting : Setting) (history : History) (input : List ℕ)
   pub runs : Runs setting history frames replies after
   pub written : Appends old new (sent result (reply_frames frames replies))
 
--- each outcome of serving tells this, also after a fault of a stream or want of memory
+-- each outcome of serving implies this, also after a fault of a stream or out of memory
 abbrev pub ReadFramesAreAnswered : Type 0
 ReadFramesAreAnswered =
     (setting : Setting) (history : History) (turns : ℕ) (input : List ℕ) (left old new : Option (List ℕ)) (after : Service) (result : Result Ended ServeFault)

@@ -1,4 +1,4 @@
--- Serving all of a stream: its first frames are answered, as many as the turns, or all where there are fewer.
+-- Serving all of a stream: as many of its first frames are answered as there are turns, or all if there are fewer.
 use Rattle.std.specs.Prelude.{◌≡◌, ℕ, nat_lt, if◌then◌else◌, List, length, take, Option, Result, Ok, Err}
 use Rattle.std.specs.Io.KnownBytes.{Appends}
 use Rattle.droid_frame.specs.Streams.{Frames, why}
@@ -13,28 +13,28 @@ use Rattle.droid_core.specs.Histories.{History}
 use Rattle.droid_core.specs.Setting.{Setting}
 use Rattle.droid_wire.specs.declared.ended.Ended.{Ended}
 use Rattle.droid_wire.specs.declared.ended.Ended.TheVariants.{Closed, Turns}
-use Rattle.droid_wire.specs.declared.fault.ServeFault.{ServeFault}
-use Rattle.droid_wire.specs.declared.fault.ServeFault.TheVariants as faults
+use Rattle.droid_wire.specs.declared.serve_fault.ServeFault.{ServeFault}
+use Rattle.droid_wire.specs.declared.serve_fault.ServeFault.TheVariants as faults
 use Rattle.droid_wire.specs.Serving.{Outcome, reply_frames}
 
--- the end where all frames were answered, by why no frame follows them
+-- how serving ends where all frames were answered, by the reason why no frame follows
 abbrev pub last_end : Result Arrival FrameFault → Result Ended ServeFault
 last_end (Ok arrival) = Ok Closed
 last_end (Err fault) = Err (faults.Frame fault)
 
--- the end of a stream of these frames and this rest, of which so many frames are answered at most
+-- how serving ends on a stream of these frames and this rest, with at most `turns` frames answered
 abbrev pub end_of : ℕ → List Frame → List ℕ → Result Ended ServeFault
 end_of turns frames rest = if nat_lt (length frames) turns then last_end (why rest) else Ok Turns
 
--- the first frames were handled, as many as the turns or all, what was written is their reply frames, and the end is the
--- stream's
+-- the first frames were handled, as many as the turns or all; their reply frames were written; and the result is the
+-- end of this stream
 pub record ServesWhole (setting : Setting) (history : History) (turns : ℕ) (frames : List Frame) (rest : List ℕ) (old new : Option (List ℕ)) (after : Service) (result : Result Ended ServeFault) : Type 0 where
   pub ends : result ≡ end_of turns frames rest
   pub replies : List Reply
   pub runs : Runs setting history (take turns frames) replies after
   pub written : Appends old new (reply_frames (take turns frames) replies)
 
--- this, unless a stream failed, or memory was refused for a frame
+-- P, unless a stream failed or memory ran out for a frame
 abbrev pub UnlessFailed : Result Ended ServeFault → Type 0 → Type 0
 UnlessFailed (Ok ended) P = P
 UnlessFailed (Err (faults.Frame Truncated)) P = P
@@ -44,7 +44,7 @@ UnlessFailed (Err (faults.Frame Memory)) P = Unit {0}
 UnlessFailed (Err (faults.Frame Read)) P = Unit {0}
 UnlessFailed (Err (faults.Write written)) P = Unit {0}
 
--- each outcome of serving tells this of all the stream
+-- each outcome of serving implies this for the whole stream
 abbrev pub FirstFramesAreAnswered : Type 0
 FirstFramesAreAnswered =
     (setting : Setting) (history : History) (turns : ℕ) (input : List ℕ) (left old new : Option (List ℕ)) (after : Service) (result : Result Ended ServeFault)

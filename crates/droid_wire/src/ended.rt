@@ -1,10 +1,10 @@
-//! How serving a stream ends where nothing failed.
+//! The end of serving a stream where nothing failed.
 
-/// How serving a stream ended. All its frames that were read were answered.
+/// How serving a stream ended. All frames that were read were answered.
 #[derive(Clone, Copy, Debug, PartialEq, Eq)]
 pub enum Ended {
     /// The stream ended where a frame would begin.
     Closed,
-    /// As many frames as were asked for were answered.
+    /// The number of frames that the caller asked for was answered.
     Turns,
 }

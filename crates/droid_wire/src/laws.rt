@@ -1,5 +1,5 @@
-//! Laws of both ends of a stream, and of every schedule of deliveries between them. Each stands on a function that
-//! does nothing, and is proved with it.
+//! Laws of both ends of a stream, and of every schedule of deliveries between them. Each law is the contract of a
+//! function that does nothing.
 
 ghost use Rattle.droid_core.specs.Setting.{Setting};
 ghost use Rattle.droid_frame.specs.types.reply.Reply.{Reply};
@@ -9,46 +9,46 @@ ghost use Rattle.droid_wire.specs.Desks.{IsDesk, desk_of};
 ghost use Rattle.droid_wire.specs.Schedules.{Event, start, run, AreOnes, AreApart, AreHeld, AreOnce, NoneReused, answer_at};
 ghost use Rattle.std.specs.Prelude.{◌≡◌, ℕ, List, ◌++◌, Some};
 
-/// Where neither stream failed and memory was refused for no frame, [`serve`](crate::serve) answers the first
-/// frames of the stream: as many as it has turns, or all where there are fewer. It ends as `Closed` exactly where
-/// nothing follows them, and by a fault of the bytes exactly where that is why no frame follows.
+/// If neither stream failed and memory sufficed for each frame, [`serve`](crate::serve) answers the first frames of the
+/// stream: as many as its turns, or all if there are fewer. It ends as `Closed` exactly if nothing follows them, and
+/// with a fault of the bytes exactly if that fault is why no frame follows.
 pub fn first_frames_are_answered()
     ensures { FirstFramesAreAnswered }
 {}
 
-/// However it ends, [`serve`](crate::serve) has answered the frames of the bytes that it read, and no others: by all
-/// their reply frames, or, where writing failed, by as many bytes of them as that fault tells.
+/// However it ends, [`serve`](crate::serve) has answered the frames of the bytes that it read, and no others. It wrote
+/// all their reply frames or, if writing failed, the first bytes of them, counted by the fault.
 pub fn read_frames_are_answered()
     ensures { ReadFramesAreAnswered }
 {}
 
-/// The service answers each command once: a request whose number is new, or is kept with this very request,
-/// is answered again, or accepted with one entry more, or refused, or told.
+/// The service accepts each command once. A request whose number is new is accepted with one more entry, refused, or
+/// answered as a query; a request that is kept under its number gets the kept reply again.
 pub fn answers_once()
     ensures { (setting : Setting) → IsDesk (desk_of setting) }
 {}
 
-/// Whatever is lost, repeated or reordered on the way between clients and a service, each command that a
-/// client submitted acts at most once, and an answer that a client holds is the answer to that very request.
+/// Frames between clients and a service may be lost, repeated or reordered. Still each submitted command acts at most
+/// once, and an answer that a client holds is the answer to that very request.
 ///
-/// The premise `AreOnes`: where several cores are of one client, as one that was started anew, they submit
-/// equal frames under equal numbers.
+/// The premise `AreOnes`: if several cores belong to one client, for instance after a restart, they submit equal frames
+/// under equal numbers.
 pub fn schedules()
-    // An answer to a command is the reply of the one entry of that very request; an answer to a query is
-    // what the service answered to it at some event.
+    // An answer to a command is the reply in the one entry of that very request. An answer to a query is what the
+    // service answered to it at some event.
     ensures held { (setting : Setting) (clients : List (ℕ × ℕ)) (events : List Event) →
         AreOnes (run (desk_of setting) events (start clients)).frames → AreHeld (desk_of setting) (start clients) events }
     // No submitted request has two entries.
     ensures once { (setting : Setting) (clients : List (ℕ × ℕ)) (events : List Event) →
         AreOnes (run (desk_of setting) events (start clients)).frames → AreOnce (run (desk_of setting) events (start clients)) }
-    // None is answered that its number was used again.
+    // No request is refused because its number was used for another request.
     ensures none_reused { (setting : Setting) (clients : List (ℕ × ℕ)) (events : List Event) →
         AreOnes (run (desk_of setting) events (start clients)).frames → NoneReused (run (desk_of setting) events (start clients)) }
     // A held answer never changes.
     ensures answers_stay { (setting : Setting) (clients : List (ℕ × ℕ)) (early late : List Event) (which number : ℕ) (reply : Reply) →
         answer_at (run (desk_of setting) early (start clients)) which number ≡ Some reply →
         answer_at (run (desk_of setting) (early ++ late) (start clients)) which number ≡ Some reply }
-    // Where no two cores are of one client, the premise holds by itself.
+    // If no two cores belong to one client, the premise always holds.
     ensures alone { (setting : Setting) (clients : List (ℕ × ℕ)) (events : List Event) → AreApart clients →
         AreOnes (run (desk_of setting) events (start clients)).frames }
 {

@@ -1,14 +1,14 @@
-//! Streams of requests and both of their ends: a service answers the frames of a stream one after another, and
-//! a client's core, which is given here under this crate's name, numbers requests and takes their replies.
+//! Both ends of a stream of requests. [`serve`] answers the frames of a stream for a service. [`Client`] is the other
+//! end: it numbers requests and takes their replies.
 #![tactic(auto)]
 
 mod ended;
-mod fault;
 pub mod laws;
-mod sending;
-mod serving;
+mod reply_frame;
+mod serve_fault;
+mod server;
 
 pub use droid_wire_client::{Client, HearFault, Heard, SubmitFault};
 pub use ended::Ended;
-pub use fault::ServeFault;
-pub use serving::serve;
+pub use serve_fault::ServeFault;
+pub use server::serve;

@@ -1,4 +1,4 @@
--- A client's core: what it keeps, its two steps, and what it shows (this project's own).
+-- A client's core: what it keeps, its two steps, and what it returns (this project's own rule).
 use Rattle.std.specs.Prelude.{ℕ, ◌+◌, ◌-◌, ◌==◌, ◌&&◌, ◌||◌, nat_lt, if◌then◌else◌, Bool, true, List, [], ◌∷◌, ◌++◌, length, slice_set, Option, Some, None}
 use Rattle.std.specs.List.{slice_get, filter_map}
 use Rattle.droid_frame.specs.types.frame.Frame.{Frame}
@@ -13,7 +13,7 @@ use Rattle.droid_wire_client.specs.declared.slot.Slot.{Slot}
 use Rattle.droid_wire_client.specs.declared.slot.State.{State}
 use Rattle.droid_wire_client.specs.declared.slot.State.TheVariants.{Pending, Answered}
 
--- a client, and a slot for each request that it submitted: slot k is that of the number first + k
+-- a client, and a slot for each submitted request: slot k belongs to the number first + k
 pub record Core : Type 0 where
   pub client : ℕ
   pub first : ℕ
@@ -27,7 +27,7 @@ new_core client first = record { client = client; first = first; slots = [] }
 abbrev pub next_number : Core → ℕ
 next_number core = core.first + length core.slots
 
--- the frame of a request in a version: its kind and its one spelling there
+-- the frame of a request in a version: its kind and its spelling in that version
 abbrev pub frame_of : ℕ → ℕ → ℕ → Request → Frame
 frame_of version client number request =
     record { version = version; kind = request_kind request; client = client; number = number; body = request_body version request }
@@ -42,9 +42,9 @@ new_slot frame = record { version = frame.version; kind = frame.kind; state = Pe
 abbrev pub core_submitting : Core → ℕ → Request → Core
 core_submitting core version request = record core { slots = core.slots ++ new_slot (next_frame core version request) ∷ [] }
 
--- ---- hearing
+-- ---- taking a reply
 
--- the kind of request that the reply belongs to; a refusal belongs to each
+-- the reply answers a request of this kind; a refusal answers every kind
 abbrev pub belongs : ℕ → Reply → Bool
 belongs kind (Made profile) = kind == 1
 belongs kind (Node id) = (kind == 2) || (kind == 3)
@@ -60,7 +60,7 @@ abbrev pub refusal_in : Reply → Option Refusal
 refusal_in (Refused refusal) = Some refusal
 refusal_in _ = None
 
--- what a reply to a pending request is heard as
+-- what a reply to a pending request means
 abbrev pub heard_pending : Reply → Heard
 heard_pending (Refused refusal) = heard.Refused
 heard_pending _ = heard.Answered
@@ -69,11 +69,11 @@ abbrev pub heard_in : State → Reply → Heard
 heard_in (Pending frame) reply = heard_pending reply
 heard_in (Answered answer) reply = heard.Repeated
 
--- a reply belongs to the request of a slot where it comes in the request's version, and is of a kind that belongs to it
+-- a reply belongs to the request of a slot: it has the request's version and a kind that answers it
 abbrev pub belongs_at : Slot → ℕ → Reply → Bool
 belongs_at slot version reply = (version == slot.version) && belongs slot.kind reply
 
--- what a reply in a version to the request of a slot is heard as
+-- what a reply in a version means for the request of a slot
 abbrev pub heard_at : Slot → ℕ → Reply → Heard
 heard_at slot version reply = if belongs_at slot version reply then heard_in slot.state reply else heard.Stranger
 
@@ -81,15 +81,15 @@ abbrev pub heard_by : Option Slot → ℕ → Reply → Heard
 heard_by None version reply = heard.Stranger
 heard_by (Some slot) version reply = heard_at slot version reply
 
--- the slot of a number, where it was submitted
+-- the slot of a number, if it was submitted
 abbrev pub slot_at : Core → ℕ → Option Slot
 slot_at core number = if nat_lt number core.first then None else slice_get core.slots (number - core.first)
 
--- what a reply in this version to this client's request of this number is heard as
+-- what a reply in this version to this client's request with this number means
 abbrev pub heard_of : Core → ℕ → ℕ → ℕ → Reply → Heard
 heard_of core version client number reply = if client == core.client then heard_by (slot_at core number) version reply else heard.Stranger
 
--- an answer takes the place of the frame, and a refusal that of an earlier one
+-- an answer replaces the frame, and a refusal an earlier one
 abbrev pub slot_after : Slot → Reply → Heard → Slot
 slot_after slot reply heard.Answered = record slot { state = Answered reply }
 slot_after slot reply heard.Refused = record slot { refusal = refusal_in reply }
@@ -104,12 +104,12 @@ abbrev pub slots_hearing : Core → ℕ → ℕ → Reply → Option Slot → Li
 slots_hearing core version number reply None = core.slots
 slots_hearing core version number reply (Some slot) = slice_set core.slots (number - core.first) (slot_hearing slot version reply)
 
--- the core after a reply in this version to this client's request of this number
+-- the core after a reply in this version to this client's request with this number
 abbrev pub core_hearing : Core → ℕ → ℕ → ℕ → Reply → Core
 core_hearing core version client number reply =
     if client == core.client then record core { slots = slots_hearing core version number reply (slot_at core number) } else core
 
--- ---- what a core shows
+-- ---- what a core returns
 
 abbrev pub answer_in : State → Option Reply
 answer_in (Pending frame) = None
@@ -119,7 +119,7 @@ abbrev pub slot_answer : Option Slot → Option Reply
 slot_answer None = None
 slot_answer (Some slot) = answer_in slot.state
 
--- the answer that is kept to the request of this number
+-- the kept answer to the request with this number
 abbrev pub answer_of : Core → ℕ → Option Reply
 answer_of core number = slot_answer (slot_at core number)
 
@@ -127,7 +127,7 @@ abbrev pub slot_refusal : Option Slot → Option Refusal
 slot_refusal None = None
 slot_refusal (Some slot) = slot.refusal
 
--- the last refusal that is kept of the request of this number
+-- the kept last refusal of the request with this number
 abbrev pub refusal_of : Core → ℕ → Option Refusal
 refusal_of core number = slot_refusal (slot_at core number)
 

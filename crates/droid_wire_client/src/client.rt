@@ -1,4 +1,4 @@
-//! The client.
+//! The client of a service.
 
 ghost use Rattle.std.specs.Prelude.{◌≡◌, ◌↔◌, ◌<◌, ◌^◌, ◌+◌, length, IfOk, IfSome, IfNone, OnOk, OnErr, IsErrOf, None, Some, vec_len};
 ghost use Rattle.std.specs.List.{slice_get};
@@ -9,9 +9,9 @@ ghost use Rattle.droid_frame.specs.types.reply.Reply.{Reply};
 ghost use Rattle.droid_wire_client.specs.Cores.{new_core, next_number, core_submitting, core_hearing, heard_of, answer_of, refusal_of, pending_of, slot_at};
 ghost use Rattle.droid_wire_client.specs.Places.{place_of};
 
-use crate::fault::{HearFault, SubmitFault};
+use crate::client_fault::{HearFault, SubmitFault};
 use crate::heard::Heard;
-use crate::pending::hear_at;
+use crate::pending_list::hear_at;
 use crate::slot::Slot;
 use droid_frame::{
     BodyFault, Frame, NUMBER_LIMIT, Refusal, Reply, Request, reply_of, request_frame,
@@ -20,11 +20,10 @@ use std::alloc::Global;
 use std::collections::VecDeque;
 use std::marker::Model;
 
-/// A client: it numbers its requests from one number on, and keeps each until it is answered.
+/// A client of a service. It numbers its requests upwards from a first number, and keeps each until it is answered.
 ///
-/// A number stays pending until it is answered, also where it is refused: a refused request that arrives
-/// again late may still be accepted. Which frames are sent, how often and in what order is the caller's to
-/// choose; [`Client::pending_at`] gives those that still wait for an answer.
+/// A refused request stays pending: if its frame arrives again later, the service may still accept it. The caller
+/// decides which frames it sends, how often and in what order. [`Client::pending_at`] returns those without an answer.
 #[derive(Drop)]
 pub struct Client {
     alloc: Global,
@@ -32,7 +31,7 @@ pub struct Client {
     first: u64,
     // One for each submitted request, in order of their numbers.
     slots: Vec<Slot>,
-    // The places of those that have no answer, in order.
+    // The indices of those that have no answer, in order.
     pending: VecDeque<usize>,
 }
 
@@ -48,8 +47,7 @@ impl Model for Client {
 }
 
 impl Client {
-    /// A client that has submitted nothing, and will number its requests from `first` on. It takes no
-    /// memory.
+    /// Makes a client that has submitted nothing. Its first request gets the number `first`. Allocates nothing.
     pub fn new(alloc: Global, client: u32, first: u64) -> Client
         requires { first < 2 ^ 63 }
         ensures { result ≡ new_core client first }
@@ -63,8 +61,8 @@ impl Client {
         }
     }
 
-    /// Submits a request in this version, 1 or 2, and gives its number. The request is pending from then on, and
-    /// its replies have to come in the same version.
+    /// Submits a request in version 1 or 2 and returns its number. The request is then pending, and its replies have to
+    /// come in the same version. Numbers end below 2^63.
     pub fn submit(&mut self, version: u8, request: Request) -> Result<u64, SubmitFault>
         requires { Fits version request }
         ensures number { IfOk result (λ number. number ≡ next_number self.old) }
@@ -85,15 +83,14 @@ impl Client {
         Ok(number)
     }
 
-    /// How many submitted requests have no answer. It is known at once.
+    /// Returns how many submitted requests have no answer, in constant time.
     pub fn pending(&self) -> usize
         ensures { result ≡ length (pending_of self.now) }
     {
         self.pending.len()
     }
 
-    /// The frame of the request at this index among those that have no answer, in order of their numbers.
-    /// It is found at once, however many were submitted.
+    /// Returns the frame of the pending request at this index, in order of their numbers. Takes constant time.
     pub fn pending_at(&self, index: usize) -> Option<&Frame>
         ensures { option_copied result ≡ slice_get (pending_of self.now) index }
     {
@@ -101,22 +98,21 @@ impl Client {
         self.slots[place].pending()
     }
 
-    /// Takes a reply that arrived. An answer lets the frame of its request go. Beside what the reply's own
-    /// list takes, no memory is taken.
+    /// Takes a reply that arrived. An answer frees the frame of its request. Only the list of identifiers in a Finished
+    /// reply is allocated.
     ///
-    /// An answer's place among the pending requests is found by halving; those before it or those after it,
-    /// whichever are fewer, move up by one.
+    /// Finds an answered request among the pending ones by binary search, and closes the gap from the shorter side.
     pub fn on_reply(&mut self, frame: Frame) -> Result<Heard, HearFault>
-        // For the reply that the frame holds.
+        // If the frame holds a reply, the client takes that reply.
         ensures heard { (reply : Reply) → SpellsReply frame.version frame.kind frame.body reply
             → IfOk result (λ heard. heard ≡ heard_of self.old frame.version frame.client frame.number reply) }
         ensures after { (reply : Reply) → SpellsReply frame.version frame.kind frame.body reply
             → OnOk result (self.new ≡ core_hearing self.old frame.version frame.client frame.number reply) }
-        // Where it is heard, the frame holds one.
+        // If the call succeeds, the frame holds a reply.
         ensures spelled { OnOk result ((reply : Reply) × SpellsReply frame.version frame.kind frame.body reply) }
-        // This comes exactly where the frame holds none.
+        // `Malformed` is returned exactly if the frame holds no reply.
         ensures malformed { IsErrOf result HearFault.Malformed ↔ ((reply : Reply) → ¬ SpellsReply frame.version frame.kind frame.body reply) }
-        // This comes only for a Finished, whose list takes memory.
+        // `Memory` is returned only for a Finished reply, whose list is allocated.
         ensures memory { IsErrOf result HearFault.Memory → frame.kind ≡ 132 }
         ensures unchanged { OnErr result (self.new ≡ self.old) }
     {
@@ -130,15 +126,15 @@ impl Client {
         }
     }
 
-    /// The answer to the request of this number, where it has one. It is found at once.
+    /// Returns the answer to the request with this number, if it has one, in constant time.
     pub fn answer(&self, number: u64) -> Option<&Reply>
         ensures { option_copied result ≡ answer_of self.now number }
     {
         self.slot(number)?.answer()
     }
 
-    /// The last refusal of the request of this number, where it was refused. An answer doesn't clear it. It
-    /// is found at once.
+    /// Returns the last refusal of the request with this number, if it was refused, in constant time. An answer doesn't
+    /// clear it.
     pub fn refusal(&self, number: u64) -> Option<Refusal>
         ensures { result ≡ refusal_of self.now number }
     {
@@ -166,7 +162,7 @@ impl Client {
     }
 }
 
-/// The place of the slot of this number, where there are so many slots from the first number on.
+/// Returns the index of the slot with this number, among `count` slots numbered from `first` on.
 fn place_of(first: u64, count: usize, number: u64) -> Option<usize>
     ensures { result ≡ place_of first count number }
 {

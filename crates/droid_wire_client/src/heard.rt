@@ -1,15 +1,15 @@
-//! What a reply is heard as.
+//! The outcome of a reply that arrived.
 
-/// What a reply that arrived is to the client.
+/// What the client did with a reply that arrived.
 #[derive(Clone, Copy, Debug, PartialEq, Eq)]
 pub enum Heard {
-    /// It is the answer to a pending request, and is kept.
+    /// The reply answers a pending request, and the client keeps it.
     Answered,
-    /// It refuses a pending request, which stays pending. The refusal is kept as the last one.
+    /// The reply refuses a pending request. The request stays pending, and the client keeps this as its last refusal.
     Refused,
-    /// The request has its answer already, which stays.
+    /// The request already has an answer, which stays.
     Repeated,
-    /// It is to another client or to a number that was never submitted, or its version isn't the request's, or its
-    /// kind doesn't belong to the request.
+    /// The reply is for another client, for a number that was never submitted, in another version than the request, or
+    /// of a kind that doesn't answer the request.
     Stranger,
 }

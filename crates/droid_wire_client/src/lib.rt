@@ -1,13 +1,13 @@
-//! The client's end of the service: it numbers requests, keeps each until it is answered, and takes the
-//! replies that arrive, in whatever order and however often.
+//! The client's end of a stream. It numbers requests, keeps each until it is answered, and takes replies in any order
+//! and any number of times.
 #![tactic(auto)]
 
 mod client;
-mod fault;
+mod client_fault;
 mod heard;
-mod pending;
+mod pending_list;
 mod slot;
 
 pub use client::Client;
-pub use fault::{HearFault, SubmitFault};
+pub use client_fault::{HearFault, SubmitFault};
 pub use heard::Heard;

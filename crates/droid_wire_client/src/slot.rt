@@ -1,4 +1,4 @@
-//! One submitted request.
+//! One submitted request and what came of it.
 
 ghost use Rattle.std.specs.Prelude.{◌≡◌, IfSome, IfNone, None, Some, is_some};
 ghost use Rattle.std.specs.Option.{option_copied};
@@ -19,14 +19,14 @@ pub(crate) struct Slot {
 /// Whether a request is answered. Its frame is kept only until then.
 #[derive(Drop)]
 pub(crate) enum State {
-    /// It isn't, and this is its frame.
+    /// Not answered. This is its frame.
     Pending(Frame),
-    /// It is, by this reply.
+    /// Answered by this reply.
     Answered(Reply),
 }
 
 impl Slot {
-    /// The slot of a request that is submitted now.
+    /// Makes the slot of a request that is being submitted.
     pub(crate) fn new(frame: Frame) -> Slot
         ensures { result ≡ new_slot frame }
     {
@@ -53,7 +53,7 @@ impl Slot {
         heard
     }
 
-    /// What a reply in this version to this request is heard as.
+    /// Returns what a reply in this version means for this request.
     fn heard(&self, version: u8, reply: &Reply) -> Heard
         ensures { result ≡ heard_at self.now version reply.now }
     {
@@ -69,14 +69,14 @@ impl Slot {
         }
     }
 
-    /// Whether a reply in this version is of the request's own version, and of a kind that belongs to it.
+    /// Returns whether a reply has the request's version and a kind that answers it.
     fn is_answered_by(&self, version: u8, reply: &Reply) -> bool
         ensures { result ≡ belongs_at self.now version reply.now }
     {
         version == self.version && belongs(self.kind, reply)
     }
 
-    /// The answer, where there is one.
+    /// Returns the answer, if there is one.
     pub(crate) fn answer(&self) -> Option<&Reply>
         ensures { option_copied result ≡ answer_in self.now.state }
     {
@@ -86,7 +86,7 @@ impl Slot {
         }
     }
 
-    /// The frame, where there is no answer.
+    /// Returns the frame, if there is no answer yet.
     pub(crate) fn pending(&self) -> Option<&Frame>
         ensures { option_copied result ≡ pending_in self.now.state }
     {
@@ -96,7 +96,7 @@ impl Slot {
         }
     }
 
-    /// The last refusal.
+    /// Returns the last refusal.
     pub(crate) fn refusal(&self) -> Option<Refusal>
         ensures { result ≡ self.now.refusal }
     {
@@ -104,7 +104,7 @@ impl Slot {
     }
 }
 
-/// Whether the reply belongs to a request of this kind. A refusal belongs to each.
+/// Returns whether a reply of this kind answers a request of kind `kind`. A refusal answers every kind.
 fn belongs(kind: u8, reply: &Reply) -> bool
     ensures { result ≡ belongs kind reply.now }
 {
@@ -120,7 +120,7 @@ fn belongs(kind: u8, reply: &Reply) -> bool
     }
 }
 
-/// The refusal, where the reply is one.
+/// Returns the refusal, if the reply is one.
 fn refusal_in(reply: &Reply) -> Option<Refusal>
     ensures { result ≡ refusal_in reply.now }
 {

@@ -1,6 +1,6 @@
-// Each test passes too where any one allocation is refused: tests/memory refuses each in turn.
-//! Want of memory: a request that was not submitted and a reply that was not heard leave the client as it
-//! was, and the same again is as it would have been.
+// Each test also passes if any one allocation is refused: tests/memory refuses each in turn.
+//! Out of memory: a request that was not submitted and a reply that was not taken leave the client unchanged, and the
+//! same call again succeeds.
 
 use droid_frame::{Blob, Frame, Refusal, Reply, Request};
 use droid_wire_client::{Client, HearFault, Heard, SubmitFault};
@@ -8,8 +8,8 @@ use std::alloc::{AllocError, Global};
 use std::process::Abort;
 use std::test::Fail;
 
-// The bodies of a Finished of one identifier, fmt/1, by a signature, with a digest of zero bytes: in version 1 MD5's, and in
-// version 2 SHA-256's, behind its number.
+// The bodies of a Finished of one identifier, fmt/1, by a signature, with a digest of zero bytes: in version 1 MD5's,
+// and in version 2 SHA-256's, behind its number.
 const FINISHED: [u8; 26] = [
     1, 0, 0, 0, 0, 0, 0, 0, 0, 0, 0, 0, 0, 0, 0, 0, 0, 0, 0, 1, 5, 102, 109, 116, 47, 49,
 ];
@@ -51,7 +51,7 @@ fn finish() -> Request {
 
 const NUMBERS: [u64; 2] = [1, 2];
 
-// Whether the first so many requests are pending, and the first of them was refused so.
+// Returns whether the first `count` requests are pending, and the first of them has this refusal.
 fn are_pending(client: &Client, count: usize, refused: Option<Refusal>) -> bool {
     let numbers = &NUMBERS[..count.min(2)];
     client.pending() == count
@@ -64,7 +64,7 @@ fn are_pending(client: &Client, count: usize, refused: Option<Refusal>) -> bool 
         && client.refusal(2).is_none()
 }
 
-// Submits a request behind so many, once more where memory was refused and those are as they were.
+// Submits a request after `count` others, and once more if memory was refused and those are unchanged.
 fn submitted(client: &mut Client, version: u8, before: usize) -> Option<u64> {
     let (first, second) = (finish(), finish());
     if !first.fits(version) || !second.fits(version) {
@@ -79,7 +79,7 @@ fn submitted(client: &mut Client, version: u8, before: usize) -> Option<u64> {
     }
 }
 
-// Takes the answer to the first of two requests, once more where memory was refused and both are as they were.
+// Takes the answer to the first of two requests, and once more if memory was refused and both are unchanged.
 fn heard(alloc: Global, client: &mut Client, version: u8) -> Option<Heard> {
     let frame = finished(alloc, version)
         .or_else(|_| finished(alloc, version))
@@ -93,7 +93,7 @@ fn heard(alloc: Global, client: &mut Client, version: u8) -> Option<Heard> {
     }
 }
 
-// Asserts what comes of two requests in a version, of which the first is refused and then answered.
+// Asserts the outcome of two requests in a version, of which the first is refused and then answered.
 fn is_answered_in(rt: &impl Abort, alloc: Global, version: u8) -> Result<(), Fail> {
     let mut client = Client::new(alloc, 1, 1);
     for (before, number) in NUMBERS.iter().enumerate() {

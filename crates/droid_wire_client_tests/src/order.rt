@@ -68,7 +68,7 @@ fn answers_out_of_order(rt: HostRuntime) -> Result<(), Fail> {
     Ok(())
 }
 
-/// Every third request is answered; the others are pending still, in order of their numbers.
+/// Every third request is answered. The others are still pending, in order of their numbers.
 #[test]
 fn pending_in_order(rt: HostRuntime) -> Result<(), Fail> {
     let mut client = Client::new(rt.alloc(), 3, 0);

@@ -80,7 +80,7 @@ fn client_core(rt: HostRuntime) -> Result<(), Fail> {
     Ok(())
 }
 
-/// A reply in another version than its request's is a stranger's, whatever it says, and changes nothing.
+/// A reply in another version than its request is for a stranger, whatever it says, and changes nothing.
 #[test]
 fn two_versions(rt: HostRuntime) -> Result<(), Fail> {
     let one = [0, 0, 0, 1];
@@ -131,7 +131,7 @@ fn other_versions(rt: HostRuntime) -> Result<(), Fail> {
     Ok(())
 }
 
-/// The frame of a request is the one of the format, and is let go with the answer.
+/// The frame of a request is the one of the format, and is freed with the answer.
 #[test]
 fn frames_that_are_pending(rt: HostRuntime) -> Result<(), Fail> {
     let mut client = Client::new(rt.alloc(), 7, 258);

@@ -1,4 +1,4 @@
-//! What the faults of both ends of a stream say.
+//! The messages of the faults of both ends of a stream.
 
 use droid_frame::FrameFault;
 use droid_wire::{HearFault, ServeFault, SubmitFault};
@@ -7,7 +7,7 @@ use std::fmt::Display;
 use std::process::Abort;
 use std::test::Fail;
 
-/// A frame's fault is told in its own words.
+/// A frame's fault is displayed with its own message.
 const SERVING: [(ServeFault, &str); 3] = [
     (
         ServeFault::Frame(FrameFault::Truncated),
@@ -38,7 +38,7 @@ fn texts(rt: HostRuntime) -> Result<(), Fail> {
     each_says(&rt, alloc, &HEARING)
 }
 
-/// Whether the fault is printed so.
+/// Returns whether the fault is displayed like this.
 fn says<T: Display>(alloc: Global, fault: &T, text: &str) -> Result<bool, Fail> {
     Ok(format!(in alloc; "{fault}")?.as_str() == text)
 }

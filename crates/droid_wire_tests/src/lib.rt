@@ -1,14 +1,16 @@
-//! Tests of serving streams, over public calls alone. (What the built program does on streams and connections stands in
-//! tests/program/wire.)
+//! Tests of serving streams, by public calls alone. Tests of the built program on streams and connections are in
+//! tests/program/wire.
 #![tactic(auto)]
 
+#[cfg(test)]
+mod broken_streams;
 #[cfg(test)]
 mod faults;
 #[cfg(test)]
 mod memory;
 #[cfg(test)]
-mod rows;
+mod page;
 #[cfg(test)]
-mod stopping;
+mod rows;
 #[cfg(test)]
 mod vectors;

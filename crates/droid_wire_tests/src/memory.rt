@@ -1,6 +1,6 @@
-// The test passes too where any one allocation is refused: tests/memory refuses each in turn.
-//! Want of memory while a stream is served: it ends the stream where a frame can't be kept, with all frames before it
-//! answered, or it is the answer to one request; and the same stream again is answered as it would have been.
+// The test also passes if any one allocation is refused: tests/memory refuses each in turn.
+//! Out of memory while a stream is served. If a frame can't be kept, the stream ends after all frames before it were
+//! answered; otherwise one request is refused. The same stream again is answered in full.
 
 use crate::vectors::{
     CREATE, FOLDER, LIMITS, MADE, NODE, NUMBER_REUSED, OTHER_FOLDER, joined, refused,
@@ -18,8 +18,8 @@ fn requests(alloc: Global) -> Result<Vec<u8>, AllocError> {
     joined(alloc, &[&CREATE, &FOLDER, &FOLDER, &OTHER_FOLDER])
 }
 
-/// Serves these frames into this buffer, so that writing takes no memory; how it ended, and how many bytes were
-/// written.
+/// Serves these frames into this buffer, so that writing allocates nothing. Returns how it ended, and how many bytes
+/// were written.
 fn served(
     alloc: Global,
     service: &mut Service,
@@ -33,7 +33,7 @@ fn served(
     (ended, room.saturating_sub(left.len()))
 }
 
-/// Whether these bytes are these frames, one after the other.
+/// Returns whether these bytes are these frames, one after another.
 fn are_joined(bytes: &[u8], frames: &[&[u8]]) -> bool {
     let mut rest = bytes;
     for frame in frames {
@@ -45,7 +45,7 @@ fn are_joined(bytes: &[u8], frames: &[&[u8]]) -> bool {
     rest.is_empty()
 }
 
-/// Whether memory (18) was refused to one of the requests; without a profile the others find none (3).
+/// Returns whether one request was refused for memory (18). Without a profile the others find none (3).
 fn are_out_of_memory(bytes: &[u8]) -> bool {
     let (first, second, no_profile) = (refused(1, 18), refused(2, 18), refused(2, 3));
     let rows: [[&[u8]; 4]; 4] = [
@@ -57,7 +57,7 @@ fn are_out_of_memory(bytes: &[u8]) -> bool {
     rows.iter().any(|row| are_joined(bytes, row))
 }
 
-/// Whether serving ended early for want of memory, or one request was refused for it.
+/// Returns whether serving ended early out of memory, or one request was refused for it.
 fn is_out_of_memory(ended: Result<Ended, ServeFault>, written: &[u8]) -> bool {
     match ended {
         Ok(Ended::Closed) => are_out_of_memory(written),
@@ -68,7 +68,7 @@ fn is_out_of_memory(ended: Result<Ended, ServeFault>, written: &[u8]) -> bool {
     }
 }
 
-/// An empty service. What finds no memory is tried once more.
+/// Makes an empty service. A call that is out of memory is tried once more.
 fn service_again(alloc: Global) -> Result<Service, Fail> {
     if let Ok(service) = Service::new(alloc, registry_again(alloc)?, LIMITS) {
         return Ok(service);

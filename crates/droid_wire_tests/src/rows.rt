@@ -1,4 +1,4 @@
-//! Streams of frames over memory, and what is written for them.
+//! Streams of frames in memory, and what is written for them.
 
 use crate::vectors::{
     CREATE, CREATE_2, FOLDER, MADE, MADE_2, NODE, NUMBER_REUSED, OTHER_FOLDER, joined, refused,
@@ -14,7 +14,7 @@ const TOO_LONG: [u8; 20] = [
     1, 1, 0, 0, 0, 1, 0, 0, 0, 0, 0, 0, 0, 1, 0xff, 0xff, 0xff, 0xff, 1, 1,
 ];
 
-/// A profile is asked for with a truth value of 2, and with a byte too many.
+/// Requests for a profile with a truth value of 2, and with a byte too many.
 const NO_TRUTH: [u8; 23] = [
     1, 1, 0, 0, 0, 1, 0, 0, 0, 0, 0, 0, 0, 1, 0, 0, 0, 5, 0, 1, 0, 0, 2,
 ];
@@ -25,19 +25,20 @@ const A_BYTE_MORE: [u8; 24] = [
 
 const NO_PROFILE: [u8; 19] = [1, 136, 0, 0, 0, 1, 0, 0, 0, 0, 0, 0, 0, 1, 0, 0, 0, 1, 1];
 
-/// In version 2 a hash that there isn't, and its reply.
+/// A kind of hash that doesn't exist, in version 2, and its reply.
 const NO_HASH: [u8; 24] = [
     2, 1, 0, 0, 0, 1, 0, 0, 0, 0, 0, 0, 0, 1, 0, 0, 0, 6, 0, 1, 0, 0, 0, 3,
 ];
 
 const NO_PROFILE_2: [u8; 19] = [2, 136, 0, 0, 0, 1, 0, 0, 0, 0, 0, 0, 0, 1, 0, 0, 0, 1, 1];
 
-/// A header of version 2 whose body would be a byte too long, and one of version 3.
+/// A header of version 2 with a body one byte too long, and one of version 3.
 const TOO_LONG_2: [u8; 18] = [2, 4, 0, 0, 0, 1, 0, 0, 0, 0, 0, 0, 0, 3, 0, 0x40, 0, 0x41];
 
 const VERSION_3: [u8; 18] = [3, 1, 0, 0, 0, 1, 0, 0, 0, 0, 0, 0, 0, 3, 0, 0, 0, 0];
 
-/// How a service that is empty ends over these bytes, what it writes, and how many of them it leaves unread.
+/// Serves these bytes with an empty service. Returns how that ends, what is written, and how many bytes are left
+/// unread.
 fn served(
     alloc: Global,
     input: &[u8],
@@ -71,7 +72,7 @@ fn runs_and_streams(rt: HostRuntime) -> Result<(), Fail> {
     Ok(())
 }
 
-/// What spells no request is answered and changes nothing; a frame that is too long is not read.
+/// A frame that spells no request is answered and changes nothing. A frame that is too long is not read.
 #[test]
 fn hostile_frames(rt: HostRuntime) -> Result<(), Fail> {
     let alloc = rt.alloc();
@@ -84,7 +85,7 @@ fn hostile_frames(rt: HostRuntime) -> Result<(), Fail> {
     Ok(())
 }
 
-/// Each frame is answered in its own version. One number in both is two requests, of which the second is refused.
+/// Each frame is answered in its own version. One number in both versions is two requests, and the second is refused.
 #[test]
 fn two_versions(rt: HostRuntime) -> Result<(), Fail> {
     let alloc = rt.alloc();

@@ -1,4 +1,4 @@
-//! Frames as the format has them, written out by hand, and a service to answer them.
+//! Frames written out by hand from the format, and a service to answer them.
 
 use droid_core::{Limits, Service};
 use droid_pronom::Registry;
@@ -13,7 +13,7 @@ pub const MADE: [u8; 22] = [
     1, 129, 0, 0, 0, 1, 0, 0, 0, 0, 0, 0, 0, 1, 0, 0, 0, 4, 0, 0, 0, 1,
 ];
 
-/// In version 2 a profile with SHA-256 is asked for, and made.
+/// In version 2 a request for a profile with SHA-256, and its reply.
 pub const CREATE_2: [u8; 24] = [
     2, 1, 0, 0, 0, 1, 0, 0, 0, 0, 0, 0, 0, 1, 0, 0, 0, 6, 0, 1, 0, 0, 0, 2,
 ];
@@ -40,7 +40,7 @@ pub const NUMBER_REUSED: [u8; 19] = [1, 136, 0, 0, 0, 1, 0, 0, 0, 0, 0, 0, 0, 2,
 
 pub const MALFORMED: [u8; 19] = [1, 136, 0, 0, 0, 1, 0, 0, 0, 0, 0, 0, 0, 9, 0, 0, 0, 1, 1];
 
-/// The parts, one after the other.
+/// Joins the parts.
 pub fn joined(alloc: Global, parts: &[&[u8]]) -> Result<Vec<u8>, AllocError> {
     let mut bytes = Vec::new(alloc);
     for part in parts {
@@ -49,7 +49,7 @@ pub fn joined(alloc: Global, parts: &[&[u8]]) -> Result<Vec<u8>, AllocError> {
     Ok(bytes)
 }
 
-/// The same as frames of a version, which is the first byte of each.
+/// Joins the parts as frames of a version, which is the first byte of each.
 pub fn joined_in(alloc: Global, version: u8, frames: &[&[u8]]) -> Result<Vec<u8>, AllocError> {
     let mut bytes = Vec::new(alloc);
     for frame in frames {
@@ -61,7 +61,7 @@ pub fn joined_in(alloc: Global, version: u8, frames: &[&[u8]]) -> Result<Vec<u8>
     Ok(bytes)
 }
 
-/// Four requests in a version, and their replies.
+/// Returns four requests in a version, and their replies.
 pub fn session(alloc: Global, version: u8) -> Result<(Vec<u8>, Vec<u8>), AllocError> {
     let requests = match version {
         1 => joined_in(alloc, 1, &[&CREATE, &FOLDER, &FOLDER, &OTHER_FOLDER])?,
@@ -71,7 +71,7 @@ pub fn session(alloc: Global, version: u8) -> Result<(Vec<u8>, Vec<u8>), AllocEr
     Ok((requests, replies))
 }
 
-/// The frame that refuses a request of client 1 by a number without a detail.
+/// Returns the frame that refuses a request of client 1 with this refusal, which has no detail.
 pub fn refused(number: u8, refusal: u8) -> [u8; 19] {
     let mut frame = MALFORMED;
     frame[13] = number;
@@ -85,7 +85,7 @@ pub const LIMITS: Limits = Limits {
     unfinished: 64,
 };
 
-/// An empty service with no format.
+/// Makes an empty service without formats.
 pub fn service(alloc: Global) -> Result<Service, Fail> {
     let registry = Registry::parse(alloc, b"")?;
     Ok(Service::new(alloc, registry, LIMITS)?)

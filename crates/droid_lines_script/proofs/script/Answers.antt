@@ -1,5 +1,5 @@
 use Rattle.std.proofs.Common.{◌≡◌, ◌≤◌, List, ℕ, IfSome, length, refl, arith}
-use Rattle.droid_lines_script.specs.declared.fault.ScriptFault.{ScriptFault}
+use Rattle.droid_lines_script.specs.declared.script_fault.ScriptFault.{ScriptFault}
 use Rattle.droid_lines.specs.Lines.{lines_of}
 use Rattle.droid_lines_script.specs.Scripts.{RunsFront, IsOfHandling, WritesAnswer}
 use Rattle.droid_frame.specs.InTurn.{AtMost}
