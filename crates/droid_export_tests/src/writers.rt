@@ -6,7 +6,7 @@ ghost use Rattle.droid_export.specs.Text.{HaveMoments};
 use crate::nodes::{everything, folder, message};
 use droid_export::{ExportFault, export, export_text};
 use droid_frame::{HashKind, Noted, Record};
-use droid_frame_shaky::{BYTE_BY_BYTE, Manner, STEADY, ShakyWriter, Stop};
+use droid_frame_shaky::{Manner, STEADY, ShakyWriter, Stop};
 use droid_pronom::Registry;
 use droid_pronom_sample::SAMPLE;
 use std::alloc::{AllocError, Global};
@@ -65,26 +65,25 @@ fn stops_after_each_byte(rt: HostRuntime) -> Result<(), Fail> {
     Ok(())
 }
 
-/// Interruptions of the first calls, the number of bytes that a call takes, and whether all of the text is written.
-const MANNERS: [(Manner, usize); 3] = [
-    (BYTE_BY_BYTE, usize::MAX),
-    (interrupted(64), usize::MAX),
-    (interrupted(65), 0),
+/// The number of bytes that a call takes, the number of first calls that are interrupted, and the number of bytes that
+/// are written.
+const MANNERS: [(usize, u32, usize); 3] = [
+    (1, 0, usize::MAX),
+    (usize::MAX, 64, usize::MAX),
+    (usize::MAX, 65, 0),
 ];
-
-const fn interrupted(interruptions: u32) -> Manner {
-    Manner {
-        interruptions,
-        ..STEADY
-    }
-}
 
 #[test]
 fn small_steps_and_interruptions(rt: HostRuntime) -> Result<(), Fail> {
     let alloc = rt.alloc();
     let registry = Registry::parse(alloc, SAMPLE.as_bytes())?;
-    for (manner, written) in &MANNERS {
-        let writer = ShakyWriter::new(Vec::new(alloc), usize::MAX, Stop::Fails, *manner);
+    for (width, interruptions, written) in &MANNERS {
+        let manner = Manner {
+            width: *width,
+            interruptions: *interruptions,
+            ..STEADY
+        };
+        let writer = ShakyWriter::new(Vec::new(alloc), usize::MAX, Stop::Fails, manner);
         assert!(rt; gives(alloc, &registry, writer, *written)?, "{written}");
     }
     Ok(())

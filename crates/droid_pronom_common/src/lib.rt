@@ -1,4 +1,4 @@
-//! The registry of everyday formats: a registry file in the program itself, for use without one of your own.
+//! The registry of everyday formats: a registry file that is part of the program, for users without their own.
 #![tactic(auto)]
 
 mod common;

@@ -1,7 +1,7 @@
-//! The registry that tests identify files by.
+//! The sample registry, which tests identify files with.
 #![tactic(auto)]
 
-/// Four formats, of invented identifiers. It is the file tests/program/sample_registry.csv.
+/// A registry file of four formats with invented PUIDs: the same bytes as tests/program/sample_registry.csv.
 pub const SAMPLE: &str = "F,dev/1,Message,1,,\n\
 E,dev/1,msg,,,\n\
 S,dev/1,BOF,0,0,6D657373616765\n\
