@@ -7,7 +7,7 @@ use Rattle.std.proofs.lemmas.List.{take_more, take_all}
 use Rattle.std.proofs.lemmas.List.Sums.{sum_by-append}
 use Rattle.std.proofs.lemmas.Slice.Eq.{bytes_eq-Decides}
 use Rattle.droid_desk_progress.specs.Units.{saturated}
-use Rattle.droid_desk_progress.specs.Tallies.{CountsFormats, count_in, with_more}
+use Rattle.droid_desk_progress.specs.WalkCounts.{CountsFormats, count_in, with_more}
 
 with_both : (n k more : ℕ) → with_more (with_more n k) more ≡ with_more n (k + more)
 with_both n zero more = ap (with_more n) (sym (zero-add more))
@@ -32,7 +32,7 @@ module _ {Y : Type 0} (before : BTreeMap (String Y) ℕ) where
   pub counts_all : (now : BTreeMap (String Y) ℕ) (puids : List (List ℕ)) (at : ℕ) → CountsFormats (take at puids) before now → length puids ≤ at → CountsFormats puids before now
   counts_all now puids at front all = subst (λ (ps : List (List ℕ)). CountsFormats ps before now) (take_all at puids all) front
 
--- one format was counted once more, and nothing else was changed
+-- one format was counted once more, and no other count changed
 module _ {Y : Type 0} (before after : BTreeMap (String Y) ℕ) (puid : List ℕ) (count next : ℕ) (its : next ≡ saturated (count + 1)) (there : count_in before puid ≡ count)
     (updates : (format : List ℕ) → get_by_text after format ≡ update bytes_eq (get_by_text before) puid (Some next) format) where
   at_format : (format : List ℕ) (same : Bool) → bytes_eq puid format ≡ same → count_in after format ≡ with_more (count_in before format) (count_by (λ p. bytes_eq p format) (puid ∷ []))

@@ -6,12 +6,12 @@ use Rattle.std.proofs.lemmas.Str.{IsCharBoundary-start, IsCharBoundary-end, IsCh
 use Rattle.unicode_width.specs.Width.{str_width}
 use Rattle.droid_desk_progress.specs.Cuts.{columns_of, IsFront, IsEnd}
 
--- where there is no text, no columns are taken
+-- an empty text takes no columns
 pub nothing_fits : (columns : ℕ) → columns_of [] ≤ columns
 unfolding str_width chars
 nothing_fits columns = omega arith
 
--- no front of so many bytes can be had where no character ends there
+-- a text can be cut only where a character ends
 pub no_front : (text : List ℕ) (count columns : ℕ) → IsUtf8 text → count ≤ length text
     → (0 ≤ count → IsCharBoundary text 0 → ¬ (IsCharBoundary text count)) → IsUtf8 (take count text) → columns < columns_of (take count text)
 no_front text count columns utf8 within none its =
@@ -22,7 +22,7 @@ pub no_end : (text : List ℕ) (from columns : ℕ) → from ≤ length text
 no_end text from columns within none its =
     absurd (none within (IsCharBoundary-from_drop text from within its) (IsCharBoundary-end text))
 
--- a front of so many bytes, where none of more of them has room
+-- a beginning that fits, where no longer one fits
 pub front_is : (text front : List ℕ) (columns most count : ℕ) → most ≤ length text → ((n : ℕ) → n ≤ length text → n ≤ columns * 4 → n ≤ most) → count ≤ most
     → front ≡ take count text → columns_of front ≤ columns
     → ((n : ℕ) → count < n → n ≤ most → IsUtf8 (take n text) → columns < columns_of (take n text))
@@ -35,7 +35,7 @@ front_is text front columns most count within all least its fits none =
       longest = λ n more small short utf8. none n (omega arith) (all n small short) utf8;
     }
 
--- the same of an end
+-- an end that fits, where no longer one fits
 pub end_is : (text end : List ℕ) (columns low from : ℕ) → from ≤ length text → ((n : ℕ) → length text ≤ n + columns * 4 → low ≤ n)
     → end ≡ drop from text → columns_of end ≤ columns
     → ((n : ℕ) → low ≤ n → n < from → IsUtf8 (drop n text) → columns < columns_of (drop n text))

@@ -1,4 +1,4 @@
--- Paths that are plain, and those that are no text.
+-- Paths that are plain, and paths that are not UTF-8.
 use Rattle.std.proofs.Common.{◌≡◌, ℕ, Bool, true, false, List, Some, None, IsUtf8, if◌then◌else◌, refl, sym, ap, ◌∙◌}
 use Rattle.std.specs.Char.{is_control}
 use Rattle.std.specs.List.{list_any}

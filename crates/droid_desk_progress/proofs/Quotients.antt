@@ -1,7 +1,7 @@
--- What a checked division answers.
+-- What a checked division returns.
 use Rattle.std.proofs.Common.{◌≡◌, ℕ, ◌/◌, ◌<◌, Option, Some, None, SomeIff, arith}
 use Rattle.std.proofs.lemmas.Bool.Decides.{nat_tests}
-use Rattle.droid_desk_progress.specs.HowFar.{quotient}
+use Rattle.droid_desk_progress.specs.Estimates.{quotient}
 
 pub quotient_is : (n by : ℕ) (r : Option ℕ) → SomeIff r (0 < by) (n / by) → r ≡ quotient n by
 unfolding quotient

@@ -6,7 +6,7 @@ use Rattle.droid_desk_progress.specs.Rhythms.{is_due, reported_at, is_within, Te
 use Rattle.droid_desk_progress.specs.declared.verbosity.Verbosity.{Verbosity}
 use Rattle.droid_desk_progress.specs.declared.verbosity.Verbosity.TheVariants.{Quiet, Lines, Terminal}
 
--- a line that is due comes a tenth of a second after the one before, or later
+-- a line comes at least a tenth of a second after the one before
 due_later : (verbosity : Verbosity) (reported now : ℕ) → is_due verbosity reported now ≡ true → reported + 100 ≤ now
 due_later Quiet reported now due = absurd (false≢true due)
 due_later Lines reported now due = omega (arith, leb-true 10_000 (now - reported) due)
@@ -18,7 +18,7 @@ within_bounds from now within =
     let parts = and_parts (nat_le from now) (nat_lt now (from + 1_000)) within in
     (leb-true from now parts.0, ltb-true now (from + 1_000) parts.1)
 
--- one moment more, which is no earlier than this
+-- one more moment, which is no earlier than this one
 one_more : (from low now count counted : ℕ) (within : Bool) → (within ≡ true → (from ≤ now) × (now < from + 1_000)) → low ≤ now
     → counted ≡ cond within 1 0 + count → count * 100 ≤ from + 1_099 - max (now + 100) from → counted * 100 ≤ from + 1_099 - max low from
 one_more from low now count counted true bounds late its few =

@@ -1,4 +1,4 @@
--- What the faults of a walk are called (this project's own).
+-- The names of a walk's errors (this project's own).
 use Rattle.std.specs.Prelude.{ℕ, List, codes}
 use Rattle.droid_tree.specs.declared.fault.WalkFault.{WalkFault}
 use Rattle.droid_tree.specs.declared.fault.WalkFault.TheVariants as walks

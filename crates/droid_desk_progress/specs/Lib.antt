@@ -1,11 +1,11 @@
 pub mod Cuts
 pub mod Faults
 pub mod Frequencies
-pub mod HowFar
+pub mod Estimates
 pub mod Lines
 pub mod Paths
 pub mod Rhythms
 pub mod Tables
-pub mod Tallies
+pub mod WalkCounts
 pub mod Reporters
 pub mod Units

@@ -4,26 +4,26 @@ use Rattle.droid_desk_progress.specs.Cuts.{columns_of, IsFront, IsEnd}
 use Rattle.droid_desk_progress.specs.declared.verbosity.Verbosity.{Verbosity}
 use Rattle.droid_desk_progress.specs.declared.verbosity.Verbosity.TheVariants.{Terminal}
 
--- how far it is, and behind it the end of the path, where there is one and so many columns have room for both
+-- the estimate and the end of the path; the estimate alone if the end is empty or if both do not fit
 unfoldable pub joined_text : ℕ → List ℕ → List ℕ → List ℕ
 joined_text columns far end =
     if length end == 0 then far
     else (if nat_le (columns_of (far ++ (codes ": " ++ end))) columns then far ++ (codes ": " ++ end) else far)
 
--- the front of how far it is, and of the path as it is told the end that has room behind it
-pub record IsLine (columns : ℕ) (progress path line : List ℕ) : Type 0 where
+-- the beginning of the estimate, and the longest end of the printed path that fits behind it
+pub record IsLine (columns : ℕ) (estimate path line : List ℕ) : Type 0 where
   pub far : List ℕ
   pub end : List ℕ
-  pub is_far : IsFront progress columns far
+  pub is_far : IsFront estimate columns far
   pub is_end : IsEnd path (columns - columns_of far - 2) end
   pub text : line ≡ joined_text columns far end
 
--- a line of its own; on a terminal, one that is written anew at the start of its line and cut where that ends
+-- a line with a line feed; on a terminal, one that replaces the line before and is cut at the terminal's width
 unfoldable pub framed_text : Verbosity → List ℕ → List ℕ
 framed_text Terminal line = 13 ∷ 27 ∷ (codes "[?7l" ++ (line ++ (27 ∷ (codes "[K" ++ (27 ∷ codes "[?7h")))))
 framed_text other line = line ++ 10 ∷ []
 
--- how many columns a line has at most
+-- how wide a line is at most
 abbrev pub columns_for : Verbosity → ℕ
 columns_for Terminal = 79
 columns_for other = 160

@@ -1,4 +1,4 @@
--- Paths and causes as they are told (this project's own).
+-- Paths and reasons as they are printed (this project's own).
 use Rattle.std.specs.Prelude.{ℕ, ◌/◌, ◌%◌, Bool, false, not, ◌&&◌, ◌||◌, List, [], ◌∷◌, ◌++◌, codes, chars, encode_utf8, flat_map, ◌==◌, nat_le, if◌then◌else◌}
 use Rattle.std.specs.Char.{is_control}
 use Rattle.std.specs.Fmt.{digits}
@@ -18,8 +18,8 @@ is_quoted byte = byte == 34 || byte == 39 || byte == 92
 abbrev pub is_printed : ℕ → Bool
 is_printed byte = nat_le 32 byte && nat_le byte 126
 
--- a byte with an escape: tabs and ends of lines by their letters, quotation marks and backslashes behind a backslash, what prints as it
--- is, and each other by its two digits of base 16
+-- A byte with escapes: tabs and ends of lines by their letters, quotation marks and backslashes after a backslash,
+-- printable ones as they are, and all others by two hexadecimal digits.
 unfoldable pub escaped_byte : ℕ → List ℕ
 escaped_byte byte =
     if byte == 9 then 92 ∷ 116 ∷ []
@@ -29,11 +29,11 @@ escaped_byte byte =
     else (if is_printed byte then encode_utf8 byte
     else 92 ∷ 120 ∷ (digits 16 false (byte / 16) ++ digits 16 false (byte % 16))))))
 
--- a path is told as it is, where it is plain, and else with escapes
+-- a plain path prints as it is, any other path with escapes
 unfoldable pub shown_text : List ℕ → List ℕ
 shown_text path = if is_plain path then path else flat_map escaped_byte path
 
--- that this was left out, and why
+-- the line for a skipped entry
 abbrev pub skipped_text : List ℕ → List ℕ → List ℕ
 skipped_text path cause = codes "left out: " ++ (path ++ (codes ": " ++ (cause ++ 10 ∷ [])))
 

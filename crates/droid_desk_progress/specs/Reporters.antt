@@ -1,10 +1,10 @@
--- What a reporter does with what it hears (this project's own).
+-- What a reporter does with what it is told (this project's own).
 use Rattle.std.specs.Prelude.{ℕ}
 use Rattle.droid_tree.specs.Heard.{Heard}
 use Rattle.droid_desk_progress.specs.Rhythms.{IsReported}
-use Rattle.droid_desk_progress.specs.Tallies.{Hears}
+use Rattle.droid_desk_progress.specs.WalkCounts.{Hears}
 use Rattle.droid_desk_progress.specs.declared.reporter.Reporter.{Reporter}
 
--- it counts it, and tells how far it is where that is due
+-- it counts, and prints progress when that is due
 abbrev pub ReporterHears : {R : Type 0} → Reporter R → Heard → Reporter R → Type 0
 ReporterHears old heard new = Hears old.totals heard new.totals × IsReported old.verbosity old.reported new.verbosity new.reported

@@ -1,34 +1,34 @@
--- What is told at the end (this project's own).
+-- The text of the summary (this project's own).
 use Rattle.std.specs.Prelude.{ℕ, List, [], ◌∷◌, ◌++◌, Option, Some, None, codes, decimal, ◌==◌, if◌then◌else◌}
 use Rattle.std.specs.List.{flat_map}
-use Rattle.droid_desk_progress.specs.declared.frequent.Frequent.{Frequent}
-use Rattle.droid_desk_progress.specs.declared.tally.Tally.{Tally}
+use Rattle.droid_desk_progress.specs.declared.format_counts.FormatCount.{FormatCount}
+use Rattle.droid_desk_progress.specs.declared.counts.Counts.{Counts}
 
 -- a name and a number in a line
 unfoldable pub count_line : List ℕ → ℕ → List ℕ
 count_line name count = name ++ (codes ": " ++ (decimal count ++ 10 ∷ []))
 
-unfoldable pub format_line : Frequent → List ℕ
+unfoldable pub format_line : FormatCount → List ℕ
 format_line format = codes "format " ++ count_line format.puid format.count
 
--- the formats, or that there was no memory for them
-unfoldable pub formats_text : Option (List Frequent) → List ℕ
+-- the formats, or that there was no memory to count them
+unfoldable pub formats_text : Option (List FormatCount) → List ℕ
 formats_text None = codes "formats: there was no memory to count them" ++ 10 ∷ []
 formats_text (Some reported) = flat_map format_line reported
 
--- how many bytes need not be read, where there are such
+-- the bytes that the service already held, unless they are 0
 abbrev pub held_text : ℕ → List ℕ
 held_text held = if held == 0 then [] else count_line (codes "bytes that were there") held
 
-unfoldable pub table_text : Tally → Option (List Frequent) → List ℕ
-table_text tally formats =
-    count_line (codes "folders and files") tally.taken
-    ++ (count_line (codes "files by signature") tally.by_signature
-    ++ (count_line (codes "files by extension") tally.by_extension
-    ++ (count_line (codes "files not identified") tally.unidentified
-    ++ (count_line (codes "mismatches") tally.mismatches
+unfoldable pub table_text : Counts → Option (List FormatCount) → List ℕ
+table_text counts formats =
+    count_line (codes "folders and files") counts.taken
+    ++ (count_line (codes "files by signature") counts.by_signature
+    ++ (count_line (codes "files by extension") counts.by_extension
+    ++ (count_line (codes "files not identified") counts.unidentified
+    ++ (count_line (codes "mismatches") counts.mismatches
     ++ (formats_text formats
-    ++ (held_text tally.held ++ count_line (codes "bytes read") tally.bytes))))))
+    ++ (held_text counts.held ++ count_line (codes "bytes read") counts.bytes))))))
 
 abbrev pub seconds_text : Option ℕ → List ℕ
 seconds_text None = []

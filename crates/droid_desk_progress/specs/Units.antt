@@ -1,18 +1,18 @@
--- Numbers of bytes and of seconds, as they are told (this project's own).
+-- Numbers of bytes and of seconds as they are printed (this project's own).
 use Rattle.std.specs.Prelude.{ℕ, ◌-◌, ◌*◌, ◌/◌, ◌%◌, ◌^◌, min, max, List, ◌++◌, codes, decimal, nat_lt, if◌then◌else◌}
 
--- the number, or the greatest one that there is room for
+-- the number, or the greatest that fits 64 bits
 abbrev pub saturated : ℕ → ℕ
 saturated n = min n (2 ^ 64 - 1)
 
--- the unit in which so many bytes are told: the first one in which they have four digits at most, or the last one
+-- the unit for a number of bytes: the first in which it has at most four digits, or GB
 unfoldable pub unit_bytes : ℕ → ℕ
 unit_bytes n = if nat_lt n 10_000 then 1 else (if nat_lt n 10_000_000 then 1_000 else (if nat_lt n 10_000_000_000 then 1_000_000 else 1_000_000_000))
 
 unfoldable pub unit_name : ℕ → List ℕ
 unit_name n = if nat_lt n 10_000 then codes "bytes" else (if nat_lt n 10_000_000 then codes "kB" else (if nat_lt n 10_000_000_000 then codes "MB" else codes "GB"))
 
--- how many a second, of so many in so many milliseconds; less than one millisecond counts as one
+-- how many per second, given the milliseconds; less than one millisecond counts as one
 abbrev pub rate_of : ℕ → ℕ → ℕ
 rate_of count milliseconds = saturated (count * 1_000) / max milliseconds 1
 

@@ -1,4 +1,4 @@
-//! Texts cut to a number of columns.
+//! Cuts texts to a number of columns.
 
 ghost use Rattle.std.specs.Prelude.{◌≡◌, ◌<◌, ◌≤◌, length, take, drop, IsUtf8, MatchOption};
 ghost use Rattle.droid_desk_progress.specs.Cuts.{columns_of, IsEnd, IsFront};
@@ -8,7 +8,7 @@ use unicode_width::UnicodeWidthStr;
 /// How many bytes a character has at most.
 const CHARACTER: usize = 4;
 
-/// The end of a text, as long as so many columns have room for.
+/// Returns the longest end of a text that fits these columns.
 pub(crate) fn end_within(text: &str, columns: usize) -> &str
     ensures { IsEnd text.now columns result.now }
 {
@@ -21,7 +21,7 @@ pub(crate) fn end_within(text: &str, columns: usize) -> &str
     ""
 }
 
-/// The text from this byte on, where a character begins there and so many columns have room for it.
+/// Returns the text from this byte on, if a character begins there and the text fits the columns.
 fn end_from(text: &str, from: usize, columns: usize) -> Option<&str>
     ensures { from < length text.now → MatchOption result (IsUtf8 (drop from text.now) → columns < columns_of (drop from text.now)) (λ end. (end.now ≡ drop from text.now) × (columns_of end.now ≤ columns)) }
 {
@@ -34,7 +34,7 @@ fn end_from(text: &str, from: usize, columns: usize) -> Option<&str>
     Some(end)
 }
 
-/// The front of a text, as long as so many columns have room for.
+/// Returns the longest beginning of a text that fits these columns.
 pub(crate) fn front_within(text: &str, columns: usize) -> &str
     ensures { IsFront text.now columns result.now }
 {
@@ -47,7 +47,7 @@ pub(crate) fn front_within(text: &str, columns: usize) -> &str
     ""
 }
 
-/// So many bytes at the front of the text, where a character ends there and so many columns have room for them.
+/// Returns the first `count` bytes of the text, if a character ends there and they fit the columns.
 fn front_of(text: &str, count: usize, columns: usize) -> Option<&str>
     ensures { count ≤ length text.now → MatchOption result (IsUtf8 (take count text.now) → columns < columns_of (take count text.now)) (λ front. (front.now ≡ take count text.now) × (columns_of front.now ≤ columns)) }
 {

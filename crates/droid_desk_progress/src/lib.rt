@@ -1,25 +1,25 @@
-//! What is told on standard error while a tree is walked: what is left out, how far it is, and at the end what was done.
+//! Prints on standard error what a walk does: skipped entries, progress, and a summary at the end.
 //!
-//! Which text is told is proved; that it is printed, and when the clock is asked, are for tests, since the kit's own calls
-//! that print and tell the time promise nothing.
+//! The texts are proved. That they are printed, and when the clock is read, is tested, since the kit promises nothing
+//! about printing and about the clock.
 #![tactic(auto)]
 
 mod columns;
-mod escaped;
-mod faults;
-mod frequent;
+mod counts;
+mod escapes;
+mod estimate;
+mod fault_names;
+mod format_counts;
 pub mod laws;
 mod line;
 mod measures;
-mod progress;
+mod path_text;
 mod reporter;
-mod shown;
 mod table;
-mod tally;
 mod totals;
 mod verbosity;
 
-pub use faults::walk_fault_name;
+pub use fault_names::walk_fault_name;
+pub use path_text::Shown;
 pub use reporter::Reporter;
-pub use shown::Shown;
 pub use verbosity::Verbosity;

@@ -1,40 +1,40 @@
-//! A line of progress, no wider than there is room for.
+//! A line of progress, cut to the columns there are.
 
 ghost use Rattle.std.specs.Prelude.{◌≡◌, ◌≤◌, IfOk, Some};
 ghost use Rattle.droid_desk_progress.specs.Cuts.{columns_of};
-ghost use Rattle.droid_desk_progress.specs.HowFar.{progress_text};
+ghost use Rattle.droid_desk_progress.specs.Estimates.{estimate_text};
 ghost use Rattle.droid_desk_progress.specs.Lines.{columns_for, framed_text, joined_text, IsLine};
 ghost use Rattle.droid_desk_progress.specs.Paths.{shown_text};
 
 use crate::columns::{end_within, front_within};
-use crate::progress::Progress;
-use crate::shown::Shown;
+use crate::estimate::Estimate;
+use crate::path_text::Shown;
 use crate::verbosity::Verbosity;
 use droid_frame::Text;
 use std::alloc::{AllocError, Global};
 use std::fmt::{self, Display, Formatter, Write};
 use unicode_width::UnicodeWidthStr;
 
-/// How many columns stand between how far it is and the path.
+/// How many columns stand between the estimate and the path.
 const BETWEEN: usize = 2;
 
-/// How many columns a line of progress has at most.
+/// How wide a line of progress is at most, in columns.
 const LINE_COLUMNS: usize = 160;
 
-/// The same on a terminal: one less than the narrowest usual one has. A narrower one is told to cut the line.
+/// How wide it is at most on a terminal: one column less than 80. A narrower terminal is told to cut the line.
 const TERMINAL_COLUMNS: usize = 79;
 
-/// How far it is, and the end of the path at hand, as long as so many columns have room for it.
+/// Returns the estimate and the end of the path, within these columns.
 pub(crate) fn line_of(
     alloc: Global,
-    progress: Progress,
+    estimate: Estimate,
     path: &str,
     columns: usize,
 ) -> Result<Text, AllocError>
     ensures width { IfOk result (λ line. columns_of line ≤ columns) }
-    ensures line { IfOk result (λ line. IsLine columns (progress_text progress) (shown_text path.now) line) }
+    ensures line { IfOk result (λ line. IsLine columns (estimate_text estimate) (shown_text path.now) line) }
 {
-    let far = format!(in alloc; "{progress}")?;
+    let far = format!(in alloc; "{estimate}")?;
     let far = front_within(far.as_str(), columns);
     let shown = format!(in alloc; "{}", Shown(path.as_bytes()))?;
     let room = columns.saturating_sub(far.width()).saturating_sub(BETWEEN);
@@ -43,7 +43,8 @@ pub(crate) fn line_of(
     Ok(line)
 }
 
-/// How far it is, and the end of a path, where there is one and so many columns have room for both.
+/// Joins the estimate and the end of the path. Returns the estimate alone if the end is empty or if both do not fit the
+/// columns.
 #[tactic(auto, unfolding(crate::specs::Lines::joined_text))]
 fn joined(alloc: Global, far: &str, end: &str, columns: usize) -> Result<Text, AllocError>
     ensures { IfOk result (λ line. line ≡ joined_text columns far.now end.now) }
@@ -58,10 +59,10 @@ fn joined(alloc: Global, far: &str, end: &str, columns: usize) -> Result<Text, A
     Ok(Text::from(line))
 }
 
-/// A line of progress as it is written: on a terminal at the start of its line, and cut where that ends.
+/// A line of progress as it is written. On a terminal it replaces the line before and is cut at the terminal's width.
 #[derive(Clone, Copy)]
 pub(crate) struct Framed<'a> {
-    /// How much is told.
+    /// How much is printed.
     pub verbosity: Verbosity,
     /// The line.
     pub line: &'a str,
@@ -80,7 +81,7 @@ impl Display for Framed<'_> {
     }
 }
 
-/// How many columns a line of progress has at most.
+/// Returns how wide a line of progress is at most, in columns.
 pub(crate) fn columns_for(verbosity: Verbosity) -> usize
     ensures { result ≡ columns_for verbosity }
 {

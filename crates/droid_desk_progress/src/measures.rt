@@ -1,20 +1,20 @@
-//! Numbers of bytes and of seconds, as they are told.
+//! Prints numbers of bytes and of seconds.
 
 ghost use Rattle.std.specs.Prelude.{◌≡◌, ◌<◌, Some};
 ghost use Rattle.droid_desk_progress.specs.Units.{rate_of, span_text, speed_text, unit_bytes, unit_name};
 
 use std::fmt::{self, Display, Formatter, Write};
 
-/// A unit in which numbers of bytes are told.
+/// A unit of bytes.
 #[derive(Clone, Copy)]
 pub(crate) struct Unit {
     /// How many bytes it is.
     pub bytes: u64,
-    /// What it is called.
+    /// Its name.
     pub name: &'static str,
 }
 
-/// The unit in which so many bytes are told: the first one in which they have four digits at most, or the last one.
+/// Returns the unit for a number of bytes: the first in which it has at most four digits, or GB.
 #[tactic(auto, unfolding(crate::specs::Units::unit_bytes, crate::specs::Units::unit_name))]
 pub(crate) fn unit_for(bytes: u64) -> Unit
     ensures some { 0 < result.bytes }
@@ -30,14 +30,14 @@ pub(crate) fn unit_for(bytes: u64) -> Unit
     Unit { bytes, name }
 }
 
-/// How many a second there are, of so many in so many milliseconds.
+/// Returns how many per second, given a number and the milliseconds it took.
 pub(crate) fn rate(count: u64, milliseconds: u64) -> u64
     ensures { result ≡ rate_of count milliseconds }
 {
     count.saturating_mul(1_000) / milliseconds.max(1)
 }
 
-/// So many bytes a second, as they are told.
+/// A number of bytes per second.
 #[derive(Clone, Copy)]
 pub(crate) struct Speed(pub u64);
 
@@ -51,7 +51,7 @@ impl Display for Speed {
     }
 }
 
-/// So many seconds, as they are told: in seconds, minutes, or hours and minutes.
+/// A number of seconds. Prints as seconds, as minutes, or as hours and minutes.
 #[derive(Clone, Copy)]
 pub(crate) struct Span(pub u64);
 

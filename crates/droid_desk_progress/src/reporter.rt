@@ -1,14 +1,14 @@
-//! Who tells on standard error what a walk does.
+//! Prints on standard error what a walk does.
 
 ghost use Rattle.std.specs.Prelude.{◌≡◌, ◌⊎◌, true};
-ghost use Rattle.droid_desk_progress.specs.HowFar.{amount_of};
+ghost use Rattle.droid_desk_progress.specs.Estimates.{amount_of};
 ghost use Rattle.droid_desk_progress.specs.Rhythms.{is_due, IsReported};
 ghost use Rattle.droid_desk_progress.specs.Reporters.{ReporterHears};
 
-use crate::frequent::most_frequent;
+use crate::estimate::{Amount, Estimate};
+use crate::format_counts::most_frequent;
 use crate::line::{Framed, columns_for, line_of};
-use crate::progress::{Amount, Progress};
-use crate::shown::NotTaken;
+use crate::path_text::SkippedLine;
 use crate::table::{CountLine, Table, Took};
 use crate::totals::Totals;
 use crate::verbosity::{Verbosity, is_due};
@@ -17,7 +17,7 @@ use droid_tree::{Counted, Skipped, Watcher};
 use std::alloc::Global;
 use std::time::{Clock, Instant};
 
-/// Tells on standard error what is left out, how far it is, and at the end what was done.
+/// Prints skipped entries, progress, and a summary at the end.
 #[derive(Drop)]
 pub struct Reporter<'a, R> {
     runtime: &'a R,
@@ -30,7 +30,7 @@ pub struct Reporter<'a, R> {
 }
 
 impl<'a, R: Eprint + Clock> Reporter<'a, R> {
-    /// Nothing is told so far, and nothing known of what there is.
+    /// Makes a reporter that has printed nothing and does not know how large the tree is.
     pub fn new(runtime: &'a R, alloc: Global, verbosity: Verbosity) -> Reporter<'a, R> {
         Reporter {
             runtime,
@@ -43,7 +43,7 @@ impl<'a, R: Eprint + Clock> Reporter<'a, R> {
         }
     }
 
-    /// Takes it that there is so much.
+    /// Sets the size of the tree.
     pub fn expect(&mut self, counted: Counted)
         ensures all { self.new.all ≡ amount_of counted }
         ensures totals { self.new.totals ≡ self.old.totals }
@@ -51,7 +51,7 @@ impl<'a, R: Eprint + Clock> Reporter<'a, R> {
         self.all = Amount::of(counted);
     }
 
-    /// Tells how far it is, where that was not told just before.
+    /// Prints a line of progress if one is due.
     fn print_progress(&mut self, path: &str)
         ensures totals { self.new.totals ≡ self.old.totals }
         ensures reported { IsReported self.old.verbosity self.old.reported self.new.verbosity self.new.reported }
@@ -68,41 +68,41 @@ impl<'a, R: Eprint + Clock> Reporter<'a, R> {
         }
     }
 
-    /// How many milliseconds it took so far.
+    /// Returns the milliseconds since the walk began.
     fn milliseconds(&self) -> Option<u64> {
         let begun = self.begun?;
         let now = Instant::now(self.runtime).ok()?;
         u64::try_from(now.saturating_duration_since(begun).as_millis()).ok()
     }
 
-    /// Tells how far it is. Where there is no memory for it, nothing is told.
+    /// Prints a line of progress. If there is no memory for it, prints nothing.
     fn print_line(&self, path: &str, milliseconds: u64) {
-        let progress = Progress {
+        let estimate = Estimate {
             all: self.all,
-            done: self.totals.tally.done(),
+            done: self.totals.counts.done(),
             milliseconds,
         };
         let verbosity = self.verbosity;
-        let Ok(line) = line_of(self.alloc, progress, path, columns_for(verbosity)) else {
+        let Ok(line) = line_of(self.alloc, estimate, path, columns_for(verbosity)) else {
             return;
         };
         let line = line.as_str();
         let _ = eprint!(self.runtime; "{}", Framed { verbosity, line });
     }
 
-    /// Takes the line of progress from a terminal.
+    /// Removes the line of progress from a terminal.
     pub fn clear(&self) {
         if self.verbosity == Verbosity::Terminal {
             let _ = eprint!(self.runtime; "\r\x1b[K");
         }
     }
 
-    /// Tells what was done, at the end.
+    /// Prints the summary.
     pub fn end(self) {
         self.clear();
         let skipped = CountLine {
             name: "left out in all",
-            count: self.totals.tally.skipped,
+            count: self.totals.counts.skipped,
         };
         if self.verbosity == Verbosity::Quiet && skipped.count == 0 {
             return;
@@ -113,18 +113,18 @@ impl<'a, R: Eprint + Clock> Reporter<'a, R> {
         }
     }
 
-    /// Tells the table, and how long it took.
+    /// Prints the counts, and how long the walk took.
     fn print_table(&self) {
         let took = Took(self.milliseconds().map(|milliseconds| milliseconds / 1_000));
-        let tally = self.totals.tally;
+        let counts = self.totals.counts;
         match most_frequent(self.alloc, &self.totals.formats) {
             Ok(frequent) if self.totals.has_all_formats => {
                 let formats = Some(frequent.as_slice());
-                let _ = eprint!(self.runtime; "{}{took}", Table { tally, formats });
+                let _ = eprint!(self.runtime; "{}{took}", Table { counts, formats });
             }
             _ => {
                 let formats = None;
-                let _ = eprint!(self.runtime; "{}{took}", Table { tally, formats });
+                let _ = eprint!(self.runtime; "{}{took}", Table { counts, formats });
             }
         }
     }
@@ -134,28 +134,28 @@ impl<R: Eprint + Clock> Watcher for Reporter<'_, R> {
     ghost hears = { λ old heard new. ReporterHears old heard new };
 
     fn skipped(&mut self, path: &[u8], why: Skipped) {
-        self.totals.tally.count_skipped();
+        self.totals.counts.count_skipped();
         self.clear();
-        let _ = eprint!(self.runtime; "{}", NotTaken { path, why });
+        let _ = eprint!(self.runtime; "{}", SkippedLine { path, why });
     }
 
     fn held(&mut self, path: &str, count: u64) {
-        self.totals.tally.count_held(count);
+        self.totals.counts.count_held(count);
         self.print_progress(path);
     }
 
     fn took_bytes(&mut self, path: &str, count: u32) {
-        self.totals.tally.count_bytes(count);
+        self.totals.counts.count_bytes(count);
         self.print_progress(path);
     }
 
     fn took_folder(&mut self, path: &str) {
-        self.totals.tally.count_taken();
+        self.totals.counts.count_taken();
         self.print_progress(path);
     }
 
     fn took_file(&mut self, path: &str, found: &Reply) {
-        self.totals.tally.count_taken();
+        self.totals.counts.count_taken();
         self.totals.count_found(found);
         self.print_progress(path);
     }

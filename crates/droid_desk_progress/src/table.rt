@@ -1,11 +1,11 @@
-//! The table of what a walk did.
+//! The table of the summary.
 
 ghost use Rattle.std.specs.Prelude.{Some, option_map, flat_map};
 ghost use Rattle.std.specs.Fmt.{WritesOnOk};
 ghost use Rattle.droid_desk_progress.specs.Tables.{count_line, format_line, formats_text, held_text, seconds_text, table_text};
 
-use crate::frequent::Frequent;
-use crate::tally::Tally;
+use crate::counts::Counts;
+use crate::format_counts::FormatCount;
 use std::fmt::{self, Display, Formatter, Write};
 
 /// A name and a number, in a line.
@@ -13,7 +13,7 @@ use std::fmt::{self, Display, Formatter, Write};
 pub(crate) struct CountLine<'a> {
     /// What is counted.
     pub name: &'a str,
-    /// How much of it there is.
+    /// The number.
     pub count: u64,
 }
 
@@ -26,46 +26,46 @@ impl Display for CountLine<'_> {
     }
 }
 
-/// The table of what a walk did. Without formats there was no memory to count them.
+/// The table of the summary.
 #[derive(Clone, Copy)]
 pub(crate) struct Table<'a> {
     /// The numbers.
-    pub tally: Tally,
-    /// The most frequent formats.
-    pub formats: Option<&'a [Frequent]>,
+    pub counts: Counts,
+    /// The most frequent formats. `None` if there was no memory to count them.
+    pub formats: Option<&'a [FormatCount]>,
 }
 
 impl Display for Table<'_> {
-    ghost output = { λ table. Some (table_text table.tally (option_map (λ formats. formats.now) table.formats)) };
+    ghost output = { λ table. Some (table_text table.counts (option_map (λ formats. formats.now) table.formats)) };
 
     #[tactic(auto, unfolding(crate::specs::Tables::table_text))]
     fn fmt<W: Write>(&self, f: &mut Formatter<W>) -> fmt::Result {
-        let Table { tally, formats } = *self;
+        let Table { counts, formats } = *self;
         let taken = CountLine {
             name: "folders and files",
-            count: tally.taken,
+            count: counts.taken,
         };
         let by_signature = CountLine {
             name: "files by signature",
-            count: tally.by_signature,
+            count: counts.by_signature,
         };
         let by_extension = CountLine {
             name: "files by extension",
-            count: tally.by_extension,
+            count: counts.by_extension,
         };
         let unidentified = CountLine {
             name: "files not identified",
-            count: tally.unidentified,
+            count: counts.unidentified,
         };
         let mismatches = CountLine {
             name: "mismatches",
-            count: tally.mismatches,
+            count: counts.mismatches,
         };
         let formats = Formats(formats);
-        let held = Held(tally.held);
+        let held = Held(counts.held);
         let bytes = CountLine {
             name: "bytes read",
-            count: tally.bytes,
+            count: counts.bytes,
         };
         write!(
             f,
@@ -76,7 +76,7 @@ impl Display for Table<'_> {
 
 /// The most frequent formats, or that there was no memory to count them.
 #[derive(Clone, Copy)]
-struct Formats<'a>(Option<&'a [Frequent]>);
+struct Formats<'a>(Option<&'a [FormatCount]>);
 
 impl Display for Formats<'_> {
     ghost output = { λ formats. Some (formats_text (option_map (λ reported. reported.now) formats.0)) };
@@ -90,7 +90,7 @@ impl Display for Formats<'_> {
     }
 }
 
-fn write_formats<W: Write>(f: &mut Formatter<W>, reported: &[Frequent]) -> fmt::Result
+fn write_formats<W: Write>(f: &mut Formatter<W>, reported: &[FormatCount]) -> fmt::Result
     ensures { WritesOnOk W.write_str_gives f.old result (flat_map format_line reported.now) f.new }
 {
     for format in reported {
@@ -99,7 +99,7 @@ fn write_formats<W: Write>(f: &mut Formatter<W>, reported: &[Frequent]) -> fmt::
     Ok(())
 }
 
-impl Display for Frequent {
+impl Display for FormatCount {
     ghost output = { λ format. Some (format_line format) };
 
     #[tactic(auto, unfolding(crate::specs::Tables::format_line))]
@@ -112,7 +112,7 @@ impl Display for Frequent {
     }
 }
 
-/// How many bytes need not be read, where there are such.
+/// Bytes that the service already held. Prints nothing for 0.
 #[derive(Clone, Copy)]
 struct Held(u64);
 
@@ -131,7 +131,7 @@ impl Display for Held {
     }
 }
 
-/// How long it took, where the clock tells.
+/// How many seconds the walk took. Prints nothing if the clock failed.
 #[derive(Clone, Copy)]
 pub(crate) struct Took(pub Option<u64>);
 

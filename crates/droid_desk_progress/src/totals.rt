@@ -1,42 +1,42 @@
-//! What a walk did so far.
+//! Counts entries and formats of a walk.
 
 ghost use Rattle.std.specs.Prelude.{◌≡◌, [], ◌∷◌, OnOk};
-ghost use Rattle.droid_desk_progress.specs.Tallies.{after_found, puids_of, CountsFormats, KeepsFormats};
+ghost use Rattle.droid_desk_progress.specs.WalkCounts.{after_found, puids_of, CountsFormats, KeepsFormats};
 
-use crate::tally::Tally;
+use crate::counts::Counts;
 use droid_frame::{Reply, Text, Texts};
 use std::alloc::{AllocError, Global};
 use std::collections::BTreeMap;
 
-/// Counts of a walk.
+/// The totals of a walk.
 #[derive(Drop)]
 pub(crate) struct Totals {
     alloc: Global,
-    /// How much of each there was.
-    pub tally: Tally,
+    /// The counts of entries, files and bytes.
+    pub counts: Counts,
     /// How many files have each format.
     pub formats: BTreeMap<String, u64>,
-    /// Whether all formats are counted: there was memory for them.
+    /// Whether all formats were counted. False after memory ran out.
     pub has_all_formats: bool,
 }
 
 impl Totals {
-    /// Nothing so far.
+    /// Starts with zeros.
     pub fn new(alloc: Global) -> Totals {
         Totals {
             alloc,
-            tally: Tally::none(),
+            counts: Counts::none(),
             formats: BTreeMap::new(alloc),
             has_all_formats: true,
         }
     }
 
-    /// Counts what was found in a file, by the reply that finished it.
+    /// Counts the formats of a file, by the reply that finished it.
     pub fn count_found(&mut self, found: &Reply)
-        ensures tally { self.new.tally ≡ after_found found.now self.old.tally }
+        ensures counts { self.new.counts ≡ after_found found.now self.old.counts }
         ensures formats { KeepsFormats (puids_of found.now) self.old self.new }
     {
-        self.tally.count_found(found);
+        self.counts.count_found(found);
         let Reply::Finished { puids, .. } = found else {
             return;
         };
@@ -46,7 +46,7 @@ impl Totals {
     }
 }
 
-/// Counts each of these formats once more. Where memory is refused, some of them are counted.
+/// Counts each of these formats once. If memory runs out, only some are counted.
 fn count_formats(
     alloc: Global,
     formats: &mut BTreeMap<String, u64>,
@@ -60,7 +60,7 @@ fn count_formats(
     Ok(())
 }
 
-/// Counts a format once more.
+/// Counts a format once.
 fn count_format(
     alloc: Global,
     formats: &mut BTreeMap<String, u64>,

@@ -1,4 +1,4 @@
--- A walk that left nothing out.
+-- A walk that skipped nothing.
 use Rattle.std.proofs.Common.{◌≡◌, ℕ, Bool, true, false, List, [], ◌∷◌, map, Option, Some, None, refl, sym, ◌∙◌}
 use Rattle.std.specs.Prelude.{IsPermutation, is_some}
 use Rattle.std.specs.List.{list_all, AllByRecursion}
@@ -8,8 +8,8 @@ use Rattle.droid_tree.specs.Heard.{Heard}
 use Rattle.droid_tree.specs.Observation.{Observation}
 use Rattle.droid_tree.specs.Visits.{Kid, Subfolder, WholeFile, OtherKind, NoText, RefusedFolder, RefusedFile, DroppedFile, WholeRest, DroppedRest, Visit, AreThose, IsKid, IsOutcome, IsVisit, IsVisited, entry_of, is_full, is_taken}
 use Rattle.droid_tree.specs.Walks.{Walks, WalksWhole}
-use Rattle.droid_tree.specs.declared.entry.Entry.{Entry}
-use Rattle.droid_tree.specs.declared.walking.Options.{Options}
+use Rattle.droid_tree.specs.declared.folder_entry.FolderEntry.{FolderEntry}
+use Rattle.droid_tree.specs.declared.tree_walk.Options.{Options}
 
 module _ (piece_size : ℕ) where
   kid_taken : (kid : Kid) → is_taken kid ≡ true → IsOutcome piece_size kid → IsKid piece_size kid
@@ -20,19 +20,19 @@ module _ (piece_size : ℕ) where
   kid_taken (RefusedFolder entry refusal) taken is = absurd cc
   kid_taken (RefusedFile entry refusal) taken is = absurd cc
   kid_taken (DroppedFile entry number sent stop) taken is = absurd cc
-  kid_taken (WholeRest entry number far from sent found) taken is = let goes : false ≡ true = is.0.goes in absurd cc
-  kid_taken (DroppedRest entry number far from sent stop) taken is = absurd cc
+  kid_taken (WholeRest entry number status from sent found) taken is = let goes : false ≡ true = is.0.goes in absurd cc
+  kid_taken (DroppedRest entry number status from sent stop) taken is = absurd cc
 
   kids_taken : (kids : List Kid) → list_all is_taken kids ≡ true → AllByRecursion (IsOutcome piece_size) kids → AllByRecursion (IsKid piece_size) kids
   kids_taken [] taken are = tt
   kids_taken (kid ∷ kids) taken are = let both = and_parts (is_taken kid) (list_all is_taken kids) taken in (kid_taken kid both.0 are.0, kids_taken kids both.1 are.1)
 
-  record Listed (observed : Option (List Entry)) (entries : List Entry) : Type 0 where
-    listed : List Entry
+  record Listed (observed : Option (List FolderEntry)) (entries : List FolderEntry) : Type 0 where
+    listed : List FolderEntry
     its : observed ≡ Some listed
     same : IsPermutation listed entries
 
-  was_listed : (observed : Option (List Entry)) (entries : List Entry) → is_some observed ≡ true → AreThose observed entries → Listed observed entries
+  was_listed : (observed : Option (List FolderEntry)) (entries : List FolderEntry) → is_some observed ≡ true → AreThose observed entries → Listed observed entries
   was_listed None entries is same = absurd cc
   was_listed (Some listed) entries is same = record { listed = listed; its = refl; same = same }
 

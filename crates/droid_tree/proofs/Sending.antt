@@ -35,7 +35,7 @@ spells_piece profile file index begun bytes body header is ranges all =
 
 -- ---- what was read of a file, or why nothing was
 
--- all came, or fewer
+-- all bytes came, or fewer
 pub came_all : {T A : Type 0} (observes : T → Observation → T → Type 0) (path : List ℕ) (from wanted count : ℕ) (before after : List ℕ) (tree tree_after : T) (read : Result A Skipped)
     → BytesCame observes tree path from wanted before after tree_after → count ≡ length after - length before
     → MatchResult read (λ _. count ≡ wanted) (λ why. (why ≡ reasons.Changed) × (count ≢ wanted))
@@ -108,7 +108,7 @@ module _ {T X W : Type 0} (observes : T → Observation → T → Type 0) (asks 
   one_more_sent count from wanted added held tree tree_now tree_after exchange exchange_now exchange_after watcher watcher_now watcher_after front next heard due some same =
       let piece : Sent = (next.bytes, held) in
       let behind : from ≡ start + length (bytes_of front.sent) = sym front.joined in
-      let place : count ≡ first + length front.sent = sym front.counted in
+      let folder : count ≡ first + length front.sent = sym front.counted in
       let within : from < size = omega (arith, due, some) in
       let read : observes tree_now (Read path from (length next.bytes) next.bytes) tree_after = subst (λ n. observes tree_now (Read path from n next.bytes) tree_after) (sym next.counted) next.observed in
       let noted : hears watcher_now (TookBytes path (length next.bytes)) watcher_after = subst (λ n. hears watcher_now (TookBytes path n) watcher_after) (sym next.counted) heard in
@@ -120,7 +120,7 @@ module _ {T X W : Type 0} (observes : T → Observation → T → Type 0) (asks 
         cut = cut_more piece_size size start from front.sent piece behind within (next.counted ∙ due) front.cut;
         observed = subst (λ (l : List Observation). GoesOver observes tree l tree_after) (sym (reads_more path start from front.sent piece behind))
             (over_more observes tree tree_now tree_after (reads_from path start front.sent) (Read path from (length next.bytes) next.bytes ∷ []) front.observed (over_one observes tree_now tree_after _ read));
-        asked = subst (λ (l : List Asked). GoesOver asks exchange l exchange_after) (sym (pieces_more profile file first count front.sent piece place))
+        asked = subst (λ (l : List Asked). GoesOver asks exchange l exchange_after) (sym (pieces_more profile file first count front.sent piece folder))
             (over_more asks exchange exchange_now exchange_after (pieces_from profile file first front.sent) ((Piece profile file count next.bytes, replies.Taken held) ∷ []) front.asked (over_one asks exchange_now exchange_after _ next.asked));
         heard = subst (λ (l : List Heard). GoesOver hears watcher l watcher_after) (sym (map-append (λ (p : Sent). TookBytes path (length p.0)) front.sent (piece ∷ [])))
             (over_more hears watcher watcher_now watcher_after (pieces_heard path front.sent) (TookBytes path (length next.bytes) ∷ []) front.heard (over_one hears watcher_now watcher_after _ noted));

@@ -8,12 +8,12 @@ use Rattle.droid_tree.specs.Counts.{Item, AFolder, AFile, NoNode, Adds, Listing,
 use Rattle.droid_tree.specs.Steps.{ListsInOrder}
 use Rattle.droid_tree.specs.Observation.{Observation, Unlisted, GoesOver}
 use Rattle.droid_tree.specs.Visits.{AreInOrder, below}
-use Rattle.droid_tree.specs.declared.counting.Counted.{Counted}
-use Rattle.droid_tree.specs.declared.entry.Entry.{Entry}
-use Rattle.droid_tree.specs.declared.entry.EntryKind.TheVariants as kinds
+use Rattle.droid_tree.specs.declared.tree_size.Counted.{Counted}
+use Rattle.droid_tree.specs.declared.folder_entry.FolderEntry.{FolderEntry}
+use Rattle.droid_tree.specs.declared.folder_entry.EntryKind.TheVariants as kinds
 use Rattle.droid_tree.specs.declared.skipped.Skipped.{Skipped}
 use Rattle.droid_tree.specs.declared.skipped.Skipped.TheVariants as reasons
-use Rattle.droid_tree.specs.declared.place.Place.{Place}
+use Rattle.droid_tree.specs.declared.pending_folder.PendingFolder.{PendingFolder}
 use Rattle.droid_tree.proofs.Entries.{given_more}
 use Rattle.droid_tree.proofs.Runs.{over_one, over_more, all_more}
 
@@ -22,7 +22,7 @@ one_sum f xs x = sum_by-append f xs (x ∷ []) ∙ omega arith
 
 -- ---- an entry
 
-module _ (path : List ℕ) (entry : Entry) (before after : Counted) (waiting : List Place) where
+module _ (path : List ℕ) (entry : FolderEntry) (before after : Counted) (waiting : List PendingFolder) where
   pub counts_none : (¬ (IsUtf8 entry.name)) ⊎ (entry.kind ≡ kinds.Other) → after ≡ record before { skipped = before.skipped + 1 } → CountsItem path entry before after waiting waiting
   counts_none is added = record {
     item = NoNode entry;
@@ -51,7 +51,7 @@ module _ (path : List ℕ) (entry : Entry) (before after : Counted) (waiting : L
     pending = sym (append-nil (paths_of waiting));
   }
 
-  pub counts_folder : (at : List ℕ) (waiting_after : List Place) → IsUtf8 entry.name → entry.kind ≡ kinds.Folder → after ≡ record before { folders = before.folders + 1 }
+  pub counts_folder : (at : List ℕ) (waiting_after : List PendingFolder) → IsUtf8 entry.name → entry.kind ≡ kinds.Folder → after ≡ record before { folders = before.folders + 1 }
       → at ≡ below path entry.name → waiting_after ≡ waiting ++ record { path = at; number = 0 } ∷ [] → CountsItem path entry before after waiting waiting_after
   counts_folder at waiting_after text is added here pushed = record {
     item = AFolder entry;
@@ -63,7 +63,7 @@ module _ (path : List ℕ) (entry : Entry) (before after : Counted) (waiting : L
       bytes = ap (λ (c : Counted). c.bytes) added ∙ omega arith;
       skipped = ap (λ (c : Counted). c.skipped) added ∙ omega arith;
     };
-    pending = ap paths_of pushed ∙ (map-append (λ (p : Place). p.path) waiting (record { path = at; number = 0 } ∷ []) ∙ ap (λ (p : List ℕ). paths_of waiting ++ p ∷ []) here);
+    pending = ap paths_of pushed ∙ (map-append (λ (p : PendingFolder). p.path) waiting (record { path = at; number = 0 } ∷ []) ∙ ap (λ (p : List ℕ). paths_of waiting ++ p ∷ []) here);
   }
 
 -- ---- entries
@@ -77,7 +77,7 @@ adds_more items item before now after front next = record {
 }
 
 module _ (path : List ℕ) where
-  pub none_counted : (before : Counted) (waiting : List Place) → CountsItems path [] before before waiting waiting
+  pub none_counted : (before : Counted) (waiting : List PendingFolder) → CountsItems path [] before before waiting waiting
   none_counted before waiting = record {
     items = [];
     its = refl;
@@ -86,29 +86,29 @@ module _ (path : List ℕ) where
     pending = sym (append-nil (paths_of waiting));
   }
 
-  pub entries_more : (entries : List Entry) (at : ℕ) (entry : Entry) (before now after : Counted) (waiting waiting_now waiting_after : List Place)
+  pub entries_more : (entries : List FolderEntry) (at : ℕ) (entry : FolderEntry) (before now after : Counted) (waiting waiting_now waiting_after : List PendingFolder)
       → CountsItems path (take at entries) before now waiting waiting_now → CountsItem path entry now after waiting_now waiting_after
       → at < length entries → entry ≡ get_or entries at entry → CountsItems path (take (at + 1) entries) before after waiting waiting_after
   entries_more entries at entry before now after waiting waiting_now waiting_after front next within there =
-      let one_more : take (at + 1) entries ≡ take at entries ++ entry ∷ [] = take_more entries at entry within ∙ ap (λ (e : Entry). take at entries ++ e ∷ []) (sym there) in
+      let one_more : take (at + 1) entries ≡ take at entries ++ entry ∷ [] = take_more entries at entry within ∙ ap (λ (e : FolderEntry). take at entries ++ e ∷ []) (sym there) in
       record {
         items = front.items ++ next.item ∷ [];
-        its = map-append entry_in front.items (next.item ∷ []) ∙ (ap (λ (l : List Entry). l ++ entry_in next.item ∷ []) front.its ∙ (ap (λ (e : Entry). take at entries ++ e ∷ []) next.its ∙ sym one_more));
+        its = map-append entry_in front.items (next.item ∷ []) ∙ (ap (λ (l : List FolderEntry). l ++ entry_in next.item ∷ []) front.its ∙ (ap (λ (e : FolderEntry). take at entries ++ e ∷ []) next.its ∙ sym one_more));
         are_items = all_more IsItem front.items next.item front.are_items next.is_item;
         adds = adds_more front.items next.item before now after front.adds next.adds;
         pending = next.pending ∙ (ap (λ (l : List (List ℕ)). l ++ path_of_item path next.item) front.pending
             ∙ (append_assoc (paths_of waiting) (flat_map (path_of_item path) front.items) (path_of_item path next.item) ∙ ap (λ (l : List (List ℕ)). paths_of waiting ++ l) (sym (given_more (path_of_item path) front.items next.item))));
       }
 
-  pub entries_all : (entries : List Entry) (at : ℕ) (before now : Counted) (waiting waiting_now : List Place)
+  pub entries_all : (entries : List FolderEntry) (at : ℕ) (before now : Counted) (waiting waiting_now : List PendingFolder)
       → CountsItems path (take at entries) before now waiting waiting_now → length entries ≤ at → CountsItems path entries before now waiting waiting_now
-  entries_all entries at before now waiting waiting_now front all = subst (λ (l : List Entry). CountsItems path l before now waiting waiting_now) (take_all at entries all) front
+  entries_all entries at before now waiting waiting_now front all = subst (λ (l : List FolderEntry). CountsItems path l before now waiting waiting_now) (take_all at entries all) front
 
 -- ---- a folder
 
 module _ {T : Type 0} (observes : T → Observation → T → Type 0) where
-  module _ (path : List ℕ) (before after : Counted) (tree tree_after : T) (waiting waiting_after : List Place) where
-    pub counts_listed : (at : List ℕ) (entries found : List Entry) → at ≡ path → ListsInOrder observes at found tree tree_after → entries ≡ found → CountsItems path entries before after waiting waiting_after
+  module _ (path : List ℕ) (before after : Counted) (tree tree_after : T) (waiting waiting_after : List PendingFolder) where
+    pub counts_listed : (at : List ℕ) (entries found : List FolderEntry) → at ≡ path → ListsInOrder observes at found tree tree_after → entries ≡ found → CountsItems path entries before after waiting waiting_after
         → CountsFolder observes path before after tree tree_after waiting waiting_after
     counts_listed at entries found here lists same counted =
         let are : found ≡ map entry_in counted.items = sym (counted.its ∙ same) in
@@ -116,7 +116,7 @@ module _ {T : Type 0} (observes : T → Observation → T → Type 0) where
           listing = record { path = at; observed = Some lists.listed; items = counted.items };
           its = here;
           is_listing = record {
-            same = subst (λ (l : List Entry). IsPermutation lists.listed l) are lists.same;
+            same = subst (λ (l : List FolderEntry). IsPermutation lists.listed l) are lists.same;
             in_order = subst AreInOrder are lists.in_order;
             items = counted.are_items;
           };
@@ -142,8 +142,8 @@ module _ {T : Type 0} (observes : T → Observation → T → Type 0) where
       pending = ap paths_of still ∙ sym (append-nil (paths_of waiting));
     }
 
-  -- the listings so far, and the folders that are to be listed
-  pub record CountingTree (counted : Counted) (waiting : List Place) (tree tree_now : T) : Type 0 where
+  -- the listings so far, and the folders that are still to be listed
+  pub record CountingTree (counted : Counted) (waiting : List PendingFolder) (tree tree_now : T) : Type 0 where
     pub listings : List Listing
     pub are : AllByRecursion IsListing listings
     pub observed : GoesOver observes tree (map observed_of_listing listings) tree_now
@@ -156,21 +156,21 @@ module _ {T : Type 0} (observes : T → Observation → T → Type 0) where
   items_more : (f : Item → ℕ) (listings : List Listing) (listing : Listing) → sum_by f (items_in (listings ++ listing ∷ [])) ≡ sum_by f (items_in listings) + sum_by f listing.items
   items_more f listings listing = ap (sum_by f) (given_more (λ (l : Listing). l.items) listings listing) ∙ sum_by-append f (items_in listings) listing.items
 
-  pub count_begun : (counted : Counted) (waiting : List Place) (top : Place) (tree : T) → waiting ≡ top ∷ [] → top.path ≡ [] → counted.folders ≡ 0 → counted.files ≡ 0 → counted.bytes ≡ 0 → counted.skipped ≡ 0
+  pub count_begun : (counted : Counted) (waiting : List PendingFolder) (top : PendingFolder) (tree : T) → waiting ≡ top ∷ [] → top.path ≡ [] → counted.folders ≡ 0 → counted.files ≡ 0 → counted.bytes ≡ 0 → counted.skipped ≡ 0
       → CountingTree counted waiting tree tree
   count_begun counted waiting top tree only here folders files bytes skipped =
       record { listings = []; are = tt; observed = refl; places = ap paths_of only ∙ ap (λ (p : List ℕ). p ∷ []) here; folders = folders; files = files; bytes = bytes; skipped = skipped }
 
-  pub count_more : (place : Place) (before after : Counted) (waiting left waiting_after : List Place) (tree tree_now tree_after : T)
-      → CountingTree before waiting tree tree_now → waiting ≡ place ∷ left → CountsFolder observes place.path before after tree_now tree_after left waiting_after
+  pub count_more : (folder : PendingFolder) (before after : Counted) (waiting left waiting_after : List PendingFolder) (tree tree_now tree_after : T)
+      → CountingTree before waiting tree tree_now → waiting ≡ folder ∷ left → CountsFolder observes folder.path before after tree_now tree_after left waiting_after
       → CountingTree after waiting_after tree tree_after
-  count_more place before after waiting left waiting_after tree tree_now tree_after front popped next =
+  count_more folder before after waiting left waiting_after tree tree_now tree_after front popped next =
       let here : List (List ℕ) = map (λ (l : Listing). l.path) front.listings in
       let found : List (List ℕ) = folders_in next.listing in
-      let pushed : map (λ (l : Listing). l.path) (front.listings ++ next.listing ∷ []) ≡ here ++ place.path ∷ [] =
+      let pushed : map (λ (l : Listing). l.path) (front.listings ++ next.listing ∷ []) ≡ here ++ folder.path ∷ [] =
       map-append (λ (l : Listing). l.path) front.listings (next.listing ∷ []) ∙ ap (λ (p : List ℕ). here ++ p ∷ []) next.its in
-      let regrouped : (here ++ place.path ∷ []) ++ (paths_of left ++ found) ≡ (here ++ (place.path ∷ paths_of left)) ++ found =
-      append_assoc here (place.path ∷ []) (paths_of left ++ found) ∙ sym (append_assoc here (place.path ∷ paths_of left) found) in
+      let regrouped : (here ++ folder.path ∷ []) ++ (paths_of left ++ found) ≡ (here ++ (folder.path ∷ paths_of left)) ++ found =
+      append_assoc here (folder.path ∷ []) (paths_of left ++ found) ∙ sym (append_assoc here (folder.path ∷ paths_of left) found) in
       record {
         listings = front.listings ++ next.listing ∷ [];
         are = all_more IsListing front.listings next.listing front.are next.is_listing;
@@ -179,7 +179,7 @@ module _ {T : Type 0} (observes : T → Observation → T → Type 0) where
         places = ap (λ (l : List (List ℕ)). map (λ (l : Listing). l.path) (front.listings ++ next.listing ∷ []) ++ l) next.pending
             ∙ (ap (λ (l : List (List ℕ)). l ++ (paths_of left ++ found)) pushed
             ∙ (regrouped
-            ∙ (ap (λ (l : List Place). (here ++ paths_of l) ++ found) (sym popped)
+            ∙ (ap (λ (l : List PendingFolder). (here ++ paths_of l) ++ found) (sym popped)
             ∙ (ap (λ (l : List (List ℕ)). l ++ found) front.places
             ∙ ap (λ (l : List (List ℕ)). [] ∷ l) (sym (given_more folders_in front.listings next.listing))))));
         folders = omega (arith, front.folders, next.folders, items_more (λ (i : Item). cond (is_folder i) 1 0) front.listings next.listing);
@@ -188,7 +188,7 @@ module _ {T : Type 0} (observes : T → Observation → T → Type 0) where
         skipped = omega (arith, front.skipped, next.skipped, items_more (λ (i : Item). cond (is_no_node i) 1 0) front.listings next.listing, sum_by-append (λ (l : Listing). cond (is_unread l) 1 0) front.listings (next.listing ∷ []));
       }
 
-  pub count_too_many : (counted : Counted) (waiting : List Place) (tree tree_now : T) (limit : ℕ) → CountingTree counted waiting tree tree_now → limit < counted.folders + counted.files → CountsTooMany observes limit tree tree_now
+  pub count_too_many : (counted : Counted) (waiting : List PendingFolder) (tree tree_now : T) (limit : ℕ) → CountingTree counted waiting tree tree_now → limit < counted.folders + counted.files → CountsTooMany observes limit tree tree_now
   count_too_many counted waiting tree tree_now limit front more = record {
     listings = front.listings;
     are = front.are;
@@ -198,12 +198,12 @@ module _ {T : Type 0} (observes : T → Observation → T → Type 0) where
     too_many = omega (arith, more, front.folders, front.files);
   }
 
-  pub count_done : (counted : Counted) (waiting : List Place) (tree tree_now : T) → CountingTree counted waiting tree tree_now → waiting ≡ [] → CountsTree observes counted tree tree_now
+  pub count_done : (counted : Counted) (waiting : List PendingFolder) (tree tree_now : T) → CountingTree counted waiting tree tree_now → waiting ≡ [] → CountsTree observes counted tree tree_now
   count_done counted waiting tree tree_now front none = record {
     listings = front.listings;
     are = front.are;
     observed = front.observed;
-    each_folder = sym (append-nil (map (λ (l : Listing). l.path) front.listings)) ∙ (ap (λ (l : List Place). map (λ (l : Listing). l.path) front.listings ++ paths_of l) (sym none) ∙ front.places);
+    each_folder = sym (append-nil (map (λ (l : Listing). l.path) front.listings)) ∙ (ap (λ (l : List PendingFolder). map (λ (l : Listing). l.path) front.listings ++ paths_of l) (sym none) ∙ front.places);
     folders = front.folders;
     files = front.files;
     bytes = front.bytes;

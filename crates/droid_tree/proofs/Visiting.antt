@@ -1,4 +1,4 @@
--- A folder, and one after the other.
+-- One folder, and folders one after the other.
 use Rattle.std.proofs.Common.{◌≡◌, ℕ, ◌&&◌, Bool, true, false, List, [], ◌∷◌, ◌++◌, Some, None, length, map, drop, length-drop, refl, sym, ap, subst, ◌∙◌, append_assoc, append-nil, arith}
 use Rattle.std.specs.Prelude.{IsPermutation}
 use Rattle.std.specs.List.{flat_map, list_all, AllByRecursion}
@@ -9,44 +9,44 @@ use Rattle.droid_tree.specs.Asked.{Asked}
 use Rattle.droid_tree.specs.Heard.{Heard, Left}
 use Rattle.droid_tree.specs.Steps.{ListsInOrder, TakesKids, TakesVisit}
 use Rattle.droid_tree.specs.Observation.{Observation, Listed, Unlisted, GoesOver}
-use Rattle.droid_tree.specs.Visits.{AreInOrder, Visit, MayVisit, entry_of, is_full, observed_of_visit, asked_of_visit, heard_of_visit, places_of_visit}
+use Rattle.droid_tree.specs.Visits.{AreInOrder, Visit, MayVisit, entry_of, is_full, observed_of_visit, asked_of_visit, heard_of_visit, subfolders_of_visit}
 use Rattle.droid_tree.specs.Walks.{WalksOn, asked_of_tree, top}
-use Rattle.droid_tree.specs.declared.entry.Entry.{Entry}
+use Rattle.droid_tree.specs.declared.folder_entry.FolderEntry.{FolderEntry}
 use Rattle.droid_tree.specs.declared.skipped.Skipped.{Skipped}
 use Rattle.droid_tree.specs.declared.skipped.Skipped.TheVariants as reasons
-use Rattle.droid_tree.specs.declared.place.Place.{Place}
-use Rattle.droid_tree.specs.declared.walking.Options.{Options}
+use Rattle.droid_tree.specs.declared.pending_folder.PendingFolder.{PendingFolder}
+use Rattle.droid_tree.specs.declared.tree_walk.Options.{Options}
 use Rattle.droid_tree.proofs.Entries.{given_more, passed_more}
 use Rattle.droid_tree.proofs.Runs.{over_one, over_more, all_more}
 
--- the walk so far: these folders were visited, and those are to be visited
-pub record Walking {T X W : Type 0} (observes : T → Observation → T → Type 0) (asks : X → Asked → X → Type 0) (hears : W → Heard → W → Type 0) (goes_on : Bool) (options : Options) (profile : ℕ) (waiting : List Place) (whole : Bool)
+-- the walk so far: these folders were visited, and those are pending
+pub record Walking {T X W : Type 0} (observes : T → Observation → T → Type 0) (asks : X → Asked → X → Type 0) (hears : W → Heard → W → Type 0) (goes_on : Bool) (options : Options) (profile : ℕ) (waiting : List PendingFolder) (whole : Bool)
     (tree tree_now : T) (exchange exchange_now : X) (watcher watcher_now : W) : Type 0 where
   pub visits : List Visit
-  pub places : map (λ visit. visit.place) visits ++ waiting ≡ top ∷ flat_map places_of_visit visits
+  pub places : map (λ visit. visit.folder) visits ++ waiting ≡ top ∷ flat_map subfolders_of_visit visits
   pub visited : AllByRecursion (MayVisit goes_on options.piece_size) visits
   pub whole_is : whole ≡ list_all is_full visits
   pub observed : GoesOver observes tree (flat_map observed_of_visit visits) tree_now
   pub asked : GoesOver asks exchange (asked_of_tree options profile visits) exchange_now
   pub heard : GoesOver hears watcher (flat_map heard_of_visit visits) watcher_now
 
--- a list that loses nothing with its first item has none
-pub none_left : (waiting : List Place) → waiting ≡ drop 1 waiting → waiting ≡ []
+-- a list that loses nothing with its first item is empty
+pub none_left : (waiting : List PendingFolder) → waiting ≡ drop 1 waiting → waiting ≡ []
 none_left [] none = refl
-none_left (place ∷ waiting) none = absurd (omega (arith, ap length none, length-drop 1 (place ∷ waiting)))
+none_left (folder ∷ waiting) none = absurd (omega (arith, ap length none, length-drop 1 (folder ∷ waiting)))
 
 module _ {T X W : Type 0} (observes : T → Observation → T → Type 0) (asks : X → Asked → X → Type 0) (hears : W → Heard → W → Type 0) where
-  module _ (goes_on : Bool) (profile piece_size : ℕ) (place : Place) (tree tree_now tree_after : T) (exchange exchange_after : X) (watcher watcher_after : W) (waiting waiting_after : List Place) where
-    pub visit_made : (path : List ℕ) (entries found : List Entry) (whole : Bool) → path ≡ place.path → ListsInOrder observes path found tree tree_now → entries ≡ found
-        → TakesKids observes asks hears goes_on profile piece_size place entries whole tree_now tree_after exchange exchange_after watcher watcher_after waiting waiting_after
-        → TakesVisit observes asks hears goes_on profile piece_size place whole tree tree_after exchange exchange_after watcher watcher_after waiting waiting_after
+  module _ (goes_on : Bool) (profile piece_size : ℕ) (folder : PendingFolder) (tree tree_now tree_after : T) (exchange exchange_after : X) (watcher watcher_after : W) (waiting waiting_after : List PendingFolder) where
+    pub visit_made : (path : List ℕ) (entries found : List FolderEntry) (whole : Bool) → path ≡ folder.path → ListsInOrder observes path found tree tree_now → entries ≡ found
+        → TakesKids observes asks hears goes_on profile piece_size folder entries whole tree_now tree_after exchange exchange_after watcher watcher_after waiting waiting_after
+        → TakesVisit observes asks hears goes_on profile piece_size folder whole tree tree_after exchange exchange_after watcher watcher_after waiting waiting_after
     visit_made path entries found whole here lists same taken =
         let are : found ≡ map entry_of taken.kids = sym (taken.its ∙ same) in
         record {
-          visit = record { place = place; observed = Some lists.listed; kids = taken.kids };
+          visit = record { folder = folder; observed = Some lists.listed; kids = taken.kids };
           its = refl;
           is_visit = record {
-            same = subst (λ (l : List Entry). IsPermutation lists.listed l) are lists.same;
+            same = subst (λ (l : List FolderEntry). IsPermutation lists.listed l) are lists.same;
             in_order = subst AreInOrder are lists.in_order;
             kids = taken.are_outcomes;
           };
@@ -57,49 +57,49 @@ module _ {T X W : Type 0} (observes : T → Observation → T → Type 0) (asks 
           pending = taken.pending;
         }
 
-  pub visit_unread : (goes_on : Bool) (profile piece_size : ℕ) (place : Place) (why : Skipped) (path bytes : List ℕ) (tree tree_after : T) (exchange : X) (watcher watcher_after : W) (waiting : List Place)
-      → path ≡ place.path → bytes ≡ place.path → (why ≡ reasons.Unreadable) × observes tree (Unlisted path) tree_after → hears watcher (Left bytes why) watcher_after
-      → TakesVisit observes asks hears goes_on profile piece_size place false tree tree_after exchange exchange watcher watcher_after waiting waiting
-  visit_unread goes_on profile piece_size place why path bytes tree tree_after exchange watcher watcher_after waiting same_path same_bytes unread left =
-      let observed_at : observes tree (Unlisted place.path) tree_after = subst (λ (p : List ℕ). observes tree (Unlisted p) tree_after) same_path unread.1 in
-      let left_at : hears watcher (Left place.path why) watcher_after = subst (λ (p : List ℕ). hears watcher (Left p why) watcher_after) same_bytes left in
+  pub visit_unread : (goes_on : Bool) (profile piece_size : ℕ) (folder : PendingFolder) (why : Skipped) (path bytes : List ℕ) (tree tree_after : T) (exchange : X) (watcher watcher_after : W) (waiting : List PendingFolder)
+      → path ≡ folder.path → bytes ≡ folder.path → (why ≡ reasons.Unreadable) × observes tree (Unlisted path) tree_after → hears watcher (Left bytes why) watcher_after
+      → TakesVisit observes asks hears goes_on profile piece_size folder false tree tree_after exchange exchange watcher watcher_after waiting waiting
+  visit_unread goes_on profile piece_size folder why path bytes tree tree_after exchange watcher watcher_after waiting same_path same_bytes unread left =
+      let observed_at : observes tree (Unlisted folder.path) tree_after = subst (λ (p : List ℕ). observes tree (Unlisted p) tree_after) same_path unread.1 in
+      let left_at : hears watcher (Left folder.path why) watcher_after = subst (λ (p : List ℕ). hears watcher (Left p why) watcher_after) same_bytes left in
       record {
-        visit = record { place = place; observed = None; kids = [] };
+        visit = record { folder = folder; observed = None; kids = [] };
         its = refl;
         is_visit = record { same = refl; in_order = λ k first second one two. absurd cc; kids = tt };
         whole_is = refl;
         observed = over_one observes tree tree_after _ observed_at;
         asked = refl;
-        heard = over_one hears watcher watcher_after _ (subst (λ (r : Skipped). hears watcher (Left place.path r) watcher_after) unread.0 left_at);
+        heard = over_one hears watcher watcher_after _ (subst (λ (r : Skipped). hears watcher (Left folder.path r) watcher_after) unread.0 left_at);
         pending = sym (append-nil waiting);
       }
 
   module _ (goes_on : Bool) (options : Options) (profile : ℕ) where
-    pub begun : (waiting : List Place) (tree : T) (exchange exchange_now : X) (watcher : W) → waiting ≡ top ∷ [] → asks exchange (CreateProfile options.scan_limit options.match_all options.hash, replies.Made profile) exchange_now
+    pub begun : (waiting : List PendingFolder) (tree : T) (exchange exchange_now : X) (watcher : W) → waiting ≡ top ∷ [] → asks exchange (CreateProfile options.scan_limit options.match_all options.hash, replies.Made profile) exchange_now
         → Walking observes asks hears goes_on options profile waiting true tree tree exchange exchange_now watcher watcher
     begun waiting tree exchange exchange_now watcher only made =
         record { visits = []; places = only; visited = tt; whole_is = refl; observed = refl; asked = over_one asks exchange exchange_now _ made; heard = refl }
 
-    pub visited_more : (place : Place) (waiting left waiting_after : List Place) (whole taken both : Bool) (tree tree_now tree_after : T) (exchange exchange_now exchange_after : X) (watcher watcher_now watcher_after : W)
-        → Walking observes asks hears goes_on options profile waiting whole tree tree_now exchange exchange_now watcher watcher_now → waiting ≡ place ∷ left
-        → TakesVisit observes asks hears goes_on profile options.piece_size place taken tree_now tree_after exchange_now exchange_after watcher_now watcher_after left waiting_after
+    pub visited_more : (folder : PendingFolder) (waiting left waiting_after : List PendingFolder) (whole taken both : Bool) (tree tree_now tree_after : T) (exchange exchange_now exchange_after : X) (watcher watcher_now watcher_after : W)
+        → Walking observes asks hears goes_on options profile waiting whole tree tree_now exchange exchange_now watcher watcher_now → waiting ≡ folder ∷ left
+        → TakesVisit observes asks hears goes_on profile options.piece_size folder taken tree_now tree_after exchange_now exchange_after watcher_now watcher_after left waiting_after
         → both ≡ (whole && taken)
         → Walking observes asks hears goes_on options profile waiting_after both tree tree_after exchange exchange_after watcher watcher_after
-    visited_more place waiting left waiting_after whole taken both tree tree_now tree_after exchange exchange_now exchange_after watcher watcher_now watcher_after front popped next is =
-        let here : List Place = map (λ (v : Visit). v.place) front.visits in
-        let found : List Place = places_of_visit next.visit in
-        let pushed : map (λ (v : Visit). v.place) (front.visits ++ next.visit ∷ []) ≡ here ++ place ∷ [] =
-        map-append (λ (v : Visit). v.place) front.visits (next.visit ∷ []) ∙ ap (λ (p : Place). here ++ p ∷ []) next.its in
-        let regrouped : (here ++ place ∷ []) ++ (left ++ found) ≡ (here ++ (place ∷ left)) ++ found =
-        append_assoc here (place ∷ []) (left ++ found) ∙ sym (append_assoc here (place ∷ left) found) in
+    visited_more folder waiting left waiting_after whole taken both tree tree_now tree_after exchange exchange_now exchange_after watcher watcher_now watcher_after front popped next is =
+        let here : List PendingFolder = map (λ (v : Visit). v.folder) front.visits in
+        let found : List PendingFolder = subfolders_of_visit next.visit in
+        let pushed : map (λ (v : Visit). v.folder) (front.visits ++ next.visit ∷ []) ≡ here ++ folder ∷ [] =
+        map-append (λ (v : Visit). v.folder) front.visits (next.visit ∷ []) ∙ ap (λ (p : PendingFolder). here ++ p ∷ []) next.its in
+        let regrouped : (here ++ folder ∷ []) ++ (left ++ found) ≡ (here ++ (folder ∷ left)) ++ found =
+        append_assoc here (folder ∷ []) (left ++ found) ∙ sym (append_assoc here (folder ∷ left) found) in
         record {
           visits = front.visits ++ next.visit ∷ [];
-          places = ap (λ (l : List Place). map (λ (v : Visit). v.place) (front.visits ++ next.visit ∷ []) ++ l) next.pending
-              ∙ (ap (λ (l : List Place). l ++ (left ++ found)) pushed
+          places = ap (λ (l : List PendingFolder). map (λ (v : Visit). v.folder) (front.visits ++ next.visit ∷ []) ++ l) next.pending
+              ∙ (ap (λ (l : List PendingFolder). l ++ (left ++ found)) pushed
               ∙ (regrouped
-              ∙ (ap (λ (l : List Place). (here ++ l) ++ found) (sym popped)
-              ∙ (ap (λ (l : List Place). l ++ found) front.places
-              ∙ ap (λ (l : List Place). top ∷ l) (sym (given_more places_of_visit front.visits next.visit))))));
+              ∙ (ap (λ (l : List PendingFolder). (here ++ l) ++ found) (sym popped)
+              ∙ (ap (λ (l : List PendingFolder). l ++ found) front.places
+              ∙ ap (λ (l : List PendingFolder). top ∷ l) (sym (given_more subfolders_of_visit front.visits next.visit))))));
           visited = all_more (MayVisit goes_on options.piece_size) front.visits next.visit front.visited next.is_visit;
           whole_is = passed_more is_full front.visits next.visit whole taken both front.whole_is next.whole_is is;
           observed = subst (λ (l : List Observation). GoesOver observes tree l tree_after) (sym (given_more observed_of_visit front.visits next.visit))
@@ -111,11 +111,11 @@ module _ {T X W : Type 0} (observes : T → Observation → T → Type 0) (asks 
               (over_more hears watcher watcher_now watcher_after (flat_map heard_of_visit front.visits) (heard_of_visit next.visit) front.heard next.heard);
         }
 
-    pub walked : (waiting : List Place) (whole : Bool) (tree tree_now : T) (exchange exchange_now : X) (watcher watcher_now : W) → Walking observes asks hears goes_on options profile waiting whole tree tree_now exchange exchange_now watcher watcher_now → waiting ≡ []
+    pub walked : (waiting : List PendingFolder) (whole : Bool) (tree tree_now : T) (exchange exchange_now : X) (watcher watcher_now : W) → Walking observes asks hears goes_on options profile waiting whole tree tree_now exchange exchange_now watcher watcher_now → waiting ≡ []
         → WalksOn observes asks hears goes_on options profile whole tree tree_now exchange exchange_now watcher watcher_now
     walked waiting whole tree tree_now exchange exchange_now watcher watcher_now front none = record {
       visits = front.visits;
-      each_folder = sym (append-nil (map (λ (v : Visit). v.place) front.visits)) ∙ (ap (λ (l : List Place). map (λ (v : Visit). v.place) front.visits ++ l) (sym none) ∙ front.places);
+      each_folder = sym (append-nil (map (λ (v : Visit). v.folder) front.visits)) ∙ (ap (λ (l : List PendingFolder). map (λ (v : Visit). v.folder) front.visits ++ l) (sym none) ∙ front.places);
       visited = front.visited;
       whole_is = front.whole_is;
       observed = front.observed;

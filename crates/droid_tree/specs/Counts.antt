@@ -3,23 +3,23 @@ use Rattle.std.specs.Prelude.{◌≡◌, ◌⊎◌, ℕ, ◌+◌, ◌<◌, Bool,
 use Rattle.std.specs.List.{flat_map, count_by, AllByRecursion}
 use Rattle.droid_tree.specs.Observation.{Observation, GoesOver}
 use Rattle.droid_tree.specs.Visits.{AreInOrder, AreThose, below, observed_of_folder}
-use Rattle.droid_tree.specs.declared.counting.Counted.{Counted}
-use Rattle.droid_tree.specs.declared.entry.Entry.{Entry}
-use Rattle.droid_tree.specs.declared.entry.EntryKind.TheVariants as kinds
-use Rattle.droid_tree.specs.declared.place.Place.{Place}
+use Rattle.droid_tree.specs.declared.tree_size.Counted.{Counted}
+use Rattle.droid_tree.specs.declared.folder_entry.FolderEntry.{FolderEntry}
+use Rattle.droid_tree.specs.declared.folder_entry.EntryKind.TheVariants as kinds
+use Rattle.droid_tree.specs.declared.pending_folder.PendingFolder.{PendingFolder}
 
--- what an entry counts as: a folder, a file, or what is left out
+-- what an entry counts as: a folder, a file, or skipped
 pub data Item : Type 0 where
-  AFolder : (entry : Entry) → Item
-  AFile : (entry : Entry) → Item
-  NoNode : (entry : Entry) → Item
+  AFolder : (entry : FolderEntry) → Item
+  AFile : (entry : FolderEntry) → Item
+  NoNode : (entry : FolderEntry) → Item
 
-abbrev pub entry_in : Item → Entry
+abbrev pub entry_in : Item → FolderEntry
 entry_in (AFolder entry) = entry
 entry_in (AFile entry) = entry
 entry_in (NoNode entry) = entry
 
--- an entry whose name is no text, or that is of another kind, is left out
+-- an entry is skipped if its name is not UTF-8 or if it is neither a folder nor a file
 abbrev pub IsItem : Item → Type 0
 IsItem (AFolder entry) = IsUtf8 entry.name × (entry.kind ≡ kinds.Folder)
 IsItem (AFile entry) = IsUtf8 entry.name × (entry.kind ≡ kinds.File)
@@ -37,29 +37,29 @@ abbrev pub is_no_node : Item → Bool
 is_no_node (NoNode entry) = true
 is_no_node _ = false
 
--- a file counts for its length, and nothing else for any
+-- a file counts with its length, any other entry with 0
 abbrev pub bytes_in : Item → ℕ
 bytes_in (AFile entry) = entry.len
 bytes_in _ = 0
 
--- the path of an entry of this folder, where it is a folder
+-- the path of an entry of this folder, if the entry is a folder
 abbrev pub path_of_item : List ℕ → Item → List (List ℕ)
 path_of_item path (AFolder entry) = below path entry.name ∷ []
 path_of_item path _ = []
 
--- a folder's path, what the tree told of its entries, where it could be read, and what each of them counts as
+-- a folder's path, the entries that the tree returned if the folder is readable, and what each entry counts as
 pub record Listing : Type 0 where
   pub path : List ℕ
-  pub observed : Option (List Entry)
+  pub observed : Option (List FolderEntry)
   pub items : List Item
 
--- the entries are those that the tree told, in the order of their names
+-- the entries are those that the tree returned, sorted by name
 pub record IsListing (listing : Listing) : Type 0 where
   pub same : AreThose listing.observed (map entry_in listing.items)
   pub in_order : AreInOrder (map entry_in listing.items)
   pub items : AllByRecursion IsItem listing.items
 
-abbrev pub is_unread_by : Option (List Entry) → Bool
+abbrev pub is_unread_by : Option (List FolderEntry) → Bool
 is_unread_by None = true
 is_unread_by (Some observed) = false
 
@@ -75,8 +75,8 @@ folders_in listing = flat_map (path_of_item listing.path) listing.items
 abbrev pub items_in : List Listing → List Item
 items_in listings = flat_map (λ listing. listing.items) listings
 
--- The top was listed, and then each folder that was found, once, in the order of a walk; and what was listed is counted: each
--- folder, each file and its bytes, each entry that is left out, and each folder that could not be read.
+-- The top was listed, and then each folder that was found, once, in the order of a walk. The numbers are those of what
+-- was listed: folders, files, their bytes, skipped entries, and unreadable folders.
 pub record CountsTree {T : Type 0} (observes : T → Observation → T → Type 0) (counted : Counted) (tree tree_after : T) : Type 0 where
   pub listings : List Listing
   pub are : AllByRecursion IsListing listings
@@ -87,8 +87,8 @@ pub record CountsTree {T : Type 0} (observes : T → Observation → T → Type 
   pub bytes : counted.bytes ≡ sum_by bytes_in (items_in listings)
   pub skipped : counted.skipped ≡ count_by is_no_node (items_in listings) + count_by is_unread listings
 
--- Folders were listed, the top first, each once, in the order of a walk, and not yet all that were found; and what was listed are
--- more folders and files than the limit.
+-- Folders were listed, the top first, each once, in the order of a walk, but not yet all that were found. What was
+-- listed has more folders and files than the limit.
 pub record CountsTooMany {T : Type 0} (observes : T → Observation → T → Type 0) (limit : ℕ) (tree tree_after : T) : Type 0 where
   pub listings : List Listing
   pub are : AllByRecursion IsListing listings
@@ -99,31 +99,31 @@ pub record CountsTooMany {T : Type 0} (observes : T → Observation → T → Ty
 
 -- ---- on the way
 
-abbrev pub paths_of : List Place → List (List ℕ)
-paths_of places = map (λ place. place.path) places
+abbrev pub paths_of : List PendingFolder → List (List ℕ)
+paths_of places = map (λ folder. folder.path) places
 
--- what these items add to what was counted
+-- these items add this much to the counts
 pub record Adds (items : List Item) (before after : Counted) : Type 0 where
   pub folders : after.folders ≡ before.folders + count_by is_folder items
   pub files : after.files ≡ before.files + count_by is_file items
   pub bytes : after.bytes ≡ before.bytes + sum_by bytes_in items
   pub skipped : after.skipped ≡ before.skipped + count_by is_no_node items
 
-pub record CountsItem (path : List ℕ) (entry : Entry) (before after : Counted) (waiting waiting_after : List Place) : Type 0 where
+pub record CountsItem (path : List ℕ) (entry : FolderEntry) (before after : Counted) (waiting waiting_after : List PendingFolder) : Type 0 where
   pub item : Item
   pub its : entry_in item ≡ entry
   pub is_item : IsItem item
   pub adds : Adds (item ∷ []) before after
   pub pending : paths_of waiting_after ≡ paths_of waiting ++ path_of_item path item
 
-pub record CountsItems (path : List ℕ) (entries : List Entry) (before after : Counted) (waiting waiting_after : List Place) : Type 0 where
+pub record CountsItems (path : List ℕ) (entries : List FolderEntry) (before after : Counted) (waiting waiting_after : List PendingFolder) : Type 0 where
   pub items : List Item
   pub its : map entry_in items ≡ entries
   pub are_items : AllByRecursion IsItem items
   pub adds : Adds items before after
   pub pending : paths_of waiting_after ≡ paths_of waiting ++ flat_map (path_of_item path) items
 
-pub record CountsFolder {T : Type 0} (observes : T → Observation → T → Type 0) (path : List ℕ) (before after : Counted) (tree tree_after : T) (waiting waiting_after : List Place) : Type 0 where
+pub record CountsFolder {T : Type 0} (observes : T → Observation → T → Type 0) (path : List ℕ) (before after : Counted) (tree tree_after : T) (waiting waiting_after : List PendingFolder) : Type 0 where
   pub listing : Listing
   pub its : listing.path ≡ path
   pub is_listing : IsListing listing

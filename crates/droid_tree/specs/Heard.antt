@@ -1,16 +1,16 @@
--- What a watcher is told while a tree is walked (this project's own).
+-- What a watcher is told during a walk (this project's own).
 use Rattle.std.specs.Prelude.{ℕ, List}
 use Rattle.droid_frame.specs.types.reply.Reply.{Reply}
 use Rattle.droid_tree.specs.declared.skipped.Skipped.{Skipped}
 
 pub data Heard : Type 0 where
-  -- this was left out, for this reason
+  -- this entry was skipped, for this reason
   Left : (path : List ℕ) (why : Skipped) → Heard
-  -- of the file at this path the first so many bytes need not be read: they had been taken before
+  -- the first `count` bytes of the file are not read: the service already holds them
   Held : (path : List ℕ) (count : ℕ) → Heard
-  -- of the file at this path so many bytes more were taken
+  -- the service took `count` more bytes of the file
   TookBytes : (path : List ℕ) (count : ℕ) → Heard
-  -- the folder at this path is in the profile now
+  -- the folder is now in the profile
   TookFolder : (path : List ℕ) → Heard
-  -- the file at this path is in the profile now, and this was replied at its end
+  -- the file is now in the profile, and this reply finished it
   TookFile : (path : List ℕ) (found : Reply) → Heard

@@ -1,25 +1,25 @@
--- What a tree tells while it is walked (this project's own).
+-- What a tree returns during a walk (this project's own).
 use Rattle.std.specs.Prelude.{◌≡◌, ℕ, ◌≤◌, List, [], ◌∷◌, ◌++◌, length}
-use Rattle.droid_tree.specs.declared.entry.Entry.{Entry}
+use Rattle.droid_tree.specs.declared.folder_entry.FolderEntry.{FolderEntry}
 
 pub data Observation : Type 0 where
   -- the folder has these entries
-  Listed : (path : List ℕ) (entries : List Entry) → Observation
-  -- of the file so many bytes were wanted, from this one on, and these came
+  Listed : (path : List ℕ) (entries : List FolderEntry) → Observation
+  -- `wanted` bytes of the file were asked for from offset `from`, and these came
   Read : (path : List ℕ) (from wanted : ℕ) (bytes : List ℕ) → Observation
   -- the folder could not be read
   Unlisted : (path : List ℕ) → Observation
-  -- of the file so many bytes were wanted, from this one on, and could not be read
+  -- `wanted` bytes of the file were asked for from offset `from`, and could not be read
   Unread : (path : List ℕ) (from wanted : ℕ) → Observation
 
--- the tree told bytes of a file, and they stand behind what stood there
+-- the tree returned bytes of a file, and they were appended to the buffer
 pub record BytesCame {T : Type 0} (observes : T → Observation → T → Type 0) (tree : T) (path : List ℕ) (from wanted : ℕ) (before after : List ℕ) (tree_after : T) : Type 0 where
   pub bytes : List ℕ
   pub added : after ≡ before ++ bytes
   pub within : length bytes ≤ wanted
   pub observed : observes tree (Read path from wanted bytes) tree_after
 
--- a list of steps, each from the state that the one before left
+-- a list of steps, each from the state that the step before left
 abbrev pub GoesOver : {S A : Type 0} → (S → A → S → Type 0) → S → List A → S → Type 0
 GoesOver {S} {A} step first [] last = last ≡ first
 GoesOver {S} {A} step first (item ∷ items) last = (middle : S) × step first item middle × GoesOver step middle items last

@@ -1,4 +1,4 @@
-//! Who answers requests.
+//! The service that a walk talks to.
 
 ghost use Rattle.std.specs.Prelude.{IfOk};
 ghost use Rattle.droid_frame.specs.Bodies.{SpellsRequest};
@@ -8,23 +8,24 @@ ghost use Rattle.droid_tree.specs.Asked.{Asked};
 use droid_frame::{Blob, Reply};
 use thiserror::Error;
 
-/// No reply came, and none will.
+/// The service sent no reply, and will send none.
 #[derive(Clone, Copy, Debug, PartialEq, Eq, Error)]
 #[error("no reply came")]
 pub struct ExchangeFault;
 
-/// A service, near or far: it is asked one request after the other, and gives each a number of its own.
+/// A service, in this process or behind a connection. It takes one request at a time and gives each request its own
+/// number.
 pub trait Exchange {
-    /// In the first state the request may be asked and get this reply, and the second is what comes then.
+    /// Relates the state before a request, the request with its reply, and the state after it.
     ghost asks: { Self → Asked → Self → Type 0 };
 
-    /// Asks the request that this kind and this body spell in a frame of version 2.
+    /// Sends one request and returns its reply. `kind` and `body` are those of a frame of version 2.
     fn ask(&mut self, kind: u8, body: Blob) -> Result<Reply, ExchangeFault>
         ensures { IfOk result (λ reply. (request : Request) → SpellsRequest 2 kind body request → asks self.old (request, reply) self.new) };
 
-    /// Whether a walk that goes on where one before it ended asks of a file that was just added how far it is. Once it is
-    /// known that nothing of the files to come was sent before, it needn't.
-    fn looks(&self) -> bool {
+    /// Whether a resumed walk sends Status for each new file. An exchange returns `false` once it knows that the
+    /// service holds no pieces of the files to come.
+    fn wants_status(&self) -> bool {
         false
     }
 }

@@ -1,4 +1,4 @@
-//! Why a tree could not be read, and why a walk ended early.
+//! Errors of reading a tree, and errors that end a walk.
 
 ghost use Rattle.std.specs.Prelude.{◌≡◌};
 
@@ -6,11 +6,11 @@ use crate::exchange::ExchangeFault;
 use std::alloc::AllocError;
 use thiserror::Error;
 
-/// Why a tree gave no entries, or no bytes.
+/// Why a folder's entries or a file's bytes could not be read.
 #[derive(Clone, Copy, Debug, PartialEq, Eq, Error)]
 pub enum TreeFault {
-    /// Memory was refused.
-    #[error("memory was refused")]
+    /// Out of memory.
+    #[error("out of memory")]
     Memory,
     /// The folder or file could not be opened or read.
     #[error("it could not be read")]
@@ -20,16 +20,16 @@ pub enum TreeFault {
 /// Why a walk ended early.
 #[derive(Clone, Copy, Debug, PartialEq, Eq, Error)]
 pub enum WalkFault {
-    /// Memory was refused, here or by who answers.
-    #[error("memory was refused")]
+    /// Out of memory, here or in the service.
+    #[error("out of memory")]
     Memory,
-    /// No reply came.
+    /// The service sent no reply.
     #[error("no reply came")]
     Exchange,
-    /// A reply was none that a service gives to such a request.
+    /// The service sent a reply that does not fit the request.
     #[error("a reply was not to the request")]
     Reply,
-    /// A request was too long for a frame.
+    /// A request is too long for a frame.
     #[error("a request is too long")]
     TooLong,
     /// A folder has two entries of one name.
@@ -41,7 +41,7 @@ pub enum WalkFault {
     /// There are more folders and files than a profile can have.
     #[error("there are too many folders and files")]
     Entries,
-    /// The files have more bytes together than can be counted.
+    /// The files' lengths together do not fit 64 bits.
     #[error("the files are too long together")]
     Bytes,
 }

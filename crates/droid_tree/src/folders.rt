@@ -1,20 +1,20 @@
-//! One folder: its entries, one after the other.
+//! One folder: submits its entries one after the other.
 
 ghost use Rattle.std.specs.Prelude.{◌≡◌, ◌&&◌, IfOk, OnOk};
 ghost use Rattle.droid_frame.specs.types.request.Request.TheVariants as requests;
 ghost use Rattle.droid_tree.specs.Heard.{Left};
 ghost use Rattle.droid_tree.specs.Steps.{AddsFolder, AddsNode, TakesKid, TakesKids, TakesVisit};
 ghost use Rattle.droid_tree.specs.Visits.{below};
-ghost use Rattle.droid_tree.specs.declared.entry.EntryKind.TheVariants as kinds;
-ghost use Rattle.droid_tree.specs.declared.place.Place.{Place};
+ghost use Rattle.droid_tree.specs.declared.folder_entry.EntryKind.TheVariants as kinds;
+ghost use Rattle.droid_tree.specs.declared.pending_folder.PendingFolder.{PendingFolder};
 
-use crate::asking::add_node;
-use crate::entry::{Entry, EntryKind};
 use crate::exchange::Exchange;
 use crate::fault::WalkFault;
 use crate::files::{Into, take_file};
+use crate::folder_entry::{EntryKind, FolderEntry};
 use crate::listing::{name_of, read_folder};
-use crate::place::{Place, add_place, path_below};
+use crate::pending_folder::{PendingFolder, add_pending, path_below};
+use crate::service_requests::add_node;
 use crate::skipped::Skipped;
 use crate::tree::Tree;
 use crate::watcher::Watcher;
@@ -22,82 +22,82 @@ use droid_frame::{Request, Text};
 use std::alloc::Global;
 use std::collections::VecDeque;
 
-/// Takes what is in a folder, and keeps the folders in it as pending. The answer is whether nothing of it was left out.
+/// Submits the entries of a folder and appends its subfolders to `pending`. Returns whether no entry was skipped.
 pub(crate) fn take_folder<T: Tree, X: Exchange, W: Watcher>(
     alloc: Global,
     tree: &mut T,
     exchange: &mut X,
     watcher: &mut W,
     into: Into,
-    place: &Place,
-    pending: &mut VecDeque<Place>,
+    folder: &PendingFolder,
+    pending: &mut VecDeque<PendingFolder>,
 ) -> Result<bool, WalkFault>
-    ensures { IfOk result (λ whole. into.folder ≡ place.now.number →
-        TakesVisit T.observes X.asks W.hears into.goes_on into.profile into.piece_size place.now whole tree.old tree.new exchange.old exchange.new watcher.old watcher.new pending.old.items pending.new.items) }
+    ensures { IfOk result (λ whole. into.folder ≡ folder.now.number →
+        TakesVisit T.observes X.asks W.hears into.goes_on into.profile into.piece_size folder.now whole tree.old tree.new exchange.old exchange.new watcher.old watcher.new pending.old.items pending.new.items) }
 {
-    match read_folder(alloc, tree, place.path.as_str())? {
+    match read_folder(alloc, tree, folder.path.as_str())? {
         Ok(entries) => {
             let entries = entries.as_slice();
             let whole = take_entries(
-                alloc, tree, exchange, watcher, into, place, entries, pending,
+                alloc, tree, exchange, watcher, into, folder, entries, pending,
             )?;
             Ok(whole)
         }
         Err(why) => {
-            watcher.skipped(place.path.as_str().as_bytes(), why);
+            watcher.skipped(folder.path.as_str().as_bytes(), why);
             Ok(false)
         }
     }
 }
 
-/// Takes entries of a folder.
+/// Submits these entries of a folder.
 fn take_entries<T: Tree, X: Exchange, W: Watcher>(
     alloc: Global,
     tree: &mut T,
     exchange: &mut X,
     watcher: &mut W,
     into: Into,
-    place: &Place,
-    entries: &[Entry],
-    pending: &mut VecDeque<Place>,
+    folder: &PendingFolder,
+    entries: &[FolderEntry],
+    pending: &mut VecDeque<PendingFolder>,
 ) -> Result<bool, WalkFault>
-    ensures { IfOk result (λ whole. into.folder ≡ place.now.number →
-        TakesKids T.observes X.asks W.hears into.goes_on into.profile into.piece_size place.now entries.now whole tree.old tree.new exchange.old exchange.new watcher.old watcher.new pending.old.items pending.new.items) }
+    ensures { IfOk result (λ whole. into.folder ≡ folder.now.number →
+        TakesKids T.observes X.asks W.hears into.goes_on into.profile into.piece_size folder.now entries.now whole tree.old tree.new exchange.old exchange.new watcher.old watcher.new pending.old.items pending.new.items) }
 {
     let mut whole = true;
     for entry in entries {
-        let taken = take_entry(alloc, tree, exchange, watcher, into, place, entry, pending)?;
+        let taken = take_entry(alloc, tree, exchange, watcher, into, folder, entry, pending)?;
         whole = both(whole, taken);
     }
     Ok(whole)
 }
 
-/// Whether both hold.
+/// Returns whether both are true.
 pub(crate) fn both(first: bool, second: bool) -> bool
     ensures { result ≡ (first && second) }
 {
     first && second
 }
 
-/// Takes one entry, or leaves it out and tells so.
+/// Submits one entry, or reports to the watcher why it is skipped.
 fn take_entry<T: Tree, X: Exchange, W: Watcher>(
     alloc: Global,
     tree: &mut T,
     exchange: &mut X,
     watcher: &mut W,
     into: Into,
-    place: &Place,
-    entry: &Entry,
-    pending: &mut VecDeque<Place>,
+    folder: &PendingFolder,
+    entry: &FolderEntry,
+    pending: &mut VecDeque<PendingFolder>,
 ) -> Result<bool, WalkFault>
-    ensures { IfOk result (λ taken. into.folder ≡ place.now.number →
-        TakesKid T.observes X.asks W.hears into.goes_on into.profile into.piece_size place.now entry.now taken tree.old tree.new exchange.old exchange.new watcher.old watcher.new pending.old.items pending.new.items) }
+    ensures { IfOk result (λ taken. into.folder ≡ folder.now.number →
+        TakesKid T.observes X.asks W.hears into.goes_on into.profile into.piece_size folder.now entry.now taken tree.old tree.new exchange.old exchange.new watcher.old watcher.new pending.old.items pending.new.items) }
 {
     let Some(name) = name_of(entry) else {
-        report_below(alloc, watcher, place, entry, Skipped::Name)?;
+        report_below(alloc, watcher, folder, entry, Skipped::Name)?;
         return Ok(false);
     };
-    let path = path_below(alloc, place.path.as_str(), name)?;
+    let path = path_below(alloc, folder.path.as_str(), name)?;
     match entry.kind {
         EntryKind::Folder => {
             let taken = add_folder(alloc, exchange, watcher, into, path, name, entry, pending)?;
@@ -115,24 +115,24 @@ fn take_entry<T: Tree, X: Exchange, W: Watcher>(
     }
 }
 
-/// Tells that an entry whose name is no text was left out.
+/// Reports that an entry was skipped. Its name may be invalid UTF-8.
 fn report_below<W: Watcher>(
     alloc: Global,
     watcher: &mut W,
-    place: &Place,
-    entry: &Entry,
+    folder: &PendingFolder,
+    entry: &FolderEntry,
     why: Skipped,
 ) -> Result<(), WalkFault>
-    ensures { OnOk result (W.hears watcher.old (Left (below place.now.path entry.now.name) why) watcher.new) }
+    ensures { OnOk result (W.hears watcher.old (Left (below folder.now.path entry.now.name) why) watcher.new) }
 {
-    let mut path = Vec::from_slice(alloc, place.path.as_str().as_bytes())?;
+    let mut path = Vec::from_slice(alloc, folder.path.as_str().as_bytes())?;
     path.extend_from_slice(b"/")?;
     path.extend_from_slice(entry.name.as_slice())?;
     watcher.skipped(path.as_slice(), why);
     Ok(())
 }
 
-/// Adds a folder, and keeps it as pending.
+/// Adds a folder to the profile and appends it to `pending`.
 fn add_folder<X: Exchange, W: Watcher>(
     alloc: Global,
     exchange: &mut X,
@@ -140,23 +140,24 @@ fn add_folder<X: Exchange, W: Watcher>(
     into: Into,
     path: Text,
     name: &str,
-    entry: &Entry,
-    pending: &mut VecDeque<Place>,
+    entry: &FolderEntry,
+    pending: &mut VecDeque<PendingFolder>,
 ) -> Result<bool, WalkFault>
-    ensures { IfOk result (λ taken. (place : Place) → path ≡ below place.path entry.now.name → into.folder ≡ place.number → name.now ≡ entry.now.name → entry.now.kind ≡ kinds.Folder →
-        AddsFolder X.asks W.hears into.goes_on into.profile into.piece_size place entry.now taken exchange.old exchange.new watcher.old watcher.new pending.old.items pending.new.items) }
+    ensures { IfOk result (λ taken. (folder : PendingFolder) → path ≡ below folder.path entry.now.name → into.folder ≡ folder.number → name.now ≡ entry.now.name → entry.now.kind ≡ kinds.Folder →
+        AddsFolder X.asks W.hears into.goes_on into.profile into.piece_size folder entry.now taken exchange.old exchange.new watcher.old watcher.new pending.old.items pending.new.items) }
 {
     match announce(alloc, exchange, watcher, into, path.as_str(), name, entry)? {
         Some(number) => {
             watcher.took_folder(path.as_str());
-            add_place(pending, path, number)?;
+            add_pending(pending, path, number)?;
             Ok(true)
         }
         None => Ok(false),
     }
 }
 
-/// Announces a folder, and gives its number. Where it is refused, that is told, and there is none.
+/// Sends AddFolder and returns the folder's number, or `None` if the service refuses it. A refusal is reported to the
+/// watcher.
 fn announce<X: Exchange, W: Watcher>(
     alloc: Global,
     exchange: &mut X,
@@ -164,7 +165,7 @@ fn announce<X: Exchange, W: Watcher>(
     into: Into,
     path: &str,
     name: &str,
-    entry: &Entry,
+    entry: &FolderEntry,
 ) -> Result<Option<u32>, WalkFault>
     ensures { IfOk result (λ number. AddsNode X.asks W.hears path.now
         (requests.AddFolder into.profile into.folder entry.now.modified name.now) number exchange.old exchange.new watcher.old watcher.new) }

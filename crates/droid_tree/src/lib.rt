@@ -1,31 +1,31 @@
-//! Trees of folders and files: how one is read, and how it is submitted in the order of a walk.
+//! Walks over a tree of folders and files and submits it to a service.
 //!
-//! What the tree is, and who answers, is for the caller to say: both come by traits. So what is proved here holds over any
-//! file system, or any tree in memory, and over any service, near or far.
+//! The caller supplies both: a [`Tree`] to read and an [`Exchange`] to send requests to. So the proofs hold for any
+//! file system or tree in memory, and for any service, in this process or remote.
 #![tactic(auto)]
 
-mod asking;
-mod counting;
-mod entry;
 mod exchange;
 mod fault;
 mod files;
+mod folder_entry;
 mod folders;
 mod listing;
 mod order;
+mod pending_folder;
 mod pieces;
-mod place;
+mod service_requests;
 mod skipped;
 mod tree;
-mod walking;
+mod tree_size;
+mod tree_walk;
 mod watcher;
 
-pub use asking::ask;
-pub use counting::{Counted, NODE_LIMIT, count};
-pub use entry::{Entry, EntryKind};
 pub use exchange::{Exchange, ExchangeFault};
 pub use fault::{TreeFault, WalkFault};
+pub use folder_entry::{EntryKind, FolderEntry};
+pub use service_requests::ask;
 pub use skipped::Skipped;
 pub use tree::Tree;
-pub use walking::{Options, Walked, walk, walk_on};
+pub use tree_size::{Counted, NODE_LIMIT, count};
+pub use tree_walk::{Options, Walked, walk, walk_on};
 pub use watcher::Watcher;

@@ -1,4 +1,4 @@
-//! The entries of a folder, as the tree tells them.
+//! Reads a folder's entries in order.
 
 ghost use Rattle.std.specs.Prelude.{◌≡◌, ◌≢◌, IfErr, IfOk, MatchOption, MatchResult, IsUtf8};
 ghost use Rattle.droid_tree.specs.Steps.{ListsInOrder};
@@ -6,19 +6,19 @@ ghost use Rattle.droid_tree.specs.Observation.{Unlisted};
 ghost use Rattle.droid_tree.specs.declared.fault.WalkFault.TheVariants.{Entries};
 ghost use Rattle.droid_tree.specs.declared.skipped.Skipped.TheVariants as reasons;
 
-use crate::entry::Entry;
 use crate::fault::WalkFault;
+use crate::folder_entry::FolderEntry;
 use crate::order::in_order;
 use crate::skipped::{Skipped, unread};
 use crate::tree::Tree;
 use std::alloc::Global;
 
-/// The entries of a folder in the order of their names. That it can't be read is the inner error.
+/// Reads the entries of a folder, sorted by name. The inner error says that the folder is unreadable.
 pub(crate) fn read_folder<T: Tree>(
     alloc: Global,
     tree: &mut T,
     path: &str,
-) -> Result<Result<Vec<Entry>, Skipped>, WalkFault>
+) -> Result<Result<Vec<FolderEntry>, Skipped>, WalkFault>
     ensures read { IfOk result (λ read. MatchResult read
         (λ entries. ListsInOrder T.observes path.now entries.items tree.old tree.new)
         (λ why. (why ≡ reasons.Unreadable) × T.observes tree.old (Unlisted path.now) tree.new)) }
@@ -36,8 +36,8 @@ pub(crate) fn read_folder<T: Tree>(
     }
 }
 
-/// The name as text, where it is UTF-8.
-pub(crate) fn name_of(entry: &Entry) -> Option<&str>
+/// Returns the name as text, if it is valid UTF-8.
+pub(crate) fn name_of(entry: &FolderEntry) -> Option<&str>
     ensures { MatchOption result (¬ (IsUtf8 entry.now.name)) (λ text. (text.now ≡ entry.now.name) × IsUtf8 entry.now.name) }
 {
     match std::str::from_utf8(entry.name.as_slice()) {

@@ -1,16 +1,16 @@
-//! The entries of a folder in the order of their names.
+//! Sorts a folder's entries by name.
 
 ghost use Rattle.std.specs.Prelude.{◌≡◌, ◌≢◌, ◌+◌, ◌<◌, IfErr, IfOk, IsTrue, IsPermutation, length, slice_get};
 ghost use Rattle.droid_tree.specs.Order.{IsBefore};
 ghost use Rattle.droid_tree.specs.Visits.{AreInOrder};
 ghost use Rattle.droid_tree.specs.declared.fault.WalkFault.TheVariants.{Entries};
 
-use crate::entry::Entry;
 use crate::fault::WalkFault;
+use crate::folder_entry::FolderEntry;
 use std::cmp::Ordering;
 
-/// The entries in the order of their names' bytes. A name that stands twice is a fault.
-pub(crate) fn in_order(entries: Vec<Entry>) -> Result<Vec<Entry>, WalkFault>
+/// Sorts entries by the bytes of their names. Two entries of one name are an error.
+pub(crate) fn in_order(entries: Vec<FolderEntry>) -> Result<Vec<FolderEntry>, WalkFault>
     ensures same { IfOk result (λ sorted. IsPermutation entries.items sorted.items) }
     ensures in_order { IfOk result (λ sorted. AreInOrder sorted.items) }
     ensures other { IfErr result (λ fault. fault ≢ Entries) }
@@ -24,34 +24,34 @@ pub(crate) fn in_order(entries: Vec<Entry>) -> Result<Vec<Entry>, WalkFault>
     }
 }
 
-/// Whether each name comes before the next.
-fn are_in_order(entries: &[Entry]) -> bool
+/// Returns whether each name comes before the next.
+fn are_in_order(entries: &[FolderEntry]) -> bool
     ensures { IsTrue result → AreInOrder entries.now }
 {
-    for place in 1..entries.len() {
-        if !is_before_next(entries, place - 1) {
+    for index in 1..entries.len() {
+        if !is_before_next(entries, index - 1) {
             return false;
         }
     }
     true
 }
 
-/// Whether the name at this place comes before the next.
-fn is_before_next(entries: &[Entry], place: usize) -> bool
-    requires { place + 1 < length entries.now }
-    ensures { IsTrue result → (first second : Entry) → slice_get entries.now place ≡ Some first → slice_get entries.now (place + 1) ≡ Some second → IsBefore first.name second.name }
+/// Returns whether the name at this index comes before the next.
+fn is_before_next(entries: &[FolderEntry], index: usize) -> bool
+    requires { index + 1 < length entries.now }
+    ensures { IsTrue result → (first second : FolderEntry) → slice_get entries.now index ≡ Some first → slice_get entries.now (index + 1) ≡ Some second → IsBefore first.name second.name }
 {
-    let Some(first) = entries.get(place) else {
+    let Some(first) = entries.get(index) else {
         return false;
     };
-    let Some(second) = entries.get(place + 1) else {
+    let Some(second) = entries.get(index + 1) else {
         return false;
     };
     is_before(first, second)
 }
 
-/// Whether the first name comes before the second.
-fn is_before(first: &Entry, second: &Entry) -> bool
+/// Returns whether the first name comes before the second.
+fn is_before(first: &FolderEntry, second: &FolderEntry) -> bool
     ensures { IsTrue result → IsBefore first.now.name second.now.name }
 {
     match first.name.as_slice().cmp(second.name.as_slice()) {

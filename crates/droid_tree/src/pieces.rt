@@ -1,4 +1,4 @@
-//! The pieces of a file: read, and sent.
+//! Reads a file piece by piece and sends each piece.
 
 ghost use Rattle.std.specs.Prelude.{◌≡◌, ◌≢◌, ◌++◌, ◌-◌, ◌<◌, [], length, min, IfOk, MatchResult, OnOk};
 ghost use Rattle.droid_frame.specs.Fields.{IsBytes, IsU32, u32_bytes};
@@ -16,10 +16,10 @@ use crate::watcher::Watcher;
 use droid_frame::{Blob, Refusal, Reply};
 use std::alloc::{AllocError, Global};
 
-/// How many bytes of a piece's body come before the piece's own.
+/// How many bytes stand before the piece's bytes in the body of a Piece request.
 const BEFORE_BYTES: usize = 12;
 
-/// The kind of a request that sends a piece.
+/// The kind of a Piece request.
 const PIECE: u8 = 4;
 
 /// A file of a profile, and how it is sent.
@@ -29,16 +29,16 @@ pub(crate) struct Target {
     pub profile: u32,
     /// The number of the file.
     pub file: u32,
-    /// How many bytes each piece has but the last.
+    /// How many bytes each piece has, except the last.
     pub piece_size: u32,
-    /// How many bytes the file is said to have.
+    /// The length of the file, as its folder lists it.
     pub size: u64,
-    /// The first piece that is sent.
+    /// The first piece to send.
     pub first: u32,
 }
 
-/// Reads a file piece by piece, from the first that is sent on, and sends each before the next is read. That the file can't be read, or has more
-/// bytes or fewer, is the inner error; not all of its pieces are sent then.
+/// Reads a file from its first piece to send and sends each piece before it reads the next. The inner error says that
+/// the file is unreadable or that its length changed; the remaining pieces are then not sent.
 pub(crate) fn send_pieces<T: Tree, X: Exchange, W: Watcher>(
     alloc: Global,
     tree: &mut T,
@@ -67,7 +67,7 @@ pub(crate) fn send_pieces<T: Tree, X: Exchange, W: Watcher>(
     Err(WalkFault::Reply)
 }
 
-/// The byte with which this piece of a file begins, or the file's end.
+/// Returns the offset at which this piece begins, at most the file's length.
 pub(crate) fn begin_of(piece_size: u32, size: u64, index: u32) -> u64
     ensures { result ≡ begin_of piece_size size index }
 {
@@ -75,7 +75,7 @@ pub(crate) fn begin_of(piece_size: u32, size: u64, index: u32) -> u64
     before.min(size)
 }
 
-/// How many bytes the next piece has: as many as pieces have, or what is left.
+/// Returns the length of the next piece: the piece size, or fewer bytes if the file ends before.
 fn next_len(size: u64, from: u64, piece_size: u32) -> u32
     ensures { result ≡ min piece_size (size - from) }
 {
@@ -86,8 +86,8 @@ fn next_len(size: u64, from: u64, piece_size: u32) -> u32
     }
 }
 
-/// Sees that a file of this size ends where all its pieces were read. Where they end before, who took it took pieces of no
-/// byte, and that is a fault of the reply.
+/// Checks that the file has no bytes after its last piece. Fails with `Reply` if not all pieces were read: that happens
+/// when the service accepts a piece size of 0.
 fn ends_here<T: Tree>(
     alloc: Global,
     tree: &mut T,
@@ -113,7 +113,7 @@ fn ends_here<T: Tree>(
     }
 }
 
-/// Nothing more came.
+/// Checks that no more bytes came.
 fn none_more(more: &[u8]) -> Result<(), Skipped>
     ensures { MatchResult result (λ _. more.now ≡ []) (λ why. (why ≡ reasons.Changed) × (0 < length more.now)) }
 {
@@ -124,8 +124,8 @@ fn none_more(more: &[u8]) -> Result<(), Skipped>
     }
 }
 
-/// Reads one piece and sends it, and gives how many pieces are taken then. Its bytes stand in one place only: in the
-/// body of the request.
+/// Reads one piece, sends it, and returns how many pieces the service then holds. The piece's bytes exist once in
+/// memory: in the body of the request.
 fn send_piece<T: Tree, X: Exchange>(
     alloc: Global,
     tree: &mut T,
@@ -152,7 +152,8 @@ fn send_piece<T: Tree, X: Exchange>(
     }
 }
 
-/// Adds so many bytes of a file, from this one on. That they can't be read, or are fewer, is the inner error.
+/// Appends `wanted` bytes of a file, starting at offset `from`. The inner error says that the file is unreadable or
+/// ends before.
 fn read_piece<T: Tree>(
     tree: &mut T,
     path: &str,
@@ -174,7 +175,7 @@ fn read_piece<T: Tree>(
     }
 }
 
-/// As many bytes came as were wanted.
+/// Checks that all bytes came.
 fn all_came(count: usize, wanted: usize) -> Result<(), Skipped>
     ensures { MatchResult result (λ _. count ≡ wanted) (λ why. (why ≡ reasons.Changed) × (count ≢ wanted)) }
 {
@@ -185,7 +186,7 @@ fn all_came(count: usize, wanted: usize) -> Result<(), Skipped>
     }
 }
 
-/// The body of a request, which is all there.
+/// Returns the finished body as a `Blob`.
 fn whole_body(body: Vec<u8>) -> Blob
     ensures same { result ≡ body.items }
     ensures bytes { IsBytes result }
@@ -195,7 +196,7 @@ fn whole_body(body: Vec<u8>) -> Blob
     blob
 }
 
-/// How many pieces the reply says to be taken.
+/// Returns how many pieces the reply says the service holds.
 fn taken(reply: Reply) -> Result<u32, WalkFault>
     ensures { IfOk result (λ held. reply ≡ replies.Taken held) }
 {
@@ -206,7 +207,7 @@ fn taken(reply: Reply) -> Result<u32, WalkFault>
     }
 }
 
-/// The body of a request for a piece up to its bytes, with room for these.
+/// Returns the start of a Piece request's body, with capacity for the piece's bytes.
 fn begun_body(
     alloc: Global,
     profile: u32,

@@ -1,26 +1,25 @@
-//! How a tree is read.
+//! The trait for reading a tree.
 
 ghost use Rattle.std.specs.Prelude.{◌≡◌, IfErr, IfOk, OnOk};
 ghost use Rattle.droid_tree.specs.Observation.{Observation, Listed, Unlisted, Unread, BytesCame};
 ghost use Rattle.droid_tree.specs.declared.fault.TreeFault.TheVariants.{Unreadable};
 
-use crate::entry::Entry;
 use crate::fault::TreeFault;
+use crate::folder_entry::FolderEntry;
 use std::alloc::Global;
 
-/// A tree of folders and files. Its top has the empty path, and anything else the path of its folder, `/` and its
+/// A tree of folders and files. The top has the empty path. The path of an entry is its folder's path, `/` and its
 /// name.
 pub trait Tree {
-    /// In the first state the tree may tell this, and is then in the second.
+    /// Relates the state before a call, what the call returned, and the state after it.
     ghost observes: { Self → Observation → Self → Type 0 };
 
-    /// The entries of a folder, in any order.
-    fn entries(&mut self, alloc: Global, path: &str) -> Result<Vec<Entry>, TreeFault>
+    /// Returns the entries of a folder, in any order.
+    fn entries(&mut self, alloc: Global, path: &str) -> Result<Vec<FolderEntry>, TreeFault>
         ensures listed { IfOk result (λ entries. observes self.old (Listed path.now entries.items) self.new) }
         ensures unlisted { IfErr result (λ fault. fault ≡ Unreadable → observes self.old (Unlisted path.now) self.new) };
 
-    /// Adds bytes of a file at the end: those from this one on, as many as are wanted, or fewer where the file ends
-    /// before.
+    /// Appends up to `wanted` bytes of a file, starting at offset `from`. Appends fewer only if the file ends before.
     fn read(
         &mut self,
         path: &str,

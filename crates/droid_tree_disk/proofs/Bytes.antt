@@ -5,18 +5,18 @@ use Rattle.std.proofs.Math.Seq.{take-append-add}
 use Rattle.std.proofs.lemmas.List.{append_assoc, length-take, take_all, take_at}
 use Rattle.droid_tree_disk.specs.Machine.{AddsBytes}
 
--- the first bytes of a vector that was made longer are those that it had
+-- a vector that was made longer begins with the bytes that it had
 pub front_kept : (longer : Bool) (before after : ℕ) (old zeros items : List ℕ) → items ≡ cond longer (take after old ++ zeros) old → length old ≡ before → before ≤ after → take before items ≡ old
 front_kept true before after old zeros items is len more =
     let whole : take after old ≡ old = take_all after old (omega (arith, len, more)) in
     ap (take before) is ∙ (ap (λ (front : List ℕ). take before (front ++ zeros)) whole ∙ take_at old zeros before len)
 front_kept false before after old zeros items is len more = ap (take before) is ∙ take_all before old (omega (arith, len))
 
--- a front of so many bytes is cut behind them, however much stands there
+-- cutting at the length of the beginning leaves the beginning
 cut_behind : (count places : ℕ) (old rest : List ℕ) → length old + count ≡ places → take places (old ++ rest) ≡ old ++ take count rest
 cut_behind count places old rest len = ap (λ (n : ℕ). take n (old ++ rest)) (sym len) ∙ take-append-add old rest count
 
--- what stands behind a front of so many bytes, and is then cut, are so many at most
+-- what stands behind the beginning after cutting is no longer than the cut
 pub added : (before filled places wanted : ℕ) (old front read rest after : List ℕ) → after ≡ take (before + filled) (take places ((front ++ read) ++ rest))
     → front ≡ old → length old ≡ before → before ≤ places → filled ≤ wanted → AddsBytes wanted old after
 added before filled places wanted old front read rest after is kept len room few =
@@ -31,7 +31,7 @@ added before filled places wanted old front read rest after is kept len room few
       within = few_came;
     }
 
--- what fits the part behind the bytes that were there is as much as was wanted
+-- the part behind the older bytes has the length that was asked for
 pub fits_behind : (longer : Bool) (filled before after wanted old_places places lent : ℕ) (buffer items : List ℕ) → filled ≤ length buffer → length buffer ≡ length (take (lent - before) items)
     → lent ≡ places → places ≡ cond longer after old_places → before ≡ old_places → after ≡ before + wanted → filled ≤ wanted
 fits_behind true filled before after wanted old_places places lent buffer items within len is grown was more =

@@ -4,7 +4,7 @@ use Rattle.std.specs.Str.Pattern.{CutsSuffixes, FindsCharSuffix, IsTrimEndMatche
 use Rattle.std.specs.Option.{IfSome}
 use Rattle.droid_tree_disk.specs.Tops.{IsWithoutSlashes}
 
--- where a path ends in a slash, it is what is left without it, and the slash
+-- a path that ends in a slash is the rest and the slash
 one_slash : (path top : List ℕ) (count : ℕ) → FindsCharSuffix 47 path (Some count) → top ≡ take (length path - count) path → path ≡ top ++ 47 ∷ []
 unfolding lib.Utf8.encode
 one_slash path top count found is =

@@ -2,7 +2,7 @@
 use Rattle.std.specs.Prelude.{◌≡◌, ℕ, ◌≤◌, List, ◌++◌, length}
 use Rattle.droid_tree_disk.specs.Said.{Said, Gave}
 
--- the file system gave bytes of an open file, and they stand behind what stood there
+-- the file system returned bytes of an open file, and they were appended to the buffer
 pub record Gives {D : Type 0} (says : D → Said → D → Type 0) (disk : D) (path : List ℕ) (from wanted : ℕ) (before after : List ℕ) (disk_after : D) : Type 0 where
   pub bytes : List ℕ
   pub added : after ≡ before ++ bytes

@@ -1,19 +1,19 @@
--- What a file system says when it is asked (this project's own).
+-- What a file system says (this project's own).
 use Rattle.std.specs.Prelude.{ℕ, List, Option}
-use Rattle.droid_tree_disk.specs.declared.disk.Found.{Found}
+use Rattle.droid_tree_disk.specs.declared.disk.FileMetadata.{FileMetadata}
 
 pub data Said : Type 0 where
-  -- the folder at this path has these names in it
+  -- the folder at this path has these names
   Names : (path : List ℕ) (names : List (List ℕ)) → Said
-  -- the names in the folder at this path can't be told
+  -- the folder at this path could not be listed
   NoNames : (path : List ℕ) → Said
-  -- this stands at the path, or it can't be told
-  Looked : (path : List ℕ) (found : Option Found) → Said
-  -- the file at this path was opened, and is this
-  Opened : (path : List ℕ) (found : Found) → Said
-  -- the file at this path can't be opened
+  -- the path has these metadata, or none could be read
+  Looked : (path : List ℕ) (found : Option FileMetadata) → Said
+  -- the file at this path was opened and has these metadata
+  Opened : (path : List ℕ) (found : FileMetadata) → Said
+  -- the file at this path could not be opened
   NotOpened : (path : List ℕ) → Said
-  -- of the open file so many bytes were wanted, from this one on, and these came
+  -- `wanted` bytes of the open file were asked for from offset `from`, and these came
   Gave : (path : List ℕ) (from wanted : ℕ) (bytes : List ℕ) → Said
-  -- of the open file so many bytes were wanted, from this one on, and can't be read
+  -- `wanted` bytes of the open file were asked for from offset `from`, and could not be read
   GaveNone : (path : List ℕ) (from wanted : ℕ) → Said

@@ -1,4 +1,4 @@
-//! The calls of a file system by which a tree is read.
+//! The file system calls that reading a tree needs.
 
 ghost use Rattle.std.specs.Prelude.{◌≡◌, ℕ, List, IfErr, IfOk, IsTrue, OnOk};
 
@@ -6,65 +6,65 @@ use droid_frame::Blob;
 use droid_tree::{EntryKind, TreeFault};
 use std::alloc::Global;
 
-/// What stands at a path.
+/// What a file system says of a path.
 #[derive(Clone, Copy, Debug, PartialEq, Eq)]
-pub struct Found {
-    /// What it is.
+pub struct FileMetadata {
+    /// The type of the entry.
     pub kind: EntryKind,
-    /// When it was last changed, in whole seconds since 1970-01-01T00:00:00 in UTC, negative before.
+    /// When it was last changed, in seconds since 1970-01-01T00:00:00 UTC. Negative for earlier times.
     pub modified: i64,
-    /// How many bytes it has.
+    /// The length in bytes.
     pub len: u64,
-    /// The device that it lies on.
+    /// The device.
     pub device: u64,
-    /// Its number on that device.
+    /// The number on that device (inode).
     pub node: u64,
 }
 
-/// A file system, as it is asked.
+/// A file system.
 pub trait Disk {
     ghost use Rattle.droid_tree_disk.specs.Said.{Said, Names, NoNames, Looked, Opened, NotOpened, GaveNone};
     ghost use Rattle.droid_tree_disk.specs.Given.{Gives};
-    ghost use Rattle.droid_tree_disk.specs.declared.disk.Found.{Found};
+    ghost use Rattle.droid_tree_disk.specs.declared.disk.FileMetadata.{FileMetadata};
     ghost use Rattle.droid_tree.specs.declared.fault.TreeFault.TheVariants.{Unreadable};
 
     /// A file that is open for reading.
     type File: Drop;
 
-    /// In the first state it may say this, and is then in the second.
+    /// Relates the state before a call, what the file system said, and the state after it.
     ghost says: { Self → Said → Self → Type 0 };
 
     /// The path by which a file was opened.
     ghost path_of: { Self.File → List ℕ };
 
-    /// What was found of an open file as it was opened.
-    ghost found_of: { Self.File → Found };
+    /// The metadata of an open file, taken when it was opened.
+    ghost metadata_of: { Self.File → FileMetadata };
 
-    /// The names in a folder, in any order, without `.` and `..`. Of a link to a folder none are told, unless the path ends
-    /// in `/`.
+    /// Returns the names in a folder, in any order, without `.` and `..`. Fails for a link to a folder, unless the path
+    /// ends in `/`.
     fn names(&mut self, alloc: Global, path: &str) -> Result<Vec<Blob>, TreeFault>
         ensures says { IfOk result (λ names. says self.old (Names path.now names.items) self.new) }
         ensures failed { IfErr result (λ fault. fault ≡ Unreadable → says self.old (NoNames path.now) self.new) };
 
-    /// What stands at a path, or nothing where that can't be told. A link is told itself, and not what it leads to.
-    fn look(&mut self, path: &str) -> Option<Found>
+    /// Returns the metadata of a path, or `None` if there are none. Does not follow links.
+    fn look(&mut self, path: &str) -> Option<FileMetadata>
         ensures { says self.old (Looked path.now result) self.new };
 
     /// Opens a file for reading.
     fn open(&mut self, alloc: Global, path: &str) -> Result<Self::File, TreeFault>
-        ensures says { IfOk result (λ file. says self.old (Opened path.now (found_of file)) self.new) }
+        ensures says { IfOk result (λ file. says self.old (Opened path.now (metadata_of file)) self.new) }
         ensures path { IfOk result (λ file. path_of file ≡ path.now) }
         ensures failed { IfErr result (λ fault. fault ≡ Unreadable → says self.old (NotOpened path.now) self.new) };
 
-    /// What the open file was as it was opened.
-    fn found(file: &Self::File) -> Found
-        ensures { result ≡ found_of file.now };
+    /// Returns the metadata of an open file, taken when it was opened.
+    fn metadata(file: &Self::File) -> FileMetadata
+        ensures { result ≡ metadata_of file.now };
 
-    /// Whether the file was opened by this path.
+    /// Returns whether the file was opened by this path.
     fn is_at(file: &Self::File, path: &str) -> bool
         ensures { IsTrue result → path_of file.now ≡ path.now };
 
-    /// Adds bytes of an open file at the end: those from this one on, as many as are wanted, or fewer where the file ends
+    /// Appends up to `wanted` bytes of an open file, starting at offset `from`. Appends fewer only if the file ends
     /// before.
     fn read_at(
         &mut self,

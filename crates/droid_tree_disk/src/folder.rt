@@ -1,29 +1,29 @@
-//! A folder of a file system as a tree.
+//! A folder of a file system, as a tree.
 
 ghost use Rattle.std.specs.Prelude.{◌≡◌, ◌⊎◌, ◌++◌, IfErr, IfOk, IsFalse, IsTrue};
 ghost use Rattle.droid_tree.specs.declared.fault.TreeFault.TheVariants.{Memory, Unreadable};
 ghost use Rattle.droid_tree_disk.specs.FolderObservation.{IsSameFile, OpensAt, OpensNone, ObservesBelow, folder_path};
 ghost use Rattle.droid_tree_disk.specs.Tops.{IsWithoutSlashes};
 
-use crate::disk::{Disk, Found};
-use crate::listing::list;
+use crate::disk::{Disk, FileMetadata};
+use crate::entries::list;
 use droid_frame::Text;
-use droid_tree::{Entry, EntryKind, Tree, TreeFault};
+use droid_tree::{EntryKind, FolderEntry, Tree, TreeFault};
 use std::alloc::{AllocError, Global};
 
-/// A folder, with all that lies below it. The file that is read stays open until another is.
+/// A folder with everything below it. The file that was read last stays open until another one is read.
 #[derive(Drop)]
 pub struct Folder<D: Disk + Drop> {
-    /// The file system that it lies in.
+    /// The file system.
     pub disk: D,
-    /// Its path, without a `/` at its end.
+    /// The path of the folder, without a `/` at its end.
     pub top: Text,
     /// The file that was read last.
     pub open: Option<D::File>,
 }
 
 impl<D: Disk + Drop> Folder<D> {
-    /// The folder at this path, which may end in `/`.
+    /// Makes a tree of the folder at this path, which may end in `/`.
     pub fn new(alloc: Global, disk: D, path: &str) -> Result<Folder<D>, AllocError>
         ensures disk { IfOk result (λ folder. folder.disk ≡ disk) }
         ensures top { IfOk result (λ folder. IsWithoutSlashes path.now folder.top) }
@@ -40,7 +40,7 @@ impl<D: Disk + Drop> Folder<D> {
 impl<D: Disk + Drop> Tree for Folder<D> {
     ghost observes = { λ old observed new. ObservesBelow D.says old.top old.disk observed new.disk × (new.top ≡ old.top) };
 
-    fn entries(&mut self, alloc: Global, path: &str) -> Result<Vec<Entry>, TreeFault> {
+    fn entries(&mut self, alloc: Global, path: &str) -> Result<Vec<FolderEntry>, TreeFault> {
         self.open = None;
         let top = self.top.as_str();
         let place = kept(folder_at(alloc, top, path))?;
@@ -65,14 +65,14 @@ impl<D: Disk + Drop> Tree for Folder<D> {
     }
 }
 
-/// The path, without all slashes at its end.
+/// Returns the path without the slashes at its end.
 fn without_slashes(path: &str) -> &str
     ensures { IsWithoutSlashes path.now result.now }
 {
     path.trim_end_matches('/')
 }
 
-/// The path, where there was memory for it.
+/// Returns the path, or the error for running out of memory.
 fn kept(path: Result<Text, AllocError>) -> Result<Text, TreeFault>
     ensures same { IfOk result (λ text. path ≡ Ok text) }
     ensures memory { IfErr result (λ fault. fault ≡ Memory) }
@@ -83,7 +83,7 @@ fn kept(path: Result<Text, AllocError>) -> Result<Text, TreeFault>
     }
 }
 
-/// The path of something below the folder.
+/// Returns the path of something below the top.
 fn place_of(alloc: Global, top: &str, path: &str) -> Result<Text, AllocError>
     ensures { IfOk result (λ text. text ≡ top.now ++ path.now) }
 {
@@ -91,7 +91,7 @@ fn place_of(alloc: Global, top: &str, path: &str) -> Result<Text, AllocError>
     Ok(Text::from(joined))
 }
 
-/// The path by which the names of a folder below the folder are asked.
+/// Returns the path by which a folder is listed. That of the top ends in `/`, so that the top may be a link.
 fn folder_at(alloc: Global, top: &str, path: &str) -> Result<Text, AllocError>
     ensures { IfOk result (λ text. text ≡ folder_path top.now path.now) }
 {
@@ -101,7 +101,7 @@ fn folder_at(alloc: Global, top: &str, path: &str) -> Result<Text, AllocError>
     place_of(alloc, top, path)
 }
 
-/// The open file, where it was opened by this path, or the one that is opened now.
+/// Returns the open file if it was opened by this path, and otherwise opens the file.
 fn file_at<D: Disk>(
     alloc: Global,
     disk: &mut D,
@@ -121,7 +121,7 @@ fn file_at<D: Disk>(
     open_at(alloc, disk, path)
 }
 
-/// Opens a regular file, and sees that what was opened is what stands there, and no link to it.
+/// Opens a regular file. Fails if the path was a link, or if another file was opened than the one that was there.
 fn open_at<D: Disk>(alloc: Global, disk: &mut D, path: &str) -> Result<D::File, TreeFault>
     ensures path { IfOk result (λ file. D.path_of file ≡ path.now) }
     ensures opened { IfOk result (λ file. OpensAt D.says path.now disk.old disk.new) }
@@ -131,15 +131,15 @@ fn open_at<D: Disk>(alloc: Global, disk: &mut D, path: &str) -> Result<D::File, 
         return Err(TreeFault::Unreadable);
     };
     let file = disk.open(alloc, path)?;
-    if is_same_file(there, D::found(&file)) {
+    if is_same_file(there, D::metadata(&file)) {
         Ok(file)
     } else {
         Err(TreeFault::Unreadable)
     }
 }
 
-/// Whether it is a regular file, and the same one.
-fn is_same_file(first: Found, second: Found) -> bool
+/// Returns whether both are regular files, and the same one.
+fn is_same_file(first: FileMetadata, second: FileMetadata) -> bool
     ensures same { IsTrue result → IsSameFile first second }
     ensures other { IsFalse result → IsSameFile first second → ⊥ }
 {
@@ -155,8 +155,8 @@ fn is_same_file(first: Found, second: Found) -> bool
     first.node == second.node
 }
 
-/// Whether it is a regular file.
-fn is_file(found: Found) -> bool
+/// Returns whether it is a regular file.
+fn is_file(found: FileMetadata) -> bool
     ensures file { IsTrue result → found.kind ≡ EntryKind.File }
     ensures other { IsFalse result → found.kind ≡ EntryKind.File → ⊥ }
 {

@@ -1,20 +1,21 @@
-//! Folders of this machine as trees, and files of it that are complete or not there.
+//! Folders of this machine as trees, and output files that are either complete or not there.
 //!
-//! A tree is read by the few calls of a [`Disk`], which the machine's own file system answers, or another in its place.
+//! [`Folder`] reads a tree through the few calls of a [`Disk`]. [`System`] makes these calls to the machine's file
+//! system.
 #![tactic(auto)]
 
-mod beside;
 mod disk;
+mod entries;
+mod file_bytes;
 mod folder;
-mod listing;
+mod folder_check;
 mod names;
 mod output;
-mod reading;
 mod system;
-mod there;
+mod unfinished_file;
 
-pub use disk::{Disk, Found};
+pub use disk::{Disk, FileMetadata};
 pub use folder::Folder;
+pub use folder_check::is_folder;
 pub use output::{Output, OutputFault};
 pub use system::System;
-pub use there::is_folder;

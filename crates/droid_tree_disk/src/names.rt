@@ -1,4 +1,4 @@
-//! The names of a folder, out of what a file system tells of it.
+//! Splits what a folder reads as into names.
 
 ghost use Rattle.std.specs.Prelude.{◌≡◌, ◌∷◌, ◌++◌, [], IfOk, IfSome, OnOk, filter};
 ghost use Rattle.droid_tree_disk.specs.Names.{is_entry, names_of};
@@ -8,10 +8,10 @@ use droid_tree::TreeFault;
 use std::alloc::{AllocError, Global};
 use std::io::Read;
 
-/// How many bytes all names of one folder have at most, each with the zero byte that ends it.
+/// How many bytes the names of one folder can have together, each with its zero byte.
 const NAMES_LIMIT: usize = 67_108_863;
 
-/// The names that an open folder reads as: each is ended by a zero byte.
+/// Reads the names of an open folder. It reads as names that each end with a zero byte.
 pub(crate) fn read_names<D: Read + Drop>(alloc: Global, dir: D) -> Result<Vec<Blob>, TreeFault>
     ensures { IfOk result (λ names. IfSome (D.remaining dir) (λ bytes. names.items ≡ names_of bytes)) }
 {
@@ -26,7 +26,7 @@ pub(crate) fn read_names<D: Read + Drop>(alloc: Global, dir: D) -> Result<Vec<Bl
     }
 }
 
-/// The names in the bytes, without `.` and `..`.
+/// Returns the names in the bytes, without `.` and `..`.
 fn names_in(alloc: Global, bytes: &[u8]) -> Result<Vec<Blob>, AllocError>
     ensures { IfOk result (λ names. names.items ≡ names_of bytes.now) }
 {
@@ -37,7 +37,7 @@ fn names_in(alloc: Global, bytes: &[u8]) -> Result<Vec<Blob>, AllocError>
     Ok(names)
 }
 
-/// Adds a name at the end, where it is that of an entry.
+/// Appends a name if it is that of an entry.
 #[tactic(auto, using(crate::proofs::Entries::none_more, crate::proofs::Entries::one_more))]
 fn add_entry(alloc: Global, names: &mut Vec<Blob>, name: &[u8]) -> Result<(), AllocError>
     ensures { OnOk result (names.new.items ≡ names.old.items ++ filter is_entry (name.now ∷ [])) }
@@ -49,7 +49,7 @@ fn add_entry(alloc: Global, names: &mut Vec<Blob>, name: &[u8]) -> Result<(), Al
     Ok(())
 }
 
-/// Whether a name is that of an entry: not that of the folder itself, or of the one that it lies in.
+/// Returns whether a name is that of an entry, and not empty, `.` or `..`.
 fn is_entry(name: &[u8]) -> bool
     ensures { result ≡ is_entry name.now }
 {

@@ -1,35 +1,35 @@
-//! A file that is complete or not there.
+//! An output file that is either complete or not there.
 
 ghost use Rattle.std.specs.Prelude.{◌≡◌, None};
 
-use crate::beside::{Beside, Made};
+use crate::unfinished_file::{Made, UnfinishedFile};
 use droid_frame::{Noted, SteadyWrite, Text};
 use std::alloc::Global;
 use std::fs::{self, Files, OpenFile};
 use std::io::{self, Write};
 use thiserror::Error;
 
-/// Why a file could not be made, or not be put in its place.
+/// Why an output file could not be written.
 #[derive(Clone, Copy, Debug, PartialEq, Eq, Error)]
 pub enum OutputFault {
-    /// Memory was refused.
+    /// Out of memory.
     #[error("Memory")]
     Memory,
-    /// No file could be made beside its place, or something stands there that is no regular file.
+    /// No file could be created in the folder, or something that is no regular file is at the path.
     #[error("Output")]
     Refused,
 }
 
-/// A file that is written beside its place under a name of its own, and put there once it is complete. What stood there
-/// before stays until then. It is made only as the first bytes are written, so that who reads the folder before doesn't
-/// meet it.
+/// An output file. It is written under another name beside its path and renamed when it is complete; an older file at
+/// the path stays until then. The new file is created when the first bytes are written, so that a walk over the same
+/// folder that comes before does not meet it.
 #[derive(Drop)]
 pub struct Output<'a, R: Files> {
-    file: Noted<Beside<'a, R>>,
+    file: Noted<UnfinishedFile<'a, R>>,
 }
 
 impl<'a, R: Files> Output<'a, R> {
-    /// Sees that a file can be made beside its place: one is made, and removed again.
+    /// Checks that a file can be created: creates one and removes it.
     pub fn create(
         alloc: Global,
         runtime: &'a R,
@@ -41,14 +41,14 @@ impl<'a, R: Files> Output<'a, R> {
         let Ok(place) = Text::copy_of(alloc, place) else {
             return Err(OutputFault::Memory);
         };
-        let mut beside = Beside::new(alloc, runtime, place);
+        let mut beside = UnfinishedFile::new(alloc, runtime, place);
         beside.see_room()?;
         Ok(Output {
             file: Noted::new(beside),
         })
     }
 
-    /// Puts the file, which is all written, in its place. On a fault it is removed.
+    /// Renames the complete file to its path. Removes it if that fails.
     pub fn complete(self) -> Result<(), OutputFault> {
         let (runtime, place, made) = self.file.stream.into_parts();
         let Some(made) = made else {
@@ -61,7 +61,7 @@ impl<'a, R: Files> Output<'a, R> {
         Err(OutputFault::Refused)
     }
 
-    /// Removes the file: nothing is put in its place.
+    /// Removes the file. An older file at the path stays.
     pub fn give_up(self) {
         let (runtime, _, made) = self.file.stream.into_parts();
         if let Some(made) = made {
@@ -70,13 +70,13 @@ impl<'a, R: Files> Output<'a, R> {
     }
 }
 
-/// Brings all that was written to the disk, and only then renames the file.
+/// Flushes the file to the disk, and then renames it.
 fn put<R: Files>(runtime: &R, made: &Made<R::File>, place: &str) -> io::Result<()> {
     made.file.sync_all()?;
     fs::rename(runtime, made.path.as_str(), place)
 }
 
-/// Whether something stands at the place that a file must not take: a folder, a link or a device.
+/// Returns whether the path is taken by something that must not be replaced: a folder, a link or a device.
 fn is_taken<R: Files>(runtime: &R, place: &str) -> bool {
     match fs::symlink_metadata(runtime, place) {
         Ok(metadata) => !metadata.is_file(),

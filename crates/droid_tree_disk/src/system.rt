@@ -2,11 +2,11 @@
 
 ghost use Rattle.std.specs.Prelude.{◌≡◌, IfOk};
 ghost use Rattle.std.specs.Fs.{file_type};
-ghost use Rattle.droid_tree_disk.specs.Machine.{IsFoundOf, IsKindOf, IsOfSome, MaySay};
+ghost use Rattle.droid_tree_disk.specs.Machine.{IsMetadataOf, IsKindOf, IsOfSome, MaySay};
 
-use crate::disk::{Disk, Found};
+use crate::disk::{Disk, FileMetadata};
+use crate::file_bytes::add_bytes;
 use crate::names::read_names;
-use crate::reading::add_bytes;
 use droid_frame::{Blob, Text};
 use droid_tree::{EntryKind, TreeFault};
 use std::alloc::Global;
@@ -24,11 +24,11 @@ pub struct System<'a, R> {
 pub struct Opened {
     file: File,
     path: Text,
-    found: Found,
+    metadata: FileMetadata,
 }
 
 impl<'a, R: Files<File = File>> System<'a, R> {
-    /// The file system that this runtime reaches.
+    /// Returns the file system that this runtime reaches.
     pub fn new(runtime: &'a R) -> System<'a, R> {
         System { runtime }
     }
@@ -41,7 +41,7 @@ impl<R: Files<File = File>> Disk for System<'_, R> {
 
     ghost path_of = { λ opened. opened.path };
 
-    ghost found_of = { λ opened. opened.found };
+    ghost metadata_of = { λ opened. opened.metadata };
 
     fn names(&mut self, alloc: Global, path: &str) -> Result<Vec<Blob>, TreeFault> {
         match self.runtime.open_dir(path) {
@@ -50,9 +50,9 @@ impl<R: Files<File = File>> Disk for System<'_, R> {
         }
     }
 
-    fn look(&mut self, path: &str) -> Option<Found> {
+    fn look(&mut self, path: &str) -> Option<FileMetadata> {
         match fs::symlink_metadata(self.runtime, path) {
-            Ok(metadata) => Some(found_by(&metadata)),
+            Ok(metadata) => Some(metadata_from(&metadata)),
             Err(_) => None,
         }
     }
@@ -67,8 +67,8 @@ impl<R: Files<File = File>> Disk for System<'_, R> {
         }
     }
 
-    fn found(file: &Opened) -> Found {
-        file.found
+    fn metadata(file: &Opened) -> FileMetadata {
+        file.metadata
     }
 
     fn is_at(file: &Opened, path: &str) -> bool {
@@ -86,26 +86,26 @@ impl<R: Files<File = File>> Disk for System<'_, R> {
     }
 }
 
-/// The open file, and what it is now.
+/// Returns the open file with its metadata.
 fn with_metadata(file: File, path: Text) -> Result<Opened, TreeFault>
     ensures path { IfOk result (λ opened. opened.path ≡ path) }
-    ensures found { IfOk result (λ opened. IsOfSome opened.found) }
+    ensures found { IfOk result (λ opened. IsOfSome opened.metadata) }
 {
     match file.metadata() {
         Ok(metadata) => Ok(Opened {
             file,
             path,
-            found: found_by(&metadata),
+            metadata: metadata_from(&metadata),
         }),
         Err(_) => Err(TreeFault::Unreadable),
     }
 }
 
-/// What metadata say.
-fn found_by(metadata: &Metadata) -> Found
-    ensures { IsFoundOf metadata.now result }
+/// Copies the metadata that a tree needs.
+fn metadata_from(metadata: &Metadata) -> FileMetadata
+    ensures { IsMetadataOf metadata.now result }
 {
-    Found {
+    FileMetadata {
         kind: kind_by(metadata),
         modified: metadata.mtime(),
         len: metadata.len(),
@@ -114,7 +114,7 @@ fn found_by(metadata: &Metadata) -> Found
     }
 }
 
-/// What kind of thing metadata are of.
+/// Returns the type of the entry with these metadata.
 fn kind_by(metadata: &Metadata) -> EntryKind
     ensures { IsKindOf (file_type metadata.now) result }
 {

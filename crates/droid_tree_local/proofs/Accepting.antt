@@ -1,4 +1,4 @@
--- What a request that got no refusal makes of the profile.
+-- What an accepted request makes of the profile.
 use Rattle.std.proofs.Common.{◌≡◌, ◌≢◌, ℕ, ℤ, suc, ◌+◌, ◌-◌, ◌<◌, ◌==◌, ◌&&◌, take, drop, nat_lt, Bool, true, false, cond, not, List, [], ◌∷◌, ◌++◌, length, Option, Some, None, refl, sym, ap, subst, ◌∙◌, arith}
 use Rattle.std.specs.Prelude.{MatchBool, slice_set}
 use Rattle.std.specs.List.{slice_get}
@@ -21,10 +21,10 @@ use Rattle.droid_core.specs.Setting.{Setting}
 use Rattle.droid_core.specs.Verdicts.{is_refused}
 use Rattle.droid_core.specs.MemoryFaults.{is_out_of_memory, is_out_of_memory_of}
 use Rattle.droid_core.specs.World.{Content, Node, Folder, File, Abandoned, Profile, World, empty_world, world_with, numbered, node_at, unless_abandoned}
-use Rattle.droid_tree.specs.declared.walking.Options.{Options}
+use Rattle.droid_tree.specs.declared.tree_walk.Options.{Options}
 use Rattle.droid_tree_local.specs.Answering.{At, Answers, Holds, everything, profile_with, text_of}
 use Rattle.droid_tree_local.specs.Making.{IsRefusedAt}
-use Rattle.droid_tree_local.specs.declared.own.Own.{Own}
+use Rattle.droid_tree_local.specs.declared.own_service.Own.{Own}
 
 -- ---- judging
 
@@ -79,7 +79,7 @@ accepted : (o : Option Refusal) (reply made : Reply) (world after : World) → i
 accepted None reply made world after unrefused is = (refl, is, refl)
 accepted (Some refusal) reply made world after unrefused is = let e : is_refused reply ≡ true = ap is_refused is in absurd cc
 
--- what was a refusal, and no want of memory, came by judging, and changed nothing
+-- a refusal other than out of memory came from `judge` and changed nothing
 no_want : (refusal : Refusal) → refusal ≢ Memory → is_out_of_memory_of refusal ≡ false
 no_want Memory isnt = absurd (isnt refl)
 no_want _ isnt = refl

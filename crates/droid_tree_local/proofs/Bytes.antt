@@ -7,7 +7,7 @@ use Rattle.droid_assembly.specs.Pieces as pieces
 use Rattle.droid_assembly.specs.Pieces.{bytes_at, file_bytes}
 use Rattle.droid_tree.specs.Visits.{Sent, bytes_of}
 
--- the pieces as they are taken: each with its index
+-- the pieces with their indices
 abbrev pub indexed : ℕ → List Sent → List pieces.Piece
 indexed index [] = []
 indexed index (piece ∷ sent) = (index, piece.0) ∷ indexed (index + 1) sent
@@ -46,7 +46,7 @@ joined_from from (suc n) (piece ∷ sent) within =
     ∙ (ap (λ (l : List ℕ). piece.0 ++ l) (same_from (here ((from, piece.0) ∷ rest)) (here rest) (from + 1) n (past_it from piece.0 rest))
     ∙ ap (λ (l : List ℕ). piece.0 ++ l) (joined_from (from + 1) n sent (omega arith)))
 
--- where no piece is past the last, the bytes of the file are those that were sent
+-- if no piece is past the last, the bytes of the file are those that were sent
 pub sent_bytes : (count : ℕ) (sent : List Sent) → length sent ≤ count → file_bytes count (indexed 0 sent) ≡ bytes_of sent
 unfolding file_bytes
 sent_bytes count sent within = joined_from 0 count sent within

@@ -14,12 +14,12 @@ use Rattle.droid_tree.specs.Observation.{Observation, GoesOver}
 use Rattle.droid_tree.specs.Heard.{Heard}
 use Rattle.droid_tree.specs.Visits.{Sent, Kid, Subfolder, WholeFile, OtherKind, NoText, RefusedFolder, RefusedFile, DroppedFile, WholeRest, DroppedRest, Visit, IsKid, IsOutcome, IsVisit, IsVisited, IsFinished, pieces_from, asked_of_kid, asked_of_visit}
 use Rattle.droid_tree.specs.Walks.{Walks, WalksWhole}
-use Rattle.droid_tree.specs.declared.walking.Options.{Options}
+use Rattle.droid_tree.specs.declared.tree_walk.Options.{Options}
 use Rattle.droid_tree_local.specs.Answering.{At, Answers, Holds, text_of}
 use Rattle.droid_tree_local.specs.Making.{Makes, MakesOf}
 use Rattle.droid_tree_local.specs.Nodes.{Lying, AreNodes, IsNodeOf, all_kids, number_of}
 use Rattle.droid_tree_local.specs.Profiled.{WritesProfile, WritesTree}
-use Rattle.droid_tree_local.specs.declared.own.Own.{Own}
+use Rattle.droid_tree_local.specs.declared.own_service.Own.{Own}
 use Rattle.droid_tree.proofs.Runs.{over_more}
 use Rattle.droid_tree_local.proofs.Accepting.{folder_added, folder_refused, file_added, file_refused, piece_taken, file_finished, file_abandoned, made}
 use Rattle.droid_tree_local.proofs.Bytes.{indexed, sent_bytes}
@@ -32,7 +32,7 @@ no_refusal : (found : Reply) → IsFinished found → (is_out_of_memory found �
 no_refusal (replies.Finished method mismatch hash puids) is = (refl, refl)
 no_refusal _ is = absurd is
 
--- nodes behind nodes
+-- nodes after nodes
 are_append : (xs ys : List Lying) (ns ms : List Node) (before : ℕ) → AreNodes before xs ns → AreNodes (before + length ns) ys ms → AreNodes before (xs ++ ys) (ns ++ ms)
 are_append [] ys [] ms before p q = let e : before + 0 ≡ before = omega arith in subst (λ k. AreNodes k ys ms) e q
 are_append [] ys (n ∷ ns) ms before p q = absurd p
@@ -66,7 +66,7 @@ module _ (setting : Setting) (options : Options) where
     holds : Holds setting options after own_after
     makes : MakesOf setting options folder kid nodes after
 
-  -- nothing was asked
+  -- nothing was requested
   none_made : (nodes : List Node) (own own_after : Own) → Holds setting options nodes own → own_after ≡ own → Holds setting options nodes own_after
   none_made nodes own own_after holds same = subst (Holds setting options nodes) (sym same) holds
 
@@ -117,8 +117,8 @@ module _ (setting : Setting) (options : Options) where
         holds = subst (Holds setting options (nodes ++ Abandoned ∷ [])) (sym split.2.2) gone;
         makes = (added.0, refl);
       }
-  kid_made folder (WholeRest entry number far from sent found) nodes own own_after holds p is = let goes : false ≡ true = is.0.goes in absurd cc
-  kid_made folder (DroppedRest entry number far from sent stop) nodes own own_after holds p is = let goes : false ≡ true = is.0.goes in absurd cc
+  kid_made folder (WholeRest entry number status from sent found) nodes own own_after holds p is = let goes : false ≡ true = is.0.goes in absurd cc
+  kid_made folder (DroppedRest entry number status from sent stop) nodes own own_after holds p is = let goes : false ≡ true = is.0.goes in absurd cc
 
   record MadeAll (entries : List Lying) (nodes : List Node) (own_after : Own) : Type 0 where
     after : List Node
@@ -141,17 +141,17 @@ module _ (setting : Setting) (options : Options) where
   visits_made [] nodes own own_after holds p are = record { after = nodes; holds = none_made nodes own own_after holds p; makes = refl }
   visits_made (visit ∷ visits) nodes own own_after holds p are =
       let split = over_split Answers own own_after (asked_of_visit 1 options.piece_size visit) (flat_map (asked_of_visit 1 options.piece_size) visits) p in
-      let first = kids_made visit.place.number visit.kids nodes own split.0 holds split.1 are.0.kids in
+      let first = kids_made visit.folder.number visit.kids nodes own split.0 holds split.1 are.0.kids in
       let rest = visits_made visits first.after split.0 own_after first.holds split.2 are.1 in
       record {
         after = rest.after;
         holds = rest.holds;
-        makes = over_more (Makes setting options) nodes first.after rest.after (map (λ (kid : Kid). (visit.place.number, kid)) visit.kids) (all_kids visits) first.makes rest.makes;
+        makes = over_more (Makes setting options) nodes first.after rest.after (map (λ (kid : Kid). (visit.folder.number, kid)) visit.kids) (all_kids visits) first.makes rest.makes;
       }
 
   -- ---- where nothing was left out
 
-  -- an entry is one node more
+  -- an entry is one more node
   record Held (folder : ℕ) (kid : Kid) (nodes : List Node) (own_after : Own) : Type 0 where
     node : Node
     holds : Holds setting options (nodes ++ node ∷ []) own_after
@@ -171,7 +171,7 @@ module _ (setting : Setting) (options : Options) where
       record { node = made.makes.node; holds = held_after nodes made.after _ own_after made.holds made.makes.added; number = made.makes.numbered; its = made.makes.its }
   kid_held folder _ nodes own own_after holds p is = absurd is
 
-  -- entries are so many nodes more
+  -- entries are as many more nodes
   record HeldAll (entries : List Lying) (nodes : List Node) (own_after : Own) : Type 0 where
     more : List Node
     holds : Holds setting options (nodes ++ more) own_after
@@ -200,12 +200,12 @@ module _ (setting : Setting) (options : Options) where
       record { more = []; holds = subst (Holds setting options (nodes ++ [])) (sym p) (subst (λ (l : List Node). Holds setting options l own) (sym (append-nil nodes)) holds); are = tt }
   visits_held (visit ∷ visits) nodes own own_after holds p are =
       let split = over_split Answers own own_after (asked_of_visit 1 options.piece_size visit) (flat_map (asked_of_visit 1 options.piece_size) visits) p in
-      let first = kids_held visit.place.number visit.kids nodes own split.0 holds split.1 are.0.kids in
+      let first = kids_held visit.folder.number visit.kids nodes own split.0 holds split.1 are.0.kids in
       let rest = visits_held visits (nodes ++ first.more) split.0 own_after first.holds split.2 are.1 in
       record {
         more = first.more ++ rest.more;
         holds = subst (λ (l : List Node). Holds setting options l own_after) (append_assoc nodes first.more rest.more) rest.holds;
-        are = are_append (map (λ (kid : Kid). (visit.place.number, kid)) visit.kids) (all_kids visits) first.more rest.more (length nodes) first.are
+        are = are_append (map (λ (kid : Kid). (visit.folder.number, kid)) visit.kids) (all_kids visits) first.more rest.more (length nodes) first.are
             (subst (λ k. AreNodes k (all_kids visits) rest.more) (length-append nodes first.more) rest.are);
       }
 
@@ -241,7 +241,7 @@ module _ (setting : Setting) (options : Options) where
         };
       }
 
-  -- of a whole tree there is one node for each entry
+  -- a whole tree has one node for each entry
   pub record SubmittedWhole {T : Type 0} (observes : T → Observation → T → Type 0) (tree tree_after : T) (profile : ℕ) (own_after : Own) : Type 0 where
     pub number : profile ≡ 1
     pub nodes : List Node

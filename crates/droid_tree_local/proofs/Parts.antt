@@ -7,9 +7,9 @@ use Rattle.droid_frame.specs.types.reply.Reply.TheVariants as replies
 use Rattle.droid_frame.specs.types.request.Request.TheVariants.{Export}
 use Rattle.droid_core.specs.Setting.{Setting}
 use Rattle.droid_core.specs.World.{Node}
-use Rattle.droid_tree.specs.declared.walking.Options.{Options}
+use Rattle.droid_tree.specs.declared.tree_walk.Options.{Options}
 use Rattle.droid_tree_local.specs.Answering.{Answers, Holds, everything, text_of}
-use Rattle.droid_tree_local.specs.declared.own.Own.{Own}
+use Rattle.droid_tree_local.specs.declared.own_service.Own.{Own}
 use Rattle.droid_tree_local.proofs.Accepting.{part_told}
 
 drop_front : (xs ys : List ℕ) → drop (length xs) (xs ++ ys) ≡ ys
@@ -20,7 +20,7 @@ none_left : (xs : List ℕ) → length xs ≡ 0 → xs ≡ []
 none_left [] e = refl
 none_left (x ∷ xs) e = absurd (omega arith)
 
--- the first bytes of the text were written, up to this place
+-- the first bytes of the text were written, up to this offset
 pub record Writing (setting : Setting) (options : Options) (nodes : List Node) (own : Own) (from : ℕ) (old now : Option (List ℕ)) : Type 0 where
   pub holds : Holds setting options nodes own
   pub written : List ℕ

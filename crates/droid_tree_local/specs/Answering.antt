@@ -1,4 +1,4 @@
--- What a service of one's own answers, in which world, and what it stands for then (this project's own).
+-- What a service in the same process replies, and what it stands for then (this project's own).
 use Rattle.std.specs.Prelude.{◌≡◌, ℕ, ◌≤◌, true, List, [], ◌∷◌, None, MatchBool}
 use Rattle.droid_core.specs.Histories.{History, kept, verdict_reply, world_after, world_of}
 use Rattle.droid_core.specs.Judging.{judge}
@@ -9,18 +9,18 @@ use Rattle.droid_core.specs.MemoryFaults.{is_out_of_memory}
 use Rattle.droid_core.specs.World.{Node, Profile, World}
 use Rattle.droid_frame.specs.types.filter.Filter.{Filter}
 use Rattle.droid_tree.specs.Asked.{Asked}
-use Rattle.droid_tree.specs.declared.walking.Options.{Options}
-use Rattle.droid_tree_local.specs.declared.own.Own.{Own}
+use Rattle.droid_tree.specs.declared.tree_walk.Options.{Options}
+use Rattle.droid_tree_local.specs.declared.own_service.Own.{Own}
 
--- the service is where this world is, and the number of the next request and all above it are new
+-- the service stands for this world, and the number of the next request and all greater numbers are unused
 pub record At (setting : Setting) (world : World) (own : Own) : Type 0 where
   pub history : History
   pub stands : StandsFor setting own.service history
   pub world_is : world_of setting history ≡ world
   pub are_new : (number : ℕ) → own.number ≤ number → kept history 1 number ≡ None
 
--- in every world where the service is, a request of version 2 is answered as it is judged there, and the service is then where that leads;
--- or memory was refused, and it is where it was
+-- in every world that the service stands for, a request of version 2 is answered as `judge` says, and the service then
+-- stands for the world after it; if memory runs out, it stands for the same world
 abbrev pub Answers : Own → Asked → Own → Type 0
 Answers old asked new = (setting : Setting) (world : World) → At setting world old →
     MatchBool (is_out_of_memory asked.1) (At setting world new)
@@ -30,7 +30,7 @@ Answers old asked new = (setting : Setting) (world : World) → At setting world
 abbrev pub profile_with : Options → List Node → Profile
 profile_with options nodes = record { scan_limit = options.scan_limit; match_all = options.match_all; hash = options.hash; nodes = nodes }
 
--- the service is where there is one profile, and it has these nodes
+-- the service has one profile, with these nodes
 pub record Holds (setting : Setting) (options : Options) (nodes : List Node) (own : Own) : Type 0 where
   pub world : World
   pub place : At setting world own

@@ -1,7 +1,7 @@
--- The service that a profile is made by.
+-- The service that makes the profile.
 pub use Rattle.droid_core.specs.Setting
 pub use Rattle.droid_core.specs.Standing
--- What is asked of it, and what comes of that.
+-- What it is asked, and what comes of that.
 pub mod Answering
 pub mod Faults
 pub mod Making

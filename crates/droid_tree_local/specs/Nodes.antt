@@ -5,21 +5,21 @@ use Rattle.droid_core.specs.Files as files
 use Rattle.droid_core.specs.World.{Content, Node, Folder, File}
 use Rattle.droid_tree.specs.Visits as tree
 use Rattle.droid_tree.specs.Visits.{Kid, Subfolder, WholeFile, DroppedFile, Sent, Visit}
-use Rattle.droid_tree.specs.declared.entry.Entry.{Entry}
+use Rattle.droid_tree.specs.declared.folder_entry.FolderEntry.{FolderEntry}
 
--- an entry, and the number of the folder that it lies in
+-- an entry, and the number of its folder
 abbrev pub Lying : Type 0
 Lying = ℕ × Kid
 
--- the number that it got, and 0 where it got none
+-- the number that it got, or 0
 abbrev pub number_of : Kid → ℕ
 number_of (Subfolder entry number) = number
 number_of (WholeFile entry number sent found) = number
 number_of (DroppedFile entry number sent stop) = number
 number_of _ = 0
 
--- a finished file of this folder, with the entry's name and moment, which has exactly the bytes that were read
-pub record IsFileOf (folder : ℕ) (entry : Entry) (sent : List Sent) (node : Node) : Type 0 where
+-- a finished file of this folder with the entry's name and time, and with exactly the bytes that were read
+pub record IsFileOf (folder : ℕ) (entry : FolderEntry) (sent : List Sent) (node : Node) : Type 0 where
   pub content : Content
   pub its : node ≡ File folder entry.modified entry.name content
   pub finished : content.finished ≡ true
@@ -32,7 +32,7 @@ IsNodeOf folder (Subfolder entry number) node = node ≡ Folder folder entry.mod
 IsNodeOf folder (WholeFile entry number sent found) node = IsFileOf folder entry sent node
 IsNodeOf folder _ node = ⊥
 
--- behind so many nodes: one node for each entry, in their order, under its number
+-- after `before` nodes: one node for each entry, in their order, each with its number
 abbrev pub AreNodes : ℕ → List Lying → List Node → Type 0
 AreNodes before [] [] = Unit {0}
 AreNodes before [] (node ∷ nodes) = ⊥
@@ -41,4 +41,4 @@ AreNodes before (entry ∷ entries) (node ∷ nodes) = (number_of entry.1 ≡ be
 
 -- all entries, folder by folder
 abbrev pub all_kids : List Visit → List Lying
-all_kids visits = flat_map (λ visit. map (λ kid. (visit.place.number, kid)) visit.kids) visits
+all_kids visits = flat_map (λ visit. map (λ kid. (visit.folder.number, kid)) visit.kids) visits

@@ -8,14 +8,13 @@ use Rattle.droid_tree.specs.Heard.{Heard}
 use Rattle.droid_tree.specs.Observation.{Observation, GoesOver}
 use Rattle.droid_tree.specs.Visits.{Visit, IsVisit, IsVisited, is_full, observed_of_visit, heard_of_visit}
 use Rattle.droid_tree.specs.Walks.{EachFolderOnce}
-use Rattle.droid_tree.specs.declared.walking.Options.{Options}
+use Rattle.droid_tree.specs.declared.tree_walk.Options.{Options}
 use Rattle.droid_tree_local.specs.Answering.{text_of}
 use Rattle.droid_tree_local.specs.Making.{Makes}
 use Rattle.droid_tree_local.specs.Nodes.{AreNodes, all_kids}
 
--- This is what the tree told, folder by folder, each folder once, and what the watcher was told of it; the profile has the
--- nodes that come of the entries, one after the other, and no other; and its export was written. Whether nothing was left
--- out is said too.
+-- The tree was read folder by folder, each folder once, and this is what the watcher was told. The profile has exactly
+-- the nodes that come of the entries, and its export was written. `whole` says whether nothing was skipped.
 pub record WritesTree {T W : Type 0} (observes : T → Observation → T → Type 0) (hears : W → Heard → W → Type 0) (setting : Setting) (options : Options) (whole : Bool) (tree tree_after : T) (watcher watcher_after : W) (written written_after : Option (List ℕ)) : Type 0 where
   pub visits : List Visit
   pub each_folder : EachFolderOnce visits
@@ -27,8 +26,8 @@ pub record WritesTree {T W : Type 0} (observes : T → Observation → T → Typ
   pub made : GoesOver (Makes setting options) [] (all_kids visits) nodes
   pub text : Appends written written_after (text_of setting options nodes)
 
--- This is what the tree told, folder by folder, each folder once; the profile has one node for each entry, and no other; and
--- its export was written.
+-- The tree was read folder by folder, each folder once. The profile has exactly one node for each entry, and its export
+-- was written.
 pub record WritesProfile {T : Type 0} (observes : T → Observation → T → Type 0) (setting : Setting) (options : Options) (tree tree_after : T) (written written_after : Option (List ℕ)) : Type 0 where
   pub visits : List Visit
   pub each_folder : EachFolderOnce visits

@@ -1,14 +1,14 @@
--- How a file of a tree is shown in an export (this project's own).
+-- How an export shows a file of a tree (this project's own).
 use Rattle.std.specs.Prelude.{ℕ, List}
 use Rattle.droid_frame.specs.Hashes.{hash}
 use Rattle.droid_frame.specs.types.node_kind.NodeKind.TheVariants as kinds
 use Rattle.droid_frame.specs.types.record.Record.{Record}
 use Rattle.droid_core.specs.Setting.{Setting}
 use Rattle.droid_core.specs.World.{Profile, path}
-use Rattle.droid_tree.specs.declared.entry.Entry.{Entry}
+use Rattle.droid_tree.specs.declared.folder_entry.FolderEntry.{FolderEntry}
 
--- the record of a file of this folder, by its entry and its bytes
-abbrev pub shown_file : Setting → Profile → ℕ → ℕ → Entry → List ℕ → Record
+-- the record of a file of this folder, from its entry and its bytes
+abbrev pub shown_file : Setting → Profile → ℕ → ℕ → FolderEntry → List ℕ → Record
 shown_file setting profile id folder entry bytes = record {
   id = id;
   parent = folder;

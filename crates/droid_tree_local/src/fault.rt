@@ -4,13 +4,13 @@ use droid_frame::WriteFault;
 use droid_tree::WalkFault;
 use thiserror::Error;
 
-/// Why the profile of a tree wasn't written, or not whole.
+/// Why the profile of a tree was not written, or only in part.
 #[derive(Clone, Copy, Debug, PartialEq, Eq, Error)]
 pub enum ProfileFault {
-    /// The walk ended early, with nothing written.
+    /// The walk ended early. Nothing was written.
     #[error("the tree could not be walked")]
     Walk(WalkFault),
-    /// A part of the export didn't come.
+    /// A part of the export was not received.
     #[error("the export could not be read")]
     Export(WalkFault),
     /// The export could not be written.

@@ -1,14 +1,13 @@
-//! The profile of a tree: its folders and files are submitted to a service of one's own, and the export of what came is
-//! written.
+//! Profiles a tree with a service in the same process: submits its folders and files and writes the export.
 #![tactic(auto)]
 
-mod exporting;
 mod fault;
 pub mod laws;
-mod own;
-mod profiling;
+mod own_export;
+mod own_service;
+mod tree_profile;
 
 pub use droid_core::Service;
 pub use droid_frame::{HashKind, Noted, SteadyWrite};
 pub use fault::ProfileFault;
-pub use profiling::profile;
+pub use tree_profile::profile;

@@ -9,12 +9,12 @@ use Rattle.droid_frame.specs.types.request.Request.TheVariants.{CreateProfile, A
 use Rattle.droid_tree.specs.Asked.{Asked}
 use Rattle.droid_tree.specs.Visits.{Kid, Subfolder, WholeFile, OtherKind, NoText, RefusedFolder, RefusedFile, DroppedFile, WholeRest, DroppedRest, Sent, Visit, asked_of_kid, asked_of_visit, pieces_from, first_missing}
 use Rattle.droid_tree.specs.Walks.{asked_of_tree}
-use Rattle.droid_tree.specs.declared.walking.Options.{Options}
+use Rattle.droid_tree.specs.declared.tree_walk.Options.{Options}
 use Rattle.droid_tree_remote.specs.Numbering.{AreNumbered, after, number_of, request_at}
 use Rattle.droid_tree_remote.specs.Submits.{IsOneOf}
 use Rattle.droid_tree_remote.specs.declared.numbers.Numbers.{Numbers}
 
--- three sorts of requests have numbers of their own ways
+-- the three kinds of requests change the numbers in their own ways
 data Sort : Type 0 where
   AStatus : Sort
   AFile : Sort
@@ -106,8 +106,8 @@ kid_ordered profile piece_size folder (NoText entry) may = tt
 kid_ordered profile piece_size folder (RefusedFolder entry refusal) may = (tt, tt)
 kid_ordered profile piece_size folder (RefusedFile entry refusal) may = (tt, tt)
 kid_ordered profile piece_size folder (DroppedFile entry number sent stop) may = (tt, abandoned profile number 0 sent true)
-kid_ordered profile piece_size folder (WholeRest entry number far from sent found) may = (tt, (refl, finished profile number (first_missing far) sent found false))
-kid_ordered profile piece_size folder (DroppedRest entry number far from sent stop) may = (tt, (refl, abandoned profile number (first_missing far) sent false))
+kid_ordered profile piece_size folder (WholeRest entry number status from sent found) may = (tt, (refl, finished profile number (first_missing status) sent found false))
+kid_ordered profile piece_size folder (DroppedRest entry number status from sent stop) may = (tt, (refl, abandoned profile number (first_missing status) sent false))
 
 kids_ordered : (profile piece_size folder : ℕ) (kids : List Kid) → AreAlways (flat_map (asked_of_kid profile piece_size folder) kids)
 kids_ordered profile piece_size folder [] may = tt
@@ -118,11 +118,11 @@ visits_ordered : (profile piece_size : ℕ) (visits : List Visit) → AreAlways 
 visits_ordered profile piece_size [] may = tt
 visits_ordered profile piece_size (visit ∷ visits) may =
     ordered_append may (asked_of_visit profile piece_size visit) (flat_map (asked_of_visit profile piece_size) visits)
-    (kids_ordered profile piece_size visit.place.number visit.kids may) (visits_ordered profile piece_size visits)
+    (kids_ordered profile piece_size visit.folder.number visit.kids may) (visits_ordered profile piece_size visits)
 
 -- ---- where a number may be
 
--- the numbers that a Status may have lie above this
+-- the numbers of Status requests are above this
 abbrev low : Bool → Numbers → ℕ
 low true numbers = numbers.last
 low false numbers = numbers.next
@@ -139,7 +139,7 @@ low_next : (may : Bool) (numbers : Numbers) → IsBehind may numbers → low may
 low_next true numbers behind = let less = behind refl in omega (arith, less)
 low_next false numbers behind = omega arith
 
--- behind a request the numbers are further on
+-- after a request the numbers are greater
 record StepsOn (may may_after : Bool) (numbers numbers_after : Numbers) : Type 0 where
   next : numbers.next ≤ numbers_after.next
   lower : low may numbers ≤ low may_after numbers_after
@@ -150,12 +150,12 @@ steps_on AStatus may numbers reply may_be behind = let lower = low_next may numb
 steps_on AFile may numbers reply may_be behind = record { next = omega arith; lower = low_next may numbers behind; behind = λ _. omega arith }
 steps_on Another may numbers reply may_be behind = let lower = low_next may numbers behind in record { next = omega arith; lower = omega (arith, lower); behind = λ never. absurd cc }
 
--- what is here behind a request, is here before it
+-- a frame of the later requests is a frame of all
 step_back : (may may_after : Bool) (numbers numbers_after : Numbers) (frame : Frame) → StepsOn may may_after numbers numbers_after → IsHere may_after numbers_after frame → IsHere may numbers frame
 step_back may may_after numbers numbers_after frame steps (inl here) = let next = steps.next in inl (omega (arith, next, here.0), here.1)
 step_back may may_after numbers numbers_after frame steps (inr here) = let lower = steps.lower in inr (omega (arith, lower, here))
 
--- a request's own frame is here
+-- a request's own frame is one of the frames
 own_here : (sort : Sort) (may : Bool) (numbers : Numbers) (frame : Frame) → MayBe may sort → numbers.next < 2 ^ 61 → frame.number ≡ number_in numbers sort → IsHere may numbers frame
 own_here AStatus true numbers frame may_be below is = inr (omega (arith, is))
 own_here AStatus false numbers frame may_be below is = absurd cc
@@ -175,7 +175,7 @@ here client may numbers (x ∷ more) frame behind ordered numbered (inr is) =
     let steps = its_steps x may numbers ordered.0 behind in
     step_back may (may_next (sort_of x.0)) numbers (after numbers x.0 x.1) frame steps (here client (may_next (sort_of x.0)) (after numbers x.0 x.1) more frame steps.behind ordered.1 numbered.1 is)
 
--- no number comes again
+-- no number comes twice
 not_again_in : (sort : Sort) (may : Bool) (numbers : Numbers) (reply : Reply) (frame : Frame) → MayBe may sort → IsBehind may numbers → numbers.next < 2 ^ 61 → IsHere (may_next sort) (after_in numbers sort reply) frame
     → frame.number ≡ number_in numbers sort → ⊥
 not_again_in AStatus may numbers reply frame may_be behind below (inl here) is = let less = here.1 in omega (arith, less, is)

@@ -1,4 +1,4 @@
--- A submission that goes on, and the one that it goes on from.
+-- A resumed submission, and the one that it resumes.
 use Rattle.std.proofs.Common.{◌≡◌, ◌⊎◌, ℕ, suc, ◌+◌, List, [], ◌∷◌, ◌++◌, length, inl, inr, refl, sym, ap, subst, ◌∙◌, append_assoc, arith}
 use Rattle.std.specs.List.{flat_map}
 use Rattle.droid_frame.specs.types.frame.Frame.{Frame}
@@ -8,8 +8,8 @@ use Rattle.droid_frame.specs.types.request.Request.TheVariants.{CreateProfile, A
 use Rattle.droid_tree.specs.Asked.{Asked}
 use Rattle.droid_tree.specs.Visits.{Kid, Subfolder, WholeFile, OtherKind, NoText, RefusedFolder, RefusedFile, DroppedFile, WholeRest, DroppedRest, Sent, Visit, asked_of_kid, asked_of_visit, pieces_from, first_missing}
 use Rattle.droid_tree.specs.Walks.{asked_of_tree}
-use Rattle.droid_tree.specs.declared.place.Place.{Place}
-use Rattle.droid_tree.specs.declared.walking.Options.{Options}
+use Rattle.droid_tree.specs.declared.pending_folder.PendingFolder.{PendingFolder}
+use Rattle.droid_tree.specs.declared.tree_walk.Options.{Options}
 use Rattle.droid_tree_remote.specs.Numbering.{after, behind}
 use Rattle.droid_tree_remote.specs.Runs.{AreFilled, AreFilledVisits, IsFilled}
 use Rattle.droid_tree_remote.specs.Submits.{IsOneOf}
@@ -40,7 +40,7 @@ behind_append numbers (x ∷ xs) ys = behind_append (after numbers x.0 x.1) xs y
 
 -- ---- one list stands for another
 
--- behind both the numbers are the same, and each frame of the first is a Status, or of the second
+-- after both the numbers are the same, and each frame of the resumed one is a Status or a frame of the other
 record StandsIn (client : ℕ) (numbers : Numbers) (first second : List Asked) : Type 0 where
   same : behind numbers first ≡ behind numbers second
   each : (frame : Frame) → IsOneOf client numbers first frame → (frame.kind ≡ 7) ⊎ IsOneOf client numbers second frame
@@ -81,18 +81,18 @@ behind_pieces : (next last profile file index : ℕ) (held : List Sent) → behi
 behind_pieces next last profile file index [] = ap (λ (n : ℕ). numbers_at n last) (omega arith)
 behind_pieces next last profile file index (piece ∷ held) = behind_pieces (suc next) last profile file (suc index) held ∙ ap (λ (n : ℕ). numbers_at n last) (omega arith)
 
--- a Status, and what is asked behind it, stand for the pieces that were held, and the same
-stands_rest : (client next last profile file : ℕ) (far : Reply) (held sent : List Sent) (end : Asked) → length held ≡ first_missing far
-    → StandsIn client (numbers_at next last) ((Status profile file, far) ∷ (pieces_from profile file (first_missing far) sent ++ end ∷ [])) (pieces_from profile file 0 (held ++ sent) ++ end ∷ [])
-stands_rest client next last profile file far held sent end long =
-    let rest : List Asked = pieces_from profile file (first_missing far) sent ++ end ∷ [] in
+-- a Status and the requests after it stand for all pieces and the same requests
+stands_rest : (client next last profile file : ℕ) (status : Reply) (held sent : List Sent) (end : Asked) → length held ≡ first_missing status
+    → StandsIn client (numbers_at next last) ((Status profile file, status) ∷ (pieces_from profile file (first_missing status) sent ++ end ∷ [])) (pieces_from profile file 0 (held ++ sent) ++ end ∷ [])
+stands_rest client next last profile file status held sent end long =
+    let rest : List Asked = pieces_from profile file (first_missing status) sent ++ end ∷ [] in
     let front : List Asked = pieces_from profile file 0 held in
     let cut : pieces_from profile file 0 (held ++ sent) ++ end ∷ [] ≡ front ++ rest =
     ap (λ (l : List Asked). l ++ end ∷ []) (pieces_append profile file 0 held sent ∙ ap (λ (n : ℕ). front ++ pieces_from profile file n sent) (omega (arith, long)))
-    ∙ append_assoc front (pieces_from profile file (first_missing far) sent) (end ∷ []) in
-    let there : behind (numbers_at next last) front ≡ numbers_at (next + first_missing far) last =
+    ∙ append_assoc front (pieces_from profile file (first_missing status) sent) (end ∷ []) in
+    let there : behind (numbers_at next last) front ≡ numbers_at (next + first_missing status) last =
     behind_pieces next last profile file 0 held ∙ ap (λ (n : ℕ). numbers_at (next + n) last) long in
-    subst (λ (l : List Asked). StandsIn client (numbers_at next last) ((Status profile file, far) ∷ rest) l) (sym cut)
+    subst (λ (l : List Asked). StandsIn client (numbers_at next last) ((Status profile file, status) ∷ rest) l) (sym cut)
     (record {
       same = ap (λ (n : Numbers). behind n rest) (sym there) ∙ sym (behind_append (numbers_at next last) front rest);
       each = λ frame is. elim is [
@@ -102,20 +102,20 @@ stands_rest client next last profile file far held sent end long =
     })
 
 module _ (client profile piece_size : ℕ) where
-  -- what is the same stands for itself
+  -- equal requests stand for themselves
   kid_same : (folder : ℕ) (one kid : Kid) (numbers : Numbers) → kid ≡ one → StandsIn client numbers (asked_of_kid profile piece_size folder one) (asked_of_kid profile piece_size folder kid)
   kid_same folder one kid numbers is =
       subst (λ (k : Kid). StandsIn client numbers (asked_of_kid profile piece_size folder one) (asked_of_kid profile piece_size folder k)) (sym is) (stands_same client numbers (asked_of_kid profile piece_size folder one))
 
   kid_stands : (folder : ℕ) (one kid : Kid) (numbers : Numbers) → IsFilled one kid → StandsIn client numbers (asked_of_kid profile piece_size folder one) (asked_of_kid profile piece_size folder kid)
-  kid_stands folder (WholeRest entry number far from sent found) kid numbers (held, long, is) =
-      subst (λ (k : Kid). StandsIn client numbers (asked_of_kid profile piece_size folder (WholeRest entry number far from sent found)) (asked_of_kid profile piece_size folder k)) (sym is)
+  kid_stands folder (WholeRest entry number status from sent found) kid numbers (held, long, is) =
+      subst (λ (k : Kid). StandsIn client numbers (asked_of_kid profile piece_size folder (WholeRest entry number status from sent found)) (asked_of_kid profile piece_size folder k)) (sym is)
       (stands_behind client numbers (AddFile profile folder entry.modified entry.len piece_size entry.name, replies.Node number) _ _
-      (stands_rest client (suc numbers.next) numbers.next profile number far held sent (Finish profile number, found) long))
-  kid_stands folder (DroppedRest entry number far from sent stop) kid numbers (held, long, is) =
-      subst (λ (k : Kid). StandsIn client numbers (asked_of_kid profile piece_size folder (DroppedRest entry number far from sent stop)) (asked_of_kid profile piece_size folder k)) (sym is)
+      (stands_rest client (suc numbers.next) numbers.next profile number status held sent (Finish profile number, found) long))
+  kid_stands folder (DroppedRest entry number status from sent stop) kid numbers (held, long, is) =
+      subst (λ (k : Kid). StandsIn client numbers (asked_of_kid profile piece_size folder (DroppedRest entry number status from sent stop)) (asked_of_kid profile piece_size folder k)) (sym is)
       (stands_behind client numbers (AddFile profile folder entry.modified entry.len piece_size entry.name, replies.Node number) _ _
-      (stands_rest client (suc numbers.next) numbers.next profile number far held sent (Abandon profile number, replies.Abandoned) long))
+      (stands_rest client (suc numbers.next) numbers.next profile number status held sent (Abandon profile number, replies.Abandoned) long))
   kid_stands folder (Subfolder entry number) kid numbers is = kid_same folder (Subfolder entry number) kid numbers is
   kid_stands folder (WholeFile entry number sent found) kid numbers is = kid_same folder (WholeFile entry number sent found) kid numbers is
   kid_stands folder (OtherKind entry) kid numbers is = kid_same folder (OtherKind entry) kid numbers is
@@ -139,8 +139,8 @@ module _ (client profile piece_size : ℕ) where
   visits_stand (one ∷ more) [] numbers are = absurd are
   visits_stand (one ∷ more) (visit ∷ visits) numbers are =
       stands_append client numbers _ _ _ _
-      (subst (λ (place : Place). StandsIn client numbers (asked_of_visit profile piece_size one) (flat_map (asked_of_kid profile piece_size place.number) visit.kids)) (sym are.0.place)
-      (kids_stand one.place.number one.kids visit.kids numbers are.0.kids))
+      (subst (λ (folder : PendingFolder). StandsIn client numbers (asked_of_visit profile piece_size one) (flat_map (asked_of_kid profile piece_size folder.number) visit.kids)) (sym are.0.place)
+      (kids_stand one.folder.number one.kids visit.kids numbers are.0.kids))
       (visits_stand more visits (behind numbers (asked_of_visit profile piece_size one)) are.1)
 
 pub of_first : (client : ℕ) (first : Numbers) (options : Options) (profile : ℕ) (visits filled : List Visit) (frame : Frame) → AreFilledVisits visits filled

@@ -1,4 +1,4 @@
--- Events after events, and what is out behind them.
+-- Events after events, and which frames are out after them.
 use Rattle.std.proofs.Common.{◌≡◌, List, [], ◌∷◌, ◌++◌, Contains, length, inl, inr, refl, sym, ap, subst, ◌∙◌, append_assoc, arith}
 use Rattle.std.specs.List.{AllByRecursion}
 use Rattle.std.proofs.lemmas.List.Elements.{Contains-append_left, Contains-push, Contains-push_cases}
@@ -8,7 +8,7 @@ use Rattle.droid_tree.specs.Observation.{GoesOver}
 use Rattle.droid_tree.proofs.Runs.{over_one, over_more}
 use Rattle.droid_tree_remote.specs.Events.{Event, Joined, Alone, Sent, Cut, Came, Lost, WritesOnly, IsAnswered, out_after, out_behind}
 use Rattle.droid_tree_remote.specs.Steps.{Goes, Receives}
-use Rattle.droid_tree_remote.specs.Windows.{AreIn}
+use Rattle.droid_tree_remote.specs.WrittenFrames.{AreIn}
 
 pub all_append : {A : Type 0} (P : A → Type 0) (xs ys : List A) → AllByRecursion P xs → AllByRecursion P ys → AllByRecursion P (xs ++ ys)
 all_append P [] ys p q = q
@@ -57,7 +57,7 @@ pub out_append : (out : List Frame) (xs ys : List Event) → out_after out (xs +
 out_append out [] ys = refl
 out_append out (x ∷ xs) ys = out_append (out_behind out x) xs ys
 
--- behind some events these are out, and from there on, behind others, those
+-- events after events: the frames that are out after both
 pub out_on : (out middle then : List Frame) (xs ys : List Event) → AreIn middle (out_after out xs) → AreIn then (out_after middle ys) → AreIn then (out_after out (xs ++ ys))
 out_on out middle then xs ys first second frame there =
     subst (λ (l : List Frame). Contains l frame) (sym (out_append out xs ys)) (out_in middle (out_after out xs) ys first frame (second frame there))
@@ -104,7 +104,7 @@ module _ {C : Type 0} (does : C → Event → C → Type 0) where
   unfoldable pub goes_in : (Is Other : Frame → Type 0) (out then : List Frame) (old new : C) → ((frame : Frame) → Is frame → Other frame) → Goes does Is out then old new → Goes does Other out then old new
   goes_in Is Other out then old new in_it goes = record { events = goes.events; happened = goes.happened; only = only_in Is Other in_it goes.events goes.only; are_out = goes.are_out }
 
-  -- fewer are counted as out
+  -- fewer frames count as out
   pub goes_less : (Is : Frame → Type 0) (out then fewer : List Frame) (old new : C) → AreIn fewer then → Goes does Is out then old new → Goes does Is out fewer old new
   goes_less Is out then fewer old new less goes = record { events = goes.events; happened = goes.happened; only = goes.only; are_out = λ frame there. goes.are_out frame (less frame there) }
 
@@ -128,7 +128,7 @@ module _ {C : Type 0} (does : C → Event → C → Type 0) where
     were_out = receives.were_out;
   }
 
-  -- all that happened up to a frame that came, and it
+  -- all events up to a frame that came, and that one
   unfoldable pub goes_to : (Is : Frame → Type 0) (came : Frame) (out then counted : List Frame) (old new : C) → AreIn counted then → Receives does Is came out then old new → Goes does Is out counted old new
   goes_to Is came out then counted old new are receives = record {
     events = receives.before ++ Came came ∷ [];

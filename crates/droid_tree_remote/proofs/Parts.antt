@@ -10,8 +10,8 @@ use Rattle.droid_tree.proofs.Runs.{over_more}
 use Rattle.droid_tree_remote.specs.Events.{Event, WritesOnly, IsAnswered, out_after}
 use Rattle.droid_tree_remote.specs.Exports.{ArePartsOf, Exports, ExportsFront, IsPartRequest, joined, part_request}
 use Rattle.droid_tree_remote.specs.Steps.{Waits}
-use Rattle.droid_tree_remote.specs.Windows.{out_of}
-use Rattle.droid_tree_remote.specs.declared.window.Window.{Window}
+use Rattle.droid_tree_remote.specs.WrittenFrames.{out_of}
+use Rattle.droid_tree_remote.specs.declared.in_flight.InFlight.{InFlight}
 use Rattle.droid_tree_remote.proofs.Going.{all_append, only_in, answered_before, answered_after, none_in, nothing_in}
 use Rattle.droid_tree_remote.proofs.Whole.{none_out}
 
@@ -31,7 +31,7 @@ joined_more : (parts : List (List ℕ)) (part : List ℕ) → joined (parts ++ p
 joined_more parts part = flat_map-append (λ (p : List ℕ). p) parts (part ∷ []) ∙ ap (λ (l : List ℕ). joined parts ++ l) (append-nil part)
 
 module _ {C : Type 0} (does : C → Event → C → Type 0) (client profile as_of total : ℕ) where
-  module _ (old new : Window C) (none : old.waiting.items ≡ []) where
+  module _ (old new : InFlight C) (none : old.waiting.items ≡ []) where
     asks_part : (from : ℕ) (frame : Frame) → Contains old.waiting.items frame ⊎ (frame ≡ part_request client profile from) → IsPartRequest client profile frame
     asks_part from frame (inl there) = absurd (nothing_in old.waiting.items frame none there)
     asks_part from frame (inr is) = (from, is)
@@ -55,7 +55,7 @@ module _ {C : Type 0} (does : C → Event → C → Type 0) (client profile as_o
       wrote = subst (λ (l : List ℕ). Appends written written_after l) (sym (append-nil part)) wrote;
     }
 
-    -- one part more
+    -- one more part
     exports_more : (start : C) (from after : ℕ) (part : List ℕ) (written written_now written_after : Option (List ℕ))
         → ExportsFront does client profile as_of total from start old.connection written written_now
         → Waits does (part_request client profile from) (replies.Part as_of total part) old new → Appends written_now written_after part → after ≡ from + length part
@@ -75,7 +75,7 @@ module _ {C : Type 0} (does : C → Event → C → Type 0) (client profile as_o
           wrote = subst (λ (l : List ℕ). Appends written written_after l) (sym (joined_more front.parts part)) (Appends-trans written written_now written_after (joined front.parts) part front.wrote wrote);
         }
 
-    -- one part more, of the same text
+    -- one more part of the same export
     pub exports_next : (start : C) (as_of_too total_too from after : ℕ) (part : List ℕ) (written written_now written_after : Option (List ℕ))
         → (as_of_too ≡ as_of) × (total_too ≡ total)
         → ExportsFront does client profile as_of total from start old.connection written written_now
@@ -85,6 +85,6 @@ module _ {C : Type 0} (does : C → Event → C → Type 0) (client profile as_o
         let its : replies.Part as_of_too total_too part ≡ replies.Part as_of total part = ap (λ (n : ℕ). replies.Part n total_too part) same.0 ∙ ap (λ (n : ℕ). replies.Part as_of n part) same.1 in
         exports_more start from after part written written_now written_after front (subst (λ (r : Reply). Waits does (part_request client profile from) r old new) its waits) wrote place
 
-  -- the text ends there
+  -- the export ends there
   pub exports_done : (from : ℕ) (old new : C) (written written_after : Option (List ℕ)) → from ≡ total → ExportsFront does client profile as_of total from old new written written_after → Exports does client profile old new written written_after
   exports_done from old new written written_after all front = (as_of, total, subst (λ (n : ℕ). ExportsFront does client profile as_of total n old new written written_after) all front)

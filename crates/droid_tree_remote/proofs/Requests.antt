@@ -11,8 +11,8 @@ use Rattle.droid_tree_remote.specs.Events.{Event, IsTaken}
 use Rattle.droid_tree_remote.specs.Numbering.{after, after_by, number_by, number_of, request_at}
 use Rattle.droid_tree_remote.specs.Steps.{Sends, Waits}
 use Rattle.droid_tree_remote.specs.declared.numbers.Numbers.{Numbers}
-use Rattle.droid_tree_remote.specs.Windows.{out_of}
-use Rattle.droid_tree_remote.specs.declared.window.Window.{Window}
+use Rattle.droid_tree_remote.specs.WrittenFrames.{out_of}
+use Rattle.droid_tree_remote.specs.declared.in_flight.InFlight.{InFlight}
 use Rattle.droid_tree_remote.proofs.Going.{nothing_in}
 use Rattle.droid_tree_remote.proofs.Waiting.{all_at}
 
@@ -27,7 +27,7 @@ number_is numbers (Abandon profile file) = refl
 number_is numbers (Status profile file) = refl
 number_is numbers (Export profile from max filter) = refl
 
--- and the numbers behind it
+-- the numbers after it
 after_is : (numbers : Numbers) (request : Request) (reply : Reply) → after_by numbers (request_kind request) reply ≡ after numbers request reply
 after_is numbers (CreateProfile scan_limit match_all hash) reply = refl
 after_is numbers (AddFolder profile parent modified name) reply = refl
@@ -49,7 +49,7 @@ asked_is client numbers kind body request spells =
 pub behind_is : (numbers : Numbers) (kind : ℕ) (body : List ℕ) (request : Request) (reply : Reply) → SpellsRequest 2 kind body request → after_by numbers kind reply ≡ after numbers request reply
 behind_is numbers kind body request reply spells = ap (λ (k : ℕ). after_by numbers k reply) spells.kind_is ∙ after_is numbers request reply
 
-module _ {C : Type 0} (does : C → Event → C → Type 0) (frame : Frame) (reply : Reply) (old new : Window C) where
+module _ {C : Type 0} (does : C → Event → C → Type 0) (frame : Frame) (reply : Reply) (old new : InFlight C) where
   pub piece_sent : frame.kind ≡ 4 → Sends does frame old new → Asks does frame reply old new
   piece_sent kind sends =
       let way : (other : Frame) → Contains sends.others other → Contains new.waiting.items other =

@@ -1,4 +1,4 @@
--- The frames that wait, and the replies to them.
+-- The frames in flight, and the replies to them.
 use Rattle.std.proofs.Common.{◌≡◌, ◌⊎◌, ℕ, ◌+◌, ◌-◌, List, [], ◌∷◌, ◌++◌, Contains, length, inl, inr, refl, sym, ap, ap₂, subst, ◌∙◌, append_assoc, append-nil, length-append, arith}
 use Rattle.std.specs.List.{AllByRecursion}
 use Rattle.std.proofs.lemmas.List.Elements.{All-contains, All-from_recursion, Contains-append_right, Contains-push_cases}
@@ -7,9 +7,9 @@ use Rattle.droid_frame.specs.types.reply.Reply.{Reply}
 use Rattle.droid_frame.specs.types.reply.Reply.TheVariants as replies
 use Rattle.droid_tree_remote.specs.Events.{Event, IsAnswered, IsReplyTo, IsTaken, out_after}
 use Rattle.droid_tree_remote.specs.Steps.{Goes, Receives, Hears, Puts, Takes, Settles, Sends, Waits, EndsAll}
-use Rattle.droid_tree_remote.specs.Windows.{AreIn, HasFirst, Stands, counted, out_of}
-use Rattle.droid_tree_remote.specs.declared.trying.Written.{Written}
-use Rattle.droid_tree_remote.specs.declared.window.Window.{Window}
+use Rattle.droid_tree_remote.specs.WrittenFrames.{AreIn, HasFirst, Stands, counted, out_of}
+use Rattle.droid_tree_remote.specs.declared.connection_steps.Written.{Written}
+use Rattle.droid_tree_remote.specs.declared.in_flight.InFlight.{InFlight}
 use Rattle.droid_tree_remote.proofs.Going.{all_append, all_in, answered_before, answered_after, goes_in, goes_nowhere, goes_on, goes_to, receives_in, receives_on}
 
 pub taken_before : (out : List Frame) (xs ys : List Event) (frame : Frame) → IsTaken out xs frame → IsTaken out (xs ++ ys) frame
@@ -30,7 +30,7 @@ all_at P xs x all there = All-contains P xs x (All-from_recursion P xs all) ther
 first_same : {A : Type 0} (x u : A) (xs us : List A) → x ∷ xs ≡ u ∷ us → (x ≡ u) × (xs ≡ us)
 first_same x u xs us same = (cc, cc)
 
--- two lists that are cut at one place
+-- two lists that are cut at one index
 pub same_cut : {A : Type 0} (xs us ys vs : List A) → length xs ≡ length us → xs ++ ys ≡ us ++ vs → (xs ≡ us) × (ys ≡ vs)
 same_cut [] [] ys vs long same = (refl, same)
 same_cut [] (u ∷ us) ys vs long same = absurd (omega (arith, long))
@@ -41,12 +41,13 @@ same_cut {A} (x ∷ xs) (u ∷ us) ys vs long same =
     (ap₂ (λ (a : A) (l : List A). a ∷ l) split.0 rest.0, rest.1)
 
 module _ {C : Type 0} (does : C → Event → C → Type 0) where
-  -- A frame came, on a connection on which so much was written before. `now` is the window then, and `new` the one after.
-  pub hears_now : (came : Frame) (written written_after : Written) (old : Window C) (now new : C) → Stands written → HasFirst written old.waiting.items
+  -- A frame came, on a connection on which this much had been written. `now` is the state then, and `new` the one
+  -- after.
+  pub hears_now : (came : Frame) (written written_after : Written) (old : InFlight C) (now new : C) → Stands written → HasFirst written old.waiting.items
       → Goes does (Contains old.waiting.items) (out_of old) (counted written old.waiting.items) old.connection now
       → ((out : List Frame) → Receives does (λ frame. ⊥) came out out now new)
       → ((waiting rest : List Frame) → AreIn rest waiting → AreIn (counted written_after rest) (counted written waiting))
-      → (after : Window C) → after.written ≡ written_after → after.connection ≡ new → Hears does came old after
+      → (after : InFlight C) → after.written ≡ written_after → after.connection ≡ new → Hears does came old after
   hears_now came written written_after old now new stands has goes receives fewer after same connected =
       let then = counted written old.waiting.items in
       let all : Receives does (Contains old.waiting.items) came (out_of old) then old.connection new =
@@ -59,8 +60,8 @@ module _ {C : Type 0} (does : C → Event → C → Type 0) where
         are_out = λ rest are. subst (λ (w : Written). AreIn (counted w rest) then) (sym same) (fewer old.waiting.items rest are);
       }
 
-  -- a frame came behind some events
-  pub hears_later : (came : Frame) (old now new : Window C) → now.waiting.items ≡ old.waiting.items → Goes does (Contains old.waiting.items) (out_of old) (out_of now) old.connection now.connection
+  -- a frame came after some events
+  pub hears_later : (came : Frame) (old now new : InFlight C) → now.waiting.items ≡ old.waiting.items → Goes does (Contains old.waiting.items) (out_of old) (out_of now) old.connection now.connection
       → Hears does came now new → Hears does came old new
   hears_later came old now new same goes hears = record {
     out_then = hears.out_then;
@@ -70,8 +71,8 @@ module _ {C : Type 0} (does : C → Event → C → Type 0) where
     are_out = λ rest are. hears.are_out rest (λ frame there. subst (λ (l : List Frame). Contains l frame) (sym same) (are frame there));
   }
 
-  -- the frame that came is the reply to the first, which waits no longer
-  pub takes_first : (came oldest : Frame) (reply : Reply) (rest : List Frame) (old now : Window C) → Hears does came old now → old.waiting.items ≡ oldest ∷ rest → IsReplyTo oldest came reply
+  -- the frame that came is the reply to the first, which is no longer in flight
+  pub takes_first : (came oldest : Frame) (reply : Reply) (rest : List Frame) (old now : InFlight C) → Hears does came old now → old.waiting.items ≡ oldest ∷ rest → IsReplyTo oldest came reply
       → (goes : Goes does (Contains old.waiting.items) (out_of old) (counted now.written rest) old.connection now.connection) × IsAnswered (out_of old) goes.events oldest reply
   unfolding goes_to
   takes_first came oldest reply rest old now hears first is =
@@ -87,10 +88,10 @@ module _ {C : Type 0} (does : C → Event → C → Type 0) where
         },
       )
 
-  pub settles_none : (old : Window C) → Settles does 0 old old
+  pub settles_none : (old : InFlight C) → Settles does 0 old old
   settles_none old = record { settled = []; as_many = refl; cut = refl; goes = goes_nowhere does (Contains old.waiting.items) (out_of old) old.connection; taken = tt }
 
-  pub settles_more : (count : ℕ) (old now new : Window C) (reply : Reply) → Settles does count old now → Takes does reply now new → (held : ℕ) × (reply ≡ replies.Taken held) → Settles does (count + 1) old new
+  pub settles_more : (count : ℕ) (old now new : InFlight C) (reply : Reply) → Settles does count old now → Takes does reply now new → (held : ℕ) × (reply ≡ replies.Taken held) → Settles does (count + 1) old new
   unfolding goes_on goes_in
   settles_more count old now new reply settles takes is =
       let early = settles.goes in
@@ -111,7 +112,7 @@ module _ {C : Type 0} (does : C → Event → C → Type 0) where
         taken = all_append (IsTaken (out_of old) (early.events ++ late.events)) settles.settled (takes.oldest ∷ []) (all_taken (out_of old) early.events late.events settles.settled settles.taken) (its, tt);
       }
 
-  pub sends : (count : ℕ) (frame : Frame) (old now new : Window C) → count ≡ length old.waiting.items - 15 → Settles does count old now → Puts does frame now new → Sends does frame old new
+  pub sends : (count : ℕ) (frame : Frame) (old now new : InFlight C) → count ≡ length old.waiting.items - 15 → Settles does count old now → Puts does frame now new → Sends does frame old new
   unfolding goes_on goes_in
   sends count frame old now new due settles puts =
       let long : length old.waiting.items ≡ length settles.settled + length now.waiting.items = ap (λ (l : List Frame). length l) settles.cut ∙ length-append settles.settled now.waiting.items in
@@ -129,7 +130,7 @@ module _ {C : Type 0} (does : C → Event → C → Type 0) where
         taken = all_taken (out_of old) settles.goes.events puts.goes.events settles.settled settles.taken;
       }
 
-  pub ends_all : (count : ℕ) (old new : Window C) → count ≡ length old.waiting.items → Settles does count old new → EndsAll does old new
+  pub ends_all : (count : ℕ) (old new : InFlight C) → count ≡ length old.waiting.items → Settles does count old new → EndsAll does old new
   ends_all count old new due settles =
       let cut = same_cut old.waiting.items settles.settled [] new.waiting.items (omega (arith, due, settles.as_many)) (append-nil old.waiting.items ∙ settles.cut) in
       record {
@@ -138,7 +139,7 @@ module _ {C : Type 0} (does : C → Event → C → Type 0) where
         taken = subst (λ (l : List Frame). AllByRecursion (IsTaken (out_of old) settles.goes.events) l) (sym cut.0) settles.taken;
       }
 
-  pub waits : (count : ℕ) (frame : Frame) (reply : Reply) (old sent settled new : Window C) → count ≡ length sent.waiting.items - 1
+  pub waits : (count : ℕ) (frame : Frame) (reply : Reply) (old sent settled new : InFlight C) → count ≡ length sent.waiting.items - 1
       → Sends does frame old sent → Settles does count sent settled → Takes does reply settled new → Waits does frame reply old new
   unfolding goes_on goes_in
   waits count frame reply old sent settled new due sends settles takes =

@@ -11,16 +11,16 @@ use Rattle.droid_tree_remote.specs.Events.{Event, WritesOnly, IsTaken, out_after
 use Rattle.droid_tree_remote.specs.Numbering.{AreNumbered, after, behind, number_of, request_at}
 use Rattle.droid_tree_remote.specs.Steps.{EndsAll}
 use Rattle.droid_tree_remote.specs.Submits.{AreDone, IsDone, IsOneOf, Submits}
-use Rattle.droid_tree_remote.specs.Windows.{AreIn, counted, out_of}
+use Rattle.droid_tree_remote.specs.WrittenFrames.{AreIn, counted, out_of}
 use Rattle.droid_tree_remote.specs.declared.numbers.Numbers.{Numbers}
 use Rattle.droid_tree_remote.specs.declared.sender.Sender.{Sender}
-use Rattle.droid_tree_remote.specs.declared.trying.Written.{Written}
-use Rattle.droid_tree_remote.specs.declared.trying.Written.TheVariants.{Nowhere, First, Answered, All}
-use Rattle.droid_tree_remote.specs.declared.window.Window.{Window}
+use Rattle.droid_tree_remote.specs.declared.connection_steps.Written.{Written}
+use Rattle.droid_tree_remote.specs.declared.connection_steps.Written.TheVariants.{Nowhere, First, Answered, All}
+use Rattle.droid_tree_remote.specs.declared.in_flight.InFlight.{InFlight}
 use Rattle.droid_tree_remote.proofs.Going.{all_append, only_in, answered_before, answered_after, nothing_in, out_on}
 use Rattle.droid_tree_remote.proofs.Waiting.{all_at, taken_before, taken_after}
 
--- a request is done, or a piece that is under way
+-- a request is done, or a piece that is in flight
 abbrev pub IsMet : List Event → List Frame → Frame → Reply → Type 0
 IsMet events waiting frame reply = IsDone events frame reply ⊎ ((frame.kind ≡ 4) × Contains waiting frame)
 
@@ -72,7 +72,7 @@ done_before : (before after : List Event) (frame : Frame) (reply : Reply) → Is
 done_before before after frame reply (inl is) = inl (answered_before [] before after frame reply is)
 done_before before after frame reply (inr is) = inr (is.0, taken_before [] before after frame is.1)
 
--- what is under way moves on
+-- a request that is in flight stays in flight or is done
 met_before : (before after : List Event) (out waiting waiting_after : List Frame) → AreIn out (out_after [] before) → ((other : Frame) → Contains waiting other → Contains waiting_after other ⊎ IsTaken out after other)
     → (frame : Frame) (reply : Reply) → IsMet before waiting frame reply → IsMet (before ++ after) waiting_after frame reply
 met_before before after out waiting waiting_after are moved frame reply (inl is) = inl (done_before before after frame reply is)
@@ -81,7 +81,7 @@ met_before before after out waiting waiting_after are moved frame reply (inr is)
   | inr taken ↦ inl (inr (is.0, taken_after [] out before after are frame taken))
 ]
 
--- where nothing waits, nothing is counted as out
+-- if nothing is in flight, nothing counts as out
 pub none_out : (written : Written) (waiting : List Frame) → waiting ≡ [] → AreIn (counted written waiting) []
 none_out Nowhere waiting none frame there = there
 none_out First waiting none frame there = subst (λ (l : List Frame). Contains (counted First l) frame) none there
@@ -91,19 +91,19 @@ none_out All waiting none frame there = subst (λ (l : List Frame). Contains l f
 -- ---- a whole list
 
 module _ {C : Type 0} (does : C → Event → C → Type 0) (client : ℕ) (first : Numbers) (start : C) where
-  -- these requests were asked so far
+  -- the requests that were sent so far
   pub record Submitting (asked : List Asked) (sender : Sender C) : Type 0 where
     pub same_client : sender.client ≡ client
     pub numbers : sender.numbers ≡ behind first asked
     pub numbered : AreNumbered first asked
     pub events : List Event
-    pub happened : GoesOver does start events sender.window.connection
+    pub happened : GoesOver does start events sender.in_flight.connection
     pub only : AllByRecursion (WritesOnly (IsOneOf client first asked)) events
-    pub are_out : AreIn (out_of sender.window) (out_after [] events)
-    pub way : (frame : Frame) → Contains sender.window.waiting.items frame → IsOneOf client first asked frame
-    pub met : AreMet events sender.window.waiting.items client first asked
+    pub are_out : AreIn (out_of sender.in_flight) (out_after [] events)
+    pub way : (frame : Frame) → Contains sender.in_flight.waiting.items frame → IsOneOf client first asked frame
+    pub met : AreMet events sender.in_flight.waiting.items client first asked
 
-  pub submitting_none : (sender : Sender C) → sender.client ≡ client → sender.numbers ≡ first → sender.window.connection ≡ start → IsNew sender → Submitting [] sender
+  pub submitting_none : (sender : Sender C) → sender.client ≡ client → sender.numbers ≡ first → sender.in_flight.connection ≡ start → IsNew sender → Submitting [] sender
   submitting_none sender same numbers here new = record {
     same_client = same;
     numbers = numbers;
@@ -111,13 +111,13 @@ module _ {C : Type 0} (does : C → Event → C → Type 0) (client : ℕ) (firs
     events = [];
     happened = here;
     only = tt;
-    are_out = none_out sender.window.written sender.window.waiting.items new;
-    way = λ frame there. absurd (nothing_in sender.window.waiting.items frame new there);
+    are_out = none_out sender.in_flight.written sender.in_flight.waiting.items new;
+    way = λ frame there. absurd (nothing_in sender.in_flight.waiting.items frame new there);
     met = tt;
   }
 
   module _ (asked : List Asked) (x : Asked) (old new : Sender C) (before : Submitting asked old)
-      (asks : Asks does (request_at client (number_of (behind first asked) x.0) x.0) x.1 old.window new.window) where
+      (asks : Asks does (request_at client (number_of (behind first asked) x.0) x.0) x.1 old.in_flight new.in_flight) where
     abbrev its : Frame
     its = request_at client (number_of (behind first asked) x.0) x.0
 
@@ -130,9 +130,9 @@ module _ {C : Type 0} (does : C → Event → C → Type 0) (client : ℕ) (firs
     late : (frame : Frame) → frame ≡ its → IsOneOf client first (asked ++ x ∷ []) frame
     late frame same = one_of_last client first asked x frame same
 
-    its_met : IsMet events new.window.waiting.items its x.1
+    its_met : IsMet events new.in_flight.waiting.items its x.1
     its_met = elim asks.fares [
-      | inl answered ↦ inl (inl (answered_after [] (out_of old.window) before.events asks.goes.events its x.1 before.are_out answered))
+      | inl answered ↦ inl (inl (answered_after [] (out_of old.in_flight) before.events asks.goes.events its x.1 before.are_out answered))
       | inr way ↦ inr way
     ]
 
@@ -142,30 +142,30 @@ module _ {C : Type 0} (does : C → Event → C → Type 0) (client : ℕ) (firs
       numbers = numbers ∙ sym (behind_last first asked x);
       numbered = numbered_last first asked x before.numbered below;
       events = events;
-      happened = over_more does start old.window.connection new.window.connection before.events asks.goes.events before.happened asks.goes.happened;
+      happened = over_more does start old.in_flight.connection new.in_flight.connection before.events asks.goes.events before.happened asks.goes.happened;
       only = all_append (WritesOnly (IsOneOf client first (asked ++ x ∷ []))) before.events asks.goes.events
           (only_in (IsOneOf client first asked) (IsOneOf client first (asked ++ x ∷ [])) early before.events before.only)
-          (only_in (λ frame. Contains old.window.waiting.items frame ⊎ (frame ≡ its)) (IsOneOf client first (asked ++ x ∷ []))
+          (only_in (λ frame. Contains old.in_flight.waiting.items frame ⊎ (frame ≡ its)) (IsOneOf client first (asked ++ x ∷ []))
           (λ frame may. elim may [
             | inl there ↦ early frame (before.way frame there)
             | inr same ↦ late frame same
           ])
           asks.goes.events asks.goes.only);
-      are_out = out_on [] (out_of old.window) (out_of new.window) before.events asks.goes.events before.are_out asks.goes.are_out;
+      are_out = out_on [] (out_of old.in_flight) (out_of new.in_flight) before.events asks.goes.events before.are_out asks.goes.are_out;
       way = λ frame there. elim (asks.kept frame there) [
         | inl before_it ↦ early frame (before.way frame before_it)
         | inr same ↦ late frame same
       ];
-      met = met_last events new.window.waiting.items client first asked x
-          (met_on before.events events old.window.waiting.items new.window.waiting.items client first asked
-          (met_before before.events asks.goes.events (out_of old.window) old.window.waiting.items new.window.waiting.items before.are_out asks.moved) before.met)
+      met = met_last events new.in_flight.waiting.items client first asked x
+          (met_on before.events events old.in_flight.waiting.items new.in_flight.waiting.items client first asked
+          (met_before before.events asks.goes.events (out_of old.in_flight) old.in_flight.waiting.items new.in_flight.waiting.items before.are_out asks.moved) before.met)
           its_met;
     }
 
   asked_next : (asked : List Asked) (x : Asked) (old new : Sender C) → Submitting asked old → AsksNext does x.0 x.1 old new → Submitting (asked ++ x ∷ []) new
   asked_next asked x old new before next =
-      let here : Numbers → Type 0 = λ numbers. Asks does (request_at client (number_of numbers x.0) x.0) x.1 old.window new.window in
-      let asks = subst (λ c. Asks does (request_at c (number_of old.numbers x.0) x.0) x.1 old.window new.window) before.same_client next.asks in
+      let here : Numbers → Type 0 = λ numbers. Asks does (request_at client (number_of numbers x.0) x.0) x.1 old.in_flight new.in_flight in
+      let asks = subst (λ c. Asks does (request_at c (number_of old.numbers x.0) x.0) x.1 old.in_flight new.in_flight) before.same_client next.asks in
       asked_one asked x old new before (subst here before.numbers asks) next.same_client
       (subst (λ (numbers : Numbers). new.numbers ≡ after numbers x.0 x.1) before.numbers next.numbers) (subst (λ (numbers : Numbers). numbers.next < 2 ^ 61) before.numbers next.below)
 
@@ -175,18 +175,18 @@ module _ {C : Type 0} (does : C → Event → C → Type 0) (client : ℕ) (firs
       subst (λ (l : List Asked). Submitting l new) (append_assoc asked (x ∷ []) more)
       (asked_all (asked ++ x ∷ []) more over.0 new (asked_next asked x old over.0 before over.1) over.2)
 
-  pub all_done : (asked : List Asked) (sender : Sender C) (new : Window C) → Submitting asked sender → EndsAll does sender.window new → Submits does client first asked start new.connection
+  pub all_done : (asked : List Asked) (sender : Sender C) (new : InFlight C) → Submitting asked sender → EndsAll does sender.in_flight new → Submits does client first asked start new.connection
   all_done asked sender new before ends = record {
     events = before.events ++ ends.goes.events;
-    happened = over_more does start sender.window.connection new.connection before.events ends.goes.events before.happened ends.goes.happened;
+    happened = over_more does start sender.in_flight.connection new.connection before.events ends.goes.events before.happened ends.goes.happened;
     numbered = before.numbered;
     only = all_append (WritesOnly (IsOneOf client first asked)) before.events ends.goes.events before.only
-        (only_in (Contains sender.window.waiting.items) (IsOneOf client first asked) before.way ends.goes.events ends.goes.only);
-    done = met_done before.events (before.events ++ ends.goes.events) sender.window.waiting.items client first asked
+        (only_in (Contains sender.in_flight.waiting.items) (IsOneOf client first asked) before.way ends.goes.events ends.goes.only);
+    done = met_done before.events (before.events ++ ends.goes.events) sender.in_flight.waiting.items client first asked
         (λ frame reply met. elim met [
           | inl is ↦ done_before before.events ends.goes.events frame reply is
-          | inr way ↦ let taken = all_at (IsTaken (out_of sender.window) ends.goes.events) sender.window.waiting.items frame ends.taken way.1 in
-              inr (way.0, taken_after [] (out_of sender.window) before.events ends.goes.events before.are_out frame taken)
+          | inr way ↦ let taken = all_at (IsTaken (out_of sender.in_flight) ends.goes.events) sender.in_flight.waiting.items frame ends.taken way.1 in
+              inr (way.0, taken_after [] (out_of sender.in_flight) before.events ends.goes.events before.are_out frame taken)
         ])
         before.met;
   }

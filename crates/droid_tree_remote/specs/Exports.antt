@@ -1,4 +1,4 @@
--- An export that was read in parts (this project's own).
+-- An export that is read in parts (this project's own).
 use Rattle.std.specs.Prelude.{◌≡◌, ℕ, ◌+◌, ◌^◌, true, Option, List, [], ◌∷◌, length}
 use Rattle.std.specs.Io.KnownBytes.{Appends}
 use Rattle.std.specs.List.{flat_map, AllByRecursion}
@@ -14,16 +14,15 @@ use Rattle.droid_tree_remote.specs.Events.{Event, WritesOnly, IsAnswered}
 abbrev pub all_records : Filter
 all_records = record { all = true; criteria = [] }
 
--- the request for the part from this byte on; its number is of a space of its own
+-- the request for the part at this offset; no command has its number
 abbrev pub part_request : ℕ → ℕ → ℕ → Frame
 part_request client profile from = request_at client (from + 2 ^ 62) (Export profile from 1048576 all_records)
 
--- the frame asks for a part
+-- the frame requests a part
 abbrev pub IsPartRequest : ℕ → ℕ → Frame → Type 0
 IsPartRequest client profile frame = (from : ℕ) × (frame ≡ part_request client profile from)
 
--- these parts came, each behind the one before, and each as one of a text of so many bytes, where so many commands were
--- accepted
+-- these parts came one after the other, each of an export of `total` bytes after `as_of` accepted commands
 abbrev pub ArePartsOf : List Event → ℕ → ℕ → ℕ → ℕ → ℕ → List (List ℕ) → Type 0
 ArePartsOf events client profile as_of total from [] = Unit {0}
 ArePartsOf events client profile as_of total from (part ∷ parts) =
@@ -32,7 +31,7 @@ ArePartsOf events client profile as_of total from (part ∷ parts) =
 abbrev pub joined : List (List ℕ) → List ℕ
 joined parts = flat_map (λ part. part) parts
 
--- parts of one text came, from its first byte on, and were written
+-- parts of one export came, from its first byte on, and were written
 pub record ExportsFront {C : Type 0} (does : C → Event → C → Type 0) (client profile as_of total from : ℕ) (old new : C) (written written_after : Option (List ℕ)) : Type 0 where
   pub parts : List (List ℕ)
   pub counted : length (joined parts) ≡ from
@@ -42,6 +41,6 @@ pub record ExportsFront {C : Type 0} (does : C → Event → C → Type 0) (clie
   pub came : ArePartsOf events client profile as_of total 0 parts
   pub wrote : Appends written written_after (joined parts)
 
--- all parts of one text were read and written
+-- all parts of one export were read and written
 abbrev pub Exports : {C : Type 0} → (C → Event → C → Type 0) → ℕ → ℕ → C → C → Option (List ℕ) → Option (List ℕ) → Type 0
 Exports does client profile old new written written_after = (as_of : ℕ) × (total : ℕ) × ExportsFront does client profile as_of total total old new written written_after

@@ -4,7 +4,7 @@ pub mod Faults
 pub mod Numbering
 pub mod Asks
 pub mod Steps
-pub mod Windows
+pub mod WrittenFrames
 pub mod Streams
 pub mod Submits
 pub mod Runs

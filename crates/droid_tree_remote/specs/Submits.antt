@@ -8,7 +8,7 @@ use Rattle.droid_tree.specs.Heard.{Heard}
 use Rattle.droid_tree.specs.Observation.{Observation, GoesOver}
 use Rattle.droid_tree.specs.Visits.{Visit, MayVisit, is_full, observed_of_visit, heard_of_visit}
 use Rattle.droid_tree.specs.Walks.{EachFolderOnce, asked_of_tree}
-use Rattle.droid_tree.specs.declared.walking.Options.{Options}
+use Rattle.droid_tree.specs.declared.tree_walk.Options.{Options}
 use Rattle.droid_tree_remote.specs.Events.{Event, WritesOnly, IsAnswered, IsTaken}
 use Rattle.droid_tree_remote.specs.Numbering.{AreNumbered, after, number_of, request_at}
 use Rattle.droid_tree_remote.specs.declared.numbers.Numbers.{Numbers}
@@ -18,8 +18,8 @@ abbrev pub IsOneOf : ℕ → Numbers → List Asked → Frame → Type 0
 IsOneOf client numbers [] frame = ⊥
 IsOneOf client numbers (asked ∷ more) frame = (frame ≡ request_at client (number_of numbers asked.0) asked.0) ⊎ IsOneOf client (after numbers asked.0 asked.1) more frame
 
--- A request is done, from the first connection on: it was written, and behind it the reply to it came on that connection, and
--- is this; or, of a piece, that it was taken.
+-- A request is done: it was written, and its reply came afterwards on the same connection. Of a piece the reply is
+-- Taken.
 abbrev pub IsDone : List Event → Frame → Reply → Type 0
 IsDone events frame reply = IsAnswered [] events frame reply ⊎ ((frame.kind ≡ 4) × IsTaken [] events frame)
 
@@ -28,8 +28,8 @@ abbrev pub AreDone : List Event → ℕ → Numbers → List Asked → Type 0
 AreDone events client numbers [] = Unit {0}
 AreDone events client numbers (asked ∷ more) = IsDone events (request_at client (number_of numbers asked.0) asked.0) asked.1 × AreDone events client (after numbers asked.0 asked.1) more
 
--- These requests were submitted by a client, numbered one after the other from the first on: what was written, whole or in
--- part, is one of them under its number; and each is done.
+-- These requests were submitted by a client, numbered one after the other: each frame that was written, whole or in
+-- part, is one of them under its number, and each request is done.
 pub record Submits {C : Type 0} (does : C → Event → C → Type 0) (client : ℕ) (first : Numbers) (asked : List Asked) (old new : C) : Type 0 where
   pub events : List Event
   pub happened : GoesOver does old events new
@@ -37,8 +37,8 @@ pub record Submits {C : Type 0} (does : C → Event → C → Type 0) (client : 
   pub only : AllByRecursion (WritesOnly (IsOneOf client first asked)) events
   pub done : AreDone events client first asked
 
--- The tree was walked, going on where a submission before ended: this is what it told, folder by folder, and what the watcher
--- was told; and the tree's requests were submitted.
+-- The tree was walked, resuming an earlier submission: what it returned folder by folder, what the watcher was told,
+-- and the tree's requests were submitted.
 pub record SubmitsTree {T C W : Type 0} (observes : T → Observation → T → Type 0) (does : C → Event → C → Type 0) (hears : W → Heard → W → Type 0) (client : ℕ) (first : Numbers) (options : Options) (profile : ℕ) (whole : Bool)
     (tree tree_after : T) (old new : C) (watcher watcher_after : W) : Type 0 where
   pub visits : List Visit

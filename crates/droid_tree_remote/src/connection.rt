@@ -1,4 +1,4 @@
-//! A connection to a service, which may break.
+//! The trait for a connection to a service, which may break.
 
 ghost use Rattle.std.specs.Prelude.{IfOk, OnErr, OnOk};
 ghost use Rattle.droid_tree_remote.specs.Events.{Event, Joined, Alone, Sent, Cut, Came, Lost};
@@ -7,25 +7,25 @@ use droid_frame::Frame;
 use std::alloc::Global;
 use thiserror::Error;
 
-/// The version of the frames: the one that has every hash, and pieces of up to 4 MiB.
+/// The version of the frames: version 2 has all hashes and pieces of up to 4 MiB.
 pub(crate) const VERSION: u8 = 2;
 
-/// It failed, and nothing more comes of this connection.
+/// The connection broke. Nothing more comes from it.
 #[derive(Clone, Copy, Debug, PartialEq, Eq, Error)]
 #[error("the connection broke")]
 pub struct Broken;
 
-/// A connection that can be made anew.
+/// A connection that can be made again after it broke.
 pub trait Connection {
-    /// In the first state this may happen, and the connection is then in the second.
+    /// Relates the state before an event, the event, and the state after it.
     ghost does: { Self → Event → Self → Type 0 };
 
-    /// Connects anew. What there was of an earlier connection is gone.
+    /// Connects to the service. Drops an older connection and what was not read from it.
     fn connect(&mut self) -> Result<(), Broken>
         ensures joined { OnOk result (does self.old Joined self.new) }
         ensures alone { OnErr result (does self.old Alone self.new) };
 
-    /// Writes a frame. On a fault a part of it may have been written.
+    /// Writes a frame. If it fails, a part of the frame may have been written.
     fn write(&mut self, frame: &Frame) -> Result<(), Broken>
         ensures sent { OnOk result (does self.old (Sent frame.now) self.new) }
         ensures cut { OnErr result (does self.old (Cut frame.now) self.new) };

@@ -1,25 +1,25 @@
-//! Submitting a tree over a connection that may break: its requests are numbered, and sent until each is answered.
+//! Submits a tree over a connection that may break. Requests are numbered, and each is sent until it is answered.
 //!
-//! What the tree is, and what the connection, is for the caller to say: both come by traits.
+//! The caller supplies the tree and the connection, as a [`droid_tree::Tree`] and a [`Connection`].
 #![tactic(auto)]
 
 mod connection;
-mod exporting;
+mod connection_steps;
 mod fault;
+mod in_flight;
 pub mod laws;
 mod numbers;
+mod remote_export;
 mod sender;
 mod streams;
-mod submitting;
-mod trying;
-mod window;
+mod submission;
 
 pub use connection::{Broken, Connection};
-pub use exporting::export;
-pub use fault::{ExportFault, SendFault, SubmitFault};
-pub use numbers::Numbers;
+pub use connection_steps::Written;
+pub use fault::{DownloadFault, SubmissionFault, TransferFault};
+pub use in_flight::InFlight;
+pub use numbers::{COMMAND_NUMBERS_END, Numbers};
+pub use remote_export::export;
 pub use sender::Sender;
 pub use streams::{Open, Streams};
-pub use submitting::submit;
-pub use trying::Written;
-pub use window::Window;
+pub use submission::submit;

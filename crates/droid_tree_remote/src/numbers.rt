@@ -1,32 +1,35 @@
-//! Under which numbers requests are asked.
+//! The numbers of a client's requests.
 
 ghost use Rattle.std.specs.Prelude.{◌≡◌, ◌<◌, ◌^◌, IfOk};
 ghost use Rattle.droid_tree.specs.Visits.{first_missing};
 ghost use Rattle.droid_tree_remote.specs.Numbering.{after_by, number_by};
 
-use crate::fault::SendFault;
+use crate::fault::TransferFault;
 use droid_frame::Reply;
 
-/// The kind of a request that adds a file.
+/// The numbers of commands are below this.
+pub const COMMAND_NUMBERS_END: u64 = 1 << 61;
+
+/// The kind of an AddFile request.
 const ADD_FILE: u8 = 3;
 
-/// The kind of a request that asks how far a file is.
+/// The kind of a Status request.
 const STATUS: u8 = 7;
 
-/// From which number on it is asked how far files are: the number is added under which the file was.
-const STATUS_NUMBERS: u64 = 1 << 61;
+/// The number of a Status request is this plus the number of the file's AddFile. So no command has it.
+const STATUS_NUMBERS: u64 = COMMAND_NUMBERS_END;
 
 /// The numbers of a client's requests.
 #[derive(Clone, Copy, Debug)]
 pub struct Numbers {
-    /// That of the next command.
+    /// The number of the next command.
     pub next: u64,
-    /// That under which a file was added last.
+    /// The number of the last AddFile.
     pub last: u64,
 }
 
-/// The number of a request of this kind.
-pub(crate) fn number_of(numbers: Numbers, kind: u8) -> Result<u64, SendFault>
+/// Returns the number of a request of this kind.
+pub(crate) fn number_of(numbers: Numbers, kind: u8) -> Result<u64, TransferFault>
     ensures { IfOk result (λ number. number ≡ number_by numbers kind) }
 {
     if kind != STATUS {
@@ -34,11 +37,12 @@ pub(crate) fn number_of(numbers: Numbers, kind: u8) -> Result<u64, SendFault>
     }
     match numbers.last.checked_add(STATUS_NUMBERS) {
         Some(number) => Ok(number),
-        None => Err(SendFault::NumbersUsedUp),
+        None => Err(TransferFault::NumbersUsedUp),
     }
 }
 
-/// The numbers behind a request of this kind, and its reply.
+/// Returns the numbers after a request of this kind and its reply. A Status skips the numbers of the pieces that the
+/// service holds.
 pub(crate) fn numbers_after(numbers: Numbers, kind: u8, reply: &Reply) -> Numbers
     requires { numbers.next < 2 ^ 61 }
     ensures { result ≡ after_by numbers kind reply.now }
@@ -61,7 +65,7 @@ pub(crate) fn numbers_after(numbers: Numbers, kind: u8, reply: &Reply) -> Number
     }
 }
 
-/// The first missing piece, where the reply tells it, and else 0.
+/// Returns the first missing piece; 0 if the reply does not say.
 fn first_missing(reply: &Reply) -> u32
     ensures { result ≡ first_missing reply.now }
 {

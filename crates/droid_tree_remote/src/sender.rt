@@ -1,4 +1,4 @@
-//! Who asks the requests of a walk, each under its own number.
+//! Sends the requests of a walk, each with its own number.
 
 ghost use Rattle.std.specs.Prelude.{◌≡◌, ◌<◌, ◌^◌, IfOk, OnOk};
 ghost use Rattle.droid_tree_remote.specs.Asks.{Asks, AsksNext, IsNew};
@@ -6,69 +6,66 @@ ghost use Rattle.droid_tree_remote.specs.Numbering.{after_by, number_by};
 ghost use Rattle.droid_tree_remote.specs.Steps.{EndsAll};
 
 use crate::connection::{Connection, VERSION};
-use crate::fault::SendFault;
-use crate::numbers::{Numbers, number_of, numbers_after};
-use crate::window::Window;
+use crate::fault::TransferFault;
+use crate::in_flight::InFlight;
+use crate::numbers::{COMMAND_NUMBERS_END, Numbers, number_of, numbers_after};
 use droid_frame::{Blob, Frame, Refusal, Reply};
 use droid_tree::{Exchange, ExchangeFault};
 use std::alloc::Global;
 
-/// The numbers of commands are below this.
-const COMMANDS_END: u64 = 1 << 61;
-
-/// The kind of a request that sends a piece.
+/// The kind of a Piece request.
 const PIECE: u8 = 4;
 
-/// A client that numbers its requests from one number on, and sends them over a connection that may break.
+/// A client that numbers its requests and sends them over a connection that may break.
 #[derive(Drop)]
 pub struct Sender<C> {
-    /// The connection, and what is under way.
-    pub window: Window<C>,
+    /// The connection, and the requests in flight.
+    pub in_flight: InFlight<C>,
     /// The client.
     pub client: u32,
     /// The numbers of its requests.
     pub numbers: Numbers,
-    /// Whether it is asked of files how far they are: until one is met of which nothing is held.
-    pub looking: bool,
-    /// Why nothing more is asked.
-    pub stopped: Option<SendFault>,
+    /// Whether to send Status for each new file: until the first file of which the service holds no piece.
+    pub wants_status: bool,
+    /// Why no more requests are sent.
+    pub stopped: Option<TransferFault>,
 }
 
 impl<C: Connection> Sender<C> {
-    /// A client whose requests are numbered from the first on.
+    /// Makes a client. Its first request has the number `first`.
     pub fn new(alloc: Global, connection: C, client: u32, first: u64) -> Sender<C>
-        ensures connection { result.window.connection ≡ connection }
+        ensures connection { result.in_flight.connection ≡ connection }
         ensures client { result.client ≡ client }
         ensures numbers { result.numbers ≡ record { next = first; last = 0 } }
         ensures fresh { IsNew result }
     {
         Sender {
-            window: Window::new(alloc, connection),
+            in_flight: InFlight::new(alloc, connection),
             client,
             numbers: Numbers {
                 next: first,
                 last: 0,
             },
-            looking: true,
+            wants_status: true,
             stopped: None,
         }
     }
 
-    /// Takes the replies to all that are under way.
-    pub(crate) fn end(&mut self) -> Result<(), SendFault>
-        ensures { OnOk result (EndsAll C.does self.old.window self.new.window) }
+    /// Waits for the replies to all requests in flight.
+    pub(crate) fn end(&mut self) -> Result<(), TransferFault>
+        ensures { OnOk result (EndsAll C.does self.old.in_flight self.new.in_flight) }
     {
         if let Some(fault) = self.stopped {
             return Err(fault);
         }
-        self.window.settle_all()?;
+        self.in_flight.settle_all()?;
         Ok(())
     }
 
-    /// Asks the request that this kind and this body spell, under its number.
-    fn ask_next(&mut self, kind: u8, body: Blob) -> Result<Reply, SendFault>
+    /// Sends a request of this kind and body, with its number.
+    fn ask_next(&mut self, kind: u8, body: Blob) -> Result<Reply, TransferFault>
         ensures asks { IfOk result (λ reply. Asks C.does (record { version = 2; kind = kind; client = self.old.client; number = number_by self.old.numbers kind; body = body }) reply
-            self.old.window self.new.window) }
+            self.old.in_flight self.new.in_flight) }
         ensures numbers { IfOk result (λ reply. self.new.numbers ≡ after_by self.old.numbers kind reply) }
         ensures below { OnOk result (self.old.numbers.next < 2 ^ 61) }
         ensures client { self.new.client ≡ self.old.client }
@@ -82,28 +79,32 @@ impl<C: Connection> Sender<C> {
             number,
             body,
         };
-        let reply = ask_frame(&mut self.window, frame)?;
+        let reply = ask_frame(&mut self.in_flight, frame)?;
         self.numbers = numbers_after(self.numbers, kind, &reply);
-        self.looking = looks_on(self.looking, &reply);
+        self.wants_status = wants_more_status(self.wants_status, &reply);
         Ok(reply)
     }
 }
 
-/// Asks a request. A piece's reply isn't waited for: that it is taken is seen later.
-fn ask_frame<C: Connection>(window: &mut Window<C>, frame: Frame) -> Result<Reply, SendFault>
-    ensures { IfOk result (λ reply. Asks C.does frame reply window.old window.new) }
+/// Sends a frame and returns its reply. A piece is not waited for: the `Taken` that is returned at once carries no
+/// count, and the true reply is checked when it is read.
+fn ask_frame<C: Connection>(
+    in_flight: &mut InFlight<C>,
+    frame: Frame,
+) -> Result<Reply, TransferFault>
+    ensures { IfOk result (λ reply. Asks C.does frame reply in_flight.old in_flight.new) }
 {
     if frame.kind == PIECE {
-        window.send(frame)?;
+        in_flight.send(frame)?;
         return Ok(Reply::Taken { held: 0 });
     }
-    let reply = window.ask(frame)?;
+    let reply = in_flight.ask(frame)?;
     Ok(reply)
 }
 
-/// Whether it is asked of the next file how far it is: not behind one of which nothing is held. The requests come in one
-/// order, so a submission before never came past it.
-fn looks_on(looks: bool, reply: &Reply) -> bool {
+/// Returns whether to send Status for the next file: no longer after a file of which the service holds no piece.
+/// Requests have one order, so the earlier submission ended before that file.
+fn wants_more_status(looks: bool, reply: &Reply) -> bool {
     match reply {
         Reply::Progress {
             held: _,
@@ -113,17 +114,17 @@ fn looks_on(looks: bool, reply: &Reply) -> bool {
     }
 }
 
-/// Sees that there is a number, and that no request ended it.
-fn see_going(stopped: Option<SendFault>, next: u64) -> Result<(), SendFault>
+/// Checks that there is a number left and that no error ended the submission.
+fn see_going(stopped: Option<TransferFault>, next: u64) -> Result<(), TransferFault>
     ensures { OnOk result (next < 2 ^ 61) }
 {
     if let Some(fault) = stopped {
         return Err(fault);
     }
-    if next < COMMANDS_END {
+    if next < COMMAND_NUMBERS_END {
         Ok(())
     } else {
-        Err(SendFault::NumbersUsedUp)
+        Err(TransferFault::NumbersUsedUp)
     }
 }
 
@@ -143,17 +144,17 @@ impl<C: Connection> Exchange for Sender<C> {
         }
     }
 
-    fn looks(&self) -> bool {
-        self.looking
+    fn wants_status(&self) -> bool {
+        self.wants_status
     }
 }
 
-/// That the tree has changed, where the reply tells it: the service has another request under the number, or another node
-/// of the name.
-fn changed(reply: &Reply) -> Option<SendFault> {
+/// Returns the error for a changed tree, if the reply shows one: the service has another request under this number, or
+/// another node of this name.
+fn changed(reply: &Reply) -> Option<TransferFault> {
     match reply {
-        Reply::Refused(Refusal::NumberReused) => Some(SendFault::Changed),
-        Reply::Refused(Refusal::NameTaken) => Some(SendFault::Changed),
+        Reply::Refused(Refusal::NumberReused) => Some(TransferFault::Changed),
+        Reply::Refused(Refusal::NameTaken) => Some(TransferFault::Changed),
         _ => None,
     }
 }

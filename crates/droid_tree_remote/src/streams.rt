@@ -6,18 +6,18 @@ use crate::connection::{Broken, Connection};
 use droid_frame::{Arrival, Frame, SteadyRead, SteadyWrite, body_limit, read_frame, write_frame};
 use std::alloc::Global;
 
-/// Who opens streams.
+/// Opens streams.
 pub trait Open<S> {
-    /// Opens a new one.
+    /// Opens a new stream.
     fn open(&mut self) -> Result<S, Broken>;
 }
 
-/// Streams that are opened one after the other. What fails is closed.
+/// A connection over one stream at a time. A stream that fails is closed.
 #[derive(Drop)]
 pub struct Streams<O, S> {
-    /// Who opens them.
+    /// Opens the streams.
     pub opener: O,
-    /// The one that is open.
+    /// The open stream, if there is one.
     pub stream: Option<S>,
 }
 

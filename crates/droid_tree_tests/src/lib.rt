@@ -1,18 +1,18 @@
-//! Tests of the walk over a tree, of its profile and of its submission, over public calls alone: trees in memory, services
-//! that only note what they are asked, and a real one, also behind a connection that breaks.
+//! Tests of the walk over a tree, of its profile and of its submission, through public calls alone. The trees are in
+//! memory; the services only note what they are asked, or are real ones, some of them behind a connection that breaks.
 #![tactic(auto)]
 
 #[cfg(test)]
-mod faults;
+mod fault_texts;
 #[cfg(test)]
 mod memory_tree;
+#[cfg(test)]
+mod noting_watcher;
 #[cfg(test)]
 mod profiles;
 #[cfg(test)]
 mod sample_service;
 #[cfg(test)]
-mod submitting;
+mod submissions;
 #[cfg(test)]
-mod walking;
-#[cfg(test)]
-mod watching;
+mod walks;

@@ -5,14 +5,14 @@ ghost use Rattle.droid_tree.specs.Observation.{BytesCame};
 ghost use Rattle.droid_tree.specs.declared.fault.TreeFault.TheVariants as faults;
 
 use droid_frame::Blob;
-use droid_tree::{Entry, EntryKind, Tree, TreeFault};
+use droid_tree::{EntryKind, FolderEntry, Tree, TreeFault};
 use std::alloc::{AllocError, Global};
 
-/// An entry: its folder's path, its name, what it is, how long it is said to be, and its bytes, or `None` where it can't be
-/// read.
+/// An entry: its folder's path, its name, its type, the length that the folder lists, and its bytes, or `None` if it is
+/// unreadable.
 pub type Row<'a> = (&'a str, &'a [u8], EntryKind, u64, Option<&'a [u8]>);
 
-/// A tree of such rows. A folder tells its entries in the order in which they stand.
+/// A tree of such rows. A folder lists its entries in the order of the rows.
 #[derive(Drop)]
 pub struct MemoryTree<'a> {
     pub rows: &'a [Row<'a>],
@@ -29,7 +29,7 @@ impl<'a> MemoryTree<'a> {
 impl Tree for MemoryTree<'_> {
     ghost observes = { λ old observed new. Unit {0} };
 
-    fn entries(&mut self, alloc: Global, path: &str) -> Result<Vec<Entry>, TreeFault> {
+    fn entries(&mut self, alloc: Global, path: &str) -> Result<Vec<FolderEntry>, TreeFault> {
         if is_sealed(self.rows, path) {
             return Err(TreeFault::Unreadable);
         }
@@ -69,7 +69,7 @@ fn cut(all: &[u8], from: u64, wanted: u32) -> &[u8]
     &rest[..rest.len().min(wanted as usize)]
 }
 
-/// Whether the folder of this path can't be read.
+/// Returns whether the folder of this path is unreadable.
 fn is_sealed(rows: &[Row], path: &str) -> bool {
     for row in rows {
         if row.2 == EntryKind::Folder && row.4.is_none() && is_path_of(row, path) {
@@ -98,11 +98,11 @@ fn bytes_of<'a>(rows: &'a [Row<'a>], path: &str) -> Option<&'a [u8]> {
     None
 }
 
-fn entries_below(alloc: Global, rows: &[Row], path: &str) -> Result<Vec<Entry>, AllocError> {
+fn entries_below(alloc: Global, rows: &[Row], path: &str) -> Result<Vec<FolderEntry>, AllocError> {
     let mut entries = Vec::new(alloc);
     for row in rows {
         if row.0 == path {
-            let entry = Entry {
+            let entry = FolderEntry {
                 name: Blob::copy_of(alloc, row.1)?,
                 kind: row.2,
                 modified: 0,

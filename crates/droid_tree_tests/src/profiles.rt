@@ -1,8 +1,8 @@
 //! The profile of a small tree, as CSV. (The digests are those of RFC 1321's test suite.)
 
 use crate::memory_tree::{MemoryTree, Row};
+use crate::noting_watcher::NotingWatcher;
 use crate::sample_service::sample_service;
-use crate::watching::Watching;
 use droid_frame::{HashKind, Noted};
 use droid_tree::{EntryKind, Options};
 use droid_tree_local::profile;
@@ -44,7 +44,7 @@ const TEXT: &str =
 fn small_tree(rt: HostRuntime) -> Result<(), Fail> {
     let alloc = rt.alloc();
     let mut tree = MemoryTree::of(&ROWS);
-    let mut watcher = Watching::new(alloc);
+    let mut watcher = NotingWatcher::new(alloc);
     let mut output = Noted::new(Vec::new(alloc));
     let whole = profile(
         alloc,
@@ -66,7 +66,7 @@ fn names_of_255_and_256_bytes(rt: HostRuntime) -> Result<(), Fail> {
         ("", LONG, EntryKind::Folder, 0, Some(b"")),
     ];
     let mut tree = MemoryTree::of(&rows);
-    let mut watcher = Watching::new(alloc);
+    let mut watcher = NotingWatcher::new(alloc);
     let mut output = Noted::new(Vec::new(alloc));
     let whole = profile(
         alloc,
@@ -80,8 +80,8 @@ fn names_of_255_and_256_bytes(rt: HostRuntime) -> Result<(), Fail> {
     Ok(())
 }
 
-/// Each hash, the name of its column, and what is there for the bytes `abc`. (The digests are those of RFC 1321's test suite
-/// and of FIPS 180-4's example.)
+/// Each hash, the name of its column, and its value for the bytes `abc`. (The digests are those of RFC 1321's test
+/// suite and of FIPS 180-4's example.)
 const HASHES: [(HashKind, &str, &str); 3] = [
     (HashKind::Nothing, ",\"HASH\",", ",\"\","),
     (
@@ -102,7 +102,7 @@ fn hashes(rt: HostRuntime) -> Result<(), Fail> {
     let rows: [Row; 1] = [("", b"abc", EntryKind::File, 3, Some(b"abc"))];
     for (hash, column, digest) in &HASHES {
         let mut tree = MemoryTree::of(&rows);
-        let mut watcher = Watching::new(alloc);
+        let mut watcher = NotingWatcher::new(alloc);
         let mut output = Noted::new(Vec::new(alloc));
         let options = Options {
             hash: *hash,

@@ -1,6 +1,6 @@
 use Rattle.std.proofs.Common.{◌≡◌, ℕ, List, ◌∷◌, [], Option, Some, String, Global, BTreeMap, string_bytes, unwrap_or, refl, rules, sym, ap, subst, ◌∙◌}
 use Rattle.std.proofs.lemmas.Map.Text.{btree_map_updates_text}
-use Rattle.droid_desk_progress.specs.Tallies.{CountsFormats, count_in}
+use Rattle.droid_desk_progress.specs.WalkCounts.{CountsFormats, count_in}
 use Rattle.droid_desk_progress.proofs.Counting.{counted_once}
 use Rattle.droid_desk_progress.proofs.totals.count_format.Goals as goal
 

@@ -1,5 +1,5 @@
 use Rattle.std.proofs.Common.{take}
-use Rattle.droid_desk_progress.specs.Tallies.{CountsFormats}
+use Rattle.droid_desk_progress.specs.WalkCounts.{CountsFormats}
 use Rattle.droid_desk_progress.proofs.totals.count_formats.Given as goal
 
 abbrev pub invariant-loop-puid : goal.invariant-loop-puid

@@ -12,5 +12,5 @@ returns-in-Ok g c = λ request spells.
       same_client = c.ask_next.ensures.client;
       numbers = c.in-Ok.ensures.numbers ∙ behind_is old.numbers c.args.kind c.args.body request c.in-Ok.reply spells;
       below = c.in-Ok.ensures.below;
-      asks = subst (λ (frame : Frame). Asks g.C.Connection.does frame c.in-Ok.reply old.window new.window) (asked_is old.client old.numbers c.args.kind c.args.body request spells) c.in-Ok.ensures.asks;
+      asks = subst (λ (frame : Frame). Asks g.C.Connection.does frame c.in-Ok.reply old.in_flight new.in_flight) (asked_is old.client old.numbers c.args.kind c.args.body request spells) c.in-Ok.ensures.asks;
     }

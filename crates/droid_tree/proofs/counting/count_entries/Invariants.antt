@@ -1,6 +1,0 @@
-use Rattle.std.proofs.Common.{take}
-use Rattle.droid_tree.specs.Counts.{CountsItems}
-use Rattle.droid_tree.proofs.counting.count_entries.Given as goal
-
-abbrev pub invariant-loop-entry : goal.invariant-loop-entry
-invariant-loop-entry l = CountsItems l.place.path (take l.entry-index l.entries) l.fn.before l.counted l.fn.pending.items l.pending.items

@@ -1,0 +1,27 @@
+//! An entry of a folder, as the tree returns it.
+
+use droid_frame::Blob;
+
+/// The type of an entry.
+#[derive(Clone, Copy, Debug, PartialEq, Eq)]
+pub enum EntryKind {
+    /// A folder.
+    Folder,
+    /// A regular file.
+    File,
+    /// Anything else, such as a symbolic link, a socket or a device.
+    Other,
+}
+
+/// An entry of a folder.
+#[derive(Drop)]
+pub struct FolderEntry {
+    /// The name without the path. It may be invalid UTF-8.
+    pub name: Blob,
+    /// The type of the entry.
+    pub kind: EntryKind,
+    /// When it was last changed, in seconds since 1970-01-01T00:00:00 UTC. Negative for earlier times.
+    pub modified: i64,
+    /// The length in bytes, if it is a file.
+    pub len: u64,
+}

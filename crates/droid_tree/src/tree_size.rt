@@ -1,0 +1,195 @@
+//! Counts what is in a tree before it is submitted.
+
+ghost use Rattle.std.specs.Prelude.{◌≡◌, ◌≢◌, ◌+◌, ◌<◌, ◌≤◌, IfErr, IfOk, OnOk};
+ghost use Rattle.droid_tree.specs.Counts.{CountsItem, CountsItems, CountsFolder, CountsTooMany, CountsTree};
+ghost use Rattle.droid_tree.specs.declared.fault.WalkFault.TheVariants.{Entries};
+
+use crate::fault::WalkFault;
+use crate::folder_entry::{EntryKind, FolderEntry};
+use crate::listing::{name_of, read_folder};
+use crate::pending_folder::{PendingFolder, add_pending, path_below};
+use crate::tree::Tree;
+use crate::tree_walk::{TURNS, only_the_top};
+use std::alloc::Global;
+use std::collections::VecDeque;
+
+/// How many folders and files a profile can have.
+pub const NODE_LIMIT: u64 = 100_000;
+
+/// How much there is in a tree, not counting its top.
+#[derive(Clone, Copy, Debug)]
+pub struct Counted {
+    /// How many folders.
+    pub folders: u64,
+    /// How many files.
+    pub files: u64,
+    /// The lengths of all files together, in bytes.
+    pub bytes: u64,
+    /// How many entries and folders a walk skips: entries of other types, entries whose names are not valid UTF-8, and
+    /// unreadable folders.
+    pub skipped: u64,
+}
+
+/// Counts the folders and files of a tree. Fails with `Entries` if there are more than `limit` together. Lists each
+/// folder once, in the order of a walk, and reads no file.
+pub fn count<T: Tree>(alloc: Global, tree: &mut T, limit: u64) -> Result<Counted, WalkFault>
+    // The numbers are those of the tree as it was listed.
+    ensures counted { IfOk result (λ counted. CountsTree T.observes counted tree.old tree.new) }
+    ensures within { IfOk result (λ counted. counted.folders + counted.files ≤ limit) }
+    // `Entries` is returned only if more folders and files than the limit were listed.
+    ensures too_many { IfErr result (λ fault. fault ≡ Entries → CountsTooMany T.observes limit tree.old tree.new) }
+{
+    let mut pending = only_the_top(alloc)?;
+    let mut counted = Counted {
+        folders: 0,
+        files: 0,
+        bytes: 0,
+        skipped: 0,
+    };
+    for _ in 0..TURNS {
+        let Some(folder) = pending.pop_front() else {
+            return Ok(counted);
+        };
+        counted = count_folder(alloc, tree, &folder, counted, &mut pending)?;
+        see_room(counted, limit)?;
+    }
+    Err(WalkFault::Folders)
+}
+
+/// Counts what is in one folder and appends its subfolders to `pending`.
+fn count_folder<T: Tree>(
+    alloc: Global,
+    tree: &mut T,
+    folder: &PendingFolder,
+    before: Counted,
+    pending: &mut VecDeque<PendingFolder>,
+) -> Result<Counted, WalkFault>
+    ensures counted { IfOk result (λ after. CountsFolder T.observes folder.now.path before after tree.old tree.new pending.old.items pending.new.items) }
+    ensures other { IfErr result (λ fault. fault ≢ Entries) }
+{
+    match read_folder(alloc, tree, folder.path.as_str())? {
+        Ok(entries) => {
+            let entries = entries.as_slice();
+            let after = count_entries(alloc, folder, entries, before, pending)?;
+            Ok(after)
+        }
+        Err(_) => {
+            let after = one_skipped(before)?;
+            Ok(after)
+        }
+    }
+}
+
+/// Counts these entries of a folder.
+fn count_entries(
+    alloc: Global,
+    folder: &PendingFolder,
+    entries: &[FolderEntry],
+    before: Counted,
+    pending: &mut VecDeque<PendingFolder>,
+) -> Result<Counted, WalkFault>
+    ensures counted { IfOk result (λ after. CountsItems folder.now.path entries.now before after pending.old.items pending.new.items) }
+    ensures other { IfErr result (λ fault. fault ≢ Entries) }
+{
+    let mut counted = before;
+    for entry in entries {
+        counted = count_entry(alloc, folder, entry, counted, pending)?;
+    }
+    Ok(counted)
+}
+
+/// Counts one entry, and appends it to `pending` if it is a folder.
+fn count_entry(
+    alloc: Global,
+    folder: &PendingFolder,
+    entry: &FolderEntry,
+    before: Counted,
+    pending: &mut VecDeque<PendingFolder>,
+) -> Result<Counted, WalkFault>
+    ensures counted { IfOk result (λ after. CountsItem folder.now.path entry.now before after pending.old.items pending.new.items) }
+    ensures other { IfErr result (λ fault. fault ≢ Entries) }
+{
+    let Some(name) = name_of(entry) else {
+        let after = one_skipped(before)?;
+        return Ok(after);
+    };
+    match entry.kind {
+        EntryKind::Folder => {
+            let after = one_folder(before)?;
+            let path = path_below(alloc, folder.path.as_str(), name)?;
+            add_pending(pending, path, 0)?;
+            Ok(after)
+        }
+        EntryKind::File => {
+            let after = one_file(before, entry.len)?;
+            Ok(after)
+        }
+        EntryKind::Other => {
+            let after = one_skipped(before)?;
+            Ok(after)
+        }
+    }
+}
+
+/// Counts one more folder.
+fn one_folder(before: Counted) -> Result<Counted, WalkFault>
+    ensures counted { IfOk result (λ after. after ≡ record before { folders = before.folders + 1 }) }
+    ensures other { IfErr result (λ fault. fault ≢ Entries) }
+{
+    Ok(Counted {
+        folders: sum_of(before.folders, 1)?,
+        files: before.files,
+        bytes: before.bytes,
+        skipped: before.skipped,
+    })
+}
+
+/// Counts one more file of this length.
+fn one_file(before: Counted, len: u64) -> Result<Counted, WalkFault>
+    ensures counted { IfOk result (λ after. after ≡ record before { files = before.files + 1; bytes = before.bytes + len }) }
+    ensures other { IfErr result (λ fault. fault ≢ Entries) }
+{
+    Ok(Counted {
+        folders: before.folders,
+        files: sum_of(before.files, 1)?,
+        bytes: sum_of(before.bytes, len)?,
+        skipped: before.skipped,
+    })
+}
+
+/// Counts one more skipped entry.
+fn one_skipped(before: Counted) -> Result<Counted, WalkFault>
+    ensures counted { IfOk result (λ after. after ≡ record before { skipped = before.skipped + 1 }) }
+    ensures other { IfErr result (λ fault. fault ≢ Entries) }
+{
+    Ok(Counted {
+        folders: before.folders,
+        files: before.files,
+        bytes: before.bytes,
+        skipped: sum_of(before.skipped, 1)?,
+    })
+}
+
+/// Checks that there are no more folders and files than the limit.
+fn see_room(counted: Counted, limit: u64) -> Result<(), WalkFault>
+    ensures within { OnOk result (counted.folders + counted.files ≤ limit) }
+    ensures too_many { IfErr result (λ fault. fault ≡ Entries → limit < counted.folders + counted.files) }
+{
+    let nodes = sum_of(counted.folders, counted.files)?;
+    if nodes <= limit {
+        Ok(())
+    } else {
+        Err(WalkFault::Entries)
+    }
+}
+
+/// Adds two numbers. Fails with `Bytes` on overflow.
+fn sum_of(first: u64, second: u64) -> Result<u64, WalkFault>
+    ensures sum { IfOk result (λ sum. sum ≡ first + second) }
+    ensures other { IfErr result (λ fault. fault ≢ Entries) }
+{
+    match first.checked_add(second) {
+        Some(sum) => Ok(sum),
+        None => Err(WalkFault::Bytes),
+    }
+}

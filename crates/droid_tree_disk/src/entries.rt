@@ -1,0 +1,104 @@
+//! Lists the entries of a folder with their metadata.
+
+ghost use Rattle.std.specs.Prelude.{◌≡◌, ◌++◌, ◌∷◌, [], IfErr, IfOk, OnOk};
+ghost use Rattle.droid_tree.specs.Visits.{below};
+ghost use Rattle.droid_tree.specs.declared.fault.TreeFault.TheVariants.{Memory, Unreadable};
+ghost use Rattle.droid_tree_disk.specs.Said.{NoNames};
+ghost use Rattle.droid_tree_disk.specs.FolderObservation.{ListsAll, LooksAt, SaysOfText, Shows};
+
+use crate::disk::{Disk, FileMetadata};
+use droid_frame::{Blob, Text};
+use droid_tree::{EntryKind, FolderEntry, TreeFault};
+use std::alloc::{AllocError, Global};
+
+/// Lists the folder at `path`. The path of an entry is `folder`, `/` and its name.
+pub(crate) fn list<D: Disk>(
+    alloc: Global,
+    disk: &mut D,
+    path: &str,
+    folder: &str,
+) -> Result<Vec<FolderEntry>, TreeFault>
+    ensures listed { IfOk result (λ entries. ListsAll D.says path.now folder.now entries.items disk.old disk.new) }
+    ensures failed { IfErr result (λ fault. fault ≡ Unreadable → D.says disk.old (NoNames path.now) disk.new) }
+{
+    let names = disk.names(alloc, path)?;
+    let mut entries = Vec::new(alloc);
+    for name in names {
+        let entry = entry_of(alloc, disk, folder, name)?;
+        add(&mut entries, entry)?;
+    }
+    Ok(entries)
+}
+
+/// Appends an entry.
+fn add(entries: &mut Vec<FolderEntry>, entry: FolderEntry) -> Result<(), TreeFault>
+    ensures added { OnOk result (entries.new.items ≡ entries.old.items ++ entry ∷ []) }
+    ensures memory { IfErr result (λ fault. fault ≡ Memory) }
+{
+    match entries.push(entry) {
+        Ok(()) => Ok(()),
+        Err(_) => Err(TreeFault::Memory),
+    }
+}
+
+/// Returns the entry of this name.
+fn entry_of<D: Disk>(
+    alloc: Global,
+    disk: &mut D,
+    folder: &str,
+    name: Blob,
+) -> Result<FolderEntry, TreeFault>
+    ensures name { IfOk result (λ entry. entry.name ≡ name) }
+    ensures looks { IfOk result (λ entry. LooksAt D.says folder.now disk.old entry disk.new) }
+    ensures memory { IfErr result (λ fault. fault ≡ Memory) }
+{
+    match look_below(alloc, disk, folder, &name) {
+        Ok(found) => Ok(entry_with(name, found)),
+        Err(_) => Err(TreeFault::Memory),
+    }
+}
+
+/// Returns an entry with this metadata. Without metadata its type is [`EntryKind::Other`].
+fn entry_with(name: Blob, found: Option<FileMetadata>) -> FolderEntry
+    ensures name { result.name ≡ name }
+    ensures shown { Shows found result }
+{
+    match found {
+        Some(found) => FolderEntry {
+            name,
+            kind: found.kind,
+            modified: found.modified,
+            len: found.len,
+        },
+        None => FolderEntry {
+            name,
+            kind: EntryKind::Other,
+            modified: 0,
+            len: 0,
+        },
+    }
+}
+
+/// Returns the metadata of a name in a folder, or `None`. Does not ask for names that are not valid UTF-8.
+fn look_below<D: Disk>(
+    alloc: Global,
+    disk: &mut D,
+    folder: &str,
+    name: &Blob,
+) -> Result<Option<FileMetadata>, AllocError>
+    ensures { IfOk result (λ found. SaysOfText D.says folder.now name.now found disk.old disk.new) }
+{
+    let Ok(name) = std::str::from_utf8(name.as_slice()) else {
+        return Ok(None);
+    };
+    let path = path_below(alloc, folder, name)?;
+    Ok(disk.look(path.as_str()))
+}
+
+/// Returns the path of a name in a folder.
+fn path_below(alloc: Global, folder: &str, name: &str) -> Result<Text, AllocError>
+    ensures { IfOk result (λ text. text ≡ below folder.now name.now) }
+{
+    let joined = format!(in alloc; "{folder}/{name}")?;
+    Ok(Text::from(joined))
+}

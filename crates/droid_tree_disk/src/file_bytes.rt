@@ -1,0 +1,75 @@
+//! Reads bytes of an open file into a buffer.
+
+ghost use Rattle.std.specs.Prelude.{◌≡◌, ◌≤◌, ◌+◌, IfOk, OnOk, length, take};
+ghost use Rattle.droid_tree_disk.specs.Machine.{AddsBytes};
+
+use droid_tree::TreeFault;
+use std::fs::File;
+use std::io::{Error, ErrorKind};
+use std::os::unix::fs::FileExt;
+
+/// How often a read is tried: once, and again after each of up to 64 interruptions.
+const TURNS: u32 = 65;
+
+/// Appends up to `wanted` bytes of a file, starting at offset `from`. Appends fewer only if the file ends before.
+pub(crate) fn add_bytes(
+    file: &File,
+    from: u64,
+    wanted: u32,
+    bytes: &mut Vec<u8>,
+) -> Result<(), TreeFault>
+    ensures { OnOk result (AddsBytes wanted bytes.old.items bytes.new.items) }
+{
+    let before = bytes.len();
+    let Some(after) = before.checked_add(wanted as usize) else {
+        return Err(TreeFault::Memory);
+    };
+    if bytes.resize(after, 0).is_err() {
+        return Err(TreeFault::Memory);
+    }
+    let filled = fill(file, from, &mut bytes[before..])?;
+    bytes.truncate(before + filled);
+    Ok(())
+}
+
+/// Fills a buffer with bytes of a file, starting at offset `from`. Returns how many bytes came: fewer if the file ends
+/// before.
+fn fill(file: &File, from: u64, buffer: &mut [u8]) -> Result<usize, TreeFault>
+    ensures { IfOk result (λ count. count ≤ length buffer.new) }
+{
+    let mut filled = 0;
+    while filled < buffer.len() {
+        let count = read_some(file, place_after(from, filled)?, &mut buffer[filled..])?;
+        if count == 0 {
+            return Ok(filled);
+        }
+        filled += count;
+    }
+    Ok(filled)
+}
+
+/// Returns the offset after `count` more bytes.
+fn place_after(from: u64, count: usize) -> Result<u64, TreeFault> {
+    match from.checked_add(count as u64) {
+        Some(place) => Ok(place),
+        None => Err(TreeFault::Unreadable),
+    }
+}
+
+/// Reads once. Tries again if the read was interrupted.
+fn read_some(file: &File, from: u64, buffer: &mut [u8]) -> Result<usize, TreeFault>
+    ensures { IfOk result (λ count. count ≤ length buffer.new) }
+{
+    for _ in 0..TURNS {
+        match file.read_at(buffer, from) {
+            Ok(count) => return Ok(count),
+            Err(error) if was_interrupted(&error) => {}
+            Err(_) => return Err(TreeFault::Unreadable),
+        }
+    }
+    Err(TreeFault::Unreadable)
+}
+
+fn was_interrupted(error: &Error) -> bool {
+    error.kind() == ErrorKind::Interrupted
+}

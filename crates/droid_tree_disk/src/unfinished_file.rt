@@ -1,0 +1,116 @@
+//! A file beside the path of an output file, created when the first bytes are written to it.
+
+use crate::output::OutputFault;
+use droid_frame::Text;
+use std::alloc::{AllocError, Global};
+use std::fs::{self, File, Files};
+use std::io::{self, Error, ErrorKind, Write};
+
+/// How many file names are tried.
+const NAMES: u32 = 1_000;
+
+/// The file and its path.
+#[derive(Drop)]
+pub(crate) struct Made<F> {
+    /// The file, open for writing.
+    pub file: F,
+    /// The path of the file.
+    pub path: Text,
+}
+
+/// The path of an output file, and the unfinished file beside it once it is created.
+#[derive(Drop)]
+pub(crate) struct UnfinishedFile<'a, R: Files> {
+    runtime: &'a R,
+    alloc: Global,
+    place: Text,
+    free: Option<Text>,
+    made: Option<Made<R::File>>,
+}
+
+impl<'a, R: Files> UnfinishedFile<'a, R> {
+    /// Takes the path of an output file. Creates nothing yet.
+    pub fn new(alloc: Global, runtime: &'a R, place: Text) -> UnfinishedFile<'a, R> {
+        UnfinishedFile {
+            runtime,
+            alloc,
+            place,
+            free: None,
+            made: None,
+        }
+    }
+
+    /// Checks that a file can be created: creates one and removes it. Keeps its path, so that the first write needs no
+    /// memory for one.
+    pub fn see_room(&mut self) -> Result<(), OutputFault> {
+        let Made { file: _, path } = self.make()?;
+        let _ = fs::remove_file(self.runtime, path.as_str());
+        self.free = Some(path);
+        Ok(())
+    }
+
+    /// Returns the parts: the output file's path, and the unfinished file if it was created.
+    pub fn into_parts(self) -> (&'a R, Text, Option<Made<R::File>>) {
+        let UnfinishedFile {
+            runtime,
+            alloc: _,
+            place,
+            free: _,
+            made,
+        } = self;
+        (runtime, place, made)
+    }
+
+    /// Creates the file by the path that was kept, or by another one if something is there by now.
+    fn begin(&mut self) -> Result<Made<R::File>, OutputFault> {
+        let Some(path) = self.free.take() else {
+            return self.make();
+        };
+        match File::create_new(self.runtime, path.as_str()) {
+            Ok(file) => Ok(Made { file, path }),
+            Err(_) => self.make(),
+        }
+    }
+
+    /// Creates a file under a name that is free.
+    fn make(&self) -> Result<Made<R::File>, OutputFault> {
+        for number in 0..NAMES {
+            let Ok(path) = unfinished_path(self.alloc, self.place.as_str(), number) else {
+                return Err(OutputFault::Memory);
+            };
+            match File::create_new(self.runtime, path.as_str()) {
+                Ok(file) => return Ok(Made { file, path }),
+                Err(error) if error.kind() == ErrorKind::AlreadyExists => {}
+                Err(_) => return Err(OutputFault::Refused),
+            }
+        }
+        Err(OutputFault::Refused)
+    }
+}
+
+/// Returns the unfinished file's path with this number.
+fn unfinished_path(alloc: Global, place: &str, number: u32) -> Result<Text, AllocError> {
+    let path = format!(in alloc; "{place}.{number}.unfinished")?;
+    Ok(Text::from(path))
+}
+
+impl<R: Files> Write for UnfinishedFile<'_, R> {
+    fn write(&mut self, buf: &[u8]) -> io::Result<usize> {
+        if let Some(made) = &mut self.made {
+            return made.file.write(buf);
+        }
+        let Ok(mut made) = self.begin() else {
+            return Err(Error::from(ErrorKind::PermissionDenied));
+        };
+        let written = made.file.write(buf);
+        self.made = Some(made);
+        written
+    }
+
+    fn flush(&mut self) -> io::Result<()> {
+        match &mut self.made {
+            Some(made) => made.file.flush(),
+            None => Ok(()),
+        }
+    }
+}

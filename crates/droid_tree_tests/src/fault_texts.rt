@@ -1,0 +1,62 @@
+//! The texts of the errors of trees, walks and profiles.
+
+use droid_frame::WriteFault;
+use droid_tree::{ExchangeFault, TreeFault, WalkFault};
+use droid_tree_local::ProfileFault;
+use std::alloc::Global;
+use std::fmt::Display;
+use std::process::Abort;
+use std::test::Fail;
+
+const TREE_FAULTS: [(TreeFault, &str); 2] = [
+    (TreeFault::Memory, "out of memory"),
+    (TreeFault::Unreadable, "it could not be read"),
+];
+
+const EXCHANGE_FAULT: [(ExchangeFault, &str); 1] = [(ExchangeFault, "no reply came")];
+
+const WALK_FAULTS: [(WalkFault, &str); 8] = [
+    (WalkFault::Memory, "out of memory"),
+    (WalkFault::Exchange, "no reply came"),
+    (WalkFault::Reply, "a reply was not to the request"),
+    (WalkFault::TooLong, "a request is too long"),
+    (WalkFault::Names, "a folder has two entries of one name"),
+    (WalkFault::Folders, "there are too many folders"),
+    (WalkFault::Entries, "there are too many folders and files"),
+    (WalkFault::Bytes, "the files are too long together"),
+];
+
+const PROFILE_FAULTS: [(ProfileFault, &str); 3] = [
+    (
+        ProfileFault::Walk(WalkFault::Names),
+        "the tree could not be walked",
+    ),
+    (
+        ProfileFault::Export(WalkFault::Exchange),
+        "the export could not be read",
+    ),
+    (
+        ProfileFault::Write(WriteFault { written: 7 }),
+        "the export could not be written",
+    ),
+];
+
+/// Returns whether the value prints as this text.
+fn says<T: Display>(alloc: Global, value: &T, text: &str) -> Result<bool, Fail> {
+    Ok(format!(in alloc; "{value}")?.as_str() == text)
+}
+
+fn each_says<T: Display>(rt: &impl Abort, alloc: Global, rows: &[(T, &str)]) -> Result<(), Fail> {
+    for (value, text) in rows {
+        assert!(rt; says(alloc, value, text)?, "{text}");
+    }
+    Ok(())
+}
+
+#[test]
+fn texts(rt: HostRuntime) -> Result<(), Fail> {
+    each_says(&rt, rt.alloc(), &TREE_FAULTS)?;
+    each_says(&rt, rt.alloc(), &EXCHANGE_FAULT)?;
+    each_says(&rt, rt.alloc(), &WALK_FAULTS)?;
+    each_says(&rt, rt.alloc(), &PROFILE_FAULTS)
+}
