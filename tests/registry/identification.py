@@ -1,15 +1,18 @@
-"""Files sent to the program's `script`, and what it finds them to be."""
+"""Identifies samples by the program's `script`."""
 
 import os
 import subprocess
 import tempfile
 
+from lib.frames import LIMITS, SCAN_LIMIT
+from lib.program import PROGRAM
+
 SECONDS = 60
-LONGEST_PIECE = 1_048_576
+LONGEST_PIECE = LIMITS[1].piece
 
 
 def lines_of(samples, limit, match_all):
-    """A script: a profile, and a folder for each file, so that their names may be equal."""
+    """Yields the lines of a script: a profile, and a folder for each file, so that their names may be equal."""
     number = 0
     yield f"1 {number} create {limit} {int(match_all)}"
     for place, (_, name, content) in enumerate(samples):
@@ -23,15 +26,16 @@ def lines_of(samples, limit, match_all):
         number += 4
 
 
-def identify(registry, samples, limit=65_536, match_all=False):
-    """Of each sample the method, whether it is a mismatch, and its formats, by the registry of these bytes."""
+def identify(registry, samples, limit=SCAN_LIMIT, match_all=False):
+    """Identifies samples by the registry of these bytes: for each the method, whether it is a mismatch, and its
+    formats."""
     script = "".join(line + "\n" for line in lines_of(samples, limit, match_all)).encode("ascii")
     with tempfile.TemporaryDirectory() as folder:
         path = os.path.join(folder, "registry.csv")
         with open(path, "wb") as file:
             file.write(registry)
         done = subprocess.run(
-            [os.environ["DROID_DESK"], "script", "--registry", path], input=script, capture_output=True, timeout=SECONDS
+            [PROGRAM, "script", "--registry", path], input=script, capture_output=True, timeout=SECONDS
         )
     assert (done.returncode, done.stderr) == (0, b""), (done.returncode, done.stderr)
     found = [line.split(" ") for line in done.stdout.decode("ascii").splitlines() if line.startswith("finished ")]

@@ -1,4 +1,4 @@
-"""What the program does while nothing comes: it uses no processor, and holds back no reply."""
+"""While nothing comes, the program uses no processor and holds back no reply."""
 
 import itertools
 import os
@@ -8,25 +8,17 @@ import tempfile
 import time
 import unittest
 
-import session
-from harness import HEADER, LIMITS, PROGRAM, SECONDS, Serve, connect, frame, read_exactly, read_frame
-from two_senders import FOLDER
-from two_senders import HEADER as HEADER_ROW
-
-CREATE = (65536).to_bytes(4, "big") + b"\0"
-TICKS = os.sysconf("SC_CLK_TCK")
-
-
-def processor_seconds(process):
-    """How long the process has used a processor so far."""
-    with open(f"/proc/{process.pid}/stat", encoding="ascii") as file:
-        fields = file.read().rsplit(")", 1)[1].split()
-    return (int(fields[11]) + int(fields[12])) / TICKS
+import long_session
+from lib.connections import SECONDS, connect, read_exactly, read_frame
+from lib.frames import HEADER, LIMITS, MADE, create, numbers
+from lib.processes import processor_seconds
+from lib.program import PROGRAM, Serve
+from lib.rows import COLUMNS, IN_ROW
 
 
-class Waiting(unittest.TestCase):
+class Idle(unittest.TestCase):
     def test_no_processor_is_used_between_frames_and_within_one(self):
-        whole = frame(1, 7, 1, CREATE)
+        whole = create(1, client=7)
         with Serve() as service, connect(service.port) as stream:
             for part in (b"", whole[:5], whole[5:20]):
                 stream.sendall(part)
@@ -35,34 +27,34 @@ class Waiting(unittest.TestCase):
                 time.sleep(1)
                 self.assertLessEqual(processor_seconds(service.process) - before, 0.05)
             stream.sendall(whole[20:])
-            self.assertEqual(read_frame(stream), (129, 7, 1, b"\0\0\0\1"))
+            self.assertEqual(read_frame(stream), (MADE, 7, 1, numbers(1)))
 
     def test_a_second_client_is_served_when_the_first_has_gone(self):
         with Serve(2) as service, connect(service.port) as first, connect(service.port) as second:
-            second.sendall(frame(1, 8, 1, CREATE))
-            first.sendall(frame(1, 7, 1, CREATE))
-            self.assertEqual(read_frame(first), (129, 7, 1, b"\0\0\0\1"))
+            second.sendall(create(1, client=8))
+            first.sendall(create(1, client=7))
+            self.assertEqual(read_frame(first), (MADE, 7, 1, numbers(1)))
             first.close()
-            self.assertEqual(read_frame(second), (129, 8, 1, b"\0\0\0\2"))
+            self.assertEqual(read_frame(second), (MADE, 8, 1, numbers(2)))
 
 
 class NothingHeldBack(unittest.TestCase):
-    """Each reply comes whole while no more than the front of the next frame was sent: nothing of it, its first byte, its
-    header, or more than fits into what is usually read at once."""
+    """Each reply comes whole while only the front of the next frame was sent: nothing of it, its first byte, its
+    header, or more than a usual buffer holds."""
 
     FRONTS = (0, 1, 18, 9_000)
 
     @classmethod
     def setUpClass(cls):
-        cls.steps = {version: session.steps(version) for version in LIMITS}
+        cls.steps = {version: long_session.steps(version) for version in LIMITS}
         folder = tempfile.TemporaryDirectory()
         cls.addClassCleanup(folder.cleanup)
         cls.registry = os.path.join(folder.name, "registry.csv")
         with open(cls.registry, "wb") as file:
-            file.write(session.REGISTRY)
+            file.write(long_session.REGISTRY)
 
     def test_the_session_goes_to_the_limits(self):
-        """A body as long as there can be, and a part of 1,048,576 behind its two numbers."""
+        """The longest body is the longest that a frame may have, and the longest part has 1,048,576 bytes."""
         for version, limits in LIMITS.items():
             longest = [max(map(len, side)) - HEADER.size for side in zip(*self.steps[version])]
             self.assertEqual(longest, [limits.body, 16 + 1_048_576])
@@ -95,13 +87,13 @@ class NothingHeldBack(unittest.TestCase):
                     self.replies_come(stream, self.steps[version], front)
 
     def test_by_send(self):
-        """What a line prints is there while the next line has only begun, also where no line feed ends it."""
+        """A reply is printed while only the front of the next line was sent, also a reply without a line feed."""
         lines = [
             (b"create 65536 0\n", b"made 1\n"),
             (b"folder 1 0 0 in\n", b"node 1\n"),
-            (b"export 1 0 7\n", b"part 2 296 7\n" + HEADER_ROW[:7]),
+            (b"export 1 0 7\n", b"part 2 296 7\n" + COLUMNS[:7]),
             (b"hello\n", b"bad line\n"),
-            (b"export 1 0 1048576\n", b"part 2 296 296\n" + HEADER_ROW + FOLDER),
+            (b"export 1 0 1048576\n", b"part 2 296 296\n" + COLUMNS + IN_ROW),
             (b"status 1 2\n", b"refused 4\n"),
         ]
         near, far = socket.socketpair()

@@ -1,22 +1,23 @@
-"""A submission is ended and started again, and a folder that has changed since is told."""
+"""A submission is ended and resumed, and a folder that has changed since is reported."""
 import itertools
 import os
 import subprocess
 import time
 
-from submissions import PIECE, Proxy, Service, WithTree, cuts_by, submit
-from trees import PROGRAM, walk
+from lib.program import PROGRAM, Serve
+from lib.submissions import PIECE, Proxy, WithTree, cuts_by, submit
+from lib.trees import walk
 
 
-class Again(WithTree):
-    def test_ended_and_started_again(self):
-        """Where too many connections break, or it is killed, the same command goes on."""
+class Resumed(WithTree):
+    def test_ended_and_resumed(self):
+        """After too many broken connections, or a kill, the same command resumes."""
         rows, _ = walk(self.top)
-        with Service() as service:
+        with Serve.lasting() as service:
             for seed in range(8):
                 with Proxy(service.port, itertools.chain(itertools.islice(cuts_by(seed, 9000), 2), itertools.repeat(3))) as proxy:
                     ended = submit(self.top, proxy.port, 7, "--export", self.export)
-                    # what is left may fit into the two connections that hold longer
+                    # the rest may fit into the two connections that last longer
                     self.assertIn(ended, [(4, b"fault: Broken\n"), (0, b"")])
                     self.assertEqual(os.path.exists(self.export), ended[0] == 0)
                     if ended[0] == 0:
@@ -30,10 +31,10 @@ class Again(WithTree):
         self.assertEqual((status, err), (0, b""))
         self.same(self.exported(), rows)
 
-    def test_what_is_there_is_not_read(self):
+    def test_sent_pieces_are_not_read(self):
         rows, _ = walk(self.top)
         size = sum(int(row["SIZE"]) for row in rows if row["SIZE"])
-        with Service() as service:
+        with Serve.lasting() as service:
             _, err = submit(self.top, service.port, 7, quiet=False)
             self.assertIn(b"bytes read: %d\n" % size, err)
             status, err = submit(self.top, service.port, 7, quiet=False)
@@ -41,7 +42,7 @@ class Again(WithTree):
         self.assertIn(b"bytes that were there: %d\nbytes read: 0\n" % size, err)
 
     def test_a_longer_file(self):
-        with Service() as service:
+        with Serve.lasting() as service:
             self.assertEqual(submit(self.top, service.port, 7)[0], 0)
             self.file(b"/in/2.bin", b"another length")
             status, err = submit(self.top, service.port, 7)
@@ -51,7 +52,7 @@ class Again(WithTree):
             self.assertEqual(submit(self.top, service.port, 8)[0], 0)
 
     def test_a_new_file(self):
-        with Service() as service:
+        with Serve.lasting() as service:
             self.assertEqual(submit(self.top, service.port, 7)[0], 0)
             self.file(b"/a.txt", b"new")
             status, err = submit(self.top, service.port, 7)

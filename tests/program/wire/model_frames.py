@@ -1,9 +1,9 @@
-"""What the model (../model) answers to frames (docs/FORMATS.md): requests read from bytes, and its replies as frames."""
+"""The model (../model) over frames (docs/FORMATS.md): reads requests from bytes, and writes its replies as frames."""
 
-import os
 from struct import pack
 
-from harness import HEADER, frame
+from lib.frames import ABANDONED, FINISHED, HEADER, MADE, NODE, PART, PROGRESS, REFUSED, TAKEN, frame
+from lib.program import SAMPLE
 from lines import HASH_NUMBERS, KINDS, LONGEST_BODIES, METHOD_NUMBERS, TYPE_NUMBERS
 from registry import Registry
 from service import Service
@@ -15,28 +15,25 @@ TRUTHS = {0: False, 1: True}
 HASHES = {number: name for name, number in HASH_NUMBERS.items()}
 HASHES_BY_LENGTH = {0: 0, 16: 1, 32: 2}
 
-REPLIES = {b"made": 129, b"node": 130, b"taken": 131, b"abandoned": 133, b"progress": 134}
-FINISHED, PART, REFUSED = 132, 135, 136
+REPLIES = {b"made": MADE, b"node": NODE, b"taken": TAKEN, b"abandoned": ABANDONED, b"progress": PROGRESS}
 PRINTED_METHODS = {b"none": 0, b"Signature": 1, b"Extension": 2}
 LIMITS = {b"profiles": 1, b"nodes": 2, b"unfinished": 3}
 
-SAMPLE = os.path.join(os.path.dirname(os.path.abspath(__file__)), "..", "sample_registry.csv")
-
 
 def service_of_the_sample():
-    """A service of the model that identifies by the registry that the program has without a file."""
+    """Makes a service of the model with the sample registry, which the program has without a file."""
     with open(SAMPLE, "rb") as file:
         return Service(Registry(file.read()))
 
 
 def answer(service, stream):
-    """What is written to these bytes, and the fault with which they end, or None."""
+    """Returns what has to be written for these bytes, and the fault with which they end, or None."""
     frames, fault = frames_of(stream)
     return b"".join(reply_to(service, *found) for found in frames), fault
 
 
 def frames_of(stream):
-    """The frames that lie whole in the bytes, and the fault with which these end: None where nothing is left."""
+    """Returns the whole frames in the bytes, and the fault with which the bytes end: None where nothing is left."""
     frames = []
     while stream:
         if len(stream) < HEADER.size:
@@ -64,11 +61,11 @@ def reply_to(service, version, kind, client, number, body):
 
 
 class Malformed(Exception):
-    """The body is that of no request of its kind."""
+    """No request of this kind has such a body."""
 
 
 class Body:
-    """What is left of a body."""
+    """The unread rest of a body."""
 
     def __init__(self, left):
         self.left = left
@@ -97,7 +94,7 @@ class Body:
         return taken
 
     def criterion(self):
-        """A criterion's name and its value, as a script's line has them."""
+        """Reads a criterion: its name and its value, as in a line of a script."""
         tag = self.number(1)
         if tag == 1:
             return "method", self.one_of(METHODS)
@@ -113,7 +110,7 @@ class Body:
 
 
 def request_of(version, kind, body):
-    """What a body of this version and kind asks for: it has to be used up."""
+    """Reads a body of this version and kind, which has to be used up."""
     if kind not in NAMES:
         raise Malformed
     left = Body(body)
@@ -144,16 +141,16 @@ def fields_of(version, kind, left):
 
 
 def reply_of(printed, version=1):
-    """The kind and the body of a reply in a version, from how it is printed."""
+    """Returns the kind and the body of a printed reply in a version."""
     line, _, rest = printed.partition(b"\n")
-    word, *told = line.split(b" ")
+    word, *fields = line.split(b" ")
     if word in REPLIES:
-        return REPLIES[word], b"".join(pack(">I", int(number)) for number in told)
+        return REPLIES[word], b"".join(pack(">I", int(number)) for number in fields)
     if word == b"part":
-        return PART, pack(">QQ", int(told[0]), int(told[1])) + rest
+        return PART, pack(">QQ", int(fields[0]), int(fields[1])) + rest
     if word == b"refused":
-        return REFUSED, bytes([int(told[0])]) + b"".join(map(told_by_refusal, told[1:]))
-    method, mismatch, digest, puids = told
+        return REFUSED, bytes([int(fields[0])]) + b"".join(map(field_of_refusal, fields[1:]))
+    method, mismatch, digest, puids = fields
     found = [] if puids == b"-" else puids.split(b",")
     hash = b"" if digest == b"-" else bytes.fromhex(digest.decode("ascii"))
     kind = bytes([HASHES_BY_LENGTH[len(hash)]]) if version == 2 else b""
@@ -161,5 +158,5 @@ def reply_of(printed, version=1):
     return FINISHED, head + pack(">H", len(found)) + b"".join(bytes([len(puid)]) + puid for puid in found)
 
 
-def told_by_refusal(word):
+def field_of_refusal(word):
     return bytes([LIMITS[word]]) if word in LIMITS else pack(">I", int(word))

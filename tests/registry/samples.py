@@ -1,16 +1,16 @@
-"""Each sample is found as its format alone; what is nearly a file of a format isn't found as one."""
+"""Each sample is identified as its format alone, and a file that nearly has a format is not."""
 
 import unittest
 
 from common import REGISTRY, SAMPLES
 from layout import be32
 from pictures import jpeg, png, segment
-from session import identify
+from identification import identify
 from tools import filtered, programs
 
 NOTHING, TEXT = ("none", []), ("Extension", ["x-fmt/111"])
 
-# name, content, and what is found
+# name, content, and the method and formats
 NEAR = [
     ("a.png", png()[:7] + b"\r" + png()[8:], NOTHING),
     ("a.png", b"\x89PNG\r\r\n\x1a" + png()[8:], NOTHING),
@@ -45,7 +45,7 @@ NEAR = [
     ("a.db", b"SQLite format 2\0", NOTHING),
     ("a.ttf", b"\0\1\0\0\0\x0a\0\x81\0\3\0\x20", NOTHING),
     ("a.eml", b"Subject: Morning\r\nFrom: Fox\r\n\r\nNo moment.\r\n", NOTHING),
-    # texts that begin as something else does
+    # texts that begin like other formats
     ("a.txt", b"MZ is short for Mark Zbikowski.\n", TEXT),
     ("a.txt", b"BM stands for bitmap. " * 3, TEXT),
     ("a.txt", b"PK: a knockout.\n", TEXT),
@@ -62,7 +62,7 @@ NEAR = [
 ]
 
 
-class Identified(unittest.TestCase):
+class Samples(unittest.TestCase):
     def check(self, samples):
         for (puid, name, content), found in zip(samples, identify(REGISTRY, samples)):
             self.assertEqual(found, ("Signature", False, [puid]), (puid, name, content[:80]))
@@ -75,8 +75,8 @@ class Identified(unittest.TestCase):
 
     def test_near_misses(self):
         samples = [(None, name, content) for name, content, _ in NEAR]
-        for (name, content, wanted), (method, mismatch, puids) in zip(NEAR, identify(REGISTRY, samples)):
-            self.assertEqual((method, puids, mismatch), (*wanted, False), (name, content[:80]))
+        for (name, content, expected), (method, mismatch, puids) in zip(NEAR, identify(REGISTRY, samples)):
+            self.assertEqual((method, puids, mismatch), (*expected, False), (name, content[:80]))
 
 
 if __name__ == "__main__":

@@ -1,25 +1,24 @@
-"""Every allocation of more than so many bytes is refused. An unfinished file takes twice the scan limit and 16 places, and
-never what its size or the number of its pieces would ask for; a piece takes the body of its frame."""
+"""Every allocation above a limit is refused. An unfinished file takes twice the scan limit and 16 places, whatever
+its size and the number of its pieces; a piece takes the body of its frame."""
 
 import unittest
 
-from asking import MADE, MEMORY, NODE, PROGRESS, TAKEN, create, file, piece, refusal, reply, rows_in_version, run_over, status
-from harness import LIMITS
+from allocations import MEMORY, run_over
+from lib.frames import LARGEST_FILE, LIMITS, MADE, MOST_PIECES, NODE, PROGRESS, SCAN_LIMIT, TAKEN
+from lib.frames import create, file, piece, refusal, reply, status
+from lib.session import rows_in_version
 
-SCAN_LIMIT = 65_536
 PIECE_FIELDS = 12
-LARGEST_FILE = 1 << 40
-MANY_PIECES = 1 << 20
 
 
-class Limited(unittest.TestCase):
+class LargeAllocations(unittest.TestCase):
     def answers(self, version, limit, rows, ended=0, said=""):
-        """With this limit `run` answers the requests of these rows, in a version, by their replies, and ends so."""
+        """Checks that with this limit `run` answers the requests of these rows, in a version, and ends so."""
         requests, replies = zip(*rows_in_version(version, rows))
         with self.subTest(version=version):
-            told = run_over(b"".join(requests), LIMIT=limit)
-            self.assertEqual(told[::2], (ended, said))
-            self.assertTrue(told[1] == b"".join(replies), told[1][-100:])
+            end = run_over(b"".join(requests), LIMIT=limit)
+            self.assertEqual(end[::2], (ended, said))
+            self.assertTrue(end[1] == b"".join(replies), end[1][-100:])
 
     def test_a_file_of_2_to_the_40_bytes(self):
         """Fifteen pieces wait for the first, and five more follow."""
@@ -32,13 +31,13 @@ class Limited(unittest.TestCase):
             self.answers(version, PIECE_FIELDS + limits.piece, rows)
 
     def test_a_file_of_a_million_pieces(self):
-        rows = [(create(1), reply(MADE, 1, 1)), (file(2, b"n", MANY_PIECES, 1), reply(NODE, 2, 1))]
+        rows = [(create(1), reply(MADE, 1, 1)), (file(2, b"n", MOST_PIECES, 1), reply(NODE, 2, 1))]
         rows += [(piece(3 + index, 1, index, b"a"), reply(TAKEN, 3 + index, 1 + index)) for index in range(100)]
         for version in LIMITS:
             self.answers(version, SCAN_LIMIT, rows)
 
     def test_less_is_refused(self):
-        """So the limit refuses: a window that is one byte too large, and the body of a piece."""
+        """A limit of one byte less refuses a window, and the body of a piece."""
         made = (create(1), reply(MADE, 1, 1))
         window = (file(2, b"n", SCAN_LIMIT, 1), refusal(2, MEMORY))
         fitting = (file(3, b"n", SCAN_LIMIT - 1, 1), reply(NODE, 3, 1))

@@ -1,4 +1,4 @@
-"""Trees that are made for a test, the rows that Python's own walk gives of them, and runs of the program."""
+"""Folders that a test makes, their rows by Python's own walk and hashlib, and runs of `profile` over them."""
 import csv
 import datetime
 import hashlib
@@ -10,7 +10,11 @@ import subprocess
 import tempfile
 import unittest
 
-PROGRAM = os.environ["DROID_DESK"]
+from lib.program import PROGRAM
+
+# how the program's lines on standard error begin: of a skipped entry, and of how many there are
+SKIPPED, ALL_SKIPPED = b"left out: ", b"left out in all: "
+OWN_REGISTRY = b"registry: the program's own, of everyday formats"
 
 
 def profile(*words, **more):
@@ -20,15 +24,16 @@ def profile(*words, **more):
 
 
 def moment(seconds):
-    """A moment as an export shows it."""
+    """Formats a moment as an export has it."""
     epoch = datetime.datetime(1970, 1, 1)
     return (epoch + datetime.timedelta(seconds=seconds)).strftime("%Y-%m-%dT%H:%M:%S")
 
 
 def walk(top):
-    """What lies below a folder, as `profile` has to give it: folder by folder, each after the one that it lies in, and in
-    a folder in the order of the names' bytes. A pair of an entry's row and its number, and what is left out."""
-    rows, left_out, waiting, number = [], set(), [(b"", "")], 0
+    """Walks a folder in the order of `profile`: folder by folder, each after the one above it, and within a folder
+    in the order of the names' bytes. Returns the rows of the entries, and the paths of those that `profile` has to
+    skip."""
+    rows, skipped, waiting, number = [], set(), [(b"", "")], 0
     while waiting:
         path, parent = waiting.pop(0)
         for name in sorted(os.listdir(top + path)):
@@ -37,10 +42,10 @@ def walk(top):
             try:
                 text = below.decode()
             except UnicodeDecodeError:
-                left_out.add(below)
+                skipped.add(below)
                 continue
             if not (stat.S_ISDIR(is_what.st_mode) or stat.S_ISREG(is_what.st_mode)):
-                left_out.add(below)
+                skipped.add(below)
                 continue
             number += 1
             row = {"ID": str(number), "PARENT_ID": parent, "FILE_PATH": text, "NAME": name.decode(), "LAST_MODIFIED": moment(int(is_what.st_mtime // 1))}
@@ -52,11 +57,11 @@ def walk(top):
                     digest = hashlib.md5(file.read()).hexdigest()
                 row.update({"TYPE": "File", "SIZE": str(is_what.st_size), "MD5_HASH": digest})
             rows.append(row)
-    return rows, left_out
+    return rows, skipped
 
 
 def read(text):
-    """The rows of an export, one of each node: a file with several formats stands there once for each."""
+    """Reads the rows of an export, one for each node. (A file with several formats has a row for each.)"""
     rows, seen = [], set()
     for row in csv.DictReader(io.StringIO(text.decode(), newline=""), strict=True):
         if row["ID"] not in seen:
@@ -66,12 +71,12 @@ def read(text):
 
 
 def lines(text, front):
-    """What stands behind this front in lines that begin with it."""
+    """Finds the lines that begin with this front: the rest of each."""
     return [line[len(front) :] for line in text.split(b"\n") if line.startswith(front)]
 
 
 class InFolder(unittest.TestCase):
-    """A test with a folder of its own."""
+    """A test with a temporary folder `work`, and an empty folder `top` in it."""
 
     def setUp(self):
         self.work = os.fsencode(tempfile.mkdtemp())
@@ -88,8 +93,8 @@ class InFolder(unittest.TestCase):
         os.utime(self.top + path, ns=(0, int(when * 1_000_000_000)))
 
     def same(self, text, rows):
-        """The export has exactly these rows, in their order."""
+        """Checks that the export has exactly these rows, in their order."""
         found = read(text)
         self.assertEqual([row["FILE_PATH"] for row in found], [row["FILE_PATH"] for row in rows])
-        for wanted, row in zip(rows, found):
-            self.assertEqual({name: row[name] for name in wanted}, wanted)
+        for due, row in zip(rows, found):
+            self.assertEqual({name: row[name] for name in due}, due)

@@ -1,43 +1,26 @@
-"""What `run` holds after long streams, in bytes that were allocated and not freed. The same stream has the same counts
-each time, so they are compared exactly."""
+"""The bytes that `run` holds after long streams. The same stream always has the same counts, so they are compared
+exactly."""
 
 import hashlib
 import unittest
 
-from asking import (
-    ABANDONED,
-    CLIENT,
-    FINISHED,
-    MADE,
-    NODE,
-    TAKEN,
-    abandon,
-    counted,
-    create,
-    file,
-    finish,
-    folder,
-    frame,
-    piece,
-    refusal,
-    reply,
-    rows_in_version,
-)
-from harness import LIMITS, in_version
-from session import KEPT, NOT_KEPT, replies_of, requests_of
+from allocations import counted
+from lib.frames import ABANDONED, FINISHED, LIMITS, MADE, NODE, TAKEN
+from lib.frames import abandon, create, file, finish, folder, frame, in_version, piece, refusal, reply
+from lib.session import KEPT, NOT_KEPT, replies_of, requests_of, rows_in_version
 
 FEW, MANY = 1_000, 100_000
 PIECES = 1_000_000
-# each version with the hashes that a profile can have in it: their numbers, and what they are of no byte
+# each version with the hashes that a profile can have in it: their numbers, and the hash of no byte
 HASHES = [(1, 1, hashlib.md5().digest()), (2, 0, b""), (2, 1, hashlib.md5().digest()), (2, 2, hashlib.sha256().digest())]
 
 
 class Repeats(unittest.TestCase):
-    """What is made once and used again, as the database's statements and its rows to work with, has its size after a
-    thousand: no byte more is held after a hundred thousand, and each request asks for as much as the one before."""
+    """The database's statements and working rows have their final sizes after a thousand requests. After a hundred
+    thousand no byte more is held, and each request allocates as much as the one before."""
 
     def after(self, rows, count):
-        """The counts after the session and then so many times these requests."""
+        """Returns the counts after the session and then these requests, this many times."""
         written, counts = counted(requests_of(KEPT) + requests_of(rows) * count)
         self.assertTrue(written == replies_of(KEPT) + replies_of(rows) * count)
         return counts
@@ -55,14 +38,14 @@ class Repeats(unittest.TestCase):
     def test_repeats_in_turn_leave_nothing(self):
         self.leave_nothing(KEPT, FEW // 10, MANY // 10)
 
-    def test_nothing_is_left_of_what_is_not_kept(self):
+    def test_no_query_or_refusal_leaves_anything(self):
         kept_in_version_1 = rows_in_version(2, [(folder(2, b"in"), refusal(2, 2))])
         for row in NOT_KEPT + kept_in_version_1:
             self.leave_nothing([row], many=MANY // 10)
 
 
-# An entry of a table or of an index is a node of its tree and a row, which the trees before and after a change share. Each
-# is a block, and the row's bytes are one more: a record of SQLite's.
+# An entry of a table or of an index has a node of its tree, and a row that the trees before and after a change share.
+# Each is an allocation, and so are the row's bytes, a record of SQLite.
 ENTRY = 64 + 40
 PROFILE = 1
 AT_THE_TOP = 0
@@ -70,68 +53,68 @@ FINISHED_STATE = 2
 
 
 def width(number):
-    """How many bytes a record has of an integer beside its type, which tells 0 and 1 by itself. A NULL has as many as 0."""
+    """Counts the bytes that a record has of an integer beside its type, which is enough for 0, 1 and NULL."""
     if number in (0, 1):
         return 0
     return next(size for size in (1, 2, 3, 4, 6, 8) if -(1 << 8 * size - 1) <= number < 1 << 8 * size - 1)
 
 
 def entry(numbers, lengths=()):
-    """What is kept of a row of these integers, and of texts and bytes so long, 57 at most: a byte for the length of its
-    types, a type of each value, and the values."""
+    """Counts the bytes of a row of these integers, and of texts and blobs of these lengths, 57 at most: a byte for
+    the length of its types, a type for each value, and the values."""
     return ENTRY + 1 + len(numbers) + sum(map(width, numbers)) + len(lengths) + sum(lengths)
 
 
 def reply_row(place, number, kind, body, version=1):
-    """What the database keeps of the reply in this place, with a body of so many bytes: a row with its rowid and a NULL
-    in the place of its key, its mark of 16 bytes and its body, and an entry in the index by client and number."""
-    return entry((place, 0, CLIENT, number, version, kind), (16, body)) + entry((CLIENT, number, place))
+    """Counts the bytes of the reply in this place, with a body of this length: a row with its rowid, a NULL in the
+    place of its key, its mark of 16 bytes and its body, and an entry in the index by client and number."""
+    return entry((place, 0, 1, number, version, kind), (16, body)) + entry((1, number, place))
 
 
 def file_row(rowid, node, state, piece_size, name, digest):
-    """The same of a file of no byte at the top with a name and a digest of so many bytes and no format: a row with its
-    rowid, and an entry in the index by number and in that by name."""
+    """Counts the bytes of an empty file at the top without formats, with a name and a digest of these lengths: a
+    row with its rowid, and an entry in the index by number and in that by name."""
     numbers = (rowid, PROFILE, node, AT_THE_TOP, 0, state, 0, piece_size, 0, 0)
     row = entry(numbers, (name, name + 1, 0, digest))
     return row + entry((PROFILE, node, rowid)) + entry((PROFILE, AT_THE_TOP, rowid), (name,))
 
 
 def sent(order):
-    """A file of pieces of one byte, and these of its pieces, in this order."""
+    """Returns the frames of a file of pieces of one byte, and of these of its pieces, in this order."""
     pieces = (piece(3 + place, 1, index, b"\7") for place, index in enumerate(order))
     return create(1) + file(2, b"n", PIECES, 1) + b"".join(pieces)
 
 
 def answered(count):
-    """The replies to that, where so many pieces are taken."""
+    """Returns the replies to that, where this many pieces are taken."""
     return reply(MADE, 1, 1) + reply(NODE, 2, 1) + b"".join(reply(TAKEN, 3 + place, 1 + place) for place in range(count))
 
 
 class Pieces(unittest.TestCase):
-    """Of a piece that isn't needed further the reply alone is kept: 255 bytes a piece at most. Not a byte more may be held,
-    so one more number of eight bytes for each is seen, in whatever list."""
+    """Of a piece that was hashed only the reply is kept, at most 255 bytes. Not a byte more may be held: a list
+    with one number of eight bytes for each piece would be seen."""
 
     def held_after(self, order):
         written, counts = counted(sent(order))
         self.assertTrue(written == answered(len(order)))
         return counts.held
 
-    def test_what_is_held_grows_by_the_replies_alone(self):
+    def test_memory_grows_by_the_replies_alone(self):
         few = self.held_after(range(FEW))
         for count in (10_000, 50_000, MANY):
             with self.subTest(count=count):
                 replies = sum(reply_row(number, number, TAKEN, 4) for number in range(3 + FEW, 3 + count))
                 self.assertEqual(self.held_after(range(count)) - few, replies)
 
-    def test_so_it_does_where_each_waits_for_the_next(self):
-        """Pieces of which fifteen wait at a time, the first of sixteen coming last."""
+    def test_the_same_where_pieces_wait(self):
+        """The first of each sixteen pieces comes last, so that fifteen wait."""
         count = 10_000
         backwards = [start + 15 - place for start in range(0, count, 16) for place in range(16)]
         self.assertEqual(self.held_after(backwards), self.held_after(range(count)))
 
 
 def abandoned(node):
-    """A file of one piece that comes and goes."""
+    """Returns rows of a file of one piece that is added and abandoned."""
     number = 3 * node
     return [
         (file(number, b"%08d" % node, 1, 1), reply(NODE, number, node)),
@@ -141,20 +124,20 @@ def abandoned(node):
 
 
 def found(version, hash, digest):
-    """The body of a reply that tells of nothing but this hash."""
+    """Returns the body of Finished with this hash and without formats."""
     return b"\0\0" + (bytes([hash]) if version == 2 else b"") + digest + b"\0\0"
 
 
-def finished(node, version, told):
-    """A file of no byte, of which this is told."""
+def finished(node, version, body):
+    """Returns rows of an empty file that is added and finished, with this body of Finished."""
     number = 2 * node
     added = file(number, b"%08d" % node, 0, 1), reply(NODE, number, node)
-    ended = in_version(version, finish(number + 1, node)), frame(FINISHED, CLIENT, number + 1, told, version)
+    ended = in_version(version, finish(number + 1, node)), frame(FINISHED, 1, number + 1, body, version)
     return [*rows_in_version(version, [added]), ended]
 
 
 class Files(unittest.TestCase):
-    """Of a file that is no longer unfinished its rows alone are kept, and the replies."""
+    """Of a finished or abandoned file only its rows and the replies are kept."""
 
     COUNT = 10_000
 
@@ -167,7 +150,7 @@ class Files(unittest.TestCase):
         return counts.held
 
     def grow_by(self, rows_of, kept, *profile):
-        """Each file leaves as many bytes as `kept` tells of it."""
+        """Checks that each file leaves as many bytes as `kept` counts."""
         few, many = (self.held_after(rows_of, count, *profile) for count in (FEW, self.COUNT))
         self.assertEqual(many - few, sum(kept(node) for node in range(1 + FEW, 1 + self.COUNT)))
 
@@ -184,16 +167,16 @@ class Files(unittest.TestCase):
 
     def test_finished_files_leave_their_rows(self):
         for version, hash, digest in HASHES:
-            told = found(version, hash, digest)
+            body = found(version, hash, digest)
 
             def kept(node):
                 number = 2 * node
                 replies = reply_row(number, number, NODE, 4, version)
-                replies += reply_row(number + 1, number + 1, FINISHED, len(told), version)
+                replies += reply_row(number + 1, number + 1, FINISHED, len(body), version)
                 return replies + file_row(node, node, FINISHED_STATE, 1, 8, len(digest))
 
             with self.subTest(version=version, hash=hash):
-                self.grow_by(lambda node: finished(node, version, told), kept, version, hash)
+                self.grow_by(lambda node: finished(node, version, body), kept, version, hash)
 
 
 if __name__ == "__main__":

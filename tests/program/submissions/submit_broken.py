@@ -1,18 +1,19 @@
-"""The connection is cut at random bytes, by a fixed seed, 200 times in all, and every submission comes to its end."""
-from submissions import Proxy, Service, WithTree, cuts_by, submit
-from trees import walk
+"""A proxy cuts the connection at random bytes, by a fixed seed, 200 times in all. Every submission is completed."""
+from lib.program import Serve
+from lib.submissions import Proxy, WithTree, cuts_by, submit
+from lib.trees import walk
 
 CUTS = 200
 # a piece and its reply have some 600 bytes
 MOST_FOR_PIECES = 3_000
-# the export has some 6,000 bytes, which come in one reply
+# the export has some 6,000 bytes, in one reply
 MOST_FOR_AN_EXPORT = 30_000
 
 
-class Cut(WithTree):
+class Broken(WithTree):
     def test_cut_at_random_bytes(self):
         rows, _ = walk(self.top)
-        with Service() as service:
+        with Serve.lasting() as service:
             cut = 0
             client = 0
             while cut < CUTS:

@@ -1,15 +1,14 @@
-"""The command line of `profile`, its faults, and the registry that is in the program."""
+"""The command line of `profile`, its faults, and the registry in the program."""
 import os
 import subprocess
 import sys
 import unittest
 
-from trees import InFolder, lines, profile
+from lib.program import TOP
+from lib.trees import OWN_REGISTRY, InFolder, lines, profile
 
-TOP = os.path.dirname(os.path.dirname(os.path.dirname(os.path.dirname(os.path.abspath(__file__)))))
 
-
-class Words(InFolder):
+class Arguments(InFolder):
     def test_wrong(self):
         for words in ([], [self.top, self.top], [self.top, "--limit", "0"], [self.top, "--limit", "65537"], [self.top, "--hash", "sha1"], [self.top, "--output"]):
             status, out, err = profile(*words)
@@ -18,8 +17,8 @@ class Words(InFolder):
 
     def test_no_folder(self):
         self.file(b"/a.txt", b"a")
-        for place in (self.work + b"/none", self.top + b"/a.txt", b""):
-            status, out, err = profile(place)
+        for folder in (self.work + b"/none", self.top + b"/a.txt", b""):
+            status, out, err = profile(folder)
             self.assertEqual((status, out, lines(err, b"fault: ")), (4, b"", [b"Folder"]))
 
     def test_registry_first(self):
@@ -35,14 +34,14 @@ class Words(InFolder):
         self.file(b"/a.txt", b"a")
         status, out, err = profile(self.top, "--quiet")
         self.assertEqual(status, 0)
-        self.assertEqual(err.splitlines(), [b"registry: the program's own, of everyday formats"])
+        self.assertEqual(err.splitlines(), [OWN_REGISTRY])
         os.symlink(b"nowhere", self.top + b"/link")
         status, out, err = profile(self.top, "--quiet")
         self.assertEqual(status, 5)
         self.assertEqual(len(err.splitlines()), 3)
 
     def test_registry_in_the_program(self):
-        # the sources have it as it is in registries/
+        # the program's sources have the registry as it stands in registries/
         subprocess.run([sys.executable, os.path.join(TOP, "tools", "embed.py"), "--check"], check=True)
 
 

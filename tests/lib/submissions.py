@@ -1,4 +1,4 @@
-"""A service that answers on a port until it is stopped, a proxy before it that cuts connections, and runs of `submit`."""
+"""Runs of `submit`, a folder to submit, and a proxy that cuts connections."""
 import os
 import random
 import select
@@ -6,42 +6,28 @@ import socket
 import subprocess
 import threading
 
-from harness import HOST, SECONDS, free_port, listen
-from trees import PROGRAM, InFolder
+from lib.connections import HOST, SECONDS, listen
+from lib.program import PROGRAM
+from lib.trees import InFolder
 
 PIECE = 512
 
 
-def submit(folder, port, client, *words, piece=PIECE, quiet=True):
+def submit(folder, port, client, *words, piece=PIECE, quiet=True, **more):
     """Runs `submit`: its status and its standard error."""
-    told = ["--quiet"] if quiet else []
+    quietly = ["--quiet"] if quiet else []
     run = subprocess.run(
-        [PROGRAM, "submit", folder, "--port", str(port), "--client", str(client), "--piece-size", str(piece), *told, *words],
+        [PROGRAM, "submit", folder, "--port", str(port), "--client", str(client), "--piece-size", str(piece), *quietly, *words],
         capture_output=True,
         timeout=120,
+        **more,
     )
     return run.returncode, run.stderr
 
 
-class Service:
-    """`serve` for as many connections as it takes; it is ended at the end of a `with`."""
-
-    def __enter__(self):
-        self.port = free_port()
-        words = [PROGRAM, "serve", "--port", str(self.port), "--connections", "1000"]
-        self.process = subprocess.Popen(words, stdin=subprocess.DEVNULL, stdout=subprocess.PIPE)
-        assert self.process.stdout.readline().startswith(b"listening")
-        return self
-
-    def __exit__(self, *_):
-        self.process.kill()
-        self.process.wait()
-        self.process.stdout.close()
-
-
 class Proxy(threading.Thread):
-    """It hands on what comes on its port, and cuts each connection after so many bytes, both ways together: the next of
-    `cuts`, or never where it is None."""
+    """Passes connections to its port on to another port, and cuts each after a number of bytes, both ways together: the
+    next of `cuts`, or never where that is None."""
 
     def __init__(self, to, cuts):
         super().__init__(daemon=True)
@@ -50,7 +36,6 @@ class Proxy(threading.Thread):
         self.listener = listen()
         self.port = self.listener.getsockname()[1]
         self.count = 0
-        self.pieces = 0
         self.ended = False
 
     def __enter__(self):
@@ -66,16 +51,16 @@ class Proxy(threading.Thread):
         while not self.ended:
             if not select.select([self.listener], [], [], 0.1)[0]:
                 continue
-            desk, _ = self.listener.accept()
-            with desk, socket.create_connection((HOST, self.to), timeout=SECONDS) as service:
-                if self.hand_on(desk, service, next(self.cuts)):
+            client, _ = self.listener.accept()
+            with client, socket.create_connection((HOST, self.to), timeout=SECONDS) as service:
+                if self.hand_on(client, service, next(self.cuts)):
                     self.count += 1
 
-    def hand_on(self, desk, service, left):
-        """Hands on so many bytes, and tells whether the connection was cut then."""
+    def hand_on(self, client, service, left):
+        """Passes this many bytes on, and returns whether it cut the connection then."""
         while not self.ended:
-            ready = select.select([desk, service], [], [], 0.1)[0]
-            for one, other in ((desk, service), (service, desk)):
+            ready = select.select([client, service], [], [], 0.1)[0]
+            for one, other in ((client, service), (service, client)):
                 if one not in ready:
                     continue
                 try:
@@ -93,14 +78,14 @@ class Proxy(threading.Thread):
 
 
 def cuts_by(seed, most):
-    """Numbers of bytes after which connections are cut, by a seed."""
+    """Yields random numbers of bytes below `most`, by a seed."""
     numbers = random.Random(seed)
     while True:
         yield numbers.randrange(most)
 
 
 class WithTree(InFolder):
-    """A test with a tree of files of no byte, of one, of a piece, of one byte more, and of many pieces."""
+    """A test with files of no byte, of one, of a piece, of one byte more, and of many pieces."""
 
     def setUp(self):
         super().setUp()
@@ -117,5 +102,5 @@ class WithTree(InFolder):
             return file.read()
 
     def beside(self):
-        """What lies where the export is written, beside the tree and the export."""
+        """Lists what lies where the export is written, beside the tree and the export."""
         return sorted(set(os.listdir(self.work)) - {b"tree", b"export.csv"})
