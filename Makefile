@@ -1,59 +1,58 @@
 RT = rt
 PROGRAM = crates/droid_desk/out/droid_desk
 BENCH = crates/droid_desk_bench/out/droid_desk_bench
+# where `make install` puts the program, its manual page and its completions
+PREFIX = /usr/local
+DESTDIR =
 
-# so that Python leaves no files of its own in tools/ and tests/
+# Python then writes no files of its own into tools/ and tests/
 export PYTHONDONTWRITEBYTECODE = 1
 
-.PHONY: run build quick test wrong bench need_rt need_python
+.PHONY: run build quick test wrong bench install uninstall need_rt need_python
 
-# Builds the program and runs two short scripts on it: four requests, and a file in pieces with its export.
+# Builds the program, and runs two short scripts: four requests, and a file in pieces with its export.
 run: build
 	@$(PROGRAM) script < crates/droid_desk/stdin
 	@echo
 	@$(PROGRAM) script < examples/deposit.script
 
-# Proves and builds the program, which is then at $(PROGRAM). With nothing changed it stands.
+# Proves and builds the program as $(PROGRAM). If nothing has changed, it does nothing.
 build: need_rt need_python
 	@RT=$(RT) python3 tools/build.py droid_desk
 
-# Before a commit: the map fits the crates' files, those that changed are laid out and proved, and every wrong body
-# applies and compiles. BASE names the commit to compare with, the last one unless it is given.
+# Installs the built program below $(DESTDIR)$(PREFIX), with a manual page and completions for bash. It builds nothing, so
+# that it can run as root: run `make build` first.
+install: need_python
+	@test -x $(PROGRAM) || { echo "$(PROGRAM) is missing: run make build first" >&2; exit 1; }
+	@python3 tools/install.py $(PROGRAM) $(DESTDIR)$(PREFIX)
+
+# Removes these files again.
+uninstall: need_python
+	@python3 tools/install.py --remove $(DESTDIR)$(PREFIX)
+
+# Before a commit: checks that the map fits the crates' files, lays out and proves the crates that changed, and checks that
+# every wrong body applies and compiles. It compares with the last commit, or with BASE=commit.
 quick: need_rt need_python
 	@RT=$(RT) python3 tools/quick.py $(BASE)
 
-# The gate: every proof from nothing, the wrong bodies of must-fail/, tests, and then the built program. `rt ci` leaves
-# the program and the tests that it built in each crate's out/, and the last three lines run those.
+# The gate: proves everything from nothing, tries the wrong bodies of must-fail/, and runs all tests. `rt ci` leaves the
+# program and the built tests in each crate's out/, where the last three lines find them.
 test: need_rt
 	$(RT) ci
 	sh tests/program/run.sh $(CURDIR)/$(PROGRAM)
 	sh tests/registry/run.sh $(CURDIR)/$(PROGRAM)
-	sh tests/memory/run.sh
+	sh tests/memory/run.sh $(CURDIR)/$(PROGRAM)
 
-# The prover refuses every wrong body, those of wrong-bodies/ too. All are tried, or those of CRATES="a b", or with
-# BASE=commit those of the crates that changed since and of those above, many in one check.
+# Checks that the prover refuses every wrong body, those of wrong-bodies/ too. It tries all, or those of CRATES="a b", or
+# with BASE=commit those of the crates that changed since that commit and of the crates above them. One check tries many.
 wrong: need_rt need_python
 	@RT=$(RT) python3 tools/wrong.py $(if $(BASE),--base $(BASE)) $(CRATES)
 
-# What the costly calls cost: a large registry read, files identified by it, a large export, a folder in a large
-# store, files piece by piece, a service with its program, profiles of folders, and repeats; with the same in Python
-# beside it; and the dearest requests that a client can make.
+# Measures the dear calls: a large registry, identification, large exports, a large store, files in pieces, profiles and
+# submissions of folders, repeats, and the dearest requests of a client; with the same in Python beside it.
 bench: build
 	@RT=$(RT) python3 tools/build.py droid_desk_bench
-	@$(BENCH) times
-	@$(BENCH) assembly
-	@python3 tests/bench/growth.py $(BENCH)
-	@python3 tests/bench/compare_export.py $(BENCH)
-	@python3 tests/bench/compare_folders_export.py $(PROGRAM)
-	@DROID_DESK=$(CURDIR)/$(PROGRAM) PYTHONPATH=tests/program/wire python3 tests/bench/compare_filters.py
-	@python3 tests/bench/compare_store.py $(BENCH)
-	@python3 tests/bench/compare_run.py $(PROGRAM) $(BENCH)
-	@python3 tests/bench/compare_versions.py $(PROGRAM) $(BENCH)
-	@python3 tests/bench/compare_profile.py $(PROGRAM)
-	@python3 tests/bench/memory_of_run.py $(PROGRAM)
-	@python3 tests/bench/compare_submit.py $(PROGRAM)
-	@DROID_DESK=$(CURDIR)/$(PROGRAM) PYTHONPATH=tests/program/wire python3 tests/bench/registries.py
-	@DROID_DESK=$(CURDIR)/$(PROGRAM) PYTHONPATH=tests/program/wire python3 tests/bench/attacks.py
+	@DROID_DESK=$(CURDIR)/$(PROGRAM) DROID_DESK_BENCH=$(CURDIR)/$(BENCH) sh tests/bench/run.sh
 
 need_rt:
 	@command -v $(RT) > /dev/null 2>&1 || { \
@@ -61,4 +60,4 @@ need_rt:
 
 need_python:
 	@command -v python3 > /dev/null 2>&1 || { \
-	    echo "python3 is missing: what builds and tries the crates is written in Python" >&2; exit 1; }
+	    echo "python3 is missing: the tools that build and test the crates are written in Python" >&2; exit 1; }

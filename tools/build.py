@@ -1,9 +1,9 @@
 #!/usr/bin/env python3
-"""Proves and builds a program: build.py CRATE. It is then crates/CRATE/out/CRATE.
+"""Proves and builds a program as crates/CRATE/out/CRATE: build.py CRATE.
 
-Libraries are proved side by side, each as soon as those below it stand, and the program last. What stands is known
-by a sum over the sources and the toolchain, so with nothing changed this calls no `rt`. After an interrupt the next
-call goes on where this one was.
+It proves libraries side by side, each as soon as the libraries below it are built, and the program last. A checksum of
+the sources and the toolchain says what is up to date, so if nothing has changed, it calls no `rt`. After an interrupt
+the next call resumes the work.
 """
 import fcntl
 import os
@@ -20,19 +20,20 @@ from processes import Running
 from standing import RT, Sums, note, stands
 
 SECONDS = os.path.join(TOP, "tools", "seconds.txt")
-# what one crate in work may take of the memory, in bytes: most take a fifth of it
+# the memory in bytes that one crate in work may take: most take a fifth of it
 EACH = 4 << 30
-# a library whose chain is shorter than this part of the longest waits, so that there is work beside the chain's end
+# a library whose chain is shorter than this part of the longest waits, so that there is work left for the other
+# processors at the end of the longest
 NEAR_HALF = 0.5
-# a chain that is at least this part of the longest is treated as the longest
+# a chain of at least this part of the longest counts as the longest
 NEAR_ALL = 0.95
-# how nice to others what the longest chain waits for is, and how nice the rest
+# the niceness of a library for which the longest chain waits, and of the rest
 FIRST = os.getpriority(os.PRIO_PROCESS, 0)
 BEHIND = min(FIRST + 10, 19)
 
 
 def memory():
-    """The bytes that are free now."""
+    """Returns the free memory in bytes."""
     for line in read("/proc/meminfo").split("\n"):
         if line.startswith("MemAvailable:"):
             return int(line.split()[1]) << 10
@@ -40,8 +41,7 @@ def memory():
 
 
 def run_in(place, words, begun=lambda pid: None):
-    """Runs a command, and tells its process to `begun`; gives its status, what it said, and the seconds of a processor
-    that it used."""
+    """Runs a command, and calls `begun` with its process: its status, its output, and its seconds of a processor."""
     with subprocess.Popen(words, cwd=place, stdout=subprocess.PIPE, stderr=subprocess.STDOUT, text=True) as run:
         begun(run.pid)
         said = run.stdout.read()
@@ -55,7 +55,7 @@ def tree_of(crate):
 
 
 def move_kept(crate, one, other):
-    """Moves what `rt` kept of the crate from one tree to another."""
+    """Moves the files that `rt` kept of the crate from one tree to another."""
     here, there = os.path.join(folder(crate, one), "out"), os.path.join(folder(crate, other), "out")
     if os.path.isdir(here):
         shutil.rmtree(there, ignore_errors=True)
@@ -63,13 +63,13 @@ def move_kept(crate, one, other):
 
 
 def bring_back(crate):
-    """Ends the tree of the crate's own. What was proved in it stays, also after an interrupt."""
+    """Removes the crate's own tree, and keeps what was proved in it, also after an interrupt."""
     move_kept(crate, tree_of(crate), TOP)
     shutil.rmtree(tree_of(crate), ignore_errors=True)
 
 
 def prove_library(crate, jobs, begun):
-    """Proves and builds a library in a tree of its own; gives what `run_in` does."""
+    """Proves and builds a library in a tree of its own; returns the same as `run_in`."""
     crates.lay_out(tree_of(crate), crate)
     move_kept(crate, TOP, tree_of(crate))
     try:
@@ -79,23 +79,23 @@ def prove_library(crate, jobs, begun):
 
 
 def listed_seconds():
-    """The words of each line of the list of what libraries take."""
+    """Reads the words of each line of seconds.txt."""
     return [line.split() for line in read(SECONDS).split("\n") if line and not line.startswith("#")]
 
 
 def seconds_of(libraries):
-    """What each library takes about, of a processor's time."""
+    """Estimates the seconds of a processor that each library takes."""
     known = {name: int(seconds) for name, seconds, *_ in listed_seconds()}
     return {crate: known.get(crate, statistics.median(known.values())) for crate in libraries}
 
 
 def with_one_job():
-    """The libraries that more than one job makes no faster."""
+    """Returns the libraries that more than one job makes no faster."""
     return {name for name, _, *jobs in listed_seconds() if jobs == ["1"]}
 
 
 class Work:
-    """A library in work: when it was begun, the process that proves it, and its seconds of a processor so far."""
+    """A library in work: its start, the process that proves it, and its seconds of a processor so far."""
 
     def __init__(self):
         self.begun = time.time()
@@ -104,7 +104,7 @@ class Work:
 
 
 class Build:
-    """Libraries in work, and those that still wait."""
+    """The libraries in work, and those that wait."""
 
     def __init__(self, libraries, sums, cores):
         self.sums, self.cores = sums, cores
@@ -119,7 +119,7 @@ class Build:
         self.chains = self.chains_of(libraries)
 
     def chains_of(self, libraries):
-        """Of each library, how long the longest chain of libraries takes that begins with it and goes up."""
+        """Returns for each library the seconds of the longest chain of libraries that begins with it and goes up."""
         chains = {}
         for crate in reversed(crates.lowest_first(libraries)):
             above = [chains[it] for it in chains if crate in named()[it]]
@@ -127,7 +127,8 @@ class Build:
         return chains
 
     def ready(self):
-        """Those whose libraries below stand and that needn't wait for later, the longest chain first."""
+        """Returns the libraries that can begin: all below are built, and they need not wait. The longest chain
+        comes first."""
         unbuilt = {*self.waiting, *self.work}
         found = [it for it in self.waiting if not unbuilt.intersection(below(it))]
         longest = max([*map(self.left, found), *map(self.left, self.work)], default=0)
@@ -138,16 +139,16 @@ class Build:
         return not self.work or (len(self.work) < self.cores and memory() > EACH)
 
     def left(self, crate):
-        """How long the longest chain from this library up still takes."""
+        """Estimates the rest of the longest chain from this library up."""
         used = self.work[crate].used if crate in self.work else 0
         return self.chains[crate] - min(used, self.seconds[crate])
 
     def is_longest(self, crate):
-        """Whether the longest chain waits for this one, of those in work and itself, or one nearly as long."""
+        """Returns whether its chain is the longest, or nearly, of the libraries in work and itself."""
         return all(self.left(crate) >= NEAR_ALL * self.left(it) for it in self.work)
 
     def look_again(self):
-        """Puts what the longest chain waits for before the others in work."""
+        """Gives the libraries of the longest chain the processors first."""
         running = {crate: Running(work.pid) for crate, work in self.work.items() if work.pid}
         for crate in running:
             self.work[crate].used = max(self.work[crate].used, running[crate].seconds())
@@ -155,7 +156,8 @@ class Build:
             running[crate].be_nice(FIRST if self.is_longest(crate) else BEHIND)
 
     def jobs_for(self, crate, ready):
-        """A share of the processors: what the longest chain waits for shares them with its like alone."""
+        """Returns its share of the processors. A library of the longest chain shares them only with others of such
+        chains."""
         if crate in self.with_one_job:
             return 1
         others = [*self.work, *(it for it in ready if it != crate)]
@@ -163,12 +165,12 @@ class Build:
             others = [it for it in others if self.left(it) >= NEAR_ALL * self.left(crate)]
         return max(1, self.cores // (1 + len(others)))
 
-    def tell(self, what):
+    def report(self, what):
         print(f"  {time.time() - self.begun:4.0f} s: {what}", file=sys.stderr, flush=True)
 
-    def tell_work(self):
-        stand = self.all - len(self.waiting) - len(self.work)
-        self.tell(f"{stand} of {self.all} libraries stand; in work: {', '.join(self.work)}")
+    def report_work(self):
+        done = self.all - len(self.waiting) - len(self.work)
+        self.report(f"{done} of {self.all} libraries proved; in work: {', '.join(self.work)}")
 
     def began(self, crate, pid):
         with self.changed:
@@ -179,7 +181,7 @@ class Build:
         status, said, used = prove_library(crate, jobs, lambda pid: self.began(crate, pid))
         with self.changed:
             took = time.time() - self.work.pop(crate).begun
-            self.tell(f"{crate} took {took:.0f} s, and {used:.0f} s of a processor")
+            self.report(f"{crate} took {took:.0f} s, and {used:.0f} s of a processor")
             if status == 0:
                 note(crate, self.sums)
             else:
@@ -191,10 +193,10 @@ class Build:
         self.waiting.remove(crate)
         self.work[crate] = Work()
         threading.Thread(target=self.run, args=(crate, jobs)).start()
-        self.tell_work()
+        self.report_work()
 
     def all_built(self):
-        """Builds all; gives the first crate that failed with what was said, or None."""
+        """Builds all; returns the first crate that failed with its output, or None."""
         with self.changed:
             while (self.waiting and not self.failed) or self.work:
                 self.look_again()
@@ -207,7 +209,8 @@ class Build:
 
 
 def alone():
-    """Waits until no other build works in this checkout; what it gives keeps others out until it is closed."""
+    """Waits until no other build works in this checkout, and returns a lock that keeps others out until it is
+    closed."""
     os.makedirs(os.path.join(TOP, "out"), exist_ok=True)
     lock = open(os.path.join(TOP, "out", "build.lock"), "w")
     fcntl.flock(lock, fcntl.LOCK_EX)
@@ -215,12 +218,12 @@ def alone():
 
 
 def fail(crate, said):
-    print(f"{crate} is not proved and built:\n{said}", file=sys.stderr)
+    print(f"{crate} could not be proved or built:\n{said}", file=sys.stderr)
     return 1
 
 
 def build_program(program):
-    print(f"  the program {program} ..", file=sys.stderr, flush=True)
+    print(f"  proving and building the program {program} ..", file=sys.stderr, flush=True)
     begun = time.time()
     status, said, used = run_in(folder(program), [RT, "run", "--", "--help"])
     print(f"  {program} took {time.time() - begun:.0f} s, and {used:.0f} s of a processor", file=sys.stderr, flush=True)
@@ -228,11 +231,11 @@ def build_program(program):
 
 
 def prove(libraries, sums, what):
-    """Proves and builds libraries; gives the first that failed with what was said, or None."""
+    """Proves and builds libraries; returns the first that failed with its output, or None."""
     for crate in libraries:
         bring_back(crate)
     if not all(stands(it, sums) for it in libraries):
-        print(f"proving {what} and what it stands on: on a fresh machine half an hour or more, later less", file=sys.stderr)
+        print(f"proving {what} and the crates below it; the first time this takes half an hour or more", file=sys.stderr)
     return Build(libraries, sums, len(os.sched_getaffinity(0))).all_built()
 
 

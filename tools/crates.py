@@ -1,8 +1,8 @@
-"""What crates.txt says, and copies of the tree in which one crate is worked on beside others.
+"""The lines of crates.txt, and copies of the tree for work on several crates at once.
 
-`rt` keeps every other `rt` out of a crate's folder and of the folders below it. So what works on several crates at
-once gives each a copy of its own, of that crate and those below it. The files of a copy are hard links, but for
-those of the crate itself.
+`rt` locks a crate's folder and the folders of the crates below it against every other `rt`. So a tool that works
+on several crates at once gives each a copy of its own, with that crate and the crates below it. The files of a
+copy are hard links, except those of the crate itself.
 """
 import contextlib
 import functools
@@ -14,12 +14,12 @@ import tempfile
 
 TOP = os.path.dirname(os.path.dirname(os.path.abspath(__file__)))
 SOURCES = ["src", "specs", "proofs"]
-# where wrong bodies stand: those that the gate tries, and the others
+# the folders of wrong bodies: those that the gate tries, and the rest
 EDITS = ["must-fail", "wrong-bodies"]
 
 
 def listed_in(text):
-    """Each crate with all libraries that its line names, in the order of a text like crates.txt."""
+    """Reads a text like crates.txt: each crate with all libraries that its line names, in their order."""
     found = {}
     for line in text.split("\n"):
         name, colon, rest = line.split("#")[0].partition(":")
@@ -30,19 +30,19 @@ def listed_in(text):
 
 @functools.lru_cache(None)
 def listed():
-    """The same of crates.txt."""
+    """Reads crates.txt."""
     return listed_in(read(os.path.join(TOP, "crates.txt")))
 
 
 @functools.lru_cache(None)
 def named():
-    """Each crate with the ones of the repository that its line names, in the order of crates.txt."""
+    """Returns each crate with the crates of the repository that its line names, in the order of crates.txt."""
     return {name: [low for low in lows if low in listed()] for name, lows in listed().items()}
 
 
 @functools.lru_cache(None)
 def below(crate):
-    """The crates that it stands on, lowest first."""
+    """Returns the crates below a crate, lowest first."""
     found = []
     for low in named()[crate]:
         found += [it for it in [*below(low), low] if it not in found]
@@ -54,13 +54,13 @@ def lowest_first(crates):
 
 
 def with_below(crates):
-    """These and all that they stand on, lowest first."""
+    """Returns these crates and all below them, lowest first."""
     return lowest_first({*crates, *(low for crate in crates for low in below(crate))})
 
 
 @functools.lru_cache(None)
 def paths(crate):
-    """How many paths lead from it down. `rt` sums up the sources of a crate once for each, at every call."""
+    """Counts the paths from a crate down. At every call `rt` reads the sources of a crate once for each path to it."""
     return 1 + sum(paths(low) for low in named()[crate])
 
 
@@ -69,7 +69,7 @@ def folder(crate, tree=TOP):
 
 
 def files_of(crate):
-    """Its sources, by path."""
+    """Returns the paths of its sources."""
     found = []
     for part in SOURCES:
         for at, _, names in os.walk(os.path.join(folder(crate), part)):
@@ -78,7 +78,7 @@ def files_of(crate):
 
 
 def edits_of(crate, parts=EDITS):
-    """Its wrong bodies, by path."""
+    """Returns the paths of its wrong bodies."""
     found = []
     for part in parts:
         at = os.path.join(folder(crate), part)
@@ -88,14 +88,14 @@ def edits_of(crate, parts=EDITS):
 
 
 def git(*words):
-    """What git says at the top. Where it fails, it has said why."""
+    """Runs git at the top, and returns its output. If it fails, it has printed the cause, and this ends the program."""
     run = subprocess.run(["git", *words], cwd=TOP, stdout=subprocess.PIPE, text=True)
     return run.stdout if run.returncode == 0 else sys.exit(1)
 
 
 def changed(base, parts=None):
-    """The crates whose line differs from that of a commit, or a file of theirs (in one of these parts, if given), and
-    those with a file that git doesn't know yet."""
+    """Returns the crates that differ from a commit: by their line, by a file (in one of these folders, if given),
+    or by a file that git doesn't track yet."""
     before = listed_in(git("show", f"{base}:crates.txt"))
     found = {crate for crate in listed() if listed()[crate] != before.get(crate)}
     files = git("diff", "--name-only", "--no-renames", "-z", base, "--", "crates")
@@ -108,7 +108,7 @@ def changed(base, parts=None):
 
 
 def touched(base, parts=None):
-    """The crates that changed, and those above one whose sources changed, lowest first."""
+    """Returns the crates that changed, and those above a crate whose sources changed, lowest first."""
     own, low = changed(base, parts), changed(base, SOURCES)
     return [crate for crate in lowest_first(listed()) if crate in own or low.intersection(below(crate))]
 
@@ -126,7 +126,8 @@ def write(path, text):
 
 @contextlib.contextmanager
 def room(name):
-    """A folder below out/ for copies, which goes when it is left. (`rt ci` stops at a crates.txt that stays there.)"""
+    """Makes a folder below out/ for copies, and removes it at the end of the `with`. (`rt ci` stops at a
+    crates.txt there.)"""
     os.makedirs(os.path.join(TOP, "out"), exist_ok=True)
     at = tempfile.mkdtemp(prefix=f"{name}-", dir=os.path.join(TOP, "out"))
     try:
@@ -136,8 +137,8 @@ def room(name):
 
 
 def lay_out(tree, crate, linked=os.link):
-    """Lays out a tree of its own for a crate: its sources, and the sources and libraries of those below it. What
-    `rt` kept of the crate there stays."""
+    """Makes a tree for a crate: its sources, and the sources and libraries of the crates below it. The files that
+    `rt` kept of the crate there stay."""
     lines = read(os.path.join(TOP, "crates.txt")).split("\n")
     there = [*below(crate), crate]
     os.makedirs(tree, exist_ok=True)

@@ -1,11 +1,11 @@
-"""Wrong bodies, read from their files and made in the texts of a crate."""
+"""Wrong bodies: reads them from their files, and applies them to the texts of a crate."""
 import os
 
 from crates import TOP, read
 
 
 class Texts(dict):
-    """Texts of a crate's files, by path. What nobody put there is read from the crate's folder."""
+    """The texts of a crate's files, by path. A text that nobody set is read from the crate's folder."""
 
     def __init__(self, at, texts=()):
         super().__init__(texts)
@@ -17,7 +17,7 @@ class Texts(dict):
 
 
 class Edit:
-    """A wrong body: changes, each of a file, a text that stands there, and what takes its place."""
+    """A wrong body: changes, each with a file, an old text and a new text."""
 
     def __init__(self, path):
         self.name = os.path.relpath(path, TOP)
@@ -36,7 +36,7 @@ class Edit:
         return {file for file, _, _ in self.changes}
 
     def applied(self, texts):
-        """The texts with the edit made, or None where an old text doesn't stand in its file exactly once."""
+        """Returns the texts with the edit applied, or None if an old text doesn't occur in its file exactly once."""
         made = Texts(texts.at, texts)
         for file, old, new in self.changes:
             if made[file].count(old) != 1:
@@ -46,7 +46,7 @@ class Edit:
 
 
 def all_applied(edits, texts):
-    """The texts with all these made, each on top of the ones before it."""
+    """Returns the texts with all these applied, one after the other."""
     for edit in edits:
         texts = edit.applied(texts)
     return texts

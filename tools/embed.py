@@ -1,6 +1,6 @@
 #!/usr/bin/env python3
-"""Writes the registry of everyday formats into the program's sources: embed.py, or embed.py --check to see that it stands
-there as it is in registries/common.csv."""
+"""Writes registries/common.csv, the registry of everyday formats, into the program's sources: embed.py. With
+--check it only checks that the sources have it."""
 import os
 import sys
 

@@ -1,15 +1,15 @@
-"""Functions, where they stand in a source file as `rt fmt` lays it out, and what a check says of each."""
+"""The functions of a source file in the layout of `rt fmt`, and what a check reports of each."""
 import re
 
 HEADER = re.compile(r"( *)(?:pub(?:\([^)]*\))? )?(?:const |unsafe )*fn (\w+)")
 CLAUSE = re.compile(r" *(?:requires|ensures|ghost)\b")
-# of a proof that names what an edit took away, or that cites one that is refused
+# errors of a proof that uses a name that an edit removed, or a lemma that is refused
 OF_NAMES = re.compile(r"proofs/.*(has no field|is not in scope|has no `|was not admitted)")
 
 
 def body_of(lines, at):
-    """The lines of the body of the function whose header begins at this one: behind the brace that opens it, up to the one
-    that closes it. With clauses the brace has a line of its own."""
+    """Returns the lines of the body of the function whose header begins at this line, between its braces. After
+    clauses the opening brace has a line of its own."""
     indent, has_clauses = HEADER.match(lines[at])[1], False
     for line in range(at, len(lines)):
         has_clauses = has_clauses or bool(CLAUSE.match(lines[line]))
@@ -22,7 +22,7 @@ def body_of(lines, at):
 
 
 def block_of(lines, at):
-    """The header of the block in which the line stands, as `impl Display for Fault`, or "" at the top."""
+    """Returns the header of the block around a line, such as `impl Display for Fault`, or "" at the top."""
     indent = len(lines[at]) - len(lines[at].lstrip())
     for it in range(at, -1, -1):
         line = lines[it]
@@ -32,22 +32,22 @@ def block_of(lines, at):
 
 
 def function_of(text, place):
-    """Of the function in whose body this place of a text is the block and the name, or None where it is in none."""
+    """Returns the block and the name of the function whose body has this place of a text, or None."""
     lines, line = text.split("\n"), text.count("\n", 0, place)
     headers = [it for it in range(line, -1, -1) if HEADER.match(lines[it]) and line in body_of(lines, it)]
     return (block_of(lines, headers[0]), HEADER.match(lines[headers[0]])[2]) if headers else None
 
 
 def in_one_word(type, generics):
-    """A type or trait as a check writes it in the name of an impl: `&mut [u8]` is RefMutSliceU8."""
+    """Spells a type or trait as a check does in the name of an impl: `&mut [u8]` is RefMutSliceU8."""
     words = re.findall(r"&|\[|'\w+|\w+", type)
     signs = {"&": "Ref", "[": "Slice"}
     return "".join(signs.get(it, it[0].upper() + it[1:]) for it in words if it[0] != "'" and it not in generics)
 
 
 def names_of(crate, file, block, name):
-    """A pattern of the paths by which a check may call this function. A type's own functions it calls by the type's module,
-    and those of a trait by the type and the trait."""
+    """Returns a pattern of the paths by which a check may name this function: a type's own functions by the type's
+    module, and those of a trait by the type and the trait."""
     modules = re.sub(r"(^|/)(mod|lib|main)$", "", file[len("src/") : -len(".rt")]).replace("/", "::")
     header = re.match(r"impl(?:<(.*?)>)? (?:(.*) for )?(.*)", re.sub(r" where .*", "", block))
     if not header:
@@ -59,7 +59,7 @@ def names_of(crate, file, block, name):
 
 
 class Said:
-    """What a check said: of each function by its path the verdict, and the notes that came right before it."""
+    """The output of a check: for each function by its path the verdict, and the notes right before it."""
 
     def __init__(self, said):
         self.lines = said.split("\n")
@@ -71,12 +71,13 @@ class Said:
             notes = [] if at else [*notes, line]
 
     def errors_of(self, path):
-        """The errors in the files of the function's own proof."""
+        """Returns the errors in the files of the function's own proof."""
         at = "proofs/" + "/".join(path.split("::")[1:]) + "/"
         return [it for it in self.lines if re.match(r"(\./)?" + re.escape(at) + r"[^/]+:\d+:\d+: error", it)]
 
     def refused(self, path):
-        """Why the function is refused by itself, and not only since one that it calls is; None where that is not told."""
+        """Returns why the function itself is refused, or None if it is refused only because of one that it calls,
+        or not at all."""
         verdict, notes = self.functions[path]
         if verdict == "proved":
             return None

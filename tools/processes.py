@@ -1,5 +1,5 @@
-"""A running command with all that came of it, as /proc has them. (`rt` gives what it starts groups of their own, so a
-signal or a priority for the command's group would miss most of it.)"""
+"""A running command with all its descendants, from /proc. (`rt` starts processes in groups of their own, so a
+signal or a priority for the command's group would miss most of them.)"""
 import contextlib
 import os
 
@@ -9,7 +9,7 @@ TICKS = os.sysconf("SC_CLK_TCK")
 
 
 def fields():
-    """Of each process, what its stat file has from its third field on."""
+    """Reads for each process its stat file from the third field on."""
     found = {}
     for name in filter(str.isdigit, os.listdir("/proc")):
         with contextlib.suppress(OSError):
@@ -18,7 +18,7 @@ def fields():
 
 
 class Running:
-    """A command's process, and those that came of it."""
+    """A command's process and its descendants."""
 
     def __init__(self, pid):
         everywhere = fields()
@@ -29,11 +29,11 @@ class Running:
             more = {it for it in everywhere if int(everywhere[it][1]) in more}
 
     def seconds(self):
-        """The seconds of a processor that they used: each its own, and those of its children that have ended."""
+        """Returns the seconds of a processor that they used, with those of their ended children."""
         return sum(int(ticks) for it in self.processes.values() for ticks in it[11:15]) / TICKS
 
     def be_nice(self, niceness):
-        """Sets how nice they are to others. Where only root may make one less nice, it stays as it is."""
+        """Sets their niceness. Where that needs root, it stays as it is."""
         for pid in self.processes:
             with contextlib.suppress(OSError):
                 os.setpriority(os.PRIO_PROCESS, pid, niceness)

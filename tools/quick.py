@@ -1,12 +1,12 @@
 #!/usr/bin/env python3
-"""What a developer runs before a commit: `make quick`. It is no gate: `make test` is.
+"""Checks a change before a commit: `make quick`. The gate is `make test`.
 
-First the map is held to the crates' files (map.py). Then, of the crates that differ from BASE (the last commit, unless
-an argument names another), and of those that stand on them:
-- each crate that changed is tidied, which lays out its files and proves it, and each that stands on one is proved;
-- each wrong body still applies: its old texts stand once in their files;
-- the wrong bodies still compile. That is tried in a copy of the crate, with as many of its edits at once as do not
-  touch one another. That the prover refuses each is left to `make wrong`, and of some to the gate.
+It compares the map with the crates' files (map.py). Then, for the crates that differ from BASE (the last commit,
+unless an argument names another) and for the crates above them:
+- it tidies each crate that changed, which formats and proves it, and proves each crate above;
+- it checks that each wrong body still applies: its old texts occur once in their files;
+- it checks that the wrong bodies still compile, in a copy of the crate with as many edits at once as fit together. It
+  leaves it to `make wrong` and to the gate to check that the prover refuses them.
 """
 import itertools
 import os
@@ -21,13 +21,13 @@ from edits import Edit, Texts, all_applied
 
 
 def rt(crate_folder, *words):
-    """Runs rt there; gives whether it succeeded, and what it said."""
+    """Runs rt there; returns whether it succeeded, and its output."""
     run = subprocess.run([RT, *words], cwd=crate_folder, capture_output=True, text=True)
     return run.returncode == 0, run.stdout + run.stderr
 
 
 def compiles(at, edits):
-    """Whether the crate in this folder compiles with these edits made; its files are as before afterwards."""
+    """Returns whether the crate in this folder compiles with these edits, and the output. Its files are restored."""
     files = set().union(*[edit.files() for edit in edits])
     before, made = {file: read(os.path.join(at, file)) for file in files}, all_applied(edits, Texts(at))
     for file in files:
@@ -39,7 +39,7 @@ def compiles(at, edits):
 
 
 def batches_of(at, edits):
-    """The edits in batches, in each of which every edit applies on top of the ones before it."""
+    """Puts the edits into batches of edits that apply one after the other."""
     batches = []
     for edit in edits:
         for batch in batches:
@@ -54,7 +54,7 @@ def batches_of(at, edits):
 
 
 def edits_that_do_not_compile(at, edits):
-    """Tries a batch at once, and its edits one by one only where the batch doesn't compile."""
+    """Tries each batch at once, and its edits one by one if the batch doesn't compile."""
     for batch in batches_of(at, edits):
         if compiles(at, batch)[0]:
             continue
@@ -65,9 +65,9 @@ def edits_that_do_not_compile(at, edits):
 
 
 def unproved(touched, changed):
-    """Proves the crates that were touched, and tidies those of them that changed."""
+    """Tidies the crates that changed, and proves those above; yields the failures."""
     for crate in touched:
-        print(f"{crate}: {'tidied and ' if crate in changed else ''}proved ..", flush=True)
+        print(f"{crate}: {'tidying and ' if crate in changed else ''}proving ..", flush=True)
         works, said = rt(folder(crate), "tidy" if crate in changed else "check")
         if not works:
             yield f"{crate} is not proved:\n{said}"
@@ -77,13 +77,13 @@ def not_applied(crate, edits):
     names = [os.path.basename(edit.name) for edit in edits]
     for edit, name in zip(edits, names):
         if names.count(name) > 1:
-            yield f"{edit.name}: another wrong body of the crate has its name"
+            yield f"{edit.name}: another wrong body of the crate has the same name"
         if edit.applied(Texts(folder(crate))) is None:
-            yield f"{edit.name}: an old text doesn't stand exactly once in its file"
+            yield f"{edit.name}: an old text doesn't occur exactly once in its file"
 
 
 def not_compiled(crate, edits):
-    print(f"{crate}: its {len(edits)} wrong bodies compile ..", flush=True)
+    print(f"{crate}: compiling its {len(edits)} wrong bodies ..", flush=True)
     with crates.room("quick") as tree:
         crates.lay_out(tree, crate)
         for edit, said in edits_that_do_not_compile(folder(crate, tree), edits):
@@ -91,7 +91,7 @@ def not_compiled(crate, edits):
 
 
 def problems(touched, changed):
-    """What is found, step by step. Edits are compiled only where all was well before."""
+    """Yields the problems, step by step. Edits are compiled only if there was no problem before."""
     edits = {crate: [Edit(path) for path in edits_of(crate)] for crate in listed()}
     applying = [not_applied(crate, edits[crate]) for crate in edits]
     is_well = True
@@ -108,7 +108,7 @@ def main():
     for problem in problems(touched, crates.changed(base)):
         print(problem, flush=True)
         number += 1
-    print(f"{len(touched)} crates looked at, {number} problems")
+    print(f"{len(touched)} crates checked, {number} problems")
     return 1 if number else 0
 
 

@@ -1,4 +1,5 @@
-"""Which crates stand, proved and built, as their sources and the toolchain are now: told by sums, with no call of `rt`."""
+"""Says by checksums, without a call of `rt`, which crates are proved and built from their sources and toolchain as
+they are now."""
 import hashlib
 import os
 import shutil
@@ -10,14 +11,14 @@ RT = os.environ.get("RT", "rt")
 
 
 def toolchain():
-    """What tells one toolchain from another, read from its files."""
+    """Returns a text that identifies the toolchain, read from its files."""
     rt = os.path.realpath(shutil.which(RT) or RT)
     what = os.path.join(os.path.dirname(os.path.dirname(rt)), "WHAT")
     return read(what) if os.path.isfile(what) else f"{rt} {os.path.getmtime(rt)}"
 
 
 class Sums:
-    """A sum for each crate: of the toolchain, its own sources and its line, and the sums of those below it."""
+    """A checksum for each crate: of the toolchain, its sources, its line, and the checksums of the crates below it."""
 
     def __init__(self):
         self.toolchain = toolchain()
@@ -35,19 +36,20 @@ class Sums:
 
 
 def built_file(crate, is_program):
-    """The file that changes whenever the crate is built anew."""
+    """Returns the file that changes with every build of the crate."""
     out = os.path.join(folder(crate), "out")
     return os.path.join(out, crate) if is_program else os.path.join(out, "rlib", "stamp")
 
 
 def mark_of(crate, sums, is_program):
-    """What is kept of a build: the sum of what it was made from, and of what was made."""
+    """Returns the note of a build: the checksum of its sources, and of the built file."""
     with open(built_file(crate, is_program), "rb") as file:
         return f"{sums.of(crate)} {hashlib.sha256(file.read()).hexdigest()}\n"
 
 
 def note_of(crate):
-    """Where it is noted that the crate stands: not in its own out/, of which `rt ci` gives back a part alone."""
+    """Returns the path of the crate's note. It is outside of the crate's own out/, of which `rt ci` restores only
+    a part."""
     return os.path.join(TOP, "out", "stands", crate)
 
 

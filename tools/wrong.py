@@ -1,12 +1,12 @@
 #!/usr/bin/env python3
-"""Tries wrong bodies, those of must-fail/ and those of wrong-bodies/: `make wrong`. The prover has to refuse each.
+"""Tries wrong bodies, those of must-fail/ and of wrong-bodies/: `make wrong`. The prover has to refuse each.
 
-It tries those of all crates, or of the ones named; with a base, of the crates that changed since that commit and of
-those above one whose sources did. First these crates are proved, as `make build` does it. Then each is checked in copies
-with many of its wrong bodies at once, in each copy one for a function: a proof uses of another function its contract
-alone, and the check tells of each function whether it is refused by itself. What a check with others leaves open is
-tried alone. So are changes outside of functions. Each wrong body that no clause refuses is printed, and the status is 0
-where there is none.
+It tries those of all crates, or of the named ones; with a base, of the crates that changed since that commit and
+of the crates above. First it proves these crates, as `make build` does. Then it checks each in copies with many
+wrong bodies at once, at most one for each function: a proof uses only the contract of another function, and the
+check reports for each function whether it is refused by itself. It tries alone the wrong bodies that such a check
+leaves open, and changes outside of functions. It prints each wrong body that no clause refuses, and ends with
+status 0 if there is none.
 """
 import argparse
 import collections
@@ -26,21 +26,21 @@ from functions import OF_NAMES, Said, function_of, names_of
 from standing import RT, Sums
 
 REFUSED, BY_NAME, BY_LIMIT, MISSED, BAD = range(5)
-# how many are tried in one check: more would leave processors idle at the end
+# the most in one check: more would leave processors idle at the end
 MOST = 24
-# the prover's words for a limit of its own
+# the prover's messages about its own limits
 LIMITS = re.compile(r"antt ran out of|outgrew the memory limit|stopped at the step limit|could not tell")
 
 
 class Trial:
-    """Wrong bodies of one crate that are made in one copy of it. Of each: the patterns of its functions' names, by what
-    tells one function from another; or none, where it has to be tried alone."""
+    """Wrong bodies of one crate that are tried in one copy of it. Each has the patterns of its functions' names by
+    function, or none if it has to be tried alone."""
 
     def __init__(self, crate):
         self.crate, self.edits, self.texts = crate, {}, Texts(folder(crate))
 
     def takes(self, edit, places):
-        """Adds the edit where it can be made with those here, and says whether it could."""
+        """Adds the edit if it fits to the others, and returns whether it does."""
         others = [it for known in self.edits.values() for it in known or [None]]
         if self.edits and (len(self.edits) >= MOST or not places or None in others or set(places) & set(others)):
             return False
@@ -53,7 +53,7 @@ class Trial:
 
 
 def places_of(crate, edit):
-    """The functions that it changes, or none where it changes anything else."""
+    """Returns the functions that it changes, or none if it changes anything else."""
     texts, found = Texts(folder(crate)), {}
     for file, old, new in edit.changes:
         place = texts[file].find(old)
@@ -66,7 +66,7 @@ def places_of(crate, edit):
 
 
 def trials_with(crate, places):
-    """Trials of these wrong bodies, of which each is in one."""
+    """Distributes these wrong bodies over trials."""
     trials = []
     for edit, of in places.items():
         if not any(trial.takes(edit, of) for trial in trials):
@@ -80,24 +80,26 @@ def trials_of(crate):
 
 
 def parts_of(trial, left):
-    """What is left of a trial, each alone; or in halves, where nothing was told, as where one of them doesn't compile."""
+    """Yields trials of the wrong bodies that a trial left open: each alone, or two halves if it left all open, as
+    when one of them doesn't compile."""
     size = (len(left) + 1) // 2 if len(left) == len(trial.edits) else 1
     for at in range(0, len(left), size):
         yield from trials_with(trial.crate, {edit: trial.edits[edit] for edit in left[at : at + size]})
 
 
 def link_kept(one, other):
-    """Lays out what `rt` kept of a crate for a copy of it: a check replaces a proved module's file and changes none."""
+    """Copies a file that `rt` kept of a crate. A check replaces the file of a proved module and never changes it,
+    so that a link is enough."""
     is_proved = one.endswith(".oantt")
     return os.link(one, other) if is_proved else shutil.copy2(one, other)
 
 
 def checked(trial, tree):
-    """Checks the crate in a tree of its own with these wrong bodies; gives the status, and what was said."""
+    """Checks the crate in a tree of its own with these wrong bodies; returns the status and the output."""
     crate = trial.crate
     crates.lay_out(tree, crate)
     kept = os.path.join("out", "incremental")
-    # (a library that `rt` took from another checkout has none, and is checked from nothing)
+    # (a library that `rt` took from another checkout has no such folder, and is checked from nothing)
     if os.path.isdir(os.path.join(folder(crate), kept)):
         shutil.copytree(os.path.join(folder(crate), kept), os.path.join(folder(crate, tree), kept), copy_function=link_kept)
     for file, text in trial.texts.items():
@@ -109,11 +111,11 @@ def checked(trial, tree):
 
 
 def found_among_others(trial, said):
-    """What is told of each: that a function which it alone changes is refused by itself, and why. Nothing of the others."""
-    told, found = Said(said), {}
+    """Returns the wrong bodies of which a function that no other changes is refused by itself, with the cause."""
+    result, found = Said(said), {}
     for edit, places in trial.edits.items():
-        paths = [[it for it in told.functions if names.fullmatch(it)] for names in (places or {}).values()]
-        reasons = [told.refused(them[0]) for them in paths if len(them) == 1]
+        paths = [[it for it in result.functions if names.fullmatch(it)] for names in (places or {}).values()]
+        reasons = [result.refused(them[0]) for them in paths if len(them) == 1]
         reason = next(filter(None, reasons), None)
         if reason:
             found[edit] = REFUSED, reason
@@ -121,7 +123,7 @@ def found_among_others(trial, said):
 
 
 def found_alone(status, said):
-    """What the only wrong body of a trial came to, and what was said of it."""
+    """Returns the result of a trial with one wrong body, and the output about it."""
     lines = said.rstrip("\n").split("\n")
     errors = [it for it in lines if re.match(r"(note: )?\S+:\d+:\d+:", it) and (": error" in it or it.startswith("note: "))]
     by_clause = [it for it in errors if not OF_NAMES.search(it)]
@@ -132,24 +134,24 @@ def found_alone(status, said):
     if not any(it.startswith("logic=not-proved") for it in lines):
         return BAD, "NOT TRIED:\n    " + "\n    ".join(lines[:12])
     if errors and not by_clause:
-        return BY_NAME, f"refused only because a proof file names what it took away: {errors[0]}"
+        return BY_NAME, f"refused only because a proof file uses a name that it removed: {errors[0]}"
     return REFUSED, (by_clause or [""])[0]
 
 
 class Trials:
-    """Trials, as many at once as processors and memory allow, and what each wrong body came to."""
+    """Runs trials, as many at once as processors and memory allow, and collects the results."""
 
     def __init__(self, trials, room, most):
         self.room, self.most, self.begun = room, most, time.time()
         self.number, self.found, self.waiting = 0, {}, list(trials)
 
-    def tell(self, what):
+    def report(self, what):
         print(f"  {time.time() - self.begun:4.0f} s: {what}", file=sys.stderr, flush=True)
 
     def run(self, trial, number):
         edits = list(trial.edits)
         if edits[0].applied(Texts(folder(trial.crate))) is None:
-            return trial, {edits[0]: (BAD, "NOT TRIED: an old text doesn't stand in its file exactly once")}
+            return trial, {edits[0]: (BAD, "NOT TRIED: an old text doesn't occur in its file exactly once")}
         status, said = checked(trial, os.path.join(self.room, str(number)))
         found = found_among_others(trial, said)
         if len(edits) == 1 and not found:
@@ -157,10 +159,10 @@ class Trials:
         return trial, found
 
     def end(self, trial, found):
-        """Takes what was found, and has what is left tried again, in smaller parts."""
+        """Collects the results, and queues the rest again in smaller trials."""
         self.found.update(found)
         left = [edit for edit in trial.edits if edit not in found]
-        self.tell(f"{trial.crate}: {len(found)} of {len(trial.edits)} told" + f"; {len(left)} to be tried again" * bool(left))
+        self.report(f"{trial.crate}: {len(found)} of {len(trial.edits)} settled" + f"; {len(left)} to be tried again" * bool(left))
         self.waiting[:0] = parts_of(trial, left)
 
     def all_run(self):
@@ -176,7 +178,7 @@ class Trials:
         return self.found
 
 
-def wanted_crates():
+def chosen_crates():
     parser = argparse.ArgumentParser(description=__doc__, formatter_class=argparse.RawDescriptionHelpFormatter)
     parser.add_argument("--base", metavar="COMMIT")
     parser.add_argument("crates", metavar="CRATE", nargs="*")
@@ -188,13 +190,13 @@ def wanted_crates():
     return [crate for crate in found if edits_of(crate) and (not given.crates or crate in given.crates)]
 
 
-def tried(wanted):
-    """Proves the crates, and tries their wrong bodies; gives what each came to, by its name."""
-    failed = build.prove(crates.with_below(wanted), Sums(), "each crate")
+def tried(chosen):
+    """Proves the crates, and tries their wrong bodies; returns the result of each by its name."""
+    failed = build.prove(crates.with_below(chosen), Sums(), "each crate")
     if failed:
         sys.exit(build.fail(*failed))
-    trials = [trial for crate in wanted for trial in trials_of(crate)]
-    seconds = build.seconds_of(wanted)
+    trials = [trial for crate in chosen for trial in trials_of(crate)]
+    seconds = build.seconds_of(chosen)
     trials.sort(key=lambda trial: -len(trial.edits) * seconds[trial.crate])
     with crates.room("wrong") as room:
         found = Trials(trials, room, len(os.sched_getaffinity(0))).all_run()
@@ -204,10 +206,10 @@ def tried(wanted):
 def main():
     for it in (signal.SIGINT, signal.SIGTERM, signal.SIGHUP):
         signal.signal(it, lambda number, _: sys.exit(128 + number))
-    wanted, counts = wanted_crates(), collections.Counter()
+    chosen, counts = chosen_crates(), collections.Counter()
     with build.alone():
-        found = tried(wanted) if wanted else {}
-    for name in [os.path.relpath(path, TOP) for crate in wanted for path in edits_of(crate)]:
+        found = tried(chosen) if chosen else {}
+    for name in [os.path.relpath(path, TOP) for crate in chosen for path in edits_of(crate)]:
         kind, text = found.get(name, (BAD, "NOT TRIED"))
         counts[kind] += 1
         if kind != REFUSED:

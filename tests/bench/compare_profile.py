@@ -1,10 +1,11 @@
-"""Profiles two folders through the built program, and reads the same files by what there is without it.
+"""Profiles two folders through the program, and reads the same files by other tools.
 
-Usage: compare_profile.py PROGRAM: the built droid_desk. The first folder is made here by a fixed seed: 2,000 files of
-1,000,000,000 bytes together, the largest of 64 MiB, nested 12 deep. The second is /usr, or the largest folder in it that
-has no more folders and files than a profile may have. Prints, for each, the seconds of `profile` to a file, of two passes
-of MD5 over the same bytes, and of `file --mime-type` and then `md5sum` over the same list, with their ratios and what is
-wanted; and of the first how much memory its bytes take. The shortest of some rounds counts.
+Usage: compare_profile.py, with the program's path in DROID_DESK and tests/ on Python's path. The first folder is
+made here by a fixed seed: 2,000 files of 1,000,000,000 bytes together, the largest of 64 MiB, nested 12 deep. The
+second is /usr, or the largest folder in it that has no more folders and files than a profile may have. Prints, for
+each, the seconds of `profile` to a file, of two passes of MD5 over the same bytes, and of `file --mime-type` and
+then `md5sum` over the same list, with their ratios and limits; and for the first the memory that its bytes take.
+The shortest of some rounds counts.
 """
 import hashlib
 import os
@@ -15,23 +16,26 @@ import sys
 import tempfile
 import time
 
+from lib.frames import MOST_NODES
+from lib.processes import most_resident
+from lib.program import PROGRAM
+
 SEED = 32
 FILES = 2_000
 BYTES = 1_000_000_000
 LARGEST = 64 << 20
 DEPTH = 12
 FOLDERS = 120
-NODES = 100_000
 CHUNK = 1 << 20
 ROUNDS = 3
 
-# what is wanted: at most so often the time of two passes of MD5, at most this part of the time of `file` and `md5sum`, and
-# at most so much memory above that of the same tree with no bytes
-WANTED_PASSES = 1.25
-WANTED_TOOLS = 0.5
-WANTED_MEMORY = 64 << 20
+# the limits: times the two passes of MD5, times `file` and `md5sum`, and the memory above that of the same tree
+# without bytes
+LIMIT_PASSES = 1.25
+LIMIT_TOOLS = 0.5
+LIMIT_MEMORY = 64 << 20
 
-# an extension, and how a file of it begins
+# an extension, and the first bytes of its files
 KINDS = [
     (".png", b"\x89PNG\r\n\x1a\n\0\0\0\rIHDR"),
     (".jpg", b"\xff\xd8\xff\xe0\0\x10JFIF\0\1\1"),
@@ -45,7 +49,8 @@ KINDS = [
 
 
 def sizes(chance):
-    """How long the files are: as many of each order of magnitude, one empty and one of the largest size."""
+    """Returns the lengths of the files: as many of each order of magnitude, an empty one and one of the largest
+    size."""
     drawn = [2 ** chance.uniform(0, 23) for _ in range(FILES - 2)]
     part = (BYTES - LARGEST) / sum(drawn)
     rest = [int(size * part) for size in drawn]
@@ -54,7 +59,7 @@ def sizes(chance):
 
 
 def folders(chance):
-    """Paths of folders: a chain that is as deep as is wanted, and others below any of them."""
+    """Returns paths of folders: a chain of the full depth, and others below any of them."""
     paths = [""]
     for place in range(FOLDERS):
         fit = [path for path in paths if path.count("/") < DEPTH]
@@ -68,7 +73,7 @@ def content(place, front, size):
 
 
 def make(top, empty):
-    """The tree of the seed, with its bytes or with none."""
+    """Makes the tree of the seed, with its bytes or with empty files."""
     chance = random.Random(SEED)
     paths = folders(chance)
     for path in paths:
@@ -80,7 +85,7 @@ def make(top, empty):
 
 
 def files_below(top):
-    """The regular files below a folder, in the order of a profile or another, and how many folders and files there are."""
+    """Returns the regular files below a folder, and the number of folders and files."""
     found, nodes = [], 0
     for path, names, others in os.walk(top):
         names.sort()
@@ -94,27 +99,20 @@ def files_below(top):
 
 
 def of_the_machine():
-    """The folder of this machine that is profiled."""
+    """Returns the folder of this machine that is profiled."""
     below = sorted(entry.path for entry in os.scandir("/usr") if entry.is_dir(follow_symlinks=False))
     counted = [(files_below(path)[1], path) for path in ["/usr"] + below]
-    return max(pair for pair in counted if pair[0] <= NODES)[1]
+    return max(pair for pair in counted if pair[0] <= MOST_NODES)[1]
 
 
-def largest_memory(pid, before):
-    """The largest resident memory of a process so far, or what it was before where it has ended."""
-    with open(f"/proc/{pid}/status", encoding="ascii") as lines:
-        found = [line for line in lines if line.startswith("VmHWM:")]
-    return int(found[0].split()[1]) * 1024 if found else before
-
-
-def profiled(program, top, target):
-    """The seconds of a profile, and its largest resident memory, which is asked for fifty times a second."""
+def profiled(top, target):
+    """Returns the seconds of a profile, and its largest resident memory, which is read fifty times a second."""
     start = time.perf_counter()
     memory = 0
-    words = [program, "profile", top, "--output", target, "--quiet"]
+    words = [PROGRAM, "profile", top, "--output", target, "--quiet"]
     with subprocess.Popen(words, stderr=subprocess.DEVNULL) as run:
         while run.returncode is None:
-            memory = largest_memory(run.pid, memory)
+            memory = most_resident(run) or memory
             try:
                 run.wait(0.02)
             except subprocess.TimeoutExpired:
@@ -126,7 +124,7 @@ def profiled(program, top, target):
 
 
 def passes(files):
-    """The seconds of two passes of MD5 over the bytes of the files."""
+    """Returns the seconds of two passes of MD5 over the bytes of the files."""
     start = time.perf_counter()
     buffer = bytearray(CHUNK)
     view = memoryview(buffer)
@@ -140,7 +138,7 @@ def passes(files):
 
 
 def tools(files):
-    """The seconds of `file` and then `md5sum` over the files."""
+    """Returns the seconds of `file` and then `md5sum` over the files."""
     names = b"\0".join(map(os.fsencode, files))
     start = time.perf_counter()
     for words in (["file", "--mime-type", "--"], ["md5sum", "--"]):
@@ -148,8 +146,8 @@ def tools(files):
     return time.perf_counter() - start
 
 
-def compare(program, top, target):
-    """Prints the times over a folder; the largest resident memory of its profile."""
+def compare(top, target):
+    """Prints the times over a folder, and returns the largest resident memory of its profile."""
     files, nodes = files_below(top)
     total = sum(os.stat(file).st_size for file in files)
     for file in files:
@@ -158,18 +156,17 @@ def compare(program, top, target):
                 pass
     own, twice, others, memory = [], [], [], 0
     for _ in range(ROUNDS):
-        seconds, memory = profiled(program, top, target)
+        seconds, memory = profiled(top, target)
         own.append(seconds)
         twice.append(passes(files))
         others.append(tools(files))
     print(f"profile: {top}: {nodes} folders and files, {total} bytes: {min(own):.2f} seconds, {memory} bytes resident")
-    print(f"  two passes of MD5: {min(twice):.2f} seconds; ratio {min(own) / min(twice):.2f}, wanted at most {WANTED_PASSES}")
-    print(f"  file and md5sum: {min(others):.2f} seconds; ratio {min(own) / min(others):.2f}, wanted at most {WANTED_TOOLS}")
+    print(f"  two passes of MD5: {min(twice):.2f} seconds; ratio {min(own) / min(twice):.2f}, limit {LIMIT_PASSES}")
+    print(f"  file and md5sum: {min(others):.2f} seconds; ratio {min(own) / min(others):.2f}, limit {LIMIT_TOOLS}")
     return memory
 
 
 def main():
-    program = os.path.abspath(sys.argv[1])
     with tempfile.TemporaryDirectory() as work:
         target = work + "/profile.csv"
         trees = [work + "/made", work + "/empty"]
@@ -177,10 +174,10 @@ def main():
             os.mkdir(top)
             make(top, place == 1)
         os.sync()
-        memory = compare(program, trees[0], target)
-        above = memory - profiled(program, trees[1], target)[1]
-        print(f"  {above} bytes resident above those of the same tree with no bytes; wanted at most {WANTED_MEMORY}")
-        compare(program, of_the_machine(), target)
+        memory = compare(trees[0], target)
+        above = memory - profiled(trees[1], target)[1]
+        print(f"  {above} bytes resident above those of the same tree with no bytes; limit {LIMIT_MEMORY}")
+        compare(of_the_machine(), target)
 
 
 if __name__ == "__main__":

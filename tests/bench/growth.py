@@ -1,67 +1,90 @@
-"""Has a service answer frames in memory: whether the last of many commands take longer than the first, and what a repeat
-costs whose reply is at hand, or only in the store.
+"""Measures whether the last of many commands take longer than the first, and what a repeat costs whose reply is
+cached, or only in the store.
 
-Usage: growth.py BENCH: the built droid_desk_bench. Prints the microseconds of each, and what is wanted.
+Usage: growth.py, with the program's path in DROID_DESK and tests/ on Python's path. Prints the microseconds of a
+processor that `run` takes for each request, beside the limit.
 """
-import os
-import sys
-import tempfile
-
-from loads import create, file, folder, in_memory, piece, write
+from lib.frames import ADD_FILE, ADD_FOLDER, HEADER, MOST_NODES, MOST_PIECES, NODE, PIECE, TAKEN
+from lib.frames import file_body, folder_body, frame, piece_body
+from lib.connections import read_exactly
+from lib.processes import processor_milliseconds
+from measured_run import MeasuredRun
 
 FOLDERS, FEW_FOLDERS = 50_000, 1_000
-# as many pieces as a file can have, each of a byte
-PIECES, FEW_PIECES = 1 << 20, 1 << 16
-# the replies to so many of the last numbers are at hand; repeats go in turn over the last so many of all, and of 257 none
-# is at hand, since each comes again after the 256 others
-STORED, AT_HAND, SPREADS = 100_000, 256, [1, 256, 257, 100_000]
-REPEATS = 10_000
-# neither 256, 257 nor 100,000 has a factor with it in common, so all numbers come in turn
+# nearly the most pieces of a file, each of a byte
+PIECES, FEW_PIECES = MOST_PIECES, 1 << 16
+# the replies to the last 256 requests are cached. Repeats go in turn over the last 1, 256, 257 and 100,000 numbers;
+# of 257 none is cached, since each comes again after the 256 others.
+CACHED, SPREADS = 256, [1, 256, 257, MOST_NODES]
+# (`run` answers a million requests in all)
+REPEATS = 50_000
+# it has no factor in common with 256, 257 and 100,000, so all numbers come in turn
 STEP = 61_803
+BATCH = 1_000
 ROUNDS = 3
-# how long one at hand takes of one from the store, at most
-WANTED = 0.33
+# how long a cached repeat takes of one from the store, at most
+LIMIT = 0.33
 
 
-def first_and_last(bench, path, before, commands, few):
-    """The microseconds that each of the first few commands takes, of the last few and of all; others come before."""
-    write(path, [*before, *commands[:few]])
-    first = in_memory(bench, path, len(before))[1]
-    write(path, [*before, *commands])
-    others, last = in_memory(bench, path, len(before) + len(commands) - few)
-    return first / few * 1e6, last / few * 1e6, (others + last) / len(commands) * 1e6
+def folder_name(number):
+    return b"folder %d" % number
 
 
-def print_growth(what, first, last, each):
+def microseconds(service, requests):
+    """Sends requests in batches, each with a reply of four bytes or one, and returns the microseconds of each."""
+    before = processor_milliseconds(service.process)
+    for start in range(0, len(requests), BATCH):
+        batch = requests[start : start + BATCH]
+        service.near.sendall(b"".join(request for request, _ in batch))
+        read_exactly(service.near, sum(size for _, size in batch))
+    return (processor_milliseconds(service.process) - before) * 1_000 / len(requests)
+
+
+def measure_growth(what, service, kind, bodies, due, few):
+    """Prints the microseconds of the first few commands, of the last few and of all."""
+    before = processor_milliseconds(service.process)
+    service.ask_all(kind, bodies[:few], due)
+    first = processor_milliseconds(service.process)
+    service.ask_all(kind, bodies[few:-few], due)
+    middle = processor_milliseconds(service.process)
+    service.ask_all(kind, bodies[-few:], due)
+    last = processor_milliseconds(service.process)
+    each = (last - before) * 1_000 / len(bodies)
+    begins, ends = ((after - earlier) * 1_000 / few for earlier, after in ((before, first), (middle, last)))
     print(f"service: {what}, each in {each:.2f} microseconds")
-    print(f"  of the first each in {first:.2f}, of the last in {last:.2f}: {last / first:.2f} times as long")
+    print(f"  of the first each in {begins:.2f}, of the last in {ends:.2f}: {ends / begins:.2f} times as long", flush=True)
 
 
 def repeats(spread):
-    numbers = [STORED - spread + 1 + turn * STEP % spread for turn in range(REPEATS)]
-    return map(folder, numbers)
+    """Returns repeats that go in turn over the last numbers, with the lengths of their replies."""
+    places = [MOST_NODES - spread + turn * STEP % spread for turn in range(REPEATS)]
+    return [(frame(ADD_FOLDER, 1, 2 + place, folder_body(folder_name(place))), HEADER.size + 4) for place in places]
 
 
-def measure_repeats(bench, path):
-    at_hand, stored = [], []
-    for spread in SPREADS:
-        write(path, [create(), *map(folder, range(1, STORED + 1)), *repeats(spread)])
-        each = min(in_memory(bench, path, STORED + 1)[1] for _ in range(ROUNDS)) / REPEATS * 1e6
-        print(f"repeats: {REPEATS} spread over the last {spread} numbers of {STORED}, each in {each:.2f} microseconds", flush=True)
-        (stored if spread > AT_HAND else at_hand).append(each)
-    print(f"  one at hand takes {max(at_hand) / min(stored):.2f} of one from the store, wanted at most {WANTED}")
+def measure_repeats():
+    """A request of no kind is read and answered without the service: a repeat's cost is what it takes more."""
+    with MeasuredRun() as service:
+        service.ask_all(ADD_FOLDER, [folder_body(folder_name(place)) for place in range(MOST_NODES)], NODE)
+        unknown = frame(9, 1, 1, folder_body(folder_name(MOST_NODES)))
+        bare = min(microseconds(service, [(unknown, HEADER.size + 1)] * REPEATS) for _ in range(ROUNDS))
+        print(f"repeats: a request of no kind in {bare:.2f} microseconds")
+        cached, stored = [], []
+        for spread in SPREADS:
+            each = min(microseconds(service, repeats(spread)) for _ in range(ROUNDS)) - bare
+            print(f"repeats: {REPEATS} spread over the last {spread} numbers of {MOST_NODES}, each {each:.2f} microseconds more", flush=True)
+            (stored if spread > CACHED else cached).append(each)
+    print(f"  a cached one takes {max(cached) / min(stored):.2f} of one from the store, limit {LIMIT}", flush=True)
 
 
 def main():
-    (bench,) = sys.argv[1:]
-    with tempfile.TemporaryDirectory() as place:
-        path = os.path.join(place, "frames")
-        folders = [folder(number) for number in range(1, FOLDERS + 1)]
-        print_growth(f"{FOLDERS} folders of one profile", *first_and_last(bench, path, [create()], folders, FEW_FOLDERS))
-        pieces = [piece(2 + index, index, b"a") for index in range(PIECES)]
-        before = [create(), file(1, PIECES, 1)]
-        print_growth(f"{PIECES} pieces of a byte", *first_and_last(bench, path, before, pieces, FEW_PIECES))
-        measure_repeats(bench, path)
+    with MeasuredRun() as service:
+        bodies = [folder_body(folder_name(place)) for place in range(FOLDERS)]
+        measure_growth(f"{FOLDERS} folders of one profile", service, ADD_FOLDER, bodies, NODE, FEW_FOLDERS)
+    with MeasuredRun() as service:
+        service.ask(ADD_FILE, file_body(b"large.bin", PIECES, 1), NODE)
+        bodies = [piece_body(1, index, b"a") for index in range(PIECES - FEW_PIECES)]
+        measure_growth(f"{len(bodies)} pieces of a byte", service, PIECE, bodies, TAKEN, FEW_PIECES)
+    measure_repeats()
 
 
 main()

@@ -1,55 +1,48 @@
-"""Requests of one client as frames (docs/FORMATS.md), and how long they take: through the built program's `run`, from a file
-to a file, or answered in memory by droid_desk_bench."""
+"""Files of requests of one client (docs/FORMATS.md), and the time that the program's `run` takes for them, from a
+file to a file."""
 import os
-import re
-import struct
 import subprocess
 import sys
 import time
+from typing import NamedTuple
 
-HEADER = struct.Struct(">BBIQI")
-MD5 = 1
-
-
-def frame(kind, number, *parts, version=1):
-    return HEADER.pack(version, kind, 1, number, sum(map(len, parts))) + b"".join(parts)
+from lib.frames import HEADER, MD5, create, file, finish, folder, piece, status
+from lib.program import PROGRAM
 
 
-def create(number=0, version=1, hash=MD5):
-    """In version 1 its hash is MD5."""
-    named = bytes([hash]) if version == 2 else b""
-    return frame(1, number, struct.pack(">IB", 65_536, 0), named, version=version)
+class Took(NamedTuple):
+    """The seconds of a run by the clock, and those of a processor in the program and in the system."""
+
+    clock: float
+    user: float
+    system: float
+
+    def processor(self):
+        return self.user + self.system
 
 
-def folder(number):
-    """At the top of the first profile, with a name that no other number has."""
-    return frame(2, number, struct.pack(">IIq", 1, 0, number), b"folder %d" % number)
+def folders(numbers):
+    """Yields requests for folders at the top, each with a name of its own."""
+    return (folder(number, b"folder %d" % number, modified=number) for number in numbers)
 
 
-def file(number, size, piece, version=1):
-    return frame(3, number, struct.pack(">IIqQI", 1, 0, 0, size, piece), b"large.bin", version=version)
+def questions(numbers):
+    """Yields Status requests for node 1."""
+    return (status(number, 1) for number in numbers)
 
 
-def piece(number, index, content, version=1):
-    return frame(4, number, struct.pack(">III", 1, 1, index), content, version=version)
-
-
-def finish(number, version=1):
-    return frame(5, number, struct.pack(">II", 1, 1), version=version)
-
-
-def status(number):
-    return frame(7, number, struct.pack(">II", 1, 1))
+def large_file(number, size, piece_size, version=1):
+    return file(number, b"large.bin", size, piece_size, version=version)
 
 
 def whole_file(content, piece_size, version=1, hash=MD5):
-    """A profile and a file in pieces of one size, to its end."""
+    """Yields the requests of a profile and a file in pieces of one size, up to its Finish."""
     starts = range(0, len(content), piece_size)
-    yield create(0, version, hash)
-    yield file(1, len(content), piece_size, version)
+    yield create(0, version=version, hash=hash)
+    yield large_file(1, len(content), piece_size, version)
     for index, start in enumerate(starts):
-        yield piece(2 + index, index, content[start : start + piece_size], version)
-    yield finish(2 + len(starts), version)
+        yield piece(2 + index, 1, index, content[start : start + piece_size], version=version)
+    yield finish(2 + len(starts), 1, version=version)
 
 
 def write(path, frames):
@@ -58,7 +51,7 @@ def write(path, frames):
 
 
 def count(path):
-    """How many whole frames a file has."""
+    """Counts the frames of a file, which have to be whole."""
     frames = 0
     left = os.path.getsize(path)
     with open(path, "rb") as replies:
@@ -73,19 +66,14 @@ def count(path):
     return frames
 
 
-def through_program(program, source, target):
-    """The seconds that the program takes from a file to a file."""
+def through_program(source, target):
+    """Runs `run` from a file to a file."""
     with open(source, "rb") as frames, open(target, "wb") as replies:
         start = time.perf_counter()
-        subprocess.run([program, "run"], stdin=frames, stdout=replies, check=True)
-        return time.perf_counter() - start
-
-
-def in_memory(bench, source, first=0):
-    """The seconds that a service takes in memory for the first so many frames, and for the others. None is refused."""
-    with open(source, "rb") as frames:
-        run = subprocess.run([bench, "answer", str(first)], stdin=frames, stdout=subprocess.PIPE, check=True, text=True)
-    found = re.findall(r"answers: (\d+) frames in (\d+) nanoseconds, 0 refused\n", run.stdout)
-    if [int(number) for number, _ in found[:1]] != [first] or len(found) != 2:
-        sys.exit(f"the service answers otherwise: {run.stdout}")
-    return tuple(int(nanoseconds) / 1e9 for _, nanoseconds in found)
+        process = subprocess.Popen([PROGRAM, "run"], stdin=frames, stdout=replies)
+        _, ended, usage = os.wait4(process.pid, 0)
+        took = time.perf_counter() - start
+    process.returncode = os.waitstatus_to_exitcode(ended)
+    if process.returncode != 0:
+        sys.exit(f"run ended with status {process.returncode}")
+    return Took(took, usage.ru_utime, usage.ru_stime)

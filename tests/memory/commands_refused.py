@@ -1,28 +1,24 @@
-"""The program's `script` over its stored script, in both versions, and its `profile` of a folder, again and again, each
-time with another of their allocations refused.
-
-As many run at once as there are processors. The program's path is in DROID_DESK, that of the built refuse.c in REFUSING.
-"""
+"""Runs `script` over its stored script, in both versions, and `profile` of a folder again and again, and refuses
+another of their allocations each time. As many run at once as there are processors."""
 import os
 import subprocess
 import tempfile
 import unittest
 from concurrent.futures import ThreadPoolExecutor
 
-from trees import PROGRAM, InFolder
+from lib.program import PROGRAM, SAMPLE, TOP
+from lib.trees import InFolder
 
-TOP = os.path.join(os.path.dirname(os.path.abspath(__file__)), "..", "..")
 STORED = os.path.join(TOP, "crates", "droid_desk", "stdin")
-REGISTRY = os.path.join(TOP, "tests", "program", "sample_registry.csv")
 FAULT = b"fault: Memory\n"
-# how want of memory ends a command: 3 and 6 before it began, 4 within it, 0 where no more than a request was refused
+# the status without memory: 3 and 6 before the command began, 4 within it, 0 where only a request was refused
 STATUSES = {0, 3, 4, 6}
-# fewer allocations would say that they aren't seen
+# with fewer allocations, the library did not count them
 FEWEST = 20
 
 # the replies to the stored script's four requests, and those where one of the four is refused for memory
 REPLIES = b"made 1\nnode 1\nnode 1\nrefused 2\n"
-WANTING = [
+SHORT = [
     b"refused 18\nrefused 3\nrefused 3\nrefused 3\n",
     b"made 1\nrefused 18\nnode 1\nrefused 2\n",
     b"made 1\nnode 1\nrefused 18\nrefused 2\n",
@@ -31,7 +27,8 @@ WANTING = [
 
 
 def run(*words, given=b"", **variables):
-    """Runs a command, its allocations counted or one of them refused: its status, what it wrote, and what it said."""
+    """Runs a command, and counts its allocations or refuses one: its status, its standard output and its standard
+    error."""
     environment = {**os.environ, "LD_PRELOAD": os.environ["REFUSING"], **variables}
     done = subprocess.run([PROGRAM, *words], input=given, capture_output=True, timeout=60, env=environment)
     return done.returncode, done.stdout, done.stderr
@@ -39,16 +36,17 @@ def run(*words, given=b"", **variables):
 
 class Refused(InFolder):
     def each_in_turn(self, command, is_right):
-        """Runs a command with each of its allocations refused. Each run has to be right, and some end with each status."""
+        """Runs a command with each of its allocations refused. Each end has to be right, and each status has to
+        occur."""
         with tempfile.NamedTemporaryFile("r") as file:
             command(ALLOCATIONS=file.name)
             numbers = range(1, int(file.read()) + 1)
         self.assertGreaterEqual(len(numbers), FEWEST)
         with ThreadPoolExecutor(len(os.sched_getaffinity(0))) as pool:
             ended = list(pool.map(lambda number: command(REFUSE=str(number)), numbers))
-        wrong = [f"allocation {number} of {len(numbers)}: {told}" for number, told in zip(numbers, ended) if not is_right(*told)]
+        wrong = [f"allocation {number} of {len(numbers)}: {end}" for number, end in zip(numbers, ended) if not is_right(*end)]
         self.assertEqual(wrong, [], "\n".join(wrong))
-        self.assertEqual({told[0] for told in ended}, STATUSES)
+        self.assertEqual({end[0] for end in ended}, STATUSES)
 
     def each_of_a_script(self, script):
         self.each_in_turn(lambda **variables: run("script", given=script, **variables), script_is_right)
@@ -65,10 +63,10 @@ class Refused(InFolder):
         self.each_of_a_script(b"".join(b"v2 %s\n" % line for line in hashed))
 
     def profile(self, **variables):
-        """Profiles the folder: the status, what was written and said of a fault, and the files that are there, by name."""
+        """Profiles the folder: the status, the output with the fault, and the files that are there, by name."""
         with tempfile.TemporaryDirectory(dir=self.work) as made:
             path = os.path.join(made, b"profile.csv")
-            status, written, said = run("profile", self.top, "--registry", REGISTRY, "--output", path, **variables)
+            status, written, said = run("profile", self.top, "--registry", SAMPLE, "--output", path, **variables)
             faults = b"".join(line for line in said.splitlines(True) if line.startswith(b"fault: "))
             files = {}
             for name in os.listdir(made):
@@ -77,22 +75,22 @@ class Refused(InFolder):
         return status, written + faults, files
 
     def test_profile(self):
-        """Two folders and two files, of which one is named and one is not. The profile is there as it is with memory to
-        spare, or no file is, nor one that is unfinished."""
+        """Two folders, a file that is identified and one that isn't. The output file is complete, or there is no
+        file, not even an unfinished one."""
         self.folder(b"/outer/inner")
         self.file(b"/outer/first.msg", b"message of a file")
         self.file(b"/outer/inner/second", b"nothing that is known")
         whole = self.profile()
         self.assertEqual((whole[0], whole[1], [*whole[2]]), (0, b"", [b"profile.csv"]))
         self.assertTrue(whole[2][b"profile.csv"])
-        self.each_in_turn(self.profile, lambda *told: told == whole if told[0] == 0 else told[0] in STATUSES and told[1:] == (FAULT, {}))
+        self.each_in_turn(self.profile, lambda *end: end == whole if end[0] == 0 else end[0] in STATUSES and end[1:] == (FAULT, {}))
 
 
 def script_is_right(status, written, said):
-    """With status 0 all replies were written, at most one of them as refused, with what follows from that; with 4 the
-    first ones; else none."""
+    """With status 0 all replies are written, of which at most one is refused for memory; with 4 the first ones;
+    otherwise none."""
     if status == 0:
-        return not said and written in [REPLIES, *WANTING]
+        return not said and written in [REPLIES, *SHORT]
     return status in STATUSES and said == FAULT and (REPLIES.startswith(written) if status == 4 else not written)
 
 

@@ -1,69 +1,51 @@
-"""What one request makes `run` ask for and hold: its counts are those of a stream with it less those without. They are
-compared with the figures in the file `costs_of_requests`, exactly: the same stream has the same counts each time."""
+"""The allocations of one request: the counts of a stream with it less those of the stream without it. They have to
+be the figures of the file `costs_of_requests` exactly, since the same stream always has the same counts."""
 
 import os
 import struct
 import tempfile
 import unittest
 
-from asking import (
-    ABANDONED,
-    FINISHED,
-    LARGEST,
-    MADE,
-    NODE,
-    PART,
-    PROGRESS,
-    REFUSED,
-    TAKEN,
-    abandon,
-    counted,
-    create,
-    export,
-    file,
-    finish,
-    folder,
-    last_frame,
-    piece,
-    status,
-)
-from harness import LIMITS, in_version
-from session import ALL, KEPT, NOT_KEPT, requests_of
+from allocations import counted, last_frame
+from lib.frames import ABANDONED, FINISHED, LARGEST_FILE, LIMITS, MADE, NODE, PART, PROGRESS, REFUSED, TAKEN
+from lib.frames import abandon, create, export, file, finish, folder, in_version, piece, status
+from lib.session import ALL, KEPT, NOT_KEPT, requests_of
 
 TABLE = os.path.join(os.path.dirname(os.path.abspath(__file__)), "costs_of_requests")
 
-# The session, and its requests once more, which are repeats and queries: the database's rows to work with have their sizes
-# then.
+# The session, and its requests once more, which are repeats and queries. After that the database's working rows have
+# their final sizes.
 BEFORE = requests_of(ALL + KEPT + NOT_KEPT)
 
-# the first number, node and profile after that, and the number of what is measured
+# the first number, node and profile after that, and the number of the measured request
 NUMBER, NEXT_NODE, NEXT_PROFILE = 100, 8, 6
 LAST = 10_000
 
 LONG = b"n" * 255
 ESCAPED = b"%" * 255
+LARGEST = LIMITS[1].piece
 MIDDLE = b"m" * LARGEST
-MEBIBYTES = file(NUMBER, b"f", 1 << 40, LARGEST)
+MEBIBYTES = file(NUMBER, b"f", LARGEST_FILE, LARGEST)
 LARGEST_OF_2 = LIMITS[2].piece
-LARGE_PIECES = in_version(2, file(NUMBER, b"f", 1 << 40, LARGEST_OF_2))
+LARGE_PIECES = in_version(2, file(NUMBER, b"f", LARGEST_FILE, LARGEST_OF_2))
 LARGE_MIDDLE = b"m" * LARGEST_OF_2
 FORMATS = 4_096
 
 
 def whole_file(content, count, name=b"f"):
-    """A file of so many pieces of this content."""
+    """Returns the frames of a file with this many pieces of this content."""
     size = len(content)
     pieces = [piece(NUMBER + 1 + index, NEXT_NODE, index, content) for index in range(count)]
     return file(NUMBER, name, count * size, max(size, 1)) + b"".join(pieces)
 
 
 def waiting(count):
-    """A file with so many pieces that wait."""
+    """Returns the frames of a file with this many pieces that wait for the first one."""
     return MEBIBYTES + b"".join(piece(NUMBER + index, NEXT_NODE, index, MIDDLE) for index in range(1, 1 + count))
 
 
 def empty_file(hash):
-    """A profile of version 2 with the hash of this number, and in it a file of no piece."""
+    """Returns the frames of a profile of version 2 with this hash, and of an empty file in it."""
     return create(NUMBER, version=2, hash=hash) + file(NUMBER + 1, b"f", 0, 1, profile=NEXT_PROFILE)
 
 
@@ -72,7 +54,7 @@ def large_piece(number, index):
 
 
 def deep(depth):
-    """Folders, each in the one before, so that with one more the path has 256 bytes for each."""
+    """Returns the frames of folders, each in the one before. Each adds 256 bytes to the path."""
     nodes = [0] + [NEXT_NODE + place for place in range(depth)]
     return b"".join(folder(NUMBER + place, LONG, parent=nodes[place]) for place in range(depth))
 
@@ -82,15 +64,15 @@ def folders(count):
 
 
 def lists(count, texts, size):
-    """Criteria of extensions: so many lists of so many texts of this size."""
+    """Returns criteria of extensions: this many lists of this many texts of this size."""
     return (bytes([3, texts]) + (bytes([size]) + b"x" * size) * texts) * count
 
 
-# a filter of as many bytes as a frame takes, 1,048,624, and one of as many texts as there can be, with 1,040,912
+# a filter of as many bytes as a frame holds, 1,048,624, and one with the most texts, of 1,040,912
 WIDEST = bytes([0, 23]) + lists(16, 255, 255) + lists(1, 16, 255) + b"\7\1" * 6
 LONGEST = bytes([0, 255]) + lists(255, 255, 15)
 
-# what goes before the request, the request, and the kind of its reply
+# the requests before it, the request, and the kind of its reply
 CASES = {
     "create": (b"", create(LAST), MADE),
     "create_in_version_2": (b"", create(LAST, version=2, hash=2), MADE),
@@ -98,8 +80,8 @@ CASES = {
     "folder_of_255_bytes": (b"", folder(LAST, LONG), NODE),
     "folder_of_a_path_of_4096": (deep(15), folder(LAST, LONG, parent=NEXT_NODE + 14), NODE),
     "file_of_no_byte": (b"", file(LAST, b"n", 0, 1), NODE),
-    "file_of_2_to_the_40": (b"", file(LAST, b"n", 1 << 40, LARGEST), NODE),
-    "file_of_2_to_the_40_in_version_2": (b"", in_version(2, file(LAST, b"n", 1 << 40, LARGEST_OF_2)), NODE),
+    "file_of_2_to_the_40": (b"", file(LAST, b"n", LARGEST_FILE, LARGEST), NODE),
+    "file_of_2_to_the_40_in_version_2": (b"", in_version(2, file(LAST, b"n", LARGEST_FILE, LARGEST_OF_2)), NODE),
     "file_of_a_million_pieces": (b"", file(LAST, b"n", LARGEST, 1), NODE),
     "file_with_a_name_of_255": (b"", file(LAST, LONG, 0, 1), NODE),
     "piece_of_1": (file(NUMBER, b"f", 2, 1), piece(LAST, NEXT_NODE, 0, b"a"), TAKEN),
@@ -125,7 +107,7 @@ CASES = {
     "export_of_one_more_escaped": (folder(NUMBER, ESCAPED), export(LAST), PART),
     "export_by_the_widest_filter": (b"", export(LAST, criteria=WIDEST), PART),
     "export_by_the_longest_filter": (b"", export(LAST, criteria=LONGEST), PART),
-    "export_of_1300_folders_1": (folders(1_300), export(LAST, 1), PART),
+    "export_of_1300_folders_1": (folders(1_300), export(LAST, most=1), PART),
     "export_of_1300_folders_1048576": (folders(1_300), export(LAST), PART),
     "repeat_of_create": (b"", create(1), MADE),
     "repeat_of_folder": (folder(NUMBER, LONG), folder(NUMBER, LONG), NODE),
@@ -149,7 +131,7 @@ CASES = {
 
 
 def registry(place):
-    """A file of a registry with as many formats as there may be, each with the longest identifier, all of one extension."""
+    """Writes a registry with the most formats, each with the longest identifier, all of one extension."""
     path = os.path.join(place, "registry.csv")
     with open(path, "w", encoding="ascii") as records:
         for number in range(FORMATS):
@@ -158,7 +140,7 @@ def registry(place):
 
 
 def figures():
-    """The figures of the file: of each name, how many allocations, and of how many bytes."""
+    """Reads the figures of the file: for each name the number of allocations and their bytes."""
     with open(TABLE, encoding="ascii") as lines:
         rows = [line.split() for line in lines if line.strip() and not line.startswith("#")]
     return {name: tuple(map(int, numbers)) for name, *numbers in rows}
@@ -178,9 +160,9 @@ class CostsOfRequests(unittest.TestCase):
         with tempfile.TemporaryDirectory() as place:
             many_formats = ["--registry", registry(place)]
             found = {name: self.cost(name, many_formats if "4096_formats" in name else []) for name in CASES}
-        wanted = figures()
-        self.assertEqual(wanted.keys(), found.keys())
-        lines = ["%-34s %6d %9d" % (name, *found[name]) for name in found if found[name] != wanted[name]]
+        expected = figures()
+        self.assertEqual(expected.keys(), found.keys())
+        lines = ["%-34s %6d %9d" % (name, *found[name]) for name in found if found[name] != expected[name]]
         self.assertEqual(lines, [], "these were found:\n" + "\n".join(lines))
 
 

@@ -1,8 +1,8 @@
-"""Runs tests of the crates again and again, each time with another of their allocations refused. Such a test asks again where
-memory was refused, so it passes whichever allocation it was.
+"""Runs tests of the crates again and again, and refuses another of their allocations each time. Such a test asks again
+where memory was refused, so it passes whichever allocation it was.
 
-The tests are those that `rt ci` or `rt test` left in the crates' out/. As many run at once as there are processors. The path
-of the built refuse.c is in REFUSING.
+The tests are those that `rt ci` or `rt test` left in the crates' out/. As many run at once as there are processors. The
+variable REFUSING has the path of the built refuse.c.
 """
 import os
 import subprocess
@@ -11,7 +11,7 @@ import unittest
 from concurrent.futures import ThreadPoolExecutor
 
 CRATES = os.path.join(os.path.dirname(os.path.abspath(__file__)), "..", "..", "crates")
-# each crate with those of its tests that pass whichever allocation is refused
+# the tests of each crate that pass whichever allocation is refused
 TESTS = {
     "droid_core_tests": [
         "memory::one_after_the_other",
@@ -26,17 +26,17 @@ TESTS = {
     "droid_frame_tests": ["memory::each_growth_of_a_request", "memory::each_growth_of_a_reply"],
     "droid_frame_stream_tests": ["streams::growths_refused"],
     "droid_wire_client_tests": ["memory::wanting_and_again"],
-    "droid_desk_sender_tests": ["memory::each_growth_of_a_sending"],
+    "droid_lines_send_tests": ["memory::each_growth_of_a_sending"],
     "droid_wire_tests": ["memory::each_growth_of_serving"],
     "droid_export_tests": ["memory::each_growth_of_small_texts", "memory::each_growth_of_an_export"],
     "droid_store_tests": ["memory::each_growth_of_the_store"],
 }
-# fewer allocations would say that they aren't seen
+# with fewer allocations, the library did not count them
 FEWEST = 3
 
 
 def run(crate, test, **variables):
-    """Runs one test, and gives its status and what it said."""
+    """Runs one test: its status and its output."""
     program = os.path.join(CRATES, crate, "out", f"{crate}_tests")
     environment = {**os.environ, "LD_PRELOAD": os.environ["REFUSING"], **variables}
     done = subprocess.run([program, test], stdout=subprocess.PIPE, stderr=subprocess.STDOUT, env=environment)
@@ -44,7 +44,7 @@ def run(crate, test, **variables):
 
 
 def count(crate, test):
-    """How many allocations it makes with memory to spare."""
+    """Counts its allocations with memory to spare."""
     with tempfile.NamedTemporaryFile("r") as file:
         status, said = run(crate, test, ALLOCATIONS=file.name)
         if status:
@@ -66,8 +66,8 @@ class Growths(unittest.TestCase):
         self.assertEqual(failed, [], "\n".join(failed))
         print(f"{len(rows)} allocations refused", flush=True)
 
-    def test_an_assembly_takes_none_once_it_was_made(self):
-        """The test that makes every call asks for memory as often as the one that makes none."""
+    def test_an_assembly_allocates_only_when_it_is_made(self):
+        """The test that makes every call allocates as often as the one that makes none."""
         with_calls, without = (count("droid_assembly_tests", f"memory::{test}") for test in ("each_growth_refused", "growths_without_calls"))
         self.assertEqual(with_calls, without)
 

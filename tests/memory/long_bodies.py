@@ -1,12 +1,12 @@
-"""No memory is taken for a body whose length is past the limit: `run` asks for as much over such a header as over one that
-ends a byte before, whose length nobody knows. For the longest body that may come it asks for that."""
+"""`run` allocates nothing for a body that is longer than allowed: as much as for a header without its last byte.
+For the longest body that is allowed it allocates that length."""
 
 import unittest
 
-from asking import COUNTS_FILE, HEADER, MADE, Counts, create, reply, run_over
-from harness import LIMITS
+from allocations import COUNTS_FILE, Counts, run_over
+from lib.frames import HEADER, LIMITS, MADE, create, reply
 
-# what the fault's name may make of a difference
+# the difference that the fault's name may make
 ROOM = 64
 
 
@@ -15,7 +15,7 @@ def header(version, length):
 
 
 def asked_over(rest):
-    """The fault with which `run` ends over these bytes after a request, and what it asked for."""
+    """Runs `run` over a request and then these bytes: the fault, and the counts."""
     ended, written, said = run_over(create(1) + rest, COUNTS=COUNTS_FILE)
     assert (ended, written) == (4, reply(MADE, 1, 1)), (ended, written)
     with open(COUNTS_FILE, encoding="ascii") as counts:

@@ -1,15 +1,15 @@
-"""A file whose pieces come out of order, from its profile to its export, in a service that had no request before."""
+"""A file whose pieces come out of order, from its profile to its export, as the first requests of a service."""
 
 from typing import NamedTuple
 
-from asking import CLIENT, FINISHED, MADE, NODE, TAKEN, create, export, file, finish, frame, piece, reply, rows_in_version
-from harness import in_version
-from session import part
-from two_senders import HEADER
+from lib.frames import FINISHED, MADE, NODE, TAKEN
+from lib.frames import create, export, file, finish, frame, in_version, part, piece, reply
+from lib.rows import COLUMNS
+from lib.session import rows_in_version
 
 
 class Hash(NamedTuple):
-    """Its number, how its column is named, and the digest of `message digest`."""
+    """A hash: its number, its column's name, and its digest of `message digest`."""
 
     number: int
     column: bytes
@@ -17,7 +17,7 @@ class Hash(NamedTuple):
 
 
 NOTHING = Hash(0, b"HASH", "")
-# by the test suite of RFC 1321
+# from the test suite of RFC 1321
 MD5 = Hash(1, b"MD5_HASH", "f96b697d7cb7938d525a2f31aaf161d0")
 # by sha256sum
 SHA256 = Hash(2, b"SHA256_HASH", "f7846f55cf23e14eebeab5b4e1550cad5b509e3348fbc4efa3a1413d393cb650")
@@ -35,20 +35,20 @@ PIECES = [
 
 
 def text(of):
-    """The export with this hash."""
+    """Returns the export with this hash."""
     row = (
         '"1","","file:/m.msg","/m.msg","m.msg","Signature","Done","14","File","msg","1970-01-01T00:00:00","false",'
         f'"{of.digest}","2",'
     ).encode("ascii")
-    header = HEADER.replace(b"MD5_HASH", of.column)
+    header = COLUMNS.replace(b"MD5_HASH", of.column)
     return header + row + b'"dev/1","","Message","1"\n' + row + b'"dev/3","","Letters",""\n'
 
 
 def out_of_order(version, of):
-    """The requests in a version with their replies, in a profile with this hash."""
+    """Returns the requests in a version with their replies, in a profile with this hash."""
     kind = bytes([of.number]) if version == 2 else b""
     found = b"\1\0" + kind + bytes.fromhex(of.digest) + b"\0\2\5dev/1\5dev/3"
     made = create(1, version=version, hash=of.number), in_version(version, reply(MADE, 1, 1))
-    ended = in_version(version, finish(7, 1)), frame(FINISHED, CLIENT, 7, found, version)
+    ended = in_version(version, finish(7, 1)), frame(FINISHED, 1, 7, found, version)
     exported = export(8), part(8, 7, text(of))
     return [made, *rows_in_version(version, [ADDED, *PIECES]), ended, *rows_in_version(version, [exported])]

@@ -1,11 +1,10 @@
 /* Preloaded into a program, this counts its allocations and refuses some of them, by these environment variables:
- *   REFUSE        the one allocation of this number, counted from 1, is refused
- *   LIMIT         each allocation of more than so many bytes is refused
- *   ALLOCATIONS   a file; at the end it gets how many allocations were asked for
- *   COUNTS        a file; at the end it gets three numbers, as they were when standard input had ended, with all that
- *                 the program keeps still there: how many allocations were asked for, for how many bytes together, and
- *                 how many bytes were held, which were allocated and not freed
- * A block that is made larger or smaller is one more allocation, of its new size. */
+ *   REFUSE        refuses the allocation of this number, counted from 1
+ *   LIMIT         refuses each allocation of more bytes than this
+ *   ALLOCATIONS   a file: at the end it gets the number of allocations
+ *   COUNTS        a file: it gets three numbers, taken when standard input ended and before the program frees its memory:
+ *                 the number of allocations, their bytes, and the bytes that are allocated and not freed
+ * A reallocation counts as one more allocation, of its new size. */
 #define _GNU_SOURCE
 #include <dlfcn.h>
 #include <stddef.h>
@@ -14,7 +13,7 @@
 #include <stdlib.h>
 #include <unistd.h>
 
-/* Stands before each block that is given out here. A block of another call, as calloc, has the C library's own
+/* The header of each block that is allocated here. A block of another call, such as calloc, has the C library's own
  * numbers there, which are no MARK. */
 struct head {
     size_t size;

@@ -1,7 +1,7 @@
 #!/bin/sh
-# Runs the program and the model (model/main.py) on random scripts with fixed seeds, and compares what they write
-# byte for byte, and how they end: random.sh PROGRAM. In each script every reply and every refusal from 1 to 17
-# comes somewhere; in those of both versions, files with each hash and with none.
+# Runs the program and the model (model/main.py) on random scripts with fixed seeds, and compares their output byte for
+# byte, and their status: random.sh PROGRAM. Each script has every reply and every refusal from 1 to 17; the scripts of
+# both versions have files with each hash and with none.
 set -u
 program=$1
 tests=$(cd "$(dirname "$0")" && pwd)
@@ -9,7 +9,7 @@ model=$tests/model
 work=$(mktemp -d) || exit 1
 trap 'rm -rf "$work"' EXIT
 
-# the beginnings of lines that have to come in scripts of the first version, and in those of both
+# the beginnings of lines that have to occur in scripts of the first version, and in those of both
 cat >"$work/kinds.first" <<'END_OF_KINDS'
 made
 node
@@ -38,22 +38,22 @@ failed=0
 # SEED COUNT REGISTRY VERSIONS ORDER
 compare() {
     "$model/random_script.py" "$@" >"$work/in"
-    "$model/main.py" script --registry "$3" <"$work/in" >"$work/wanted"
-    wanted=$?
+    "$model/main.py" script --registry "$3" <"$work/in" >"$work/expected"
+    expected=$?
     "$program" script --registry "$3" <"$work/in" >"$work/out"
     status=$?
     problem=
     while read -r kind; do
-        grep -qaE "^$kind( |\$)" "$work/wanted" || problem="$problem no reply says $kind;"
+        grep -qaE "^$kind( |\$)" "$work/expected" || problem="$problem no reply says $kind;"
     done <"$work/kinds.$4"
-    [ "$status" = "$wanted" ] || problem="$problem ended with status $status;"
-    cmp -s "$work/wanted" "$work/out" || problem="$problem other replies;"
+    [ "$status" = "$expected" ] || problem="$problem ended with status $status;"
+    cmp -s "$work/expected" "$work/out" || problem="$problem other replies;"
     if [ -z "$problem" ]; then
         passed=$((passed + 1))
     else
         failed=$((failed + 1))
         echo "random script $*:$problem"
-        diff -a "$work/wanted" "$work/out" | head -n 10
+        diff -a "$work/expected" "$work/out" | head -n 10
     fi
 }
 

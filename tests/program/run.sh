@@ -1,16 +1,18 @@
 #!/bin/sh
 # Tests the built program, by its command line and its streams alone: run.sh [PROGRAM]
 #   cases.sh      cases, each with its input, its replies and its status
-#   example       what examples/ shows
+#   example       the script in examples/
 #   registry.sh   registry files, good and bad
 #   streams.sh    streams that are interrupted or fail
-#   endings.sh    no service before no input
+#   endings.sh    without memory for a service, that is reported before a fault of the input
 #   model.sh      a model in Python, on the same cases
 #   random.sh     the program and the model on random scripts
 #   sizes.sh      and on scripts that go past usual sizes
 #   wire/run.sh   frames on standard streams and on connections, in Python
 #   folders/run.sh   profiles of folders of this machine, in Python
-#   submitting/run.sh   folders submitted to a port, through connections that are cut, in Python
+#   submissions/run.sh   folders submitted to a port, through connections that are cut, in Python
+#   install.py    the manual page, the completions and what `make install` writes
+#   readme.sh     the commands of README.md, pasted into a shell
 set -u
 top=$(cd "$(dirname "$0")/../.." && pwd)
 tests=$top/tests/program
@@ -22,7 +24,7 @@ esac
 work=$(mktemp -d) || exit 1
 trap 'rm -rf "$work"' EXIT
 
-# Runs one part, and shows all that it says once it has ended, and whether it failed.
+# Runs one part, shows its output when it has ended, and notes whether it failed.
 part() {
     said=$(mktemp -p "$work")
     if "$@" >"$said" 2>&1; then
@@ -35,15 +37,16 @@ part() {
     echo "$ended" >>"$work/ended"
 }
 
-# the example's replies are the program's and the model's
+# compares the replies of the example with those of a program
 example() {
     "$2" script <"$1/deposit.script" | cmp - "$1/deposit.replies"
 }
 
-# what uses ports comes one after the other, so that no test takes another's; beside it all the rest
+# tests that use ports run one after the other, so that none takes another's port; the rest runs beside them
 {
     part sh "$tests/wire/run.sh" "$program"
-    part sh "$tests/submitting/run.sh" "$program"
+    part sh "$tests/submissions/run.sh" "$program"
+    part sh "$tests/readme.sh" "$program"
 } &
 part sh "$tests/cases.sh" "$program"
 part example "$top/examples" "$program"
@@ -55,6 +58,7 @@ part sh "$tests/model.sh"
 part sh "$tests/random.sh" "$program"
 part sh "$tests/sizes.sh" "$program"
 part sh "$tests/folders/run.sh" "$program"
+part python3 "$tests/install.py" "$program"
 # (0 unless it was ended)
 wait "$!" || echo failed >>"$work/ended"
 failed=$(grep -c failed "$work/ended")

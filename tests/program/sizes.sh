@@ -1,6 +1,6 @@
 #!/bin/sh
-# Runs the program and the model (model/main.py) on scripts that go past usual sizes, with memory for all of it, and
-# compares what they write byte for byte, and how they end: sizes.sh PROGRAM. So nothing is refused for memory.
+# Runs the program and the model (model/main.py) on scripts that go past usual sizes, and compares their output byte for
+# byte, and their status: sizes.sh PROGRAM. There is memory for all of it, so nothing is refused for memory.
 set -u
 program=$1
 tests=$(cd "$(dirname "$0")" && pwd)
@@ -10,28 +10,28 @@ trap 'rm -rf "$work"' EXIT
 
 passed=0
 failed=0
-# NAME REGISTRY LINE..: the lines have to come, so that the script goes as far as it has to
+# NAME REGISTRY LINE..: the lines have to occur, so that the script goes as far as it has to
 compare() {
     name=$1
     registry=$2
     shift 2
     "$model/large_script.py" "$name" >"$work/in"
-    "$model/main.py" script --registry "$registry" <"$work/in" >"$work/wanted"
-    wanted=$?
+    "$model/main.py" script --registry "$registry" <"$work/in" >"$work/expected"
+    expected=$?
     "$program" script --registry "$registry" <"$work/in" >"$work/out"
     status=$?
     problem=
     for line in "$@"; do
-        grep -qaE "^$line\$" "$work/wanted" || problem="$problem no reply says $line;"
+        grep -qaE "^$line\$" "$work/expected" || problem="$problem no reply says $line;"
     done
-    [ "$status" = "$wanted" ] || problem="$problem ended with status $status;"
-    cmp -s "$work/wanted" "$work/out" || problem="$problem other replies;"
+    [ "$status" = "$expected" ] || problem="$problem ended with status $status;"
+    cmp -s "$work/expected" "$work/out" || problem="$problem other replies;"
     if [ -z "$problem" ]; then
         passed=$((passed + 1))
     else
         failed=$((failed + 1))
         echo "script $name:$problem"
-        diff -a "$work/wanted" "$work/out" | cut -c1-200 | head -n 10
+        diff -a "$work/expected" "$work/out" | cut -c1-200 | head -n 10
     fi
 }
 

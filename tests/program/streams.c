@@ -2,11 +2,11 @@
  *   READ      its reads of standard input      RECEIVE   what its sockets receive
  *   WRITE     its writes to standard output    SEND      what they send
  * by environment variables, which begin with these words:
- *   READ_INTERRUPTIONS     so many calls are interrupted first
- *   READ_INTERRUPTED_AT    BYTES:CALLS,BYTES:CALLS.. with rising BYTES: after so many bytes so many calls are interrupted
- *   READ_ROOM              after so many bytes each call fails
- *   READ_FAILS_ONCE        after so many bytes one call fails, and the next goes on
- *   READ_WIDTH             a call takes at most so many bytes; a write of width 0 takes none */
+ *   READ_INTERRUPTIONS     interrupts this many calls first
+ *   READ_INTERRUPTED_AT    BYTES:CALLS,BYTES:CALLS.. with rising BYTES: after BYTES bytes interrupts CALLS calls
+ *   READ_ROOM              after this many bytes each call fails
+ *   READ_FAILS_ONCE        after this many bytes one call fails, and the next succeeds
+ *   READ_WIDTH             a call takes at most this many bytes; a write of width 0 takes none */
 #define _GNU_SOURCE
 #include <dlfcn.h>
 #include <errno.h>
@@ -17,10 +17,10 @@
 
 struct stream {
     const char *name;
-    int error;          /* with which a call fails */
+    int error;          /* the error of a failed call */
     long calls, done, failures;
-    const char *places; /* what is left of INTERRUPTED_AT, or NULL before it was looked at */
-    long place, left;   /* the next of them, or -1, and how many calls are interrupted there */
+    const char *places; /* the unread rest of INTERRUPTED_AT, or NULL before it is read */
+    long place, left;   /* the next place, or -1, and the number of its interruptions */
 };
 
 static struct stream input = {.name = "READ", .error = EIO}, output = {.name = "WRITE", .error = EPIPE};
@@ -68,12 +68,12 @@ static ssize_t least(ssize_t a, long b) {
     return b >= 0 && b < a ? b : a;
 }
 
-/* how many bytes at most, so that a call ends at this place, where it lies ahead */
+/* limits the bytes of a call so that it ends at this place, if it lies ahead */
 static ssize_t up_to(const struct stream *stream, long place, ssize_t size) {
     return stream->done < place ? least(size, place - stream->done) : size;
 }
 
-/* how many bytes the next call takes at the most, or -1 where it fails */
+/* returns the most bytes that the next call takes, or -1 if it fails */
 static ssize_t allowed(struct stream *stream, size_t size) {
     long room = number(stream, "ROOM", -1), fails_once = number(stream, "FAILS_ONCE", -1);
     ssize_t most = size;

@@ -1,4 +1,4 @@
-"""Archives and compressed files, by their specifications and as Python's library makes them."""
+"""Archives and compressed files, made by their specifications and by Python's library."""
 
 import bz2
 import gzip
@@ -44,7 +44,7 @@ def portable_cpio():
 
 
 def lz4_frame():
-    """A frame with one stored block and without checksums: the byte of its descriptor's checksum is not looked at."""
+    """A frame with one stored block and without checksums: the byte of its descriptor's checksum is not checked."""
     return le32(0x184D2204) + b"\x60\x40\x82" + le32(0x80000000 | len(TEXT)) + TEXT + le32(0)
 
 
@@ -72,7 +72,7 @@ def cabinet():
 
 
 def iso_9660():
-    """16 empty sectors, and a primary volume descriptor of which the identifiers alone are filled."""
+    """16 empty sectors, and a primary volume descriptor with nothing but its identifiers."""
     descriptor = b"\1CD001\1\0" + b"LINUX".ljust(32) + b"LETTERS".ljust(32)
     return bytes(16 * 2048) + descriptor.ljust(2048, b"\0") + (b"\xffCD001\1").ljust(2048, b"\0")
 

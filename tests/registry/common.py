@@ -1,7 +1,6 @@
-"""registries/common.csv as its records, and samples of its formats."""
+"""The records of registries/common.csv, and samples of its formats."""
 
 import csv
-import os
 
 import archives
 import documents
@@ -9,9 +8,9 @@ import pictures
 import programs_and_data
 import sound_and_film
 import texts
+from lib.program import EVERYDAY
 
-TOP = os.path.join(os.path.dirname(os.path.abspath(__file__)), "..", "..")
-with open(os.path.join(TOP, "registries", "common.csv"), "rb") as file:
+with open(EVERYDAY, "rb") as file:
     REGISTRY = file.read()
 
 SAMPLES = [
@@ -32,7 +31,8 @@ class Format:
 
 
 def read_formats():
-    """The formats by their identifiers, in their order. A signature is its byte sequences: anchor, least, most, pattern."""
+    """Returns the formats by their identifiers, in their order. A signature is a list of byte sequences: anchor,
+    least, most, pattern."""
     formats = {}
     for kind, puid, *rest in csv.reader(REGISTRY.decode("utf-8").splitlines()):
         if kind == "F":

@@ -16,7 +16,7 @@ ARCHIVE_LEVELS = {
 
 
 def pdf(version, metadata="", far=0):
-    """A document without pages; what is far from both its ends lies between `far` bytes of comments."""
+    """A document without pages. Its metadata lies between `far` bytes of comments, away from both ends."""
     gap = b"%" + b"-" * far + b"\n" if far else b""
     objects = b"1 0 obj\n<< /Type /Catalog /Pages 2 0 R >>\nendobj\n2 0 obj\n<< /Type /Pages /Count 0 /Kids [] >>\nendobj\n"
     stream = f"3 0 obj\n<< /Type /Metadata /Subtype /XML /Length {len(metadata)} >>\nstream\n{metadata}\nendstream\nendobj\n"
@@ -63,7 +63,7 @@ def package(*names, kind=ZIP_DEFLATED):
 
 
 def with_many(*names):
-    """The same, with so much between that the first and the last bytes have none of the entries' local headers."""
+    """The same, so long that the first and the last bytes have none of the entries' local headers."""
     file = BytesIO()
     with ZipFile(file, "w", ZIP_STORED) as archive:
         archive.writestr(ZipInfo("first"), bytes(70_000))

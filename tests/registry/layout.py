@@ -1,6 +1,7 @@
 """Numbers and parts of files as bytes, for samples that are written from a specification.
 
-A sample is an identifier, a name, and the bytes of a file. It is to be found as that format alone, with no mismatch.
+A sample is an identifier, a name, and the bytes of a file. The program has to identify it as that format alone,
+with no mismatch.
 """
 
 
@@ -35,7 +36,7 @@ def riff(form, *chunks, name=b"RIFF"):
 
 
 def iff(form, *chunks):
-    """The same with numbers from the greater end."""
+    """The same with big-endian numbers."""
     body = form + b"".join(kind + be32(len(part)) + part + bytes(len(part) % 2) for kind, part in chunks)
     return b"FORM" + be32(len(body)) + body
 

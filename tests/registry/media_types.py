@@ -1,5 +1,5 @@
-"""`file --mime-type` says of each sample what the registry has as its format's media type, where `file` is installed in
-the version that this table is of; other versions know more or less."""
+"""`file --mime-type` gives each sample the media type of its format in the registry, if `file` is installed in the
+version of these tables; other versions know more or fewer formats."""
 
 import os
 import shutil
@@ -11,7 +11,7 @@ from common import FORMATS, SAMPLES
 
 VERSION = "file-5.44"
 
-# it doesn't know the format, or wants more of a file than the sample has
+# it doesn't know the format, or needs more of a file than the sample has
 NOT_KNOWN = {"application/octet-stream", "text/plain"}
 NOT_KNOWN_AT_TIMES = """
     dds emf ilbm dvi tzif onenote caf rf64 wavpack swf mpeg-ts dex npy parquet arrow avro netcdf pcapng shp vhd vhdx vmdk
@@ -19,7 +19,7 @@ NOT_KNOWN_AT_TIMES = """
 """.split()
 NOT_KNOWN_BY_PUID = {"x-fmt/384", "fmt/569", "fmt/573", "x-fmt/409", "fmt/92", "fmt/278"}
 
-# the same type by the name that it had before it was registered, or by another's
+# the same type by its name before it was registered, or by another name
 OTHER_NAMES = {
     "movkrin/j2c": "image/x-jp2-codestream",
     "movkrin/qoi": "image/x-qoi",
@@ -40,7 +40,7 @@ OTHER_NAMES = {
 }
 
 WORD = "application/vnd.openxmlformats-officedocument."
-# it tells what the format is made of, or a wider or a narrower kind
+# it gives the format's container, or a wider or a narrower kind
 WIDER_OR_NARROWER = {
     "movkrin/apng": {"image/png"},
     "movkrin/dng": {"image/tiff"},
@@ -71,7 +71,7 @@ WIDER_OR_NARROWER = {
     **{"movkrin/" + name: {"text/xml"} for name in "atom rss kml gpx xslt xsd mathml musicxml plist".split()},
 }
 
-# it goes by something inside: a picture within a page, or a title as a page has one
+# it goes by the content: a picture within a page, or a title like that of a page
 SOMETHING_INSIDE = {
     "fmt/96": "image/svg+xml",
     "movkrin/xhtml": "image/svg+xml",
@@ -84,7 +84,7 @@ SOMETHING_INSIDE = {
 
 
 def answers_but(puid):
-    """What it may say of a format, beside the media type that the registry has."""
+    """Returns what it may say of a format, beside the media type of the registry."""
     known = {*WIDER_OR_NARROWER.get(puid, ())}
     known |= {table[puid] for table in (OTHER_NAMES, SOMETHING_INSIDE) if puid in table}
     if puid in NOT_KNOWN_BY_PUID or puid.removeprefix("movkrin/") in NOT_KNOWN_AT_TIMES:
@@ -99,7 +99,7 @@ def installed():
 
 
 def said_of(samples):
-    """What `file` says of each sample."""
+    """Returns what `file` says of each sample."""
     with tempfile.TemporaryDirectory() as folder:
         paths = []
         for number, (_, name, content) in enumerate(samples):

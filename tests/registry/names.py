@@ -1,11 +1,11 @@
-"""What is found by the extension, of files in which no signature lies."""
+"""Formats by the extension, of files that match no signature."""
 
 import unittest
 
 from common import FORMATS, REGISTRY
-from session import identify
+from identification import identify
 
-# name, what is found, and what is found in the mode `match_all`
+# name, the formats, and the formats in the mode `match_all`
 BY_NAME = [
     ("a", [], []),
     (".txt", [], []),
@@ -39,8 +39,8 @@ class Names(unittest.TestCase):
         samples = [(None, name, CONTENT) for name, _, _ in BY_NAME]
         for match_all in (False, True):
             for row, (method, mismatch, puids) in zip(BY_NAME, identify(REGISTRY, samples, match_all=match_all)):
-                wanted = row[2 if match_all else 1]
-                self.assertEqual((method, mismatch, puids), ("Extension" if wanted else "none", False, wanted), row[0])
+                expected = row[2 if match_all else 1]
+                self.assertEqual((method, mismatch, puids), ("Extension" if expected else "none", False, expected), row[0])
 
     def test_each_extension_of_a_format_without_signatures(self):
         samples = [

@@ -1,10 +1,11 @@
-"""docs/COMMON_REGISTRY.md says of each format what the registry has, and which specification it follows."""
+"""docs/COMMON_REGISTRY.md has each format as the registry has it, and names its specification."""
 
 import os
 import re
 import unittest
 
-from common import FORMATS, TOP
+from common import FORMATS
+from lib.program import TOP
 
 with open(os.path.join(TOP, "docs", "COMMON_REGISTRY.md"), encoding="utf-8") as file:
     PAGE = file.read().splitlines()
@@ -13,7 +14,7 @@ SEQUENCE = re.compile(r"(BOF|EOF) ([0-9]+)(?:-([0-9]+))? `([^`]+)`")
 
 
 def rows(first, *columns):
-    """The cells of the tables that begin with these headings."""
+    """Yields the cells of the tables that begin with these headings."""
     heading = [first, *columns]
     reading = False
     for line in PAGE:
@@ -27,7 +28,7 @@ def rows(first, *columns):
 
 
 def signatures(cell):
-    """A signature is its byte sequences, joined by `and`; signatures by `or`."""
+    """Reads signatures. `or` stands between signatures, `and` between the byte sequences of one."""
     for signature in cell.split("<br>or "):
         parts = signature.split(" and ")
         read = [SEQUENCE.fullmatch(part) for part in parts]
@@ -40,24 +41,24 @@ FIRST = ("Identifier", "Format", "Media type", "Extensions")
 
 class Page(unittest.TestCase):
     def test_formats_and_signatures(self):
-        said = {}
+        there = {}
         for identifier, title, media_type, extensions, *found, source in [
             *rows(*FIRST, "Signatures", "Specification"),
             *rows(*FIRST, "Specification"),
         ]:
             listed = extensions.split(", ") if extensions else []
             self.assertTrue(source, identifier)
-            self.assertNotIn(identifier, said)
+            self.assertNotIn(identifier, there)
             written = [signature for cell in found for signature in signatures(cell)]
-            said[identifier] = (title, media_type.strip("`"), listed, written)
+            there[identifier] = (title, media_type.strip("`"), listed, written)
         had = {f"`{form.puid}`": (form.title, form.media_type, form.extensions, form.signatures) for form in FORMATS.values()}
-        self.assertEqual(list(said), list(had))
+        self.assertEqual(list(there), list(had))
         for identifier in had:
-            self.assertEqual(said[identifier], had[identifier], identifier)
+            self.assertEqual(there[identifier], had[identifier], identifier)
 
     def test_priorities(self):
-        said = {over.strip("`"): below.replace("`", "").split(", ") for over, below in rows("Identifier", "Stands over")}
-        self.assertEqual(said, {form.puid: form.below for form in FORMATS.values() if form.below})
+        there = {over.strip("`"): below.replace("`", "").split(", ") for over, below in rows("Identifier", "Stands over")}
+        self.assertEqual(there, {form.puid: form.below for form in FORMATS.values() if form.below})
 
 
 if __name__ == "__main__":

@@ -1,6 +1,6 @@
-"""Each signature, priority and extension of the registry is one that some file needs.
+"""Some sample needs each signature, priority and extension of the registry.
 
-The signatures are tried as formats of their own, with no priorities: so it is seen which of them a sample hits.
+The signatures are tried as formats of their own without priorities, which shows which of them a sample hits.
 """
 
 import csv
@@ -9,7 +9,7 @@ import unittest
 from functools import cache
 
 from common import FORMATS, REGISTRY, SAMPLES
-from session import identify
+from identification import identify
 
 with_signatures = [form for form in FORMATS.values() if form.signatures]
 
@@ -22,7 +22,7 @@ def registry_of(records):
 
 @cache
 def hits():
-    """Of each sample its format and the signatures that it hits: a format's identifier and a place."""
+    """Returns for each sample its format and the signatures that it hits: a format's identifier and a place."""
     signatures = [(form.puid, place) for form in with_signatures for place in range(len(form.signatures))]
     records = []
     for number, (puid, place) in enumerate(signatures):

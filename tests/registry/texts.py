@@ -39,7 +39,7 @@ def picture(public):
 
 
 def drawn(version):
-    """An SVG file that tells its version by an attribute."""
+    """An SVG file with its version in an attribute."""
     return b'<svg width="1" height="1"\n version="' + version + b'" viewBox="0 0 1 1"\n xmlns="http://www.w3.org/2000/svg"/>\n'
 
 
@@ -62,12 +62,12 @@ def pem(label):
 
 SENDER, MOMENT = b"From: Fox <fox@example.org>", b"Date: Thu, 1 Jan 2026 00:00:00 +0000"
 SUBJECT, TRACE = b"Subject: Morning", b"Received: from a.example by b.example; Thu, 1 Jan 2026 00:00:01 +0000"
-# the field that a message begins with, by the programs that wrote or delivered it
+# the first field of a message, by the program that wrote or delivered it
 FIRST = (b"Return-Path: <fox@example.org>", b"Delivered-To: dog@example.org", TRACE, b"Message-ID: <1@example.org>",
          b"Message-Id: <1@example.org>", b"MIME-Version: 1.0", SUBJECT, b"To: dog@example.org", b"Reply-To: fox@example.org",
          b"X-Mailer: Fox")  # fmt: skip
 
-# vocabularies of XML: each is found with a declaration and without
+# vocabularies of XML: each is identified with a declaration and without
 ROOTS = [
     ("movkrin/atom", "a.atom", b'<feed xmlns="http://www.w3.org/2005/Atom"><title>Fox</title></feed>'),
     ("movkrin/rss", "a.rss", b'<rss version="2.0"><channel><title>Fox</title></channel></rss>'),

@@ -1,4 +1,4 @@
-"""Files that tools of this machine make, of those that are installed."""
+"""Files that the installed tools of this machine make."""
 
 import os
 import platform
@@ -31,7 +31,7 @@ def filtered():
 
 
 def compiled(*options):
-    """What the C compiler makes of an empty program: its first bytes, which have its header."""
+    """Compiles an empty program, and returns its first bytes, which have its header."""
     with tempfile.TemporaryDirectory() as folder:
         source, made = os.path.join(folder, "fox.c"), os.path.join(folder, "fox")
         with open(source, "w", encoding="ascii") as file:
@@ -42,7 +42,7 @@ def compiled(*options):
 
 
 def programs():
-    """Of a compiler for this processor."""
+    """Yields files of the compiler for this processor."""
     if platform.system() == "Linux" and platform.machine() == "x86_64":
         for options in ((), ("-c",), ("-shared", "-fPIC")):
             yield "fmt/690", "a", compiled(*options)

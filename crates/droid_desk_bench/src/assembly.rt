@@ -1,4 +1,4 @@
-//! What a file costs piece by piece, beside the hash of its bytes alone.
+//! Files in pieces: their pieces, an assembly that takes them, and the hash of the same bytes alone.
 
 ghost use Rattle.std.specs.Prelude.{◌≡◌, IfOk, None};
 
@@ -15,16 +15,16 @@ pub struct Piece {
     bytes: Blob,
 }
 
-/// In which order the pieces of a file come.
+/// The order of a file's pieces.
 #[derive(Clone, Copy)]
 pub enum Order {
     /// The first one first.
     Rising,
-    /// Of each sixteen the last one first, so that as many wait as can.
+    /// The last of each sixteen first, so that the most pieces wait.
     Turned,
 }
 
-/// So many pieces of so many bytes from an index on, in this order.
+/// Makes `count` pieces of `length` bytes from an index on, in this order.
 pub fn pieces(
     alloc: Global,
     from: u32,
@@ -45,7 +45,7 @@ pub fn pieces(
     Ok(all)
 }
 
-/// The bytes of each piece.
+/// Makes the bytes of a piece.
 pub fn content(alloc: Global, length: u32) -> Result<Vec<u8>, AllocError> {
     let mut bytes = Vec::with_capacity(alloc, length as usize)?;
     for place in 0..length {
@@ -54,21 +54,21 @@ pub fn content(alloc: Global, length: u32) -> Result<Vec<u8>, AllocError> {
     Ok(bytes)
 }
 
-/// An assembly of a file of 256 MiB in pieces of 1 MiB, which gets this hash.
+/// Makes an assembly of a file of 256 MiB in pieces of 1 MiB, with this hash.
 pub fn of_large_pieces(alloc: Global, hash: HashKind) -> Result<Assembly, AllocError>
     ensures { IfOk result (λ assembly. assembly.pending ≡ None) }
 {
     Assembly::new(alloc, 268_435_456, 1_048_576, 65_536, hash)
 }
 
-/// An assembly of a file of as many pieces as there can be, each of one byte.
+/// Makes an assembly of a file of the most pieces, each of one byte.
 pub fn of_single_bytes(alloc: Global) -> Result<Assembly, AllocError>
     ensures { IfOk result (λ assembly. assembly.pending ≡ None) }
 {
     Assembly::new(alloc, 1_048_576, 1, 65_536, HashKind::Md5)
 }
 
-/// Takes the pieces one after another, and tells whether none was refused.
+/// Takes the pieces one after another, and returns whether none was refused.
 pub fn take_all(assembly: &mut Assembly, pieces: Vec<Piece>) -> bool
     requires { assembly.old.pending ≡ None }
     ensures { assembly.new.pending ≡ None }
@@ -81,7 +81,7 @@ pub fn take_all(assembly: &mut Assembly, pieces: Vec<Piece>) -> bool
     true
 }
 
-/// Takes the pieces one after another and keeps what is handed back, and tells whether none was refused.
+/// Takes the pieces one after another, keeps the buffers that come back, and returns whether no piece was refused.
 pub fn keep_all(assembly: &mut Assembly, pieces: Vec<Piece>, kept: &mut Vec<Spent>) -> bool
     requires { assembly.old.pending ≡ None }
     ensures { assembly.new.pending ≡ None }
@@ -94,7 +94,7 @@ pub fn keep_all(assembly: &mut Assembly, pieces: Vec<Piece>, kept: &mut Vec<Spen
     true
 }
 
-/// The hash of the file that the pieces make, if they do.
+/// Returns the hash of the whole file, or None if pieces are missing.
 pub fn hash_of(assembly: &mut Assembly) -> Option<HashValue>
     requires { assembly.old.pending ≡ None }
     ensures { assembly.new.pending ≡ None }
@@ -102,7 +102,7 @@ pub fn hash_of(assembly: &mut Assembly) -> Option<HashValue>
     assembly.seal().ok().map(|sealed| sealed.hash)
 }
 
-/// Takes one piece, unless it is refused.
+/// Takes one piece, and returns whether it wasn't refused.
 fn take(assembly: &mut Assembly, piece: Piece) -> bool
     requires { assembly.old.pending ≡ None }
     ensures { assembly.new.pending ≡ None }
@@ -114,7 +114,7 @@ fn take(assembly: &mut Assembly, piece: Piece) -> bool
     true
 }
 
-/// Takes one piece and keeps what is handed back, unless the piece is refused.
+/// Takes one piece, keeps the buffers that come back, and returns whether it wasn't refused.
 fn keep(assembly: &mut Assembly, piece: Piece, kept: &mut Vec<Spent>) -> bool
     requires { assembly.old.pending ≡ None }
     ensures { assembly.new.pending ≡ None }
@@ -125,7 +125,7 @@ fn keep(assembly: &mut Assembly, piece: Piece, kept: &mut Vec<Spent>) -> bool
     kept.push(assembly.settle()).is_ok()
 }
 
-/// The hash of the file that the pieces make, by the hash alone over their own bytes.
+/// Hashes the bytes of the pieces in the file's order, without an assembly.
 pub fn hash_alone(pieces: &[Piece], order: Order, kind: HashKind) -> HashValue {
     match kind {
         HashKind::Nothing => HashValue::Nothing,
@@ -154,7 +154,7 @@ fn sha256_alone(pieces: &[Piece], order: Order) -> [u8; 32] {
     hash.finalize()
 }
 
-/// Where the piece of this index lies.
+/// Returns the place of the piece with this index.
 fn place_of(index: usize, order: Order) -> usize {
     match order {
         Order::Rising => index,
@@ -162,7 +162,7 @@ fn place_of(index: usize, order: Order) -> usize {
     }
 }
 
-/// The digest of these bytes, by the hash alone in blocks of 64 bytes.
+/// Returns the MD5 of these bytes, in blocks of 64 bytes.
 pub fn digest_in_blocks(bytes: &[u8]) -> [u8; 16] {
     let mut hash = Md5::new();
     for block in bytes.chunks(64) {

@@ -1,4 +1,4 @@
-//! Prints what files cost piece by piece, beside the hash of their bytes alone.
+//! Measures files piece by piece, beside the hash of their bytes alone, and prints the times.
 
 ghost use Rattle.std.specs.Prelude.{◌≡◌, None};
 
@@ -10,30 +10,30 @@ use std::alloc::Global;
 use std::rt::Clock;
 use std::time::Instant;
 
-/// How often each file is measured; the shortest time of each counts.
+/// The rounds for each file. The shortest time counts.
 const ROUNDS: u32 = 7;
 
-/// How many pieces of one byte are made at a time. A stream brings them one by one, and more than these would measure
-/// the allocator.
+/// The pieces of one byte that are made at a time. A stream brings them one by one; more at a time would measure the
+/// allocator.
 const BATCH: u32 = 1 << 6;
 
-/// How many pieces of one byte a file has.
+/// The pieces of a file of single bytes.
 const SMALL_PIECES: u32 = 1 << 20;
 
-/// How many pieces of 1 MiB a file has.
+/// The pieces of a file of 256 MiB.
 const LARGE_PIECES: u32 = 256;
 
-/// What becomes of what an assembly hands back.
+/// The use of a buffer that an assembly returns.
 #[derive(Clone, Copy)]
 enum Fate {
-    /// It is dropped at once.
+    /// Dropped at once.
     Dropped,
-    /// It is kept aside, and dropped outside of what is measured.
+    /// Kept, and dropped outside of the measured time.
     Kept,
 }
 
-/// Prints how long a file of 256 MiB takes in pieces of 1 MiB, in order and with as many waiting as can, and one of
-/// 1 MiB in pieces of a byte.
+/// Measures a file of 256 MiB in pieces of 1 MiB, in order and with the most pieces waiting, and one of 1 MiB in pieces
+/// of a byte.
 pub fn measure<R: Print + Clock + AllocGlobal>(rt: &R) -> Result<(), Error> {
     let (md5, sha256) = (HashKind::Md5, HashKind::Sha256);
     print_large(rt, "in order, MD5", Order::Rising, md5, md5)?;
@@ -55,7 +55,7 @@ pub fn measure<R: Print + Clock + AllocGlobal>(rt: &R) -> Result<(), Error> {
     print_small(rt, "sixteen turned", Order::Turned, blocks)
 }
 
-/// How many nanoseconds the hash takes alone for 1 MiB in blocks of 64 bytes.
+/// Measures the hash alone for 1 MiB in blocks of 64 bytes: the nanoseconds.
 fn hash_in_blocks<R: Print + Clock + AllocGlobal>(rt: &R) -> Result<u128, Error> {
     let bytes = assembly::content(rt.alloc(), SMALL_PIECES)?;
     let mut least = u128::MAX;
@@ -70,8 +70,8 @@ fn hash_in_blocks<R: Print + Clock + AllocGlobal>(rt: &R) -> Result<u128, Error>
     Ok(least)
 }
 
-/// Prints how long a file of 256 MiB with this hash takes beside a hash alone over the same pieces: where what is handed
-/// back is kept aside, as the hash keeps the pieces, and where each piece is dropped as it comes back.
+/// Measures a file of 256 MiB with this hash, beside a hash alone over the same pieces: where the returned buffers are
+/// kept, as the hash keeps the pieces, and where each is dropped at once.
 fn print_large<R: Print + Clock + AllocGlobal>(
     rt: &R,
     what: &str,
@@ -91,7 +91,7 @@ fn print_large<R: Print + Clock + AllocGlobal>(
         dropped = dropped.min(own);
     }
     println!(rt;
-        "assembly: 256 MiB {what} in {} microseconds, {} alone over the same 256 buffers in {}; {} percent of it, wanted at most {}",
+        "assembly: 256 MiB {what} in {} microseconds, {} alone over the same 256 buffers in {}; {} percent of it, limit {}",
         kept / 1_000,
         name_of(beside),
         alone / 1_000,
@@ -106,7 +106,7 @@ fn print_large<R: Print + Clock + AllocGlobal>(
     Ok(())
 }
 
-/// How many percent of a hash alone a file with this hash takes at most: of its own, and without one of MD5.
+/// Returns the limit for a file with this hash in percent of its hash alone, or, without a hash, of MD5.
 fn most(hash: HashKind) -> u128 {
     match hash {
         HashKind::Nothing => 10,
@@ -114,8 +114,8 @@ fn most(hash: HashKind) -> u128 {
     }
 }
 
-/// Prints how long a file in pieces of a byte takes: where each piece is dropped as it is handed back, and where all of
-/// a batch are kept aside and dropped outside of what is measured; and how long it takes to drop such pieces alone.
+/// Measures a file in pieces of a byte: where each returned buffer is dropped at once, and where the buffers of a batch
+/// are kept and dropped outside of the measured time; and the time to drop such pieces alone.
 fn print_small<R: Print + Clock + AllocGlobal>(
     rt: &R,
     what: &str,
@@ -142,15 +142,15 @@ fn print_small<R: Print + Clock + AllocGlobal>(
         percent(dropped.saturating_sub(dropping), alone)
     )?;
     println!(rt;
-        "  what comes back kept aside: in {} microseconds, {} percent of the hash, wanted at most 1000",
+        "  with the returned buffers kept: in {} microseconds, {} percent of the hash, limit 1000",
         kept / 1_000,
         percent(kept, alone)
     )?;
     Ok(())
 }
 
-/// How many nanoseconds a hash takes alone over the pieces of a large file, and how many an assembly with the same hash or
-/// another takes for these very pieces.
+/// Measures a hash alone over the pieces of a large file, and an assembly with this or another hash for the same pieces:
+/// the nanoseconds of both.
 fn times_of_large<R: Clock + AllocGlobal>(
     rt: &R,
     order: Order,
@@ -165,17 +165,17 @@ fn times_of_large<R: Clock + AllocGlobal>(
     let mut assembly = assembly::of_large_pieces(rt.alloc(), hash)?;
     let taking = time_to_take(rt, &mut assembly, pieces, fate)?;
     let (value, sealing) = seal(rt, &mut assembly)?;
-    let wanted = match hash {
+    let expected = match hash {
         HashKind::Nothing => HashValue::Nothing,
         HashKind::Md5 | HashKind::Sha256 => alone,
     };
-    if value != wanted {
+    if value != expected {
         return None.context("the pieces make another file");
     }
     Ok((other, taking.saturating_add(sealing)))
 }
 
-/// How many nanoseconds an assembly takes for a file in pieces of a byte.
+/// Measures an assembly for a file in pieces of a byte: the nanoseconds.
 fn time_of_small<R: Clock + AllocGlobal>(rt: &R, order: Order, fate: Fate) -> Result<u128, Error> {
     let mut assembly = assembly::of_single_bytes(rt.alloc())?;
     let mut took = 0u128;
@@ -187,7 +187,7 @@ fn time_of_small<R: Clock + AllocGlobal>(rt: &R, order: Order, fate: Fate) -> Re
     Ok(took.saturating_add(sealing))
 }
 
-/// How many nanoseconds an assembly takes to take these pieces, which were made before.
+/// Measures an assembly that takes these pieces: the nanoseconds.
 fn time_to_take<R: Clock + AllocGlobal>(
     rt: &R,
     assembly: &mut Assembly,
@@ -210,7 +210,7 @@ fn time_to_take<R: Clock + AllocGlobal>(
     Ok(took)
 }
 
-/// The hash of the file that was taken, and how many nanoseconds it takes to ask for it.
+/// Ends the file: its hash, and the nanoseconds.
 fn seal<R: Clock + AllocGlobal>(rt: &R, assembly: &mut Assembly) -> Result<(HashValue, u128), Error>
     requires { assembly.old.pending ≡ None }
 {
@@ -220,7 +220,7 @@ fn seal<R: Clock + AllocGlobal>(rt: &R, assembly: &mut Assembly) -> Result<(Hash
     Ok((value.context("the pieces")?, took))
 }
 
-/// How many nanoseconds it takes to drop the pieces of a file in pieces of a byte.
+/// Measures dropping the pieces of a file in pieces of a byte: the nanoseconds.
 fn time_to_drop<R: Clock + AllocGlobal>(rt: &R, order: Order) -> Result<u128, Error> {
     let mut took = 0u128;
     for turn in 0..SMALL_PIECES / BATCH {
@@ -232,17 +232,17 @@ fn time_to_drop<R: Clock + AllocGlobal>(rt: &R, order: Order) -> Result<u128, Er
     Ok(took)
 }
 
-/// A batch of pieces of a byte.
+/// Makes a batch of pieces of a byte.
 fn small_pieces(alloc: Global, turn: u32, order: Order) -> Result<Vec<Piece>, Error> {
     Ok(assembly::pieces(alloc, turn.saturating_mul(BATCH), BATCH, 1, order)?)
 }
 
-/// How many hundredths of the other one time is, to the nearest.
+/// Returns one time in percent of the other, rounded.
 fn percent(one: u128, other: u128) -> u128 {
     one.saturating_mul(100).saturating_add(other / 2) / other.max(1)
 }
 
-/// What a hash is called.
+/// Returns the name of a hash.
 fn name_of(hash: HashKind) -> &'static str {
     match hash {
         HashKind::Nothing => "no hash",

@@ -1,10 +1,11 @@
-"""A file that is written is complete or not there, and what can't be written is told with status 4."""
+"""The output file is complete or not there, and a failed write ends with status 4."""
 import os
 import resource
 import subprocess
 import unittest
 
-from trees import PROGRAM, InFolder, lines, profile, walk
+from lib.program import PROGRAM
+from lib.trees import InFolder, lines, profile, walk
 
 LIMIT = 4_096
 
@@ -17,17 +18,17 @@ class Output(InFolder):
         self.out = self.work + b"/out.csv"
 
     def only(self, *names):
-        """Beside the tree only these stand in the folder: nothing unfinished was left."""
+        """Checks that the folder has only the tree and these files, and no unfinished file."""
         self.assertEqual(sorted(os.listdir(self.work)), sorted([b"tree", *names]))
 
     def test_complete(self):
-        wanted = profile(self.top)[1]
+        expected = profile(self.top)[1]
         status, out, err = profile(self.top, "--output", self.out)
         self.assertEqual((status, out), (0, b""))
         with open(self.out, "rb") as file:
-            self.assertEqual(file.read(), wanted)
+            self.assertEqual(file.read(), expected)
         self.only(b"out.csv")
-        # what stood there before is replaced
+        # a former file is replaced
         self.file(b"/more.txt", b"more")
         self.assertEqual(profile(self.top, "--output", self.out)[0], 0)
         with open(self.out, "rb") as file:
@@ -35,7 +36,7 @@ class Output(InFolder):
         self.only(b"out.csv")
 
     def test_below_the_folder(self):
-        # it is no row of its own; what stood at its place is one
+        # the output file has no row; a former file at its path has one
         out = self.top + b"/sub.csv"
         rows = walk(self.top)[0]
         self.assertEqual(profile(self.top, "--output", out)[0], 0)
@@ -49,7 +50,7 @@ class Output(InFolder):
         self.assertEqual(len(os.listdir(self.top)), 101)
 
     def test_too_many(self):
-        # a tree of one entry more than a profile may have is refused, with nothing written
+        # one entry more than a profile may have: nothing is written
         self.folder(b"/many")
         for number in range(100_001 - 101):
             os.mknod(self.top + b"/many/%d" % number)
@@ -59,14 +60,14 @@ class Output(InFolder):
         self.assertEqual(lines(err, b"folders and files: "), [])
         self.only()
 
-    def test_something_left_out(self):
+    def test_something_skipped(self):
         os.symlink(b"nowhere", self.top + b"/link")
         self.assertEqual(profile(self.top, "--output", self.out)[0], 5)
         with open(self.out, "rb") as file:
             self.assertEqual(len(file.read().splitlines()), 101)
 
     def full(self, *words):
-        """Runs it where no file can have more than some bytes."""
+        """Runs `profile` where no file can have more than some bytes."""
 
         def small():
             resource.setrlimit(resource.RLIMIT_FSIZE, (LIMIT, LIMIT))
@@ -80,7 +81,7 @@ class Output(InFolder):
         run = self.full("--output", self.out)
         self.assertEqual((run.returncode, lines(run.stderr, b"fault: ")), (4, [b"Write"]))
         self.only()
-        # what stood there stays
+        # a former file stays
         with open(self.out, "wb") as file:
             file.write(b"before")
         run = self.full("--output", self.out)
@@ -89,16 +90,16 @@ class Output(InFolder):
         with open(self.out, "rb") as file:
             self.assertEqual(file.read(), b"before")
 
-    def test_no_such_place(self):
-        for place in (self.work + b"/none/out.csv", self.top, self.work + b"/link", b"/dev/null", b""):
-            if place.endswith(b"link"):
-                os.symlink(self.out, place)
-            status, out, err = profile(self.top, "--output", place)
-            self.assertEqual((status, out, lines(err, b"fault: ")), (4, b"", [b"Output"]), place)
+    def test_no_such_path(self):
+        for path in (self.work + b"/none/out.csv", self.top, self.work + b"/link", b"/dev/null", b""):
+            if path.endswith(b"link"):
+                os.symlink(self.out, path)
+            status, out, err = profile(self.top, "--output", path)
+            self.assertEqual((status, out, lines(err, b"fault: ")), (4, b"", [b"Output"]), path)
         self.only(b"link")
 
     def test_another_unfinished(self):
-        # a name that another has is left alone
+        # another program's unfinished file stays
         with open(self.out + b".0.unfinished", "wb") as file:
             file.write(b"another's")
         self.assertEqual(profile(self.top, "--output", self.out)[0], 0)

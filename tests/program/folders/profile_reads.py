@@ -3,7 +3,7 @@ import os
 import random
 import unittest
 
-from trees import InFolder, lines, profile, walk
+from lib.trees import SKIPPED, InFolder, lines, profile, walk
 
 PIECE = 1 << 20
 
@@ -19,29 +19,29 @@ class Reads(InFolder):
     def with_reads(self, **how):
         return profile(self.top, env={**os.environ, "LD_PRELOAD": os.environ["PRELOAD_READS"], **how})
 
-    def test_as_ever(self):
+    def test_no_difference(self):
         for how in ({}, {"PREAD_INTERRUPTIONS": "64"}, {"PREAD_WIDTH": "1000"}, {"PREAD_WIDTH": "300000"}):
             status, out, err = self.with_reads(**how)
-            self.assertEqual((status, lines(err, b"left out: ")), (0, []), how)
+            self.assertEqual((status, lines(err, SKIPPED)), (0, []), how)
             self.same(out, walk(self.top)[0])
 
-    def left_out(self, path, **how):
-        """With these reads the file at this path is left out, and no other."""
+    def skipped(self, path, **how):
+        """Checks that with these reads the file at this path is skipped, and no other."""
         status, out, err = self.with_reads(**how)
-        self.assertEqual((status, lines(err, b"left out: ")), (5, [path + b": it could not be opened or read"]), how)
+        self.assertEqual((status, lines(err, SKIPPED)), (5, [path + b": it could not be opened or read"]), how)
         rows = [row for row in walk(self.top)[0] if row["FILE_PATH"].encode() != path]
         for row in rows:
-            # the number of the file that was given up is not used again
+            # the number of the skipped file is not used again
             del row["ID"]
         self.same(out, rows)
 
     def test_interrupted_too_often(self):
-        self.left_out(b"/a.bin", PREAD_INTERRUPTIONS="65")
+        self.skipped(b"/a.bin", PREAD_INTERRUPTIONS="65")
 
     def test_failed(self):
         # four pieces and the end of the first file, the end of the second, and then the third
         for number, path in ((1, b"/a.bin"), (4, b"/a.bin"), (5, b"/a.bin"), (6, b"/b.txt"), (7, b"/c.txt"), (8, b"/c.txt")):
-            self.left_out(path, PREAD_FAILS=str(number))
+            self.skipped(path, PREAD_FAILS=str(number))
 
 
 if __name__ == "__main__":

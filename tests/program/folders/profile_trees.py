@@ -1,19 +1,18 @@
-"""The rows of a tree are those of Python's own walk."""
+"""The rows of a folder are those of Python's own walk."""
 import hashlib
 import os
 import random
 import unittest
 
-from trees import InFolder, lines, profile, read, walk
+from lib.program import EVERYDAY
+from lib.trees import SKIPPED, InFolder, lines, profile, read, walk
 
-TOP = os.path.dirname(os.path.dirname(os.path.dirname(os.path.dirname(os.path.abspath(__file__)))))
-COMMON = os.path.join(TOP, "registries", "common.csv")
 PIECE = 1 << 20
 
 
 class Trees(InFolder):
     def nested(self):
-        """Folders in folders, names that a CSV has to quote, and files about the size of a piece."""
+        """Makes folders in folders, names that a CSV has to quote, and files of about the size of a piece."""
         some = random.Random(7)
         for path in (b"/b/deep/er/still", b"/a", b"/B", "/mit Stöcken und Steinen".encode(), b'/a/say "ah", twice'):
             self.folder(path)
@@ -32,10 +31,10 @@ class Trees(InFolder):
     def test_rows(self):
         self.nested()
         status, out, err = profile(self.top)
-        rows, left_out = walk(self.top)
-        self.assertEqual((status, left_out), (0, set()))
+        rows, skipped = walk(self.top)
+        self.assertEqual((status, skipped), (0, set()))
         self.same(out, rows)
-        self.assertEqual(lines(err, b"left out: "), [])
+        self.assertEqual(lines(err, SKIPPED), [])
         self.assertEqual(lines(err, b"folders and files: "), [str(len(rows)).encode()])
         self.assertEqual(lines(err, b"bytes read: "), [str(sum(int(row["SIZE"] or 0) for row in rows)).encode()])
 
@@ -58,7 +57,7 @@ class Trees(InFolder):
         status, out, err = profile(self.top)
         self.assertEqual(status, 0)
         self.assertEqual(len(lines(err, b"registry: ")), 1)
-        given = profile(self.top, "--registry", COMMON)
+        given = profile(self.top, "--registry", EVERYDAY)
         self.assertEqual(given[:2], (0, out))
         self.assertEqual(lines(given[2], b"registry: "), [])
         rows = {row["FILE_PATH"]: row for row in read(out)}

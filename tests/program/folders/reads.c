@@ -1,9 +1,9 @@
-/* Preloaded into a program, this interrupts what it reads of files by their places, cuts it short or lets it fail, by
- * environment variables:
- *   PREAD_INTERRUPTIONS   so many calls are interrupted first
- *   PREAD_FAILS           the call of this number fails, counted from 1
- *   PREAD_WIDTH           a call takes at most so many bytes
- *   PREAD_SLEEPS          each call takes so many milliseconds */
+/* Preloaded into a program, this interrupts its calls of pread, cuts them short or lets them fail, by environment
+ * variables:
+ *   PREAD_INTERRUPTIONS   interrupts this many calls first
+ *   PREAD_FAILS           lets the call of this number fail, counted from 1
+ *   PREAD_WIDTH           a call takes at most this many bytes
+ *   PREAD_SLEEPS          each call takes this many milliseconds */
 #define _GNU_SOURCE
 #include <dlfcn.h>
 #include <errno.h>

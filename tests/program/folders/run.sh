@@ -1,8 +1,9 @@
 #!/bin/sh
-# Runs the tests of the program's `profile`, over folders of this machine: run.sh PROGRAM. The expected rows are those of
-# Python's own walk, with hashlib's digests.
+# Tests the program's `profile` over folders of this machine: run.sh PROGRAM. The expected rows are those of Python's
+# own walk, with hashlib's digests.
 set -u
-. "$(dirname "$0")/../modules.sh"
+tests=$(cd "$(dirname "$0")/../.." && pwd)
+. "$tests/lib/modules.sh"
 export PRELOAD_READS="$work/reads.so"
-${CC:-cc} -shared -fPIC -o "$PRELOAD_READS" reads.c -ldl || exit 1
-run_modules profile_trees profile_left_out profile_reads profile_output profile_told profile_words
+build_library reads.c "$PRELOAD_READS"
+run_modules profile_trees profile_skipped profile_reads profile_output profile_progress profile_arguments

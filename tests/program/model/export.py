@@ -1,4 +1,4 @@
-"""The export of a profile: which records a filter shows, and their text."""
+"""The export of a profile: the records that a filter selects, and their text."""
 
 from datetime import date
 
@@ -15,7 +15,7 @@ FIRST_DAY = date(1970, 1, 1).toordinal()
 
 
 def export_text(nodes, every, criteria, hash):
-    """The header, which names the hash, and the rows of the nodes that the filter shows."""
+    """Returns the header, which names the hash, and the rows of the selected nodes."""
     rows = [(COLUMNS % HASH_COLUMNS[hash]).split()]
     for node in nodes:
         if is_shown(node, every, criteria):
@@ -55,7 +55,7 @@ def ending_of(node):
 
 
 def rows_of(node):
-    """One row for each format, or one with the last four fields empty."""
+    """Yields a row for each format, or one with the last four fields empty."""
     front = [
         decimal(node.number),
         decimal(node.parent) if node.parent else b"",
@@ -86,7 +86,7 @@ def escaped(path):
 
 
 def moment_text(seconds):
-    """Days are counted downward from 1970 too, so the time of day is never negative."""
+    """Formats a moment. Days before 1970 are negative, the time of day never is."""
     day, second = divmod(seconds, DAY)
     time = f"{second // 3600:02}:{second // 60 % 60:02}:{second % 60:02}"
     return f"{date.fromordinal(FIRST_DAY + day).isoformat()}T{time}".encode("ascii")

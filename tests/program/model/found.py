@@ -1,10 +1,10 @@
-"""What is found in a file: by signatures, else by the extension."""
+"""The formats of a file: by signatures, or else by the extension."""
 
 from pattern import ends_of
 
 
 def find(registry, name, content, limit, match_all):
-    """The method, the formats and the mismatch of a whole file."""
+    """Identifies a whole file: the method, the formats and the mismatch."""
     formats = left(hits(registry, content, limit))
     ending = extension(name).lower()
     if formats:
@@ -14,7 +14,7 @@ def find(registry, name, content, limit, match_all):
 
 
 def hits(registry, content, limit):
-    """The formats of which some signature matches with all its byte sequences."""
+    """Returns the formats with a signature whose byte sequences all match."""
     first = content[:limit]
     last = content[max(0, len(content) - limit):]
     return [
@@ -34,7 +34,7 @@ def is_hit(part, first, last):
 
 
 def left(formats):
-    """Those over which none of them has priority."""
+    """Returns the formats over which no other has priority."""
     return [form for form in formats if not any(form.puid in other.below for other in formats)]
 
 
@@ -54,6 +54,6 @@ def is_mismatch(formats, ending):
 
 
 def extension(name):
-    """What stands after the last dot, where that isn't the first byte."""
+    """Returns the bytes after the last dot, unless that is the first byte."""
     dot = name.rfind(b".")
     return name[dot + 1:] if dot > 0 else b""

@@ -15,13 +15,13 @@ def asked(number, *words, client=1):
 
 
 def parts(number, profile, count, *filter_words):
-    """An export in so many parts of the largest size."""
+    """Yields an export in this many parts of the largest size."""
     for place in range(count):
         yield asked(number + place, "export", profile, place * LARGEST_PART, LARGEST_PART, *filter_words)
 
 
 def pieces():
-    """A file of many pieces of a byte: first in order, then each sixteen backward."""
+    """Yields a file of many pieces of a byte: first in order, then each sixteen backward."""
     yield asked(1, "create", 65536, 0)
     yield asked(2, "file", 1, 0, 0, PIECES, 1, "many")
     half = PIECES // 2
@@ -37,8 +37,8 @@ def pieces():
 
 
 def nodes():
-    """Many folders with the longest names, many files that are finished and some that are abandoned, all of them asked for
-    again, and their export."""
+    """Yields many folders with the longest names, many finished files and some abandoned ones, each request twice, and
+    their export."""
     yield asked(1, "create", 65536, 0)
     folders = [
         asked(number, "folder", 1, number - 2 if number % 3 == 0 else 0, number, ("%d" % number).ljust(LONGEST_NAME, "_"))
@@ -54,7 +54,7 @@ def nodes():
 
 
 def formats():
-    """Files of as many formats as there can be, by their signatures and by their extension, and their exports."""
+    """Yields files of the most formats, by signatures and by extension, and their exports."""
     yield asked(1, "create", 65536, 0)
     yield asked(2, "create", 65536, 1)
     for profile, name, content in ((1, "a.q", "61"), (2, "b.q", "7a"), (1, "c.q", "7a"), (1, "d.z", "61")):
@@ -74,7 +74,7 @@ def puid(number):
 
 
 def registry():
-    """Formats with the longest texts, each with a signature and an extension."""
+    """Yields formats with the longest texts, each with a signature and an extension."""
     text = "t" * LONGEST_NAME
     for number in range(1, MOST_FORMATS + 1):
         yield f"F,{puid(number)},{text},{text},{text},"
@@ -83,7 +83,7 @@ def registry():
 
 
 def clients():
-    """Client numbers from all over their range, and such request numbers; each line twice."""
+    """Yields client and request numbers from all over their range; each line twice."""
     yield asked(1, "create", 65536, 0)
     spread = {*range(1_000), *range(0, 1 << 32, 4_294_967)}
     spread |= {power + more for power in (1 << bit for bit in range(33)) for more in (-1, 0, 1)}
@@ -101,7 +101,7 @@ def twice(line):
 
 
 def all_kinds(client):
-    """Each kind of request, as the client's own."""
+    """Yields each kind of request of a client."""
     yield asked(10, "create", 9, 1, client=client)
     profile = {0: 2, 1: 3}.get(client, 4)
     yield asked(11, "folder", profile, 0, 0, "in", client=client)
@@ -116,7 +116,7 @@ def all_kinds(client):
 
 
 def filters():
-    """As many criteria with as many texts as a line can have, and texts as long as they can be; the last one decides."""
+    """Yields filters with the most criteria, texts and bytes that a line can have; the last text decides."""
     yield asked(1, "create", 65536, 0)
     yield asked(2, "file", 1, 0, 0, 0, 1, "e.txt")
     yield asked(3, "finish", 1, 1)

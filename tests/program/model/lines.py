@@ -1,4 +1,4 @@
-"""The lines of a script: what each asks for, and the body of its request.
+"""The lines of a script: the request of each, and its body.
 
 A request is a dictionary with its version, its kind, its fields by name, and its client and number.
 """
@@ -18,17 +18,17 @@ LONGEST_BODIES = {1: 1_048_640, 2: 4_194_368}
 
 
 class BadLine(Exception):
-    """The line asks for nothing."""
+    """The line is no request."""
 
 
 def lines_of(text):
-    """The text cut at line feeds. An empty last line doesn't count."""
+    """Cuts a text at line feeds. An empty last line doesn't count."""
     lines = text.split(b"\n")
     return lines if lines[-1] else lines[:-1]
 
 
 def request_of(line):
-    """What the line asks for, with its body."""
+    """Reads the request of a line, with its body."""
     try:
         line.decode("utf-8")
     except UnicodeDecodeError:
@@ -59,7 +59,7 @@ def request_of(line):
 
 
 def words(text, count):
-    """So many words, the last of which is the rest of the text."""
+    """Cuts a text into this many words. The last one is the rest."""
     parts = text.split(b" ", count - 1)
     if len(parts) != count:
         raise BadLine
@@ -67,7 +67,7 @@ def words(text, count):
 
 
 def whole(word, bits):
-    """A number in decimal digits that has at most so many bits."""
+    """Reads a number in decimal digits of at most this many bits."""
     if not re.fullmatch(rb"[0-9]+", word):
         raise BadLine
     digits = word.lstrip(b"0") or b"0"
@@ -77,7 +77,7 @@ def whole(word, bits):
 
 
 def moment(word):
-    """A number of 64 bits, with or without a minus sign."""
+    """Reads a number of 64 bits, with or without a minus sign."""
     if word.startswith(b"-"):
         value = -whole(word[1:], 64)
     else:
@@ -165,7 +165,7 @@ def export(rest):
 
 
 def criterion(word):
-    """A criterion's name, and its value."""
+    """Reads a criterion: its name and its value."""
     name, equals, value = word.partition(b"=")
     if not equals:
         raise BadLine
@@ -190,7 +190,7 @@ def texts(value):
 
 
 def body_of(request):
-    """The bytes of the request's body in its version."""
+    """Returns the bytes of the request's body in its version."""
     kind = request["kind"]
     if kind == "create":
         hash = bytes([HASH_NUMBERS[request["hash"]]]) if request["version"] == 2 else b""

@@ -1,8 +1,8 @@
 #!/usr/bin/env -S python3 -S -B
 """A plain model of the program's scripts: `main.py script [--registry FILE]`.
 
-It keeps whole files in dictionaries and looks at each request on its own, so it is slow, and short enough
-to be read beside the documents. It writes what the program has to write, and ends as that has to end.
+It keeps whole files in dictionaries and looks at each request by itself, so it is slow, and short enough to be read
+beside the documents. It writes the output that the program has to write, and ends with the same status.
 """
 
 import os
@@ -44,7 +44,7 @@ def write(text):
 
 
 def run_script(service):
-    """Answers each line of standard input. The answer is whether one of them was bad."""
+    """Answers each line of standard input, and returns whether a line was bad."""
     try:
         text = sys.stdin.buffer.read()
     except OSError:

@@ -1,4 +1,4 @@
-"""The patterns of byte sequences, and where they match.
+"""The patterns of byte sequences, and the places where they match.
 
 A pattern is a list of elements. An element is a pair of a kind and what belongs to it:
     ('class', bytes that pass)    ('gap', least, most or None)    ('choice', alternatives)
@@ -26,7 +26,7 @@ class BadPattern(Exception):
 
 
 def read_pattern(text):
-    """The elements of a pattern's text."""
+    """Reads the elements of a pattern's text."""
     if len(text) > LONGEST_TEXT:
         raise BadPattern
     elements = []
@@ -78,7 +78,7 @@ def between(low, high):
 
 
 def ends_of(elements, window, starts):
-    """The places in the window before which a match ends that begins at one of the starts."""
+    """Returns the ends, in the window, of the matches that begin at one of the starts."""
     places = set(starts)
     for element in elements:
         places = places_after(element, window, places)

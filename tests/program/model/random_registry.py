@@ -1,5 +1,5 @@
 #!/usr/bin/env -S python3 -S -B
-"""Writes a registry of some formats that often hit one another's files: `random_registry.py SEED COUNT`."""
+"""Writes a registry of some formats that often match one another's files: `random_registry.py SEED COUNT`."""
 
 import sys
 from random import Random

@@ -2,7 +2,7 @@
 """Writes a script of requests of all kinds: `random_script.py SEED COUNT REGISTRY VERSIONS ORDER`, where VERSIONS is
 `first` or `both`, and ORDER is `steady` or `jumbled`.
 
-Each line is chosen by chance, with the model's service at hand, so that most requests are accepted and
+Each line is random; the model's service is asked first, so that most requests are accepted and
 each refusal comes somewhere. Lines are repeated, also in the other version, and numbers come with other requests. In
 a jumbled script requests overtake one another on their way, and arrive more than once.
 """
@@ -39,7 +39,7 @@ class Story:
         self.contents = {}
 
     def add(self):
-        """Adds some request to those on their way, and lets the ones arrive that are too many."""
+        """Sends some request, and lets requests arrive while too many are under way."""
         action = self.random.choices(list(self.weights), list(self.weights.values()))[0]
         self.waiting.append(getattr(self, action)())
         while len(self.waiting) > self.most_waiting:
@@ -60,7 +60,7 @@ class Story:
             self.contents.setdefault(place, self.words.content(request["size"]))
 
     def asked(self, *words, version=None):
-        """The line of a request, under the next number of some client, in either version unless one is named."""
+        """Returns the line of a request under the next number of some client, in this version or in any."""
         client = self.random.choice(list(self.numbers))
         self.numbers[client] += 1
         mark = SECOND if (version or self.version()) == 2 else b""
@@ -76,13 +76,13 @@ class Story:
             return self.random.choice([0, made + 1, 4294967295])
         return 1 + int(made * self.random.random() ** 3)
 
-    def nodes(self, wanted):
-        """Each node of which this holds, with the number of its profile."""
+    def nodes(self, is_chosen):
+        """Returns the chosen nodes, each with the number of its profile."""
         return [
             (number, node)
             for number, profile in self.service.profiles.items()
             for node in profile.nodes.values()
-            if wanted(node)
+            if is_chosen(node)
         ]
 
     def parent(self, profile):
@@ -107,7 +107,7 @@ class Story:
         return self.asked("folder", profile, self.parent(profile), self.words.moment(), self.words.name())
 
     def deeper(self):
-        """A folder with a long name in the folder with the longest path, until that is too long."""
+        """Adds a folder with a long name to the folder with the longest path, until that is too long."""
         folders = [node for number, node in self.nodes(lambda node: not node.is_file) if number == 1]
         parent = max(folders, key=lambda node: len(node.path)).number if folders else 0
         return self.asked("folder", 1, parent, 0, b"n" * self.random.randint(200, 255))
@@ -146,7 +146,7 @@ class Story:
         return node.count() + self.random.randint(0, 2)
 
     def some_file(self):
-        """A profile and a node of any kind, or one that isn't there."""
+        """Chooses a profile and a node of any kind, or one that isn't there."""
         nodes = self.nodes(lambda node: True)
         if self.random.random() < 0.2 or not nodes:
             profile = self.profile()
@@ -184,13 +184,13 @@ class Story:
         return self.random.choice(self.lines[-30:])
 
     def reused(self):
-        """Another request under the number of an earlier one."""
+        """Makes another request under the number of an earlier one."""
         line = self.repeat()
         other = self.random.choice([self.create, self.folder, self.piece, self.finish, self.status, self.export])()
         return with_ends(other, *ends_of(line))
 
     def in_the_other_version(self):
-        """An earlier request, under its number, in the version that it didn't come in."""
+        """Repeats an earlier request under its number in the other version."""
         mark, words = cut(self.repeat())
         if words[2:3] == [b"create"]:
             words = words[:5] + ([] if mark else [self.random.choice(HASHES).encode("ascii")])
@@ -206,18 +206,18 @@ class Story:
 
 
 def cut(line):
-    """What marks the version in front of a line, and its words."""
+    """Returns the mark of the version before a line, and its words."""
     mark = SECOND if line.startswith(SECOND) else b""
     return mark, line[len(mark):].split(b" ")
 
 
 def ends_of(line):
-    """The client and the number of a line."""
+    """Returns the client and the number of a line."""
     return cut(line)[1][:2]
 
 
 def with_ends(line, *ends):
-    """The line under another client and number."""
+    """Returns the line with another client and number."""
     mark, words = cut(line)
     return mark + b" ".join([*ends, *words[2:]])
 

@@ -1,4 +1,4 @@
-"""What stands in the lines of a random script: names, sizes, contents, filters."""
+"""Random parts of lines: names, sizes, contents, filters."""
 
 SMALL_NAMES = "in out a b c message letters deposit maps note".split()
 ENDINGS = ["", "", ".txt", ".TXT", ".msg", ".Msg", ".abc", ".alp", ".let", ".q", ".", ".tar.txt", ".none"]
@@ -44,7 +44,7 @@ class Words:
         return (name + self.random.choice(ENDINGS)).encode("utf-8")
 
     def sizes(self):
-        """The size of a file and of its pieces."""
+        """Chooses the size of a file and of its pieces."""
         chance = self.random.random()
         if chance < 0.04:
             return self.random.choice(
@@ -62,7 +62,7 @@ class Words:
         return self.random.randint(0, 40), self.random.randint(4, 30)
 
     def content(self, size):
-        """The bytes of a file, or nothing where it is too large to be sent."""
+        """Returns the bytes of a file, or nothing if it is too large to be sent."""
         if size > 1 << 18:
             return None
         if self.random.random() < 0.4:
@@ -80,7 +80,7 @@ class Words:
         return digits if self.random.random() < 0.8 else digits.upper()
 
     def export(self):
-        """FROM, MAX and the filter."""
+        """Chooses FROM, MAX and the filter."""
         start = self.random.choice([0, 0, 0, 1, 193, 500, 5000, (1 << 64) - 1])
         most = self.random.choice([1 << 20, 1 << 20, 100, 1000, 1, 0, (1 << 20) + 1])
         if self.random.random() < 0.3:

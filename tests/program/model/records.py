@@ -9,7 +9,7 @@ BYTE_ORDER_MARK = b"\xef\xbb\xbf"
 
 
 def records_of(text):
-    """Each record of the text, as a list of fields. Empty lines are passed over."""
+    """Yields each record of the text as a list of fields. Empty lines are skipped."""
     if text.startswith(BYTE_ORDER_MARK):
         text = text[len(BYTE_ORDER_MARK):]
     place = LINE_ENDS.match(text).end()
@@ -20,7 +20,7 @@ def records_of(text):
 
 
 def record_at(text, place):
-    """The record that begins at the place, and the place after it."""
+    """Reads the record that begins at a place, and returns the place after it too."""
     fields = []
     while True:
         field, place = field_at(text, place)
@@ -32,7 +32,7 @@ def record_at(text, place):
 
 
 def field_at(text, place):
-    """The field that begins at the place, and the place of what ends it."""
+    """Reads the field that begins at a place, and returns the place of its end too."""
     field = b""
     if text[place:place + 1] == QUOTE:
         field, place = quoted_at(text, place + 1)
@@ -41,7 +41,7 @@ def field_at(text, place):
 
 
 def quoted_at(text, place):
-    """What stands between quotes, and the place after the last quote."""
+    """Reads the text between quotes, and returns the place after the last quote too."""
     field = b""
     while True:
         end = text.find(QUOTE, place)

@@ -1,4 +1,4 @@
-"""Registry files: which formats there are, and how a file of each is recognised."""
+"""Registry files: the formats, and the signatures, extensions and priorities of each."""
 
 import re
 
@@ -16,14 +16,14 @@ OFFSET = re.compile(rb"[0-9]{1,5}")
 
 
 class RegistryFault(Exception):
-    """Why a file is no registry: the fault's name, and the number of the record where it has one."""
+    """The file is no registry: the fault's name, and the number of the record, if it has one."""
 
     def __init__(self, name, record=None):
         super().__init__(name if record is None else f"{name} at {record}")
 
 
 class RecordFault(Exception):
-    """What is wrong with a record."""
+    """A record is wrong."""
 
 
 class Format:

@@ -1,4 +1,4 @@
-"""The service: what was accepted, and what each request is answered."""
+"""The service: it keeps accepted requests, and answers each request."""
 
 from hashlib import md5, sha256
 
@@ -20,7 +20,7 @@ EARLIEST, LATEST = -62135596800, 253402300799
 
 
 class Refused(Exception):
-    """The number of the refusal, and what it tells."""
+    """A refusal: its number and its fields."""
 
 
 class Node:
@@ -38,15 +38,15 @@ class Node:
         self.method, self.mismatch, self.formats, self.digest = "", False, [], ""
 
     def count(self):
-        """How many pieces the file has."""
+        """Returns the number of the file's pieces."""
         return -(-self.size // self.piece_size)
 
     def due(self, index):
-        """How many bytes the piece has to have."""
+        """Returns the length that the piece has to have."""
         return min(self.piece_size, self.size - index * self.piece_size)
 
     def missing(self):
-        """The first piece that isn't there."""
+        """Returns the first missing piece."""
         index = 0
         while index in self.pieces:
             index += 1
@@ -87,7 +87,7 @@ class Service:
         self.kept = {}
 
     def reply(self, request):
-        """The reply to a request, as it is printed."""
+        """Returns the printed reply to a request."""
         if request["number"] >= 1 << 63:
             return refusal(1)
         key = request["client"], request["number"]
@@ -123,7 +123,7 @@ class Service:
         return self.add(profile, request, path)
 
     def place(self, request):
-        """The profile, and the path of the new node."""
+        """Returns the profile, and the path of the new node."""
         profile = self.profile(request)
         parent = request["parent"]
         above = b""
@@ -211,8 +211,8 @@ def check(holds, *refused):
         raise Refused(*refused)
 
 
-def refusal(number, *told):
-    return line("refused", number, *told)
+def refusal(number, *fields):
+    return line("refused", number, *fields)
 
 
 def line(*words):

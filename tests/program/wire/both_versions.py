@@ -1,14 +1,15 @@
-"""Frames of both versions: by `run`, on connections to `serve`, and as lines of `send`; and the first byte past version 2's
-longest body."""
+"""Frames of both versions, through `run`, on connections to `serve`, and as lines of `send`; and a body of one
+byte more than version 2 allows."""
 
 import unittest
 
-from harness import HEADER, Serve, connect, in_version, read_exactly, read_until_reset, run, send
+from lib.connections import connect, read_exactly, read_until_reset, send_until_reset
+from lib.frames import HEADER, in_version
+from lib.program import Serve, run, send
 from send_faults import FakeService, made
-from serve_command import send_until_reset
 
-# What is asked, as a line of `send`, and as a frame; and its reply as a frame, and as a line. They come in this order to one
-# service, each under the number that its frame has.
+# A request as a line of `send` and as a frame, and its reply as a frame and as a line. They come in this order to one
+# service, each under the number of its frame.
 ROWS = [
     (
         "v2 create 65536 0 sha256",
@@ -133,7 +134,7 @@ class BothVersions(unittest.TestCase):
     def test_by_run(self):
         self.assertEqual(run(["run"], REQUESTS), (0, REPLIES, ""))
 
-    def test_what_is_too_long(self):
+    def test_a_body_that_is_too_long(self):
         for rest in (b"", bytes(100)):
             self.assertEqual(run(["run"], REQUESTS + TOO_LONG + rest), (4, REPLIES, "fault: TooLong\n"))
 
@@ -148,23 +149,23 @@ class BothVersions(unittest.TestCase):
                 self.assertEqual(read_until_reset(stream, 1), b"")
 
     def test_by_send(self):
-        """Each under its own number, where one before it has it too."""
+        """Sends each line under its own number; some numbers come twice."""
         with Serve(len(ROWS)) as service:
             for (line, _, _, printed), (request, _) in zip(ROWS, FRAMES):
                 number = HEADER.unpack_from(request)[3]
-                told = send(service.port, 1, line.encode("ascii"), first=number)
-                self.assertEqual(told, (0, printed.encode("ascii") + b"\n", ""), line)
+                ended = send(service.port, 1, line.encode("ascii"), first=number)
+                self.assertEqual(ended, (0, printed.encode("ascii") + b"\n", ""), line)
 
     def test_bad_lines_of_send(self):
         """They take no number, and nothing is sent for them."""
         lines = b"".join(line + b"\n" for line in BAD_LINES)
         with Serve() as service:
-            told = send(service.port, 1, lines + b"v2 create 65536 0 none\n" + lines + b"create 65536 0\n")
+            ended = send(service.port, 1, lines + b"v2 create 65536 0 none\n" + lines + b"create 65536 0\n")
         bad = b"bad line\n" * len(BAD_LINES)
-        self.assertEqual(told, (5, bad + b"made 1\n" + bad + b"made 2\n", ""))
+        self.assertEqual(ended, (5, bad + b"made 1\n" + bad + b"made 2\n", ""))
 
-    def test_what_send_sends(self):
-        """In the version that the line names, and under the next number in any."""
+    def test_frames_of_send(self):
+        """`send` sends the version that the line names. Both versions share the numbers."""
         for version, line, body in (
             (1, b"create 65536 0", b"\0\1\0\0\0"),
             (2, b"v2 create 65536 0 none", b"\0\1\0\0\0\0"),
@@ -174,7 +175,7 @@ class BothVersions(unittest.TestCase):
             with self.subTest(line=line):
                 service = FakeService(lambda *of: in_version(version, made(*of)), version=version)
                 self.assertEqual(send(service.port, 7, b"hello\n" + line + b"\n"), (5, b"bad line\nmade 1\n", ""))
-                self.assertEqual(service.heard, [(1, 7, 1, body)])
+                self.assertEqual(service.received, [(1, 7, 1, body)])
 
 
 if __name__ == "__main__":

@@ -1,13 +1,14 @@
-"""The stored cases of `script` (../cases) once more as frames through `run`: each reply is, byte for byte, the frame of the
-reply that is stored as a line. So neither a request nor a reply of version 1 changes its bytes. And the cases of version
-1 as frames of version 2, of which the model says what is due."""
+"""The stored cases of `script` (../cases) as frames through `run`. Each reply has to be the frame of the stored
+line, byte for byte, so that no request or reply of version 1 changes its bytes. The cases of version 1 are sent as
+frames of version 2 too, and compared with the model."""
 
 import os
 import unittest
 
-from frames import SAMPLE, answer, reply_of
-from harness import frame, in_version, run
+from lib.frames import frame, in_version
+from lib.program import SAMPLE, run
 from lines import KINDS, BadLine, lines_of, request_of
+from model_frames import answer, reply_of
 from registry import Registry
 from service import Service
 
@@ -15,7 +16,7 @@ CASES = os.path.join(os.path.dirname(os.path.abspath(__file__)), "..", "cases")
 
 
 def stored(case, name):
-    """The bytes of a file of a case, or None where it has none."""
+    """Reads a file of a case, or returns None where the case has no such file."""
     path = os.path.join(CASES, case, name)
     if not os.path.isfile(path):
         return None
@@ -24,7 +25,7 @@ def stored(case, name):
 
 
 def printed_replies(text):
-    """Stored output cut into replies: a part has its bytes behind its line."""
+    """Cuts stored output into replies. The bytes of a part follow its line."""
     while text:
         line, _, rest = text.partition(b"\n")
         count = int(line.split(b" ")[3]) if line.startswith(b"part ") else 0
@@ -33,7 +34,7 @@ def printed_replies(text):
 
 
 def requests_of(lines):
-    """What each line asks for, or None of a bad line."""
+    """Reads the request of each line, or None of a bad line."""
     for line in lines_of(lines):
         try:
             yield request_of(line)
@@ -42,21 +43,21 @@ def requests_of(lines):
 
 
 def frames_of(case):
-    """The frames of a case's requests, and those of its replies."""
-    asked, due = b"", b""
+    """Returns the frames of a case's requests, and those of its replies."""
+    sent, due = b"", b""
     for request, printed in zip(requests_of(stored(case, "in")), printed_replies(stored(case, "out")), strict=True):
         if request is None:
             assert printed == b"bad line\n", printed
             continue
         ends, version = (request["client"], request["number"]), request["version"]
-        asked += frame(KINDS[request["kind"]], *ends, request["body"], version)
+        sent += frame(KINDS[request["kind"]], *ends, request["body"], version)
         kind, body = reply_of(printed, version)
         due += frame(kind, *ends, body, version)
-    return asked, due
+    return sent, due
 
 
 def cases_of_scripts():
-    """The cases of `script` whose input and output are stored, and the options of each."""
+    """Lists the cases of `script` whose input and output are stored, each with its options."""
     for case in sorted(os.listdir(CASES)):
         command, *options = (stored(case, "args") or b"").decode("utf-8", "replace").split() or [None]
         if command == "script" and stored(case, "in") and stored(case, "out"):
@@ -68,7 +69,7 @@ def is_in_version_1(case):
 
 
 def service_of(options):
-    """A service of the model with the registry of a case."""
+    """Makes a service of the model with the registry of a case."""
     with open(options[1] if options else SAMPLE, "rb") as file:
         return Service(Registry(file.read()))
 
@@ -81,19 +82,19 @@ class CasesAsFrames(unittest.TestCase):
         self.assertGreater(sum(is_in_version_1(case) for case, _ in self.cases), 35)
         for case, options in self.cases:
             with self.subTest(case):
-                asked, due = frames_of(case)
-                self.assertEqual(run(["run", *options], asked), (0, due, ""))
+                sent, due = frames_of(case)
+                self.assertEqual(run(["run", *options], sent), (0, due, ""))
 
     def test_those_of_version_1_in_version_2(self):
-        """Most replies are the same: another limit of the size of pieces alone makes a difference."""
+        """Most replies are the same. Only the limit of the size of pieces differs."""
         same = 0
         for case, options in self.cases:
             if is_in_version_1(case):
                 with self.subTest(case):
-                    asked, due = (in_version(2, frames) for frames in frames_of(case))
-                    written, _ = answer(service_of(options), asked)
+                    sent, due = (in_version(2, frames) for frames in frames_of(case))
+                    written, _ = answer(service_of(options), sent)
                     same += written == due
-                    self.assertEqual(run(["run", *options], asked), (0, written, ""))
+                    self.assertEqual(run(["run", *options], sent), (0, written, ""))
         self.assertGreater(same, 35)
 
 

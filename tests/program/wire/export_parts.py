@@ -1,17 +1,17 @@
-"""The text of an export in parts, whatever comes between them: each part is one of the text that the profile has by then
-(docs/FORMATS.md). What is due is the model's, which makes the whole text for each."""
+"""The parts of an export, whatever comes between them. Each part belongs to the text that the profile has at that
+moment (docs/SERVICE.md). The model, which makes the whole text for each part, says what is due."""
 
 import unittest
 from struct import pack
 
-from frames import reply_to, service_of_the_sample
-from harness import frame, run
+from lib.frames import ABANDON, ADD_FILE, ADD_FOLDER, CREATE_PROFILE, EXPORT, FINISH, PART, PIECE, STATUS
+from lib.frames import export_body, file_body, folder_body, frame, node_body, piece_body, profile_body
+from lib.program import run
+from model_frames import reply_to, service_of_the_sample
 
-CREATE, FOLDER, FILE, PIECE, FINISH, ABANDON, STATUS, EXPORT = range(1, 9)
-PART, REFUSED = 135, 136
 ALL, ANY = 1, 0
 
-# criteria as bodies have them; each pair is met by other records, or tells other things by the same bytes
+# criteria as bodies have them; those of a pair match other records, or mean other things by the same bytes
 FOLDERS, FILES = b"\7\1", b"\7\0"
 AT_LEAST, AT_MOST = (bytes([tag]) + pack(">Q", 3) for tag in (5, 6))
 EXTENSIONS = b"\3\2\1a\1b"
@@ -40,20 +40,16 @@ FILTERS = [
     (ALL, [b"\4\1"]),
 ]
 
-# how long parts are, and how many folders of the longest names the profile has
+# the length of parts, and the number of folders with the longest names in the profile
 SIZES = [(1, 0), (7, 0), (1_000, 4), (1_048_576, 1_300)]
 
 
-def numbers(*values):
-    return pack(f">{len(values)}I", *values)
-
-
 def export(profile, start, size, every, criteria):
-    return numbers(profile) + pack(">QIBB", start, size, every, len(criteria)) + b"".join(criteria)
+    return export_body(start, size, bytes([every, len(criteria)]) + b"".join(criteria), profile)
 
 
 class Session:
-    """Requests in order, with the model's replies to them."""
+    """Requests in order, with the model's replies."""
 
     def __init__(self):
         self.service = service_of_the_sample()
@@ -61,11 +57,11 @@ class Session:
         self.last = None
 
     def ask(self, kind, body):
-        """Asks it under a number of its own, and gives the kind and the body of the model's reply."""
+        """Adds a request under a new number, and returns the kind and the body of the model's reply."""
         return self.send((kind, 1, len(self.requests) + 1, body))
 
     def command(self, kind, body):
-        """The same of a command, which can be repeated."""
+        """Adds a command, which can be repeated."""
         self.last = kind, 1, len(self.requests) + 1, body
         return self.send(self.last)
 
@@ -75,30 +71,30 @@ class Session:
         return self.replies[-1][1], self.replies[-1][18:]
 
     def folder(self, profile, name):
-        return self.command(FOLDER, numbers(profile, 0) + bytes(8) + name)
+        return self.command(ADD_FOLDER, folder_body(name, profile=profile))
 
     def file(self, profile, name, content, piece_size=2):
-        """A file with these bytes, which is finished, and its number."""
-        _, told = self.command(FILE, numbers(profile, 0) + bytes(8) + pack(">QI", len(content), piece_size) + name)
-        number = int.from_bytes(told, "big")
+        """Adds a finished file with these bytes, and returns its number."""
+        _, body = self.command(ADD_FILE, file_body(name, len(content), piece_size, profile=profile))
+        number = int.from_bytes(body, "big")
         for index, start in enumerate(range(0, len(content), piece_size)):
-            self.command(PIECE, numbers(profile, number, index) + content[start : start + piece_size])
-        self.command(FINISH, numbers(profile, number))
+            self.command(PIECE, piece_body(number, index, content[start : start + piece_size], profile))
+        self.command(FINISH, node_body(number, profile))
         return number
 
     def unfinished(self, profile, name):
-        """A file of two bytes, none of which is there, and its number."""
-        _, told = self.command(FILE, numbers(profile, 0) + bytes(8) + pack(">QI", 2, 1) + name)
-        return int.from_bytes(told, "big")
+        """Adds a file of two pieces, neither of which is sent, and returns its number."""
+        _, body = self.command(ADD_FILE, file_body(name, 2, 1, profile=profile))
+        return int.from_bytes(body, "big")
 
     def part(self, profile, start, size, every, criteria):
-        """Asks for a part, and gives the length of the whole text."""
-        kind, told = self.ask(EXPORT, export(profile, start, size, every, criteria))
+        """Asks for a part, and returns the length of the whole text."""
+        kind, body = self.ask(EXPORT, export(profile, start, size, every, criteria))
         assert kind == PART, kind
-        return int.from_bytes(told[8:16], "big")
+        return int.from_bytes(body[8:16], "big")
 
     def text(self, profile, size, every, criteria, between=None):
-        """Asks for the whole text in parts. What comes between is done after each of the first three, and after these only
+        """Asks for the whole text in parts. `between` is called after each of the first three; after these only
         the last three are asked for."""
         start, done, total = 0, 0, 1
         while start < total:
@@ -113,10 +109,10 @@ class Session:
 
 
 def session_of(folders):
-    """Two profiles with the same nodes, and so many folders more in the first."""
+    """Makes two profiles with the same nodes, and this many folders more in the first."""
     session = Session()
     for profile in (1, 2):
-        session.command(CREATE, numbers(65_536) + b"\0")
+        session.command(CREATE_PROFILE, profile_body())
         session.folder(profile, b"in")
         session.file(profile, b"x.a", b"12345")
         session.file(profile, b"y.B", b"1")
@@ -126,7 +122,7 @@ def session_of(folders):
 
 
 def ways_between(session, size):
-    """What may come between two parts of the first profile's text by the first filter, by what it is."""
+    """Returns, by name, what may come between two parts of the first profile's text by the first filter."""
     every, criteria = FILTERS[0]
     open_file = session.unfinished(1, b"open")
     ways = {
@@ -135,13 +131,13 @@ def ways_between(session, size):
         "a folder in another profile": lambda name: session.folder(2, name),
         "a file in it": lambda name: session.file(1, name, b"12"),
         "an unfinished file in it": lambda name: session.unfinished(1, name),
-        "a piece of an unfinished file": lambda name: session.command(PIECE, numbers(1, open_file, int(name) % 2) + b"1"),
-        "its end": lambda name: session.command(FINISH, numbers(1, open_file)),
-        "a file that is given up": lambda name: session.command(ABANDON, numbers(1, session.unfinished(1, name))),
-        "a profile": lambda name: session.command(CREATE, numbers(65_536) + b"\1"),
+        "a piece of an unfinished file": lambda name: session.command(PIECE, piece_body(open_file, int(name) % 2, b"1")),
+        "its end": lambda name: session.command(FINISH, node_body(open_file)),
+        "an abandoned file": lambda name: session.command(ABANDON, node_body(session.unfinished(1, name))),
+        "a profile": lambda name: session.command(CREATE_PROFILE, profile_body(match_all=1)),
         "a folder that is refused": lambda name: session.folder(1, b"in"),
         "a command that is repeated": lambda name: session.send(session.last),
-        "how far a file is": lambda name: session.ask(STATUS, numbers(1, 2)),
+        "a status": lambda name: session.ask(STATUS, node_body(2)),
         "no request": lambda name: session.ask(9, name),
         "a part that is too large": lambda name: session.ask(EXPORT, export(1, 0, 1_048_577, every, criteria)),
         "no such profile": lambda name: session.ask(EXPORT, export(999, 0, size, every, criteria)),
@@ -160,13 +156,13 @@ class ExportParts(unittest.TestCase):
     maxDiff = 500
 
     def check(self, session):
-        """What the program replies to all is what the model does."""
+        """Compares the program's replies with the model's."""
         status, out, err = run(["run"], b"".join(session.requests))
         self.assertEqual((status, err), (0, ""))
         start = 0
         for request, reply in zip(session.requests, session.replies):
-            told = out[start : start + len(reply)]
-            self.assertTrue(told == reply, (request[:64], told[:64], reply[:64]))
+            found = out[start : start + len(reply)]
+            self.assertTrue(found == reply, (request[:64], found[:64], reply[:64]))
             start += len(reply)
         self.assertEqual(len(out), start)
 
@@ -180,7 +176,7 @@ class ExportParts(unittest.TestCase):
                 self.check(session)
 
     def test_each_filter_after_each(self):
-        """Each is asked for after each, in the same profile and in the one with the same nodes."""
+        """Asks for each filter after each, in the same profile and in the one with the same nodes."""
         session = session_of(0)
         for every, criteria in FILTERS:
             for other in FILTERS:

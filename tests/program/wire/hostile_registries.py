@@ -1,13 +1,12 @@
-"""The sample registry with each of its bytes replaced, and each front of it: the program says what the model (../model)
-says, a fault or what some files are by it."""
+"""The sample registry with each of its bytes replaced, and each front of it. The program has to agree with the model
+(../model): the same fault, or the same formats of some files."""
 
 import os
 import tempfile
 import unittest
 from concurrent.futures import ThreadPoolExecutor
 
-from frames import SAMPLE
-from harness import run
+from lib.program import SAMPLE, run
 from lines import request_of
 from registry import Registry, RegistryFault
 from service import Service
@@ -21,7 +20,7 @@ CONTENTS += [(b"d.msg", b"plain"), (b"e.TXT", b""), (b"f.let", b"c...e"), (b"g",
 
 
 def requests():
-    """A profile, and each of the files whole."""
+    """Yields the lines that make a profile with each of the files whole."""
     yield b"1 1 create 65536 1"
     for node, (name, content) in enumerate(CONTENTS, 1):
         yield b"1 %d file 1 0 0 %d 65536 %s" % (10 * node, len(content), name)
@@ -35,7 +34,7 @@ SCRIPT = b"\n".join(LINES)
 
 
 def due(text):
-    """How the model ends over this registry, what it writes and what it says."""
+    """Returns how the model ends over this registry: its status, its output and its standard error."""
     try:
         service = Service(Registry(text))
     except RegistryFault as fault:
@@ -52,21 +51,21 @@ def hostile_texts():
 
 
 class HostileRegistries(unittest.TestCase):
-    def test_the_sample_is_told_apart(self):
-        """So the script shows which registry it was: it meets each of the formats."""
-        told = due(TEXT)[1]
+    def test_the_script_meets_each_format(self):
+        """So its output depends on the registry."""
+        printed = due(TEXT)[1]
         for puid in (b"dev/1", b"dev/2", b"dev/3", b"dev/4"):
-            self.assertIn(b" " + puid + b"\n", told)
+            self.assertIn(b" " + puid + b"\n", printed)
 
     def test_each_byte_replaced_and_each_front(self):
         texts = list(hostile_texts())
         with tempfile.TemporaryDirectory() as folder, ThreadPoolExecutor(os.cpu_count()) as pool:
-            wrong = [text for text, is_so in zip(texts, pool.map(self.is_so, self.paths(folder, texts), texts)) if not is_so]
+            wrong = [text for text, is_right in zip(texts, pool.map(self.is_right, self.paths(folder, texts), texts)) if not is_right]
         self.assertEqual(wrong, [])
 
     @staticmethod
     def paths(folder, texts):
-        """The path of a file for each of them."""
+        """Writes each text to a file, and yields its path."""
         for number, text in enumerate(texts):
             path = os.path.join(folder, f"{number}.csv")
             with open(path, "wb") as file:
@@ -74,7 +73,7 @@ class HostileRegistries(unittest.TestCase):
             yield path
 
     @staticmethod
-    def is_so(path, text):
+    def is_right(path, text):
         return run(["script", "--registry", path], SCRIPT) == due(text)
 
 

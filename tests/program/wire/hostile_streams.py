@@ -1,5 +1,5 @@
-"""A hostile client: after each of its connections the next one is served as if nothing had been, or, where it asked for
-something, as the model says (frames.py)."""
+"""A hostile client. After each of its connections the service answers the next one as the model does
+(model_frames.py)."""
 
 import fcntl
 import itertools
@@ -13,28 +13,30 @@ import time
 import unittest
 from random import Random
 
-from frames import answer, frames_of, service_of_the_sample
-from harness import LIMITS, PROGRAM, SECONDS, Serve, connect, frame, free_port, in_version
-from harness import read_exactly, read_until_reset, run
+from lib import connections
+from lib.connections import SECONDS, connect, free_port, read_exactly, reset
+from lib.frames import ABANDON, ADD_FILE, EXPORT, LIMITS, STATUS
+from lib.frames import create, export, export_body, file_body, folder, frame, in_version, node_body
+from lib.processes import processor_seconds
+from lib.program import PROGRAM, Serve, run
+from lib.session import deposit_frames
+from model_frames import answer, frames_of, service_of_the_sample
 from run_command import REQUESTS
-from serve_command import send_until_reset
-from two_senders import deposit_frames, numbers
-from waiting import processor_seconds
 
 FLOOD = 1 << 20
 FRAMES = 1_000
 ALL_OF_IT = 1 << 26
-# of the profiles that a service takes there are at most so many streams that make two
+# a service takes 64 profiles, and each stream makes two
 STREAMS = 30
 
 
 def session(client=1, profile=1, version=1):
-    """A request of each kind, of each of which a reply comes, in a version."""
+    """Returns a request of each kind in a version. Each gets a reply."""
     more = [
-        (3, numbers(profile, 0) + bytes(8) + (3).to_bytes(8, "big") + numbers(2) + b"b"),
-        (6, numbers(profile, 3)),
-        (7, numbers(profile, 2)),
-        (8, numbers(profile) + bytes(8) + numbers(1 << 20) + b"\1\2\1\1\3\1\3abc"),
+        (ADD_FILE, file_body(b"b", 3, 2, profile=profile)),
+        (ABANDON, node_body(3, profile)),
+        (STATUS, node_body(2, profile)),
+        (EXPORT, export_body(criteria=b"\1\2\1\1\3\1\3abc", profile=profile)),
     ]
     requests = deposit_frames(client, profile) + [frame(kind, client, 7 + at, body) for at, (kind, body) in enumerate(more)]
     return [in_version(version, request) for request in requests]
@@ -52,14 +54,12 @@ def in_parts(rows, size=STREAMS):
 
 
 def exchange(port, sent):
-    """What comes back for these bytes, which may be more than are read."""
-    with connect(port) as stream:
-        send_until_reset(stream, sent)
-        return read_until_reset(stream, ALL_OF_IT)
+    """Sends these bytes, and returns all that comes back. The service need not read all of them."""
+    return connections.exchange(port, sent, ALL_OF_IT)
 
 
 def byte_by_byte(port, sent):
-    """A connection on which each of these bytes was sent alone."""
+    """Sends each of these bytes alone, and returns the connection."""
     stream = connect(port)
     stream.setsockopt(socket.IPPROTO_TCP, socket.TCP_NODELAY, 1)
     for at in range(len(sent)):
@@ -68,21 +68,15 @@ def byte_by_byte(port, sent):
 
 
 def end_writing(stream):
-    """What comes back when no more is sent."""
+    """Ends the sending, and returns what comes back."""
     with stream:
         stream.shutdown(socket.SHUT_WR)
         return read_exactly(stream, ALL_OF_IT)
 
 
-def reset(stream):
-    """Closes at once: the other end has nothing more to read, and can't write."""
-    stream.setsockopt(socket.SOL_SOCKET, socket.SO_LINGER, struct.pack("ii", 1, 0))
-    stream.close()
-
-
 class ChangedBytes(unittest.TestCase):
-    """A session with a byte twice, without one, or with a bit turned. The model says what is answered, and how the stream
-    ends; and what the session is answered that comes whole on the next connection."""
+    """A session with a byte twice, without a byte, or with a bit turned, and then the whole session. The model
+    says what both are answered, and how the stream ends."""
 
     CHANGES = [
         lambda front, byte, rest: front + bytes([byte, byte]) + rest,
@@ -98,7 +92,7 @@ class ChangedBytes(unittest.TestCase):
         return self.CHANGES[change](whole[:place], whole[place], whole[place + 1 :])
 
     def test_through_run(self):
-        """The whole session follows in the same stream, where the changed one ends between frames."""
+        """The whole session follows in the same stream."""
         for row in self.ROWS[::7]:
             sent = self.changed(row, 1, 1) + whole_session(1, 1, row[0])
             written, fault = answer(service_of_the_sample(), sent)
@@ -116,8 +110,8 @@ class ChangedBytes(unittest.TestCase):
 
 
 class OtherVersions(unittest.TestCase):
-    """A session with one frame's version turned into the other, and then as a whole in each version: the model says what is
-    answered. What was kept in one version is another request in the other."""
+    """A session with one frame in the other version, and then the whole session in each version. The model says what is
+    answered: a request that was kept in one version is another request in the other."""
 
     def test_each_frame(self):
         for version in LIMITS:
@@ -130,8 +124,8 @@ class OtherVersions(unittest.TestCase):
 
 
 class CutSessions(unittest.TestCase):
-    """Sent byte by byte, and closed after each byte of each frame. Of the session that comes whole on the next connection
-    nobody can tell that it came before: its replies are those of a service that had it alone."""
+    """A session is sent byte by byte, and the connection is closed after each byte of each frame. The whole
+    session on the next connection gets the replies of a service that had nothing before."""
 
     def each_cut(self, end):
         for version in LIMITS:
@@ -152,7 +146,7 @@ class CutSessions(unittest.TestCase):
                 self.assertEqual(exchange(service.port, whole), b"".join(replies), size)
 
     def test_no_more_is_sent(self):
-        """The frames that came whole are answered."""
+        """The whole frames are answered."""
         self.each_cut(end_writing)
 
     def test_closed_at_once(self):
@@ -161,7 +155,7 @@ class CutSessions(unittest.TestCase):
 
 class SlowClients(unittest.TestCase):
     def test_byte_by_byte(self):
-        """Each reply comes with the last byte of its frame, and not before."""
+        """Each reply comes after the last byte of its frame, and not before."""
         for version in LIMITS:
             model = service_of_the_sample()
             whole = whole_session(1, 1, version)
@@ -178,16 +172,17 @@ class SlowClients(unittest.TestCase):
 
 
 class UnreadReplies(unittest.TestCase):
-    """A client asks and never reads. It is waited for, without work, and when it has gone the next one is served."""
+    """A client sends requests and never reads. The service waits for it without using a processor, and serves the next
+    client when this one has gone."""
 
-    FOLDERS = [frame(2, 9, 2 + at, numbers(1, 0) + bytes(8) + b"%0255d" % at) for at in range(400)]
-    EXPORT = frame(8, 9, 1_000, numbers(1) + bytes(8) + numbers(1 << 20) + b"\1\0")
+    FOLDERS = [folder(2 + at, b"%0255d" % at, client=9) for at in range(400)]
+    EXPORT = export(1_000, client=9)
     ASKED = 200
 
     def test_until_it_has_gone(self):
         for version, end in itertools.product(LIMITS, (socket.socket.close, reset)):
             model = service_of_the_sample()
-            front = in_version(version, b"".join([frame(1, 9, 1, numbers(65_536) + b"\0"), *self.FOLDERS]))
+            front = in_version(version, b"".join([create(1, client=9), *self.FOLDERS]))
             answer(model, front)
             whole = whole_session(1, 2, version)
             with self.subTest(version=version, end=end.__name__), Serve(2) as service:
@@ -203,7 +198,7 @@ class UnreadReplies(unittest.TestCase):
                     self.assertEqual(read_exactly(after, ALL_OF_IT), answer(model, whole)[0])
 
     def is_waited_for(self, service, stream):
-        """Some replies came, then no more do while no processor is used, and these are not all."""
+        """Some replies come, but not all; then no more come and no processor is used."""
         found, before = (0, 0), None
         for _ in range(2 * SECONDS):
             if found == before and found[0]:
@@ -218,12 +213,13 @@ class UnreadReplies(unittest.TestCase):
         return struct.unpack("i", fcntl.ioctl(stream, termios.FIONREAD, bytes(4)))[0]
 
 
-def of_chance(seed):
+def random_bytes(seed):
     return Random(seed).randbytes(FLOOD)
 
 
-def frames_of_chance(seed, versions=(1,)):
-    """The frames of sessions in these versions in any order, some with other kinds and bytes, of a few clients and numbers."""
+def random_frames(seed, versions=(1,)):
+    """Returns frames of sessions in these versions in random order, some with other kinds and bytes, of a few
+    clients and numbers."""
     random = Random(seed)
     requests = frames_of(b"".join(whole_session(1, 1, version) for version in versions))[0]
     sent = []
@@ -239,15 +235,15 @@ def frames_of_chance(seed, versions=(1,)):
 
 
 class Floods(unittest.TestCase):
-    """2^20 bytes of one kind, or of chance; or a thousand frames of chance. What lies in them is answered, and the next
+    """2^20 equal or random bytes, or a thousand random frames. The frames in them are answered, and the next
     connection is served."""
 
     STREAMS = [bytes(FLOOD), b"\xff" * FLOOD]
     STREAMS += [bytes([version]) * FLOOD for version in LIMITS]
-    STREAMS += [of_chance(seed) for seed in range(3)]
-    STREAMS += [bytes([version]) + of_chance(seed) for version in LIMITS for seed in range(3)]
-    STREAMS += [frames_of_chance(seed) for seed in range(3)]
-    STREAMS += [frames_of_chance(seed, LIMITS) for seed in range(3, 6)]
+    STREAMS += [random_bytes(seed) for seed in range(3)]
+    STREAMS += [bytes([version]) + random_bytes(seed) for version in LIMITS for seed in range(3)]
+    STREAMS += [random_frames(seed) for seed in range(3)]
+    STREAMS += [random_frames(seed, LIMITS) for seed in range(3, 6)]
 
     def test_through_run(self):
         for sent in self.STREAMS:
@@ -265,7 +261,7 @@ class Floods(unittest.TestCase):
 
 
 class ClosedOutput(unittest.TestCase):
-    def test_nobody_reads_it_any_more(self):
+    def test_nobody_reads_it(self):
         near, far = os.pipe()
         os.close(near)
         try:
@@ -275,7 +271,7 @@ class ClosedOutput(unittest.TestCase):
         self.assertEqual((status, said), (4, "fault: Write\n"))
 
     def test_there_is_none(self):
-        """What is opened next gets its number, the port of `serve`, and nothing is written into that."""
+        """The next file that is opened gets its number, as the port of `serve`. Nothing is written into that."""
         for words in (["run"], ["script"], ["serve", "--port", str(free_port())]):
             with self.subTest(words=words):
                 closing = ["sh", "-c", 'exec "$@" >&-', "sh", PROGRAM, *words]

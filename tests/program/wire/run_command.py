@@ -1,5 +1,5 @@
-"""`run`: frames on standard input, reply frames on standard output, and how it ends. And the command line of all
-commands on streams."""
+"""`run`: frames on standard input, reply frames on standard output, and its end. And the command lines of `run`,
+`serve` and `send`."""
 
 import os
 import socket
@@ -7,16 +7,17 @@ import subprocess
 import tempfile
 import unittest
 
-from harness import HEADER, LIMITS, PROGRAM, SECONDS, frame, free_port, in_version, run
+from lib import frames
+from lib.connections import SECONDS, free_port
+from lib.frames import HEADER, LIMITS, create, file, finish, folder, frame, in_version, refusal, reply
+from lib.program import PROGRAM, run
 
-CREATE = frame(1, 1, 1, b"\0\1\0\0\0")
-FOLDER = frame(2, 1, 2, b"\0\0\0\1" + bytes(12) + b"in")
-OTHER_FOLDER = frame(2, 1, 2, b"\0\0\0\1" + bytes(12) + b"out")
-MADE = frame(129, 1, 1, b"\0\0\0\1")
-NODE = frame(130, 1, 2, b"\0\0\0\1")
-NUMBER_REUSED = frame(136, 1, 2, b"\2")
+CREATE = create(1)
+FOLDER, OTHER_FOLDER = folder(2, b"in"), folder(2, b"out")
+MADE, NODE = reply(frames.MADE, 1, 1), reply(frames.NODE, 2, 1)
+NUMBER_REUSED = refusal(2, 2)
 SHORT_FINISH = frame(5, 1, 9, b"\0\0\0\1\0\0\0")
-MALFORMED = frame(136, 1, 9, b"\1")
+MALFORMED = refusal(9, 1)
 
 # the stored session: each request, and its reply
 SESSION = [(CREATE, MADE), (FOLDER, NODE), (FOLDER, NODE), (OTHER_FOLDER, NUMBER_REUSED)]
@@ -30,7 +31,7 @@ MOST_FRAMES = 1_000_000
 
 
 def session_in(version):
-    """The stored session's requests in a version, and its replies."""
+    """Returns the stored session's requests in a version, and its replies."""
     return in_version(version, REQUESTS), in_version(version, REPLIES)
 
 
@@ -57,8 +58,8 @@ class Run(unittest.TestCase):
                     status, said = (0, "") if size in ENDS[version] else (4, fault("Truncated"))
                     self.assertEqual(run(["run"], requests[:size]), (status, replies[: REPLIED[whole]], said))
 
-    def test_what_is_no_frame(self):
-        """With all frames before it answered."""
+    def test_bytes_that_are_no_frame(self):
+        """All frames before them are answered."""
         fronts = [(CREATE, MADE), (SHORT_FINISH + CREATE, MALFORMED + MADE)]
         rows = [
             (CREATE[:17], "Truncated"),
@@ -117,7 +118,7 @@ class Run(unittest.TestCase):
 
 
 class Registries(unittest.TestCase):
-    """A registry at fault is told before anything of the stream or the port."""
+    """A fault of the registry is reported before any fault of the stream or the port."""
 
     def test_of_run_and_serve(self):
         with tempfile.TemporaryDirectory() as folder, socket.socket() as taken:
@@ -130,25 +131,24 @@ class Registries(unittest.TestCase):
             for command in (["run"], ["serve", "--port", taken.getsockname()[1]]):
                 for path, name in ((bad, "BadRecord at 2"), (missing, "Read"), (folder, "Read")):
                     with self.subTest(command=command, name=name):
-                        told = run([*command, "--registry", path], b"no frame")
-                        self.assertEqual(told, (3, b"", fault(name)))
+                        ended = run([*command, "--registry", path], b"no frame")
+                        self.assertEqual(ended, (3, b"", fault(name)))
 
     def test_files_are_identified_by_it(self):
-        add = frame(3, 1, 2, b"\0\0\0\1" + bytes(20) + b"\0\0\0\4" + b"e.txt")
-        finish = frame(5, 1, 3, b"\0\0\0\1\0\0\0\1")
+        requests = CREATE + file(2, b"e.txt", 0, 4) + finish(3, 1)
         md5 = bytes.fromhex("d41d8cd98f00b204e9800998ecf8427e")
         by_sample = frame(132, 1, 3, b"\2\0" + md5 + b"\0\1\5dev/4")
         by_none = frame(132, 1, 3, b"\0\0" + md5 + b"\0\0")
         for options, reply in (([], by_sample), (["--registry", "/dev/null"], by_none)):
             with self.subTest(options=options):
-                status, written, said = run(["run", *options], CREATE + add + finish)
+                status, written, said = run(["run", *options], requests)
                 self.assertEqual((status, said), (0, ""))
                 self.assertEqual(written[44:], reply)
 
 
 class CommandLine(unittest.TestCase):
     def wrong(self, *words):
-        """The words are no command line: nothing is read, listened on or connected to, and nothing written."""
+        """Checks that the words are no command line: the program ends before it reads, listens, connects or writes."""
         with self.subTest(words=words):
             status, out, said = run(words)
             self.assertEqual((status, out), (2, b""))
@@ -177,7 +177,7 @@ class CommandLine(unittest.TestCase):
         self.wrong("send", "--port", free_port(), "--client", "1", "--registry", "/dev/null")
 
     def test_last_values_are_taken(self):
-        """Nobody listens there, so `send` gets as far as its connection."""
+        """`send` accepts them: it ends at its connection, since nobody listens there."""
         no_connection = (4, b"", fault("Socket"))
         for client in ("0", "4294967295"):
             self.assertEqual(run(["send", "--port", free_port(), "--client", client]), no_connection)

@@ -1,25 +1,28 @@
-"""How `send` ends: its faults, in front of a service that is not there, closes, or answers what it should not."""
+"""The faults of `send`: its service isn't there, closes the connection, or sends a wrong reply."""
 
 import struct
 import subprocess
 import threading
 import unittest
 
-from harness import HEADER, LIMITS, PROGRAM, SECONDS, Serve, frame, free_port, in_version, lines_in_version, listen
-from harness import read_frame, run, send
+from lib import frames
+from lib.connections import SECONDS, free_port, listen, read_frame
+from lib.frames import ADD_FOLDER, CREATE_PROFILE, EXPORT, HEADER, LIMITS
+from lib.frames import export_body, folder_body, frame, in_version, lines_in_version, profile_body, refusal, reply
+from lib.program import PROGRAM, Serve, run, send
 
 CREATE = b"create 65536 0\n"
 FOLDER = b"folder 1 0 0 in\n"
 
-# what client 7 sends for these lines, as kinds, clients, numbers and bodies
-CREATED = (1, 7, 1, b"\0\1\0\0\0")
-CREATED_AGAIN = (1, 7, 2, b"\0\1\0\0\0")
-ADDED = (2, 7, 2, b"\0\0\0\1" + bytes(12) + b"in")
+# the frames that client 7 sends for these lines: kinds, clients, numbers and bodies
+CREATED = (CREATE_PROFILE, 7, 1, profile_body())
+CREATED_AGAIN = (CREATE_PROFILE, 7, 2, profile_body())
+ADDED = (ADD_FOLDER, 7, 2, folder_body(b"in"))
 
 
 class FakeService(threading.Thread):
-    """Takes one connection, and answers each frame, of this version, by what the next of `answers` makes of its client and
-    number. Then it closes, or waits until the other end has."""
+    """Accepts one connection, and answers each frame, of this version, by the next of `answers`, a function of the
+    client and the number. Then it closes, or waits until the other end closes."""
 
     def __init__(self, *answers, closes=False, version=1):
         super().__init__(daemon=True)
@@ -28,7 +31,7 @@ class FakeService(threading.Thread):
         self.answers = answers
         self.closes = closes
         self.version = version
-        self.heard = []
+        self.received = []
         self.start()
 
     def run(self):
@@ -36,34 +39,34 @@ class FakeService(threading.Thread):
         with self.listener, stream:
             stream.settimeout(SECONDS)
             for answer in self.answers:
-                self.heard.append(read_frame(stream, self.version))
-                _, client, number, _ = self.heard[-1]
+                self.received.append(read_frame(stream, self.version))
+                _, client, number, _ = self.received[-1]
                 stream.sendall(answer(client, number))
             if not self.closes:
                 stream.recv(1)
 
 
 def made(client, number):
-    return frame(129, client, number, b"\0\0\0\1")
+    return reply(frames.MADE, number, 1, client=client)
 
 
 def node(client, number):
-    return frame(130, client, number, b"\0\0\0\1")
+    return reply(frames.NODE, number, 1, client=client)
 
 
 def part(client, number):
-    return frame(135, client, number, struct.pack(">QQ", 2, 296) + b'"ID"')
+    return frame(frames.PART, client, number, struct.pack(">QQ", 2, 296) + b'"ID"')
 
 
 def refused(client, number):
-    return frame(136, client, number, b"\x12")
+    return refusal(number, 18, client=client)
 
 
 def nothing(client, number):
     return b""
 
 
-# in a version, ends of files that have a spelling in the other one alone; and a hash that there isn't, and one cut short
+# bodies of Finished that are malformed in a version: those of the other version, an unknown hash, and a hash cut short
 NO_FINISHED = {
     1: [b"\0\0\0\0\0", b"\0\0\1" + bytes(16) + b"\0\0"],
     2: [b"\0\0" + bytes(16) + b"\0\0", b"\0\0\3\0\0", b"\0\0\2" + bytes(31) + b"\0\0"],
@@ -71,49 +74,49 @@ NO_FINISHED = {
 
 
 def sent_in(version, request):
-    """What is sent for the line of a version that asks for the same."""
+    """Translates a request to a version."""
     kind, client, number, _ = request
     return kind, client, number, in_version(version, frame(*request))[HEADER.size :]
 
 
-def told_in_the_other(version, reply):
-    """This reply in the version that its request didn't come in."""
+def in_the_other_version(version, reply):
+    """Translates a reply to the version that its request is not of."""
     return in_version(3 - version, reply)
 
 
 def rows_of_faults(version):
-    """What comes in the place of the replies to lines of a version, and the fault of the last of them."""
+    """Returns rows of what comes in the place of replies in a version, and the fault of the last of them."""
 
-    def reply(kind, client, number, body):
+    def reply_frame(kind, client, number, body):
         return frame(kind, client, number, body, version)
 
-    def told(answer, client, number):
+    def of_version(answer, client, number):
         return in_version(version, answer(client, number))
 
-    made_first = told(made, 7, 1)
+    made_first = of_version(made, 7, 1)
     return [
         # the connection is closed where a reply is due, or within one
         ([b""], "Closed"),
         ([made_first, b""], "Closed"),
         *(([made_first[:count]], "Truncated") for count in (1, 2, HEADER.size - 1, HEADER.size, HEADER.size + 3)),
         # for another client, for a number never submitted, of another kind, and in the other version
-        ([told(made, 8, 1)], "Stranger"),
-        ([told(made, 7, 2)], "Stranger"),
-        ([told(node, 7, 2)], "Stranger"),
-        ([told(node, 7, 1)], "Stranger"),
-        ([made_first, told(node, 7, 1)], "Stranger"),
-        ([told_in_the_other(version, made(7, 1))], "Stranger"),
-        ([told_in_the_other(version, refused(7, 1))], "Stranger"),
-        ([made_first, told_in_the_other(version, made(7, 1))], "Stranger"),
-        # a number that was answered is answered, or refused, again
+        ([of_version(made, 8, 1)], "Stranger"),
+        ([of_version(made, 7, 2)], "Stranger"),
+        ([of_version(node, 7, 2)], "Stranger"),
+        ([of_version(node, 7, 1)], "Stranger"),
+        ([made_first, of_version(node, 7, 1)], "Stranger"),
+        ([in_the_other_version(version, made(7, 1))], "Stranger"),
+        ([in_the_other_version(version, refused(7, 1))], "Stranger"),
+        ([made_first, in_the_other_version(version, made(7, 1))], "Stranger"),
+        # a second reply to a number
         ([made_first, made_first], "Repeated"),
-        ([made_first, reply(136, 7, 1, b"\x0a")], "Repeated"),
-        # a request, and bodies outside the grammar: too short ones, and a refusal that there isn't
-        ([reply(1, 7, 1, b"\0\1\0\0\0")], "Malformed"),
-        ([reply(129, 7, 1, b"\0\0\1")], "Malformed"),
-        ([reply(136, 7, 1, b"\x14")], "Malformed"),
-        ([made_first, reply(130, 7, 2, b"\0\0\1")], "Malformed"),
-        *(([reply(132, 7, 1, body)], "Malformed") for body in NO_FINISHED[version]),
+        ([made_first, reply_frame(136, 7, 1, b"\x0a")], "Repeated"),
+        # a request, and malformed bodies: too short ones, and an unknown refusal
+        ([reply_frame(1, 7, 1, b"\0\1\0\0\0")], "Malformed"),
+        ([reply_frame(129, 7, 1, b"\0\0\1")], "Malformed"),
+        ([reply_frame(136, 7, 1, b"\x14")], "Malformed"),
+        ([made_first, reply_frame(130, 7, 2, b"\0\0\1")], "Malformed"),
+        *(([reply_frame(132, 7, 1, body)], "Malformed") for body in NO_FINISHED[version]),
         # no frames
         ([b"HTTP/1.1 400 Bad Request\r\n\r\n"], "BadVersion"),
         *(([HEADER.pack(other, 129, 7, 1, 4)], "BadVersion") for other in (0, 3, 255)),
@@ -124,34 +127,34 @@ def rows_of_faults(version):
 
 class Faults(unittest.TestCase):
     def ends(self, lines, answers, out, fault, first=None, closes=False, version=1):
-        """`send` over these lines prints this and ends by this fault. The answer is the frames that it sent."""
+        """Checks that `send` over these lines prints this and ends by this fault. Returns the frames that it sent."""
         service = FakeService(*answers, closes=closes, version=version)
         self.assertEqual(send(service.port, 7, lines, first), (4, out, f"fault: {fault}\n"))
         service.join(SECONDS)
-        return service.heard
+        return service.received
 
     def test_no_listener(self):
         self.assertEqual(send(free_port(), 7, CREATE), (4, b"", "fault: Socket\n"))
 
     def test_replies(self):
-        """One reply, which is the fault; or the one that is due, and then the fault in the place of the second."""
+        """The first reply is the fault, or the second one."""
         for version in LIMITS:
             for replies, fault in rows_of_faults(version):
                 for line, second in ((CREATE, CREATED_AGAIN), (FOLDER, ADDED)):
                     with self.subTest(version=version, replies=replies, line=line):
-                        answers = [lambda *of, reply=reply: reply for reply in replies]
+                        answers = [lambda *of, answer=answer: answer for answer in replies]
                         printed = b"made 1\n" * (len(replies) - 1)
                         closes = fault in ("Closed", "Truncated")
                         lines = lines_in_version(version, CREATE + line)
-                        heard = self.ends(lines, answers, printed, fault, closes=closes, version=version)
-                        self.assertEqual(heard, [sent_in(version, sent) for sent in (CREATED, second)][: len(replies)])
+                        received = self.ends(lines, answers, printed, fault, closes=closes, version=version)
+                        self.assertEqual(received, [sent_in(version, sent) for sent in (CREATED, second)][: len(replies)])
 
     def test_numbers_used_up(self):
         last = 2**63 - 1
         for line in (CREATE, FOLDER):
             with self.subTest(line=line):
-                heard = self.ends(CREATE + line, [made], b"made 1\n", "NumbersUsedUp", first=last)
-                self.assertEqual([number for _, _, number, _ in heard], [last])
+                received = self.ends(CREATE + line, [made], b"made 1\n", "NumbersUsedUp", first=last)
+                self.assertEqual([number for _, _, number, _ in received], [last])
 
     def test_a_writer_without_room(self):
         service = FakeService(made)
@@ -165,7 +168,7 @@ class Lines(unittest.TestCase):
         service = FakeService(refused, made)
         self.assertEqual(send(service.port, 7, CREATE + CREATE), (0, b"refused 18\nmade 1\n", ""))
         service.join(SECONDS)
-        self.assertEqual([number for _, _, number, _ in service.heard], [1, 2])
+        self.assertEqual([number for _, _, number, _ in service.received], [1, 2])
 
     def test_a_bad_line_takes_no_number(self):
         service = FakeService(made, made)
@@ -173,15 +176,15 @@ class Lines(unittest.TestCase):
         printed = b"made 1\nbad line\nbad line\nbad line\nmade 1\n"
         self.assertEqual(send(service.port, 7, lines), (5, printed, ""))
         service.join(SECONDS)
-        self.assertEqual(service.heard, [CREATED, CREATED_AGAIN])
+        self.assertEqual(service.received, [CREATED, CREATED_AGAIN])
 
-    def test_what_is_sent(self):
+    def test_frames_that_are_sent(self):
         service = FakeService(made, node, part)
         printed = b'made 1\nnode 1\npart 2 296 4\n"ID"'
         self.assertEqual(send(service.port, 7, CREATE + FOLDER + b"export 1 0 1048576"), (0, printed, ""))
         service.join(SECONDS)
-        shown = (8, 7, 3, b"\0\0\0\1" + bytes(8) + b"\0\x10\0\0" + b"\1\0")
-        self.assertEqual(service.heard, [CREATED, ADDED, shown])
+        shown = (EXPORT, 7, 3, export_body())
+        self.assertEqual(service.received, [CREATED, ADDED, shown])
 
     def test_a_fault_comes_before_a_bad_line(self):
         service = FakeService(nothing, closes=True)

@@ -1,14 +1,15 @@
-"""`send` past usual sizes: many lines, the longest lines, the largest replies, and client numbers at both ends."""
+"""`send` with many lines, the longest lines, the largest replies, and the least and greatest client numbers."""
 
 import unittest
 from hashlib import md5
 
-from harness import LIMITS, Serve, lines_in_version, send
-from two_senders import HEADER
+from lib.frames import LIMITS, lines_in_version
+from lib.program import Serve, send
+from lib.rows import COLUMNS, folder_row
 
-# the largest part of an export, and how long a line is
+# the largest part of an export, and the length of a line
 MEBIBYTE = 1_048_576
-# what a body has beside a piece's bytes
+# the bytes of a Piece's body before the piece
 PIECE_FIELDS = 12
 LINES = 1_500
 
@@ -23,7 +24,7 @@ class SendSizes(unittest.TestCase):
             self.assertEqual(send(service.port, 7, lines), (0, printed, ""))
 
     def test_the_largest_pieces(self):
-        """The last two have as many bytes as a frame holds, and one more."""
+        """The last two lines have as many bytes as a frame holds, and one more."""
         for version, limits in LIMITS.items():
             content = bytes(range(256)) * (limits.piece // 256)
             longest = limits.body - PIECE_FIELDS
@@ -34,11 +35,11 @@ class SendSizes(unittest.TestCase):
             digest = md5(content * 2).hexdigest().encode("ascii")
             printed = b"made 1\nnode 1\ntaken 1\ntaken 2\nrefused 13\nbad line\nfinished none false %s -\n" % digest
             with self.subTest(version=version), Serve() as service:
-                told = send(service.port, 7, lines_in_version(version, b"\n".join(lines)))
-                self.assertEqual(told, (5, printed, ""))
+                ended = send(service.port, 7, lines_in_version(version, b"\n".join(lines)))
+                self.assertEqual(ended, (5, printed, ""))
 
     def test_lines_of_a_mebibyte(self):
-        """With a line feed behind the last one and without."""
+        """With a line feed after the last one and without."""
         name = b"n" * (MEBIBYTE - len(b"folder 1 0 0 "))
         line = b"folder 1 0 0 " + name
         for lines, status, printed in (
@@ -50,11 +51,10 @@ class SendSizes(unittest.TestCase):
                 self.assertEqual(send(service.port, 7, lines), (status, printed, ""))
 
     def test_the_largest_reply(self):
-        """A part of a mebibyte and the one after it, which are the whole text."""
+        """A part of a mebibyte, and the rest of the text."""
         names = [b"%04d" % number + b"n" * 251 for number in range(1, LINES + 1)]
         folders = b"".join(b"folder 1 0 0 %s\n" % name for name in names)
-        row = b'"%d","","file:/%s/","/%s","%s","","Done","","Folder","","1970-01-01T00:00:00","false","","","","","",""\n'
-        text = HEADER + b"".join(row % (number, name, name, name) for number, name in enumerate(names, 1))
+        text = COLUMNS + b"".join(folder_row(number, name) for number, name in enumerate(names, 1))
         self.assertLess(MEBIBYTE, len(text))
         shown = b"".join(
             b"part %d %d %d\n" % (LINES + 1, len(text), len(part)) + part

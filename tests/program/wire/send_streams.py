@@ -1,34 +1,34 @@
-"""`send` and `serve` on streams that are interrupted, cut short, fail or are reset (../streams.c)."""
+"""`send` and `serve` on streams that are interrupted, cut short, failing or reset (../streams.c)."""
 
 import itertools
 import os
-import socket
-import struct
 import subprocess
 import time
 import unittest
 
-from harness import LIMITS, PROGRAM, SECONDS, Serve, connect, frame, in_version, lines_in_version, listen
-from harness import preloaded, read_exactly, read_frame, read_until_reset, send
+from lib.connections import SECONDS, connect, listen, read_exactly, read_frame, read_until_reset, reset
+from lib.frames import ADD_FOLDER, CREATE_PROFILE, LIMITS, NODE, in_version, lines_in_version, reply
+from lib.program import PROGRAM, Serve, preloaded, send
 from run_command import ENDS, REPLIED, session_in
 from send_faults import made
 
 LINES = b"create 65536 0\nfolder 1 0 0 in\n"
 PRINTED = b"made 1\nnode 1\n"
-# where the lines and their frames end in each version; in both the reply frames end at 22 and 44, what is printed at 7 and 14
+# the ends of the lines and of their frames in each version. In both the reply frames end at 22 and 44, the printed
+# replies at 7 and 14
 LINE_ENDS = {1: (15, 31), 2: (22, 41)}
 FRAME_ENDS = {1: (23, 59), 2: (24, 60)}
 
 
 def variables(text):
-    """The variables of NAME=VALUE, with spaces between."""
+    """Reads variables from words NAME=VALUE."""
     return dict(word.split("=") for word in text.split())
 
 
 class SendStreams(unittest.TestCase):
     def ends(self, rows, versions=LIMITS):
-        """Each row: the variables, how many bytes are printed, and the fault or None. Where a stream has broken, the
-        same lines sent again are answered as if it had not."""
+        """Checks rows of variables, the number of printed bytes, and the fault or None. The same lines sent again
+        have to be answered as if no stream had broken."""
         for version, (row, printed, fault) in itertools.product(versions, rows):
             lines = lines_in_version(version, LINES)
             with self.subTest(version=version, row=row), Serve(2) as service:
@@ -38,7 +38,7 @@ class SendStreams(unittest.TestCase):
                 self.assertEqual(send(service.port, 7, lines), (0, PRINTED, ""))
 
     def ends_at(self, places, rows_of):
-        """The same, where the rows go by these places in a version."""
+        """Does the same with the rows for these places in each version."""
         for version, found in places.items():
             self.ends(rows_of(*found), [version])
 
@@ -56,7 +56,7 @@ class SendStreams(unittest.TestCase):
                 ("READ_INTERRUPTED_AT=5:65", 0, "Read"),
                 (f"READ_INTERRUPTED_AT={first + 5}:65", 7, "Read"),
                 (f"READ_INTERRUPTED_AT={last}:65", 14, "Read"),
-                # of the whole input, not of each line
+                # they count over the whole input, not for each line
                 (f"READ_INTERRUPTED_AT=5:64,{first + 5}:1", 7, "Read"),
                 (f"READ_INTERRUPTED_AT=5:32,{first + 5}:33", 7, "Read"),
                 (f"READ_INTERRUPTED_AT=5:32,{first + 5}:32,{last}:1", 14, "Read"),
@@ -106,7 +106,7 @@ class SendStreams(unittest.TestCase):
             ],
         )
 
-    def test_what_is_printed(self):
+    def test_printed_replies(self):
         self.ends(
             [
                 ("WRITE_INTERRUPTIONS=65", 0, "Write"),
@@ -135,15 +135,16 @@ class SendStreams(unittest.TestCase):
 
 
 def each_at(places, times):
-    """So many interruptions at each of these places."""
+    """Returns the variable for this many interruptions at each of these places."""
     return ",".join(f"{place}:{times}" for place in places)
 
 
 class ServeStreams(unittest.TestCase):
-    """The frames of a connection end as those of the stored session, and so do their replies."""
+    """Connections whose frames and replies are those of the stored session."""
 
     def ends(self, rows, versions=LIMITS):
-        """Each row: the variables, and how many bytes of replies come. The next connection is served in any case."""
+        """Checks rows of variables and the number of bytes of replies that come. The next connection is always
+        served."""
         for version, (row, replied) in itertools.product(versions, rows):
             requests, replies = session_in(version)
             environment = preloaded("STREAMS", **variables(row))
@@ -182,14 +183,8 @@ class ServeStreams(unittest.TestCase):
         )
 
 
-def reset(stream):
-    """Ends the connection by a reset."""
-    stream.setsockopt(socket.SOL_SOCKET, socket.SO_LINGER, struct.pack("ii", 1, 0))
-    stream.close()
-
-
 class Resets(unittest.TestCase):
-    """The other end answers the first frame, and resets the connection where the second is due or was taken."""
+    """The other end answers the first frame, and resets the connection before or after it read the second."""
 
     VERSION = 1
 
@@ -207,15 +202,15 @@ class Resets(unittest.TestCase):
         self.stream, _ = self.listener.accept()
         self.stream.settimeout(SECONDS)
         self.give(b"create 65536 0\n")
-        self.assertEqual(self.heard(), (1, 7, 1))
+        self.assertEqual(self.received(), (CREATE_PROFILE, 7, 1))
         self.stream.sendall(in_version(self.VERSION, made(7, 1)))
 
     def give(self, line):
         self.sender.stdin.write(lines_in_version(self.VERSION, line))
         self.sender.stdin.flush()
 
-    def heard(self):
-        """The kind, the client and the number of the next frame."""
+    def received(self):
+        """Reads the kind, the client and the number of the next frame."""
         return read_frame(self.stream, self.VERSION)[:3]
 
     def ends(self, fault):
@@ -224,14 +219,14 @@ class Resets(unittest.TestCase):
 
     def test_where_a_reply_is_due(self):
         self.give(b"folder 1 0 0 in\n")
-        self.assertEqual(self.heard(), (2, 7, 2))
+        self.assertEqual(self.received(), (ADD_FOLDER, 7, 2))
         reset(self.stream)
         self.ends("Read")
 
     def test_within_a_reply(self):
         self.give(b"folder 1 0 0 in\n")
-        self.assertEqual(self.heard(), (2, 7, 2))
-        self.stream.sendall(frame(130, 7, 2, b"\0\0\0\1", self.VERSION)[:20])
+        self.assertEqual(self.received(), (ADD_FOLDER, 7, 2))
+        self.stream.sendall(reply(NODE, 2, 1, client=7, version=self.VERSION)[:20])
         reset(self.stream)
         self.ends("Read")
 

@@ -1,4 +1,4 @@
-"""`serve`: frames on connections to a port, one connection after the other over one service."""
+"""`serve`: frames on connections to a port, one connection after the other, with one service."""
 
 import os
 import socket
@@ -8,37 +8,31 @@ import threading
 import unittest
 from hashlib import md5
 
-from harness import HEADER, LIMITS, SECONDS, Serve, connect, frame, listen, run, send
-from harness import read_exactly, read_frame, read_until_reset
+from lib.connections import SECONDS, connect, listen, read_exactly, read_frame, read_until_reset, reset
+from lib.connections import send_until_reset
+from lib.frames import FINISHED, HEADER, LIMITS, export, file, finish, folder, piece
+from lib.program import Serve, run, send
+from lib.rows import COLUMNS, IN_ROW
 from run_command import CREATE, FOLDER, MADE, MALFORMED, MOST_FRAMES, NODE, REPLIES, REQUESTS, SESSION, SHORT_FINISH
 from run_command import session_in
 
-EXPORT = frame(8, 1, 9, b"\0\0\0\1" + bytes(8) + b"\0\x10\0\0" + b"\1\0")
-HEADER_ROW = 193
-FOLDER_ROW = 103
+# the whole export of profile 1
+EXPORT_1 = export(9)
+SHOWN = (2, len(COLUMNS) + len(IN_ROW))
 
 
 def rows_shown(stream):
-    """How many commands were accepted so far, and how long the export of profile 1 is."""
-    stream.sendall(EXPORT)
+    """Asks how many commands were accepted, and how long the export of profile 1 is."""
+    stream.sendall(EXPORT_1)
     kind, client, number, body = read_frame(stream)
     assert (kind, client, number) == (135, 1, 9), (kind, client, number)
     return struct.unpack(">QQ", body[:16])
 
 
-def send_until_reset(stream, requests):
-    """Sends all of it, or what is taken before the other end has closed."""
-    try:
-        stream.sendall(requests)
-        stream.shutdown(socket.SHUT_WR)
-    except OSError:
-        pass
-
-
 def finished(method, content, *puids):
-    """The reply to the end of a file with this content, under number 4: no extension is amiss."""
+    """Returns the reply to the Finish of a file with this content, under number 4, without a mismatch."""
     texts = b"".join(bytes([len(puid)]) + puid for puid in puids)
-    return 132, 1, 4, method + b"\0" + md5(content).digest() + struct.pack(">H", len(puids)) + texts
+    return FINISHED, 1, 4, method + b"\0" + md5(content).digest() + struct.pack(">H", len(puids)) + texts
 
 
 class ServeCommand(unittest.TestCase):
@@ -55,7 +49,7 @@ class ServeCommand(unittest.TestCase):
             self.assertEqual(read_exactly(stream, len(REPLIES) + 1), REPLIES)
 
     def test_the_next_connection_sees_the_same_service(self):
-        """Wherever the first one is cut, the session sent whole then is answered as ever, and done once."""
+        """Wherever the first one is cut, the whole session sent then gets the usual replies, and is done once."""
         for version in LIMITS:
             requests, replies = session_in(version)
             for size in (0, 1, 22, 23, 24, 40, 58, 59, 60, 131, 132):
@@ -65,7 +59,7 @@ class ServeCommand(unittest.TestCase):
                     with connect(service.port) as second:
                         second.sendall(requests)
                         self.assertEqual(read_exactly(second, len(replies)), replies)
-                        self.assertEqual(rows_shown(second), (2, HEADER_ROW + FOLDER_ROW))
+                        self.assertEqual(rows_shown(second), SHOWN)
 
     def test_what_is_kept_is_kept_over_connections(self):
         with Serve(3) as service:
@@ -76,9 +70,9 @@ class ServeCommand(unittest.TestCase):
                 stream.sendall(FOLDER)
                 self.assertEqual(read_exactly(stream, len(NODE)), NODE)
             with connect(service.port) as stream:
-                self.assertEqual(rows_shown(stream), (2, HEADER_ROW + FOLDER_ROW))
+                self.assertEqual(rows_shown(stream), SHOWN)
 
-    def test_so_many_connections(self):
+    def test_the_number_of_connections(self):
         for count in (None, 1, 2, 5):
             with self.subTest(count=count), Serve(count) as service:
                 for _ in range(count or 1):
@@ -90,7 +84,7 @@ class ServeCommand(unittest.TestCase):
                     connect(service.port)
 
     def test_no_more_than_a_million_frames_of_a_connection_are_answered(self):
-        """The next connection is served then, and has as many again."""
+        """The next connection is served then, and may have as many."""
         with Serve(2) as service:
             with connect(service.port) as stream:
                 sent = SHORT_FINISH * (MOST_FRAMES + 1)
@@ -106,7 +100,7 @@ class ServeCommand(unittest.TestCase):
                 stream.sendall(CREATE)
                 self.assertEqual(read_exactly(stream, len(MADE)), MADE)
 
-    def test_what_ends_a_connection_ends_that_one_alone(self):
+    def test_a_bad_frame_ends_its_connection_alone(self):
         rests = [b"\x09" + CREATE[1:], CREATE[:17], CREATE[:22], b"GET / HTTP/1.1\r\n\r\n"]
         rests += [HEADER.pack(version, 1, 1, 1, limits.body + 1) for version, limits in LIMITS.items()]
         with Serve(len(rests) + 1) as service:
@@ -121,23 +115,23 @@ class ServeCommand(unittest.TestCase):
 
     def test_a_client_that_is_gone_before_its_replies(self):
         with Serve(2) as service:
-            with connect(service.port) as stream:
-                stream.setsockopt(socket.SOL_SOCKET, socket.SO_LINGER, struct.pack("ii", 1, 0))
-                stream.sendall(SHORT_FINISH * 1_000)
+            stream = connect(service.port)
+            stream.sendall(SHORT_FINISH * 1_000)
+            reset(stream)
             with connect(service.port) as stream:
                 stream.sendall(CREATE)
                 self.assertEqual(read_exactly(stream, len(MADE)), MADE)
 
     def test_a_part_comes_whole(self):
-        """An export of some hundred thousand bytes, which is no small reply."""
+        """An export of some hundred thousand bytes."""
         names = [b"%0250d" % number for number in range(200)]
         with Serve() as service, connect(service.port) as stream:
             stream.sendall(CREATE)
             self.assertEqual(read_exactly(stream, len(MADE)), MADE)
             for number, name in enumerate(names, 2):
-                stream.sendall(frame(2, 1, number, b"\0\0\0\1" + bytes(12) + name))
+                stream.sendall(folder(number, name))
                 self.assertEqual(read_frame(stream)[0], 130)
-            stream.sendall(frame(8, 1, 900, EXPORT[HEADER.size :]))
+            stream.sendall(export(900))
             kind, _, number, body = read_frame(stream)
             self.assertEqual((kind, number), (135, 900))
             as_of, total = struct.unpack(">QQ", body[:16])
@@ -147,7 +141,7 @@ class ServeCommand(unittest.TestCase):
                 self.assertIn(b'"/' + name + b'"', body)
 
     def test_it_is_reached_at_127_0_0_1_alone(self):
-        """127.0.0.2 is an address of this machine too: who listens on all of them is reached there."""
+        """127.0.0.2 is an address of this machine too, which reaches a program that listens on all of them."""
         with socket.create_server(("0.0.0.0", 0)) as everywhere:
             socket.create_connection(("127.0.0.2", everywhere.getsockname()[1]), timeout=SECONDS).close()
         with Serve() as service:
@@ -166,7 +160,7 @@ class ServeCommand(unittest.TestCase):
             self.assertEqual(send(last, 1, b"create 65536 0\nfolder 1 0 0 in\n"), (0, b"made 1\nnode 1\n", ""))
 
     def test_files_are_identified_by_the_registry(self):
-        """By a signature of an own one, and of the sample where there is none."""
+        """By a signature of a given registry, or of the sample."""
         with tempfile.TemporaryDirectory() as folder:
             own = os.path.join(folder, "own.csv")
             with open(own, "w", encoding="ascii") as file:
@@ -183,13 +177,13 @@ class ServeCommand(unittest.TestCase):
 
     @staticmethod
     def end_of_a_file(port, content):
-        """The reply to the end of a file of one piece, in a profile of its own."""
+        """Sends a file of one piece in a new profile, and returns the reply to its Finish."""
         size = len(content)
         requests = [
             CREATE,
-            frame(3, 1, 2, b"\0\0\0\1" + bytes(12) + struct.pack(">QI", size, size) + b"f"),
-            frame(4, 1, 3, struct.pack(">III", 1, 1, 0) + content),
-            frame(5, 1, 4, struct.pack(">II", 1, 1)),
+            file(2, b"f", size, size),
+            piece(3, 1, 0, content),
+            finish(4, 1),
         ]
         with connect(port) as stream:
             for request in requests:
@@ -199,8 +193,8 @@ class ServeCommand(unittest.TestCase):
 
     def test_a_port_in_use(self):
         with listen() as listener:
-            told = run(["serve", "--port", listener.getsockname()[1]])
-        self.assertEqual(told, (4, b"", "fault: Socket\n"))
+            ended = run(["serve", "--port", listener.getsockname()[1]])
+        self.assertEqual(ended, (4, b"", "fault: Socket\n"))
 
     def test_an_output_without_room(self):
         with listen() as listener:

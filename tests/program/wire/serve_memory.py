@@ -1,48 +1,38 @@
-"""`serve` again and again, each time with another of its allocations refused (tests/memory/refuse.c)."""
+"""Runs `serve` again and again, and refuses another of its allocations each time (tests/memory/refuse.c)."""
 
 import os
 import subprocess
 import tempfile
 import unittest
 
-from harness import LIMITS, PROGRAM, SECONDS, connect, frame, free_port, in_version, preloaded, read_until_reset
+from lib.connections import SECONDS, exchange, free_port
+from lib.frames import LIMITS, in_version, refusal
+from lib.program import PROGRAM, preloaded
 from run_command import REPLIES, SESSION, session_in
-from serve_command import send_until_reset
 
 CONNECTIONS = 3
 MEMORY = b"fault: Memory\n"
 
 
-def refused(number, cause):
-    return frame(136, 1, number, bytes([cause]))
-
-
 ANSWERS = [reply for _, reply in SESSION]
 NUMBERS = [1, 2, 2, 2]
-# the frames that could be read are answered, none where the connection itself finds no memory to be read through
+# the frames that could be read are answered: none where there is no memory for the connection itself
 FRONTS = {b"".join(ANSWERS[:count]) for count in range(len(ANSWERS))}
-# one request is refused for memory (18); without a profile the others find none (3)
-WANTING = {b"".join(ANSWERS[:at] + [refused(NUMBERS[at], 18)] + ANSWERS[at + 1 :]) for at in range(len(ANSWERS))}
-WITHOUT_PROFILE = refused(1, 18) + refused(2, 3) * 3
-
-
-def exchange(port, requests):
-    """What comes back for these requests on a connection of their own."""
-    with connect(port) as stream:
-        send_until_reset(stream, requests)
-        return read_until_reset(stream, len(REPLIES) + 1)
+# one request is refused for memory (18); without a profile the rest are refused too (3)
+SHORT = {b"".join(ANSWERS[:at] + [refusal(NUMBERS[at], 18)] + ANSWERS[at + 1 :]) for at in range(len(ANSWERS))}
+WITHOUT_PROFILE = refusal(1, 18) + refusal(2, 3) * 3
 
 
 def served(requests, **variables):
-    """The status, what was said, and what came on each connection for these requests; on none where the program ended
-    before."""
+    """Runs `serve` over connections with these requests: its status, its standard error, and what came on each
+    connection; no connection is made where the program ended before."""
     port = free_port()
     words = [PROGRAM, "serve", "--port", str(port), "--connections", str(CONNECTIONS)]
     with subprocess.Popen(
         words, stdin=subprocess.DEVNULL, stdout=subprocess.PIPE, stderr=subprocess.PIPE, env=preloaded("REFUSE", **variables)
     ) as service:
         is_there = service.stdout.readline() == b"listening %d\n" % port
-        came = [exchange(port, requests) for _ in range(CONNECTIONS)] if is_there else []
+        came = [exchange(port, requests, len(REPLIES) + 1) for _ in range(CONNECTIONS)] if is_there else []
         _, said = service.communicate(timeout=SECONDS)
     return service.returncode, said, came
 
@@ -60,9 +50,9 @@ class ServeMemory(unittest.TestCase):
             self.each_allocation_refused(version)
 
     def each_allocation_refused(self, version):
-        """No service, or one that goes on: what is refused on a connection is seen on that one alone."""
+        """There is no service, or it goes on: a refused allocation affects one connection alone."""
         requests, whole = session_in(version)
-        fronts, wanting = ({in_version(version, replies) for replies in rows} for rows in (FRONTS, WANTING))
+        fronts, short = ({in_version(version, replies) for replies in rows} for rows in (FRONTS, SHORT))
         without_profile = in_version(version, WITHOUT_PROFILE)
         found = set()
         for number in range(1, self.allocations(requests, whole) + 1):
@@ -77,9 +67,9 @@ class ServeMemory(unittest.TestCase):
                 others = [replies for replies in came if replies != whole]
                 self.assertLessEqual(len(others), 1, others)
                 if others:
-                    self.assertIn(others[0], fronts | wanting | {without_profile})
-        wanted = {(3,), (6,), (0, b""), (0, without_profile)} | {(0, replies) for replies in fronts}
-        self.assertLessEqual(wanted, found)
+                    self.assertIn(others[0], fronts | short | {without_profile})
+        expected = {(3,), (6,), (0, b""), (0, without_profile)} | {(0, replies) for replies in fronts}
+        self.assertLessEqual(expected, found)
 
 
 if __name__ == "__main__":

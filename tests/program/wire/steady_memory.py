@@ -1,75 +1,54 @@
-"""What `run` keeps in memory: nothing of what is asked again, refused or only asked, and of a file's pieces no more than
-the service says (docs/SERVICE.md). And what `serve` keeps of connections: nothing."""
+"""The memory of `run` and `serve`. A repeat, a refusal or a query leaves nothing; of a file's pieces no more stays than
+docs/SERVICE.md says; a connection leaves nothing."""
 
-import socket
-import struct
-import subprocess
 import unittest
 
-from harness import HEADER, PROGRAM, SECONDS, Serve, connect, frame, read_exactly
+from lib.connections import connect, read_exactly
+from lib.frames import HEADER, MADE, NODE, PART, PROGRESS, REFUSED, TAKEN
+from lib.frames import create, export, file, folder, frame, piece, refusal, status
+from lib.processes import resident
+from lib.program import Run, Serve
 
-# the latest replies are at hand for some of these, and the others are read from the database
+# the replies to some of these are cached, and the rest are read from the database
 KEPT = 600
 BATCH = 1_000
 BEFORE, COUNTED = 10_000, 100_000
-# less than a byte for each
+# less than a byte for each request
 ROOM = COUNTED
 
-PIECE, PIECES = 32_768, 2_000
+PIECE_SIZE, PIECES = 32_768, 2_000
 # two windows of the scan limit, and sixteen pieces
-ROOM_OF_PIECES = 2 * 65_536 + 16 * PIECE
+ROOM_OF_PIECES = 2 * 65_536 + 16 * PIECE_SIZE
 
 CONNECTIONS, FIRST_CONNECTIONS = 1_000, 100
-# less than a hundred bytes for each
+# less than a hundred bytes for each connection
 ROOM_OF_CONNECTIONS = 100 * (CONNECTIONS - FIRST_CONNECTIONS)
 
 
-def numbers(*values):
-    return struct.pack(f">{len(values)}I", *values)
-
-
-def folder(number, name, client=1):
-    return frame(2, client, number, numbers(1, 0) + bytes(8) + name)
-
-
-def file(number, name, size, piece_size):
-    return frame(3, 1, number, numbers(1, 0) + bytes(8) + struct.pack(">QI", size, piece_size) + name)
-
-
-def resident(process):
-    """How many bytes of memory the process has, counted page by page."""
-    with open(f"/proc/{process.pid}/smaps_rollup", encoding="ascii") as lines:
-        return next(int(line.split()[1]) * 1024 for line in lines if line.startswith("Rss:"))
-
-
-# what is asked again and again, by how often something was; the kind of all replies, and how long they are
+# requests that are sent many times, by their count; the kind of all their replies, and the length of these
 QUESTIONS = {
-    "a kept command": (lambda count: folder(10 + count % KEPT, b"f%d" % (count % KEPT)), 130, 4),
-    "a kept number for something else": (lambda count: folder(10 + count % KEPT, b"other"), 136, 1),
-    "a command that is refused, by a new client": (lambda count: folder(1, b"f1", client=100 + count), 136, 1),
-    "a piece that is held": (lambda count: frame(4, 1, 10_000 + count, numbers(1, KEPT + 1, 1) + b"b"), 136, 1),
-    "how far a file is": (lambda count: frame(7, 1, 10_000 + count, numbers(1, KEPT + 1)), 134, 8),
-    "a part of an export": (lambda count: frame(8, 1, 10_000 + count, numbers(2, 0, 0, 9) + b"\1\0"), 135, 25),
-    "no request": (lambda count: frame(9, count, count, b"body"), 136, 1),
+    "a kept command": (lambda count: folder(10 + count % KEPT, b"f%d" % (count % KEPT)), NODE, 4),
+    "a kept number for something else": (lambda count: folder(10 + count % KEPT, b"other"), REFUSED, 1),
+    "a command that is refused, by a new client": (lambda count: folder(1, b"f1", client=100 + count), REFUSED, 1),
+    "a piece that is held": (lambda count: piece(10_000 + count, KEPT + 1, 1, b"b"), REFUSED, 1),
+    "a status": (lambda count: status(10_000 + count, KEPT + 1), PROGRESS, 8),
+    "a part of an export": (lambda count: export(10_000 + count, profile=2, most=9), PART, 25),
+    "no request": (lambda count: frame(9, count, count, b"body"), REFUSED, 1),
 }
 
 
 class SteadyMemory(unittest.TestCase):
     def setUp(self):
-        self.near, far = socket.socketpair()
-        self.near.settimeout(SECONDS)
-        self.service = subprocess.Popen([PROGRAM, "run"], stdin=far, stdout=far)
-        far.close()
-        self.addCleanup(self.service.wait, SECONDS)
-        self.addCleanup(self.near.close)
+        self.service = Run()
+        self.addCleanup(self.service.__exit__)
         for number in (1, 2):
-            self.ask([frame(1, 1, number, numbers(65_536) + b"\0")], 129, 4)
+            self.ask([create(number)], MADE, 4)
 
     def ask(self, requests, kind, length):
-        """Sends these at once. Their replies are all of this kind, with bodies of this length."""
-        self.near.sendall(b"".join(requests))
+        """Sends these at once, and checks that all replies are of this kind, with bodies of this length."""
+        self.service.near.sendall(b"".join(requests))
         size = HEADER.size + length
-        replies = read_exactly(self.near, size * len(requests))
+        replies = read_exactly(self.service.near, size * len(requests))
         self.assertEqual((len(replies), set(replies[1::size])), (size * len(requests), {kind}))
 
     def ask_many(self, question, first, count):
@@ -77,37 +56,37 @@ class SteadyMemory(unittest.TestCase):
         for start in range(first, first + count, BATCH):
             self.ask([request(place) for place in range(start, start + BATCH)], kind, length)
 
-    def test_nothing_is_kept_of_what_changes_nothing(self):
-        self.ask([folder(10 + place, b"f%d" % place) for place in range(KEPT)], 130, 4)
-        self.ask([file(3, b"e", 3, 1)], 130, 4)
-        self.ask([frame(4, 1, 4, numbers(1, KEPT + 1, 1) + b"b")], 131, 4)
+    def test_requests_without_effect_leave_nothing(self):
+        self.ask([folder(10 + place, b"f%d" % place) for place in range(KEPT)], NODE, 4)
+        self.ask([file(3, b"e", 3, 1)], NODE, 4)
+        self.ask([piece(4, KEPT + 1, 1, b"b")], TAKEN, 4)
         for name, question in QUESTIONS.items():
             with self.subTest(name=name):
                 self.ask_many(question, 0, BEFORE)
-                before = resident(self.service)
+                before = resident(self.service.process)
                 self.ask_many(question, BEFORE, COUNTED)
-                self.assertLess(resident(self.service) - before, ROOM)
+                self.assertLess(resident(self.service.process) - before, ROOM)
 
     def growth_by_pieces(self, node, size):
-        """How much more memory there is after all pieces, of this size, of the file that gets this number."""
+        """Measures by how much all pieces of a file, of this size, make the memory grow."""
         number = 10_000 * node
-        self.ask([file(number, b"%d" % node, size * PIECES, size)], 130, 4)
-        before = resident(self.service)
+        self.ask([file(number, b"%d" % node, size * PIECES, size)], NODE, 4)
+        before = resident(self.service.process)
         for index in range(PIECES):
-            self.ask([frame(4, 1, number + 1 + index, numbers(1, node, index) + bytes(size))], 131, 4)
-        return resident(self.service) - before
+            self.ask([piece(number + 1 + index, node, index, bytes(size))], TAKEN, 4)
+        return resident(self.service.process) - before
 
-    def test_of_the_bytes_of_pieces_no_more_is_kept_than_is_said(self):
-        """What the database keeps of each piece is the same for small ones."""
+    def test_no_more_of_the_pieces_is_kept_than_documented(self):
+        """The database keeps as much of a small piece as of a large one."""
         small = self.growth_by_pieces(1, 1)
-        self.assertLess(self.growth_by_pieces(2, PIECE) - small, ROOM_OF_PIECES)
+        self.assertLess(self.growth_by_pieces(2, PIECE_SIZE) - small, ROOM_OF_PIECES)
 
 
 class SteadyConnections(unittest.TestCase):
-    """Each connection reads and writes through buffers, and may end within a frame: nothing of that is left."""
+    """Each connection has buffers, and may end within a frame. Nothing of that stays."""
 
     REQUEST = frame(9, 1, 1, b"body")
-    REPLY = frame(136, 1, 1, b"\1")
+    REPLY = refusal(1, 1)
 
     def serve_some(self, service, count):
         for place in range(count):

@@ -1,23 +1,16 @@
-"""Two `send`s to one `serve`: the same script sent again is a repeat, also where a connection broke in between."""
+"""Two `send`s to one `serve`. The same script sent again is a repeat, also after a broken connection."""
 
 import socket
 import threading
 import unittest
 
-import harness
-from harness import LIMITS, SECONDS, Serve, connect, frame, in_version, lines_in_version, listen, send
+from lib.connections import SECONDS, connect, listen
+from lib.frames import LIMITS, in_version, lines_in_version
+from lib.program import Serve, send
+from lib.rows import COLUMNS, IN_ROW, LETTERS_ROW
+from lib.session import deposit_frames
 
-HEADER = (
-    b'"ID","PARENT_ID","URI","FILE_PATH","NAME","METHOD","STATUS","SIZE","TYPE","EXT","LAST_MODIFIED",'
-    b'"EXTENSION_MISMATCH","MD5_HASH","FORMAT_COUNT","PUID","MIME_TYPE","FORMAT_NAME","FORMAT_VERSION"\n'
-)
-FOLDER = b'"1","","file:/in/","/in","in","","Done","","Folder","","1970-01-01T00:00:00","false","","","","","",""\n'
-LETTERS = (
-    b'"2","1","file:/in/a.abc","/in/a.abc","a.abc","Signature","Done","26","File","abc","1970-01-01T00:00:00",'
-    b'"false","c3fcd3d76192e4007dfb496cca67e13b","1","dev/2","","Alphabet",""\n'
-)
-
-# the 26 letters in two pieces, the second one first
+# the requests of lib.session.deposit_frames as lines, and their replies
 DEPOSIT = b"""create 65536 0
 folder 1 0 0 in
 file 1 1 0 26 16 a.abc
@@ -39,8 +32,8 @@ def part(as_of, text):
 
 
 class Relay(threading.Thread):
-    """Passes one connection on to a port: what comes back whole, what goes there up to so many bytes, and then
-    it cuts both."""
+    """Passes one connection on to a port: all that comes back, and this many bytes of what is sent. Then it cuts
+    both."""
 
     def __init__(self, port, room):
         super().__init__(daemon=True)
@@ -87,7 +80,7 @@ class TwoSenders(unittest.TestCase):
             self.assertEqual(send(service.port, 7, lines), (0, b"made 1\nnode 1\n", ""))
             self.assertEqual(send(service.port, 7, lines), (0, b"made 1\nnode 1\n", ""))
             shown = send(service.port, 7, b"export 1 0 1048576\n", first=3)
-            self.assertEqual(shown, (0, part(2, HEADER + FOLDER), ""))
+            self.assertEqual(shown, (0, part(2, COLUMNS + IN_ROW), ""))
 
     def test_another_client_has_numbers_of_its_own(self):
         lines = b"create 65536 0\n"
@@ -110,26 +103,8 @@ class TwoSenders(unittest.TestCase):
                     self.assertEqual(status, 4)
                     self.assertTrue(DEPOSITED.startswith(out), out)
                     again = send(service.port, 7, lines + b"export 1 0 1048576\n")
-                    whole = DEPOSITED + part(6, HEADER + FOLDER + LETTERS)
+                    whole = DEPOSITED + part(6, COLUMNS + IN_ROW + LETTERS_ROW)
                     self.assertEqual(again, (0, whole, ""))
-
-
-def deposit_frames(client, profile=1):
-    """The frames of DEPOSIT, for this profile."""
-    letters = bytes(range(ord("a"), ord("z") + 1))
-    bodies = [
-        (1, (65536).to_bytes(4, "big") + b"\0"),
-        (2, numbers(profile, 0) + bytes(8) + b"in"),
-        (3, numbers(profile, 1) + bytes(8) + (26).to_bytes(8, "big") + numbers(16) + b"a.abc"),
-        (4, numbers(profile, 2, 1) + letters[16:]),
-        (4, numbers(profile, 2, 0) + letters[:16]),
-        (5, numbers(profile, 2)),
-    ]
-    return [frame(kind, client, place + 1, body) for place, (kind, body) in enumerate(bodies)]
-
-
-def numbers(*values):
-    return b"".join(value.to_bytes(4, "big") for value in values)
 
 
 if __name__ == "__main__":

@@ -1,0 +1,35 @@
+"""What /proc has of a process: memory and processor time."""
+
+import os
+
+TICKS = os.sysconf("SC_CLK_TCK")
+
+
+def bytes_of(pid, file, field):
+    """Reads a field of kilobytes from a file of the process, or None where the process has ended."""
+    with open(f"/proc/{pid}/{file}", encoding="ascii") as lines:
+        found = [int(line.split()[1]) * 1024 for line in lines if line.startswith(field + ":")]
+    return found[0] if found else None
+
+
+def resident(process):
+    """The process's memory in bytes, counted page by page."""
+    return bytes_of(process.pid, "smaps_rollup", "Rss")
+
+
+def most_resident(process):
+    """The greatest memory in bytes that the process had so far, or None where it has ended."""
+    return bytes_of(process.pid, "status", "VmHWM")
+
+
+def processor_seconds(process):
+    """The seconds that the process used a processor so far, in ticks of the kernel's clock."""
+    with open(f"/proc/{process.pid}/stat", encoding="ascii") as file:
+        fields = file.read().rsplit(")", 1)[1].split()
+    return (int(fields[11]) + int(fields[12])) / TICKS
+
+
+def processor_milliseconds(process):
+    """The milliseconds that the process's first thread used a processor so far, more exactly than in ticks."""
+    with open(f"/proc/{process.pid}/schedstat", encoding="ascii") as file:
+        return int(file.read().split()[0]) / 1e6

@@ -1,0 +1,49 @@
+"""The command line of `profile`, its faults, and the registry in the program."""
+import os
+import subprocess
+import sys
+import unittest
+
+from lib.program import TOP
+from lib.trees import OWN_REGISTRY, InFolder, lines, profile
+
+
+class Arguments(InFolder):
+    def test_wrong(self):
+        for words in ([], [self.top, self.top], [self.top, "--limit", "0"], [self.top, "--limit", "65537"], [self.top, "--hash", "sha1"], [self.top, "--output"]):
+            status, out, err = profile(*words)
+            self.assertEqual((status, out), (2, b""), words)
+            self.assertNotEqual(err, b"")
+
+    def test_no_folder(self):
+        self.file(b"/a.txt", b"a")
+        for folder in (self.work + b"/none", self.top + b"/a.txt", b""):
+            status, out, err = profile(folder)
+            self.assertEqual((status, out, lines(err, b"fault: ")), (4, b"", [b"Folder"]))
+
+    def test_registry_first(self):
+        bad = self.work + b"/bad.csv"
+        with open(bad, "wb") as file:
+            file.write(b"X\n")
+        for registry, fault in ((bad, b"BadRecord at 1"), (self.work + b"/none", b"Read")):
+            status, out, err = profile(self.work + b"/none", "--registry", registry, "--output", self.work + b"/out")
+            self.assertEqual((status, out, err), (3, b"", b"fault: " + fault + b"\n"))
+        self.assertEqual(os.listdir(self.work).count(b"out"), 0)
+
+    def test_quiet(self):
+        self.file(b"/a.txt", b"a")
+        status, out, err = profile(self.top, "--quiet")
+        self.assertEqual(status, 0)
+        self.assertEqual(err.splitlines(), [OWN_REGISTRY])
+        os.symlink(b"nowhere", self.top + b"/link")
+        status, out, err = profile(self.top, "--quiet")
+        self.assertEqual(status, 5)
+        self.assertEqual(len(err.splitlines()), 3)
+
+    def test_registry_in_the_program(self):
+        # the program's sources have the registry as it stands in registries/
+        subprocess.run([sys.executable, os.path.join(TOP, "tools", "embed.py"), "--check"], check=True)
+
+
+if __name__ == "__main__":
+    unittest.main()

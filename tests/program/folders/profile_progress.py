@@ -1,0 +1,139 @@
+"""Standard error: the progress, and at the end the summary."""
+import collections
+import os
+import re
+import subprocess
+import time
+import unicodedata
+import unittest
+
+from lib.program import PROGRAM
+from lib.trees import ALL_SKIPPED, OWN_REGISTRY, SKIPPED, InFolder, lines, profile, read
+
+UNIT = rb"(?:bytes|kB|MB|GB)"
+LINE = re.compile(rb"(\d+) of (\d+) entries, (\d+) of (\d+) " + UNIT + rb", \d+ " + UNIT + rb"/s(?:, (?:\d+ s|\d+ min|\d+ h \d+ min) left)?(?:: (.*))?")
+# the codes before and after a line of progress, between which the terminal cuts long lines
+BEGIN, END = b"\r\x1b[?7l", b"\x1b[K\x1b[?7h"
+AWAY = b"\r\x1b[K"
+
+
+def columns(text):
+    """Counts the columns of a text. A character takes one or two."""
+    return sum(2 if unicodedata.east_asian_width(letter) in "WF" else 1 for letter in text)
+
+
+def slow(milliseconds):
+    """Returns an environment in which each read of a file takes this long."""
+    return {**os.environ, "LD_PRELOAD": os.environ["PRELOAD_READS"], "PREAD_SLEEPS": str(milliseconds)}
+
+
+class Progress(InFolder):
+    def on_terminal(self, *words, **options):
+        """Runs `profile` on a terminal: its standard error, and its seconds."""
+        ours, theirs = os.openpty()
+        begun = time.monotonic()
+        with subprocess.Popen([PROGRAM, "profile", self.top, *words], stdout=subprocess.DEVNULL, stderr=theirs, **options) as run:
+            os.close(theirs)
+            written = b""
+            try:
+                while more := os.read(ours, 1 << 16):
+                    written += more
+            except OSError:
+                pass
+        os.close(ours)
+        self.assertEqual(run.returncode, 0)
+        return written, time.monotonic() - begun
+
+    def test_terminal(self):
+        # one line is written again and again, at most ten times a second, no wider than the terminal, and removed at
+        # the end
+        name = "建築図面 " * 15 + "plan.bin"
+        self.file(b"/" + name.encode(), b"x" * (12 << 20))
+        self.file(b"/z.bin", b"x" * (12 << 20))
+        written, seconds = self.on_terminal(env=slow(60))
+        shown = re.findall(re.escape(BEGIN) + b"(.*?)" + re.escape(END), written, re.DOTALL)
+        self.assertTrue(5 <= len(shown) <= 10 * seconds + 1, (len(shown), seconds))
+        done = 0
+        for line in shown:
+            found = LINE.fullmatch(line)
+            self.assertTrue(found, line)
+            self.assertTrue(columns(line.decode()) <= 79, line)
+            self.assertEqual((found[2], found[4]), (b"2", b"25"))
+            self.assertTrue(done <= int(found[3]) <= 25)
+            done = int(found[3])
+        self.assertTrue(any("図面 plan.bin".encode() in line for line in shown))
+        self.assertIn(AWAY + ALL_SKIPPED + b"0\r\n", written)
+        self.assertNotIn(b"\n", written.split(AWAY)[0].split(BEGIN, 1)[1])
+
+    def test_skipped_on_terminal(self):
+        # a skipped entry has a line of its own
+        self.file(b"/a.bin", b"x" * (8 << 20))
+        self.file(b"/b\xff", b"")
+        self.file(b"/c.bin", b"x" * (8 << 20))
+        ours, theirs = os.openpty()
+        with subprocess.Popen([PROGRAM, "profile", self.top], stdout=subprocess.DEVNULL, stderr=theirs, env=slow(50)) as run:
+            os.close(theirs)
+            written = b""
+            try:
+                while more := os.read(ours, 1 << 16):
+                    written += more
+            except OSError:
+                pass
+        os.close(ours)
+        self.assertEqual(run.returncode, 5)
+        self.assertIn(AWAY + SKIPPED + b"/b\\xff: its name is no UTF-8\r\n", written)
+
+    def test_quiet_on_terminal(self):
+        self.file(b"/a.bin", b"x" * (8 << 20))
+        written, _ = self.on_terminal("--quiet", env=slow(50))
+        self.assertEqual([line for line in written.replace(AWAY, b"").split(b"\r\n") if line], [OWN_REGISTRY])
+
+    def test_lines(self):
+        # on no terminal there is a line every ten seconds
+        for number in range(6):
+            self.file(b"/%d.txt" % number, b"some text")
+        status, out, err = profile(self.top, env=slow(2_200))
+        self.assertEqual((status, len(read(out))), (0, 6))
+        progress = [line for line in err.split(b"\n") if LINE.fullmatch(line)]
+        self.assertEqual(len(progress), 2)
+        self.assertTrue(re.fullmatch(rb".*: /\d\.txt", progress[0]))
+        self.assertNotIn(b"\x1b", err)
+        self.assertNotIn(b"\r", err)
+
+    def test_summary(self):
+        # a registry of twelve formats, of which the ten most frequent are listed
+        registry = self.work + b"/registry.csv"
+        with open(registry, "w", encoding="ascii") as file:
+            file.write("F,dev/sig,Signed,,,\nE,dev/sig,sig,,,\nS,dev/sig,BOF,0,0,53\n")
+            for number in range(11):
+                file.write("F,dev/%d,Plain %d,,,\nE,dev/%d,x%d,,,\n" % (number, number, number, number))
+        expected = collections.Counter()
+        for number in range(11):
+            for copy in range(number + 1):
+                self.file(b"/%d_%d.x%d" % (number, copy, number), b"text")
+                expected["dev/%d" % number] += 1
+        for copy in range(5):
+            self.file(b"/s%d.sig" % copy, b"Signed")
+        self.file(b"/mismatch.txt", b"Signed")
+        expected["dev/sig"] += 6
+        self.file(b"/unknown.bin", b"nothing")
+        self.folder(b"/folder")
+        os.symlink(b"nowhere", self.top + b"/link")
+        status, out, err = profile(self.top, "--registry", registry)
+        self.assertEqual(status, 5)
+        files = [row for row in read(out) if row["TYPE"] == "File"]
+        methods = collections.Counter(row["METHOD"] for row in files)
+        self.assertEqual(lines(err, b"folders and files: "), [b"%d" % (len(files) + 1)])
+        self.assertEqual(lines(err, b"files by signature: "), [b"%d" % methods["Signature"]])
+        self.assertEqual(lines(err, b"files by extension: "), [b"%d" % methods["Extension"]])
+        self.assertEqual(lines(err, b"files not identified: "), [b"%d" % methods[""]])
+        self.assertEqual(lines(err, b"mismatches: "), [b"1"])
+        self.assertEqual(lines(err, ALL_SKIPPED), [b"1"])
+        self.assertEqual(lines(err, b"bytes read: "), [b"%d" % sum(int(row["SIZE"]) for row in files)])
+        self.assertEqual(len(lines(err, b"seconds: ")), 1)
+        most = sorted(expected.items(), key=lambda it: (-it[1], it[0].encode()))[:10]
+        self.assertEqual(lines(err, b"format "), [b"%s: %d" % (puid.encode(), count) for puid, count in most])
+
+
+if __name__ == "__main__":
+    unittest.main()
