@@ -1,4 +1,5 @@
--- The unfinished files of a service: how they are found, and what a change of one of them leaves (this project's own).
+-- The unfinished files of a service: how they are found, and what a change of one leaves as it was (this project's
+-- own).
 use Rattle.std.specs.Prelude.{◌≡◌, ℕ, ◌==◌, ◌&&◌, Bool, List, [], ◌∷◌, ⊤, Option, None, Some, slice_set}
 use Rattle.std.specs.List.{find, slice_get}
 use Rattle.droid_assembly.specs.State.{State}
@@ -8,7 +9,7 @@ use Rattle.droid_core_files.specs.declared.file.UnfinishedFile.{UnfinishedFile}
 abbrev pub OpenFile : Type 0
 OpenFile = UnfinishedFile
 
--- the unfinished files in some order, and how many there can be
+-- the unfinished files in some order, and the most that there can be
 pub record OpenFiles : Type 0 where
   pub limit : ℕ
   pub files : List OpenFile
@@ -38,7 +39,7 @@ with_assembly file assembly = record file { assembly = assembly }
 abbrev pub At : OpenFiles → ℕ → (State → Type 0) → Type 0
 At all place P = (file : OpenFile) → IsAt all.files place file → P file.assembly
 
--- P holds of what the assembly at the place was and what it has become
+-- P holds of the assembly at the place before and after
 abbrev pub Turns : OpenFiles → OpenFiles → ℕ → (State → State → Type 0) → Type 0
 Turns old new place P =
     (before after : OpenFile) → IsAt old.files place before → IsAt new.files place after → P before.assembly after.assembly
@@ -52,7 +53,7 @@ pub record IsAlikeBut (place : ℕ) (old new : OpenFiles) : Type 0 where
   pub was : IsAt old.files place before
   pub files : new.files ≡ slice_set old.files place (with_assembly before after)
 
--- a file that was at the place is there still, with some assembly, and its profile and number find it
+-- the file at the place is still there, with some assembly, and its profile and number find it
 pub record IsStillOpen (place : ℕ) (new : OpenFiles) (file : OpenFile) : Type 0 where
   pub after : State
   pub at : IsAt new.files place (with_assembly file after)

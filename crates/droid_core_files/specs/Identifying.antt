@@ -1,4 +1,4 @@
--- What comes of identifying a file whose pieces were taken (this project's own).
+-- What the identification of a file returns (this project's own).
 use Rattle.std.specs.Prelude.{◌≡◌, ◌<◌, ◌≤◌, ◌↔◌, ℕ, Bool, List, length, Result, IsErrOf, IsTrue, IfOk, OnOk}
 use Rattle.std.specs.List.{AllByRecursion}
 use Rattle.droid_assembly.specs.Pieces.{Piece, missing, file_bytes}
@@ -11,20 +11,20 @@ use Rattle.droid_pronom.specs.Found.{IsFound}
 use Rattle.droid_pronom.specs.Registry.{Contents}
 use Rattle.droid_pronom.specs.RegistryFields.{is_puid}
 
--- these pieces make up a file of this size and this hash, in which the registry finds this under this name
+-- these pieces make up a file of this size and hash, and the registry identifies it so under this name
 pub record IsFindingOf (registry : Contents) (name : List ℕ) (match_all : Bool) (file : State) (pieces : List Piece) (finding : Finding) : Type 0 where
   pub size : finding.sealed.size ≡ length (file_bytes (count_of file) pieces)
   pub hash : finding.sealed.hash ≡ hash (hash_kind_of file) (file_bytes (count_of file) pieces)
   pub found : IsFound registry name (file_bytes (count_of file) pieces) file.scan_limit match_all finding.found
 
--- the hash is as long as its kind, and there are few identifiers, each one of PRONOM's form
+-- the hash has the length of its kind, and there are at most 4,096 identifiers, each of PRONOM's form
 pub record IsWellFormed (finding : Finding) : Type 0 where
   pub hash_value : IsHashValue finding.sealed.hash
   pub few : length finding.found.puids ≤ 4096
   pub puids : AllByRecursion (λ puid. IsTrue (is_puid puid)) finding.found.puids
 
--- Exactly where a piece is missing it is said which is the first. What is found is found of a file that is complete, and it is
--- what its pieces make up.
+-- The first missing piece is reported exactly if one is missing. A finding is that of a complete file, and of the bytes
+-- that its pieces make up.
 pub record Identifies (registry : Contents) (name : List ℕ) (match_all : Bool) (file : State) (result : Result Finding IdentifyFault) : Type 0 where
   pub incomplete : (pieces : List Piece) (first : ℕ) → StandsFor file pieces
       → (IsErrOf result (Incomplete first) ↔ ((first ≡ missing (count_of file) pieces) × (first < count_of file)))

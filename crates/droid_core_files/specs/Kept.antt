@@ -12,7 +12,7 @@ files_of kept = record { limit = kept.limit; files = kept.files.items }
 abbrev pub AreNarrow : List OpenFile → Type 0
 AreNarrow files = AllByRecursion (λ file. file.assembly.scan_limit ≤ 65536) files
 
--- there are 64 at most, each has a place reserved, and no two are one file
+-- there are at most 64, each has a reserved place, and no file is there twice
 pub record IsKept (kept : Inside) : Type 0 where
   pub few : kept.limit ≤ 64
   pub within : vec_len kept.files ≤ kept.limit

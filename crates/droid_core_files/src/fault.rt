@@ -13,7 +13,7 @@ pub enum IdentifyFault {
     /// A piece is missing: `missing` is the smallest such index.
     #[error("piece {missing} is missing")]
     Incomplete { missing: u32 },
-    /// Memory was refused for what is found.
+    /// There is no memory for the finding.
     #[error("memory was refused")]
     Memory,
 }
@@ -45,7 +45,7 @@ impl From<IdentifyFault> for Refusal {
 
     ghost from_gives = { λ fault refusal. refusal ≡ reported_as fault };
 
-    /// What a client is told.
+    /// Returns the refusal that the client gets.
     fn from(fault: IdentifyFault) -> Refusal {
         match fault {
             IdentifyFault::Incomplete { missing } => Refusal::Incomplete { missing },

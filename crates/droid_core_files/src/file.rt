@@ -1,4 +1,4 @@
-//! One unfinished file, and whose it is.
+//! One unfinished file.
 
 use droid_assembly::Assembly;
 
@@ -9,6 +9,6 @@ pub struct UnfinishedFile {
     pub profile: u32,
     /// The number of the file in its profile.
     pub file: u32,
-    /// The pieces of it.
+    /// Its pieces.
     pub assembly: Assembly,
 }

@@ -40,8 +40,8 @@ impl Model for UnfinishedFiles {
 impl UnfinishedFiles {
     ghost use Rattle.droid_core_files.specs.Files.{OpenFile, AreDistinct, IsAt, At, Turns, IsAlikeBut, is_of, open_at};
 
-    /// No file, with room for `limit` of them. Only want of memory refuses it, and of the later calls
-    /// only `identify` takes any.
+    /// Creates an empty list with room for `limit` files. Fails only if there is no memory. Of the other calls only
+    /// `identify` takes memory.
     pub fn new(alloc: Global, limit: u32) -> Result<UnfinishedFiles, AllocError>
         requires { limit ≤ 64 }
         ensures none { IfOk result (λ all. all.files ≡ []) }
@@ -53,7 +53,7 @@ impl UnfinishedFiles {
         })
     }
 
-    /// How many files there are.
+    /// Returns the number of files.
     pub fn len(&self) -> u32
         ensures count { result ≡ length self.now.files }
         ensures within { result ≤ self.now.limit }
@@ -69,7 +69,7 @@ impl UnfinishedFiles {
         self.files.is_empty()
     }
 
-    /// Whether there are as many as there can be.
+    /// Whether the limit is reached.
     pub fn is_full(&self) -> bool
         ensures full { IsTrue result ↔ (length self.now.files ≡ self.now.limit) }
         ensures room { OnFalse result (length self.now.files < self.now.limit) }
@@ -77,7 +77,7 @@ impl UnfinishedFiles {
         self.len() == self.limit
     }
 
-    /// The place of the file of this number in this profile, counted from 0.
+    /// Returns the place of the file with this number in this profile, counted from 0.
     pub fn place_of(&self, profile: u32, file: u32) -> Option<usize>
         ensures none { (result ≡ None) ↔ (open_at profile file self.now.files ≡ None) }
         ensures place { IfSome result (λ place. slice_get self.now.files place ≡ open_at profile file self.now.files) }
@@ -89,7 +89,7 @@ impl UnfinishedFiles {
             .position(|other| other.profile == profile && other.file == file)
     }
 
-    /// Adds a file, which is not among them, at the end.
+    /// Adds a file at the end. It must not be in the list yet.
     pub fn add(&mut self, profile: u32, file: u32, assembly: Assembly)
         requires room { length self.old.files < self.old.limit }
         requires fresh { open_at profile file self.old.files ≡ None }
@@ -106,7 +106,7 @@ impl UnfinishedFiles {
             .unwrap();
     }
 
-    /// Drops the file at this place with all its pieces. Those after it move up by one place.
+    /// Removes the file at this place with all its pieces. The files after it move up by one place.
     pub fn remove(&mut self, place: usize)
         requires { place < length self.old.files }
         ensures files { self.new.files ≡ remove self.old.files place }
@@ -119,8 +119,8 @@ impl UnfinishedFiles {
         self.files.remove(place);
     }
 
-    /// Makes this piece the pending one of the file at this place, or hands its bytes back and changes
-    /// nothing. The first condition that holds is answered, as `Assembly::put` says.
+    /// Makes this piece the pending one of the file at this place. If the piece is refused, its bytes are handed back
+    /// and nothing changes; if several reasons apply, the first in the order of `Assembly::put` is given.
     pub fn put(&mut self, place: usize, index: u32, bytes: Blob) -> Result<(), PutFault>
         requires within { place < length self.old.files }
         requires none_pending { At self.old place (λ file. file.pending ≡ None) }
@@ -147,7 +147,7 @@ impl UnfinishedFiles {
         self.files[place].assembly.put(index, bytes)
     }
 
-    /// Drops the pending piece of the file at this place, so that it is as before its `put`.
+    /// Drops the pending piece of the file at this place, which is then as it was before `put`.
     pub fn take_back(&mut self, place: usize)
         requires within { place < length self.old.files }
         requires pending { At self.old place (λ file. IsSome file.pending) }
@@ -158,8 +158,7 @@ impl UnfinishedFiles {
         self.files[place].assembly.take_back();
     }
 
-    /// Takes the pending piece of the file at this place for good. Pieces that are no longer needed
-    /// then are dropped.
+    /// Takes the pending piece of the file at this place for good, and drops the pieces that are no longer needed.
     pub fn settle(&mut self, place: usize)
         requires within { place < length self.old.files }
         requires pending { At self.old place (λ file. IsSome file.pending) }
@@ -172,7 +171,7 @@ impl UnfinishedFiles {
         self.files[place].assembly.settle();
     }
 
-    /// How many pieces of the file at this place are settled.
+    /// Returns the number of settled pieces of the file at this place.
     pub fn held(&self, place: usize) -> u32
         requires { place < length self.now.files }
         ensures count { At self.now place (λ file. (pieces : List Piece) → StandsFor file pieces → result ≡ held_of pieces) }
@@ -184,8 +183,8 @@ impl UnfinishedFiles {
         self.files[place].assembly.held()
     }
 
-    /// The smallest index that is not settled of the file at this place, or the number of its pieces
-    /// where all are.
+    /// Returns the smallest index that is not settled of the file at this place, or the number of its pieces if all
+    /// are.
     pub fn missing(&self, place: usize) -> u32
         requires { place < length self.now.files }
         ensures least { At self.now place (λ file. (pieces : List Piece) → StandsFor file pieces → result ≡ missing_of (count_of file) pieces) }
@@ -203,8 +202,8 @@ impl UnfinishedFiles {
         self.files[place].assembly.pending().is_some()
     }
 
-    /// How many bytes are kept of the file at this place: in its two windows, and of the pieces that
-    /// wait and the pending one.
+    /// Returns the number of bytes that are kept of the file at this place: those of its two windows, of its waiting
+    /// pieces and of the pending one.
     pub fn kept_bytes(&self, place: usize) -> u64
         requires { place < length self.now.files }
         ensures kept { At self.now place (λ file. (pieces : List Piece) → StandsFor file pieces
@@ -216,9 +215,9 @@ impl UnfinishedFiles {
         self.files[place].assembly.kept_bytes()
     }
 
-    /// Identifies the file at this place by its name and its first and last bytes, where no piece of
-    /// it is missing: its size, its hash and what the registry finds. It may be asked for again, and
-    /// changes nothing that another call tells.
+    /// Identifies the file at this place by its name and its first and last bytes, if no piece is missing. Returns its
+    /// size, its hash and the formats that the registry finds. It may be called again, and no other call returns
+    /// anything else because of it.
     pub fn identify(
         &mut self,
         alloc: Global,

@@ -1,4 +1,4 @@
-//! What one whole file is.
+//! The identification of one whole file.
 
 ghost use Rattle.std.specs.Prelude.{◌≡◌, ◌≤◌, List, length, None, IsTrue, IfOk};
 ghost use Rattle.std.specs.List.{AllByRecursion};
@@ -33,7 +33,7 @@ pub(crate) fn identify_whole(
     Ok(Finding { sealed, found })
 }
 
-/// What the registry finds in a file of which no piece is missing.
+/// Returns the formats that the registry finds in a file of which no piece is missing.
 fn find_in(
     alloc: Global,
     file: &mut Assembly,

@@ -1,4 +1,4 @@
--- What a request of one kind comes to, said once for all eight kinds.
+-- What the call for a request comes to, said once for all eight kinds.
 use Rattle.std.specs.Prelude.{◌≡◌}
 use Rattle.droid_frame.specs.Replies.{HasReplySpelling}
 use Rattle.droid_frame.specs.types.reply.Reply.{Reply}
@@ -10,15 +10,15 @@ use Rattle.droid_core_state.specs.Standing.{IsIn}
 use Rattle.droid_core_state.specs.declared.holdings.Holdings.{Holdings}
 use Rattle.droid_core_state.specs.declared.stamps.Stamp.{Stamp}
 
--- In each world in which the service may be, the reply is what judging the request there says, or want of memory, and the
--- service is then in the world that this leaves. The reply has a spelling in the request's version, and the limits and the
--- registry stay.
+-- In each world in which the service may be, the reply is that of the request's verdict there, and the service is then
+-- in the world that the verdict leaves; or memory ran out, and nothing changed. The reply has a spelling in the
+-- request's version, and the limits and the registry stay.
 pub record AnswersIn (MayBe : Setting → World → Type 0) (judged : Setting → World → Verdict) (stamp : Stamp) (old new : Holdings) (reply : Reply) : Type 0 where
   pub comes : (setting : Setting) (world : World) → MayBe setting world → Comes setting world old new stamp (judged setting world) reply
   pub spelled : HasReplySpelling stamp.version reply
   pub limits : new.limits ≡ old.limits
   pub registry : new.registry ≡ old.registry
 
--- in each world whose rows and assemblies are the service's
+-- the same, where the service may be in each world whose rows and assemblies it has
 abbrev pub Answers : (Setting → World → Verdict) → Stamp → Holdings → Holdings → Reply → Type 0
 Answers judged stamp old new reply = AnswersIn (λ setting world. IsIn setting world old) judged stamp old new reply

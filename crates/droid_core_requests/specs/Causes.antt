@@ -1,4 +1,4 @@
--- Which refusal says that the database refused (this project's own).
+-- Which refusal says that the database refused for another cause than memory (this project's own).
 use Rattle.std.specs.Prelude.{Bool, true, false}
 use Rattle.droid_frame.specs.types.refusal.Refusal.{Refusal}
 use Rattle.droid_frame.specs.types.refusal.Refusal.TheVariants.{Store}

@@ -12,7 +12,7 @@ use Rattle.droid_store.specs.declared.rows.NodeState.{NodeState}
 use Rattle.droid_store.specs.declared.rows.NodeState.TheVariants.{Unfinished, Finished}
 use Rattle.droid_core_requests.specs.declared.file_rows.FileRow.{FileRow}
 
--- by what the store answered: the node's row, or that there is no such node, or want of memory
+-- from what the store returned: the node's row, or that there is no such node, or that memory ran out
 abbrev pub node_in : Result (Option NodeRow) StoreFault → Result NodeRow Refusal
 node_in (Ok (Some row)) = Ok row
 node_in (Ok None) = Err NoSuchNode
@@ -36,11 +36,11 @@ pub record HasFile (world : World) (which id : ℕ) (row : FileRow) : Type 0 whe
   pub size_is : row.node.item.size ≡ content.size
   pub piece_size_is : row.node.piece_size ≡ content.piece_size
 
--- what comes of a request for a file
+-- the verdict on a request for a file
 abbrev pub for_file : World → ℕ → ℕ → (Profile → ℕ → ℤ → List ℕ → Content → Verdict) → Verdict
 for_file world profile id judge_there = in_profile (numbered world.profiles profile) (λ its. in_file (node_at its.nodes id) (judge_there its))
 
--- the file's row; or whatever is asked of it is refused so, or memory was refused
+-- the file's row; or each request for the file is refused so, or memory ran out
 abbrev pub FindsFile : World → ℕ → ℕ → Result FileRow Refusal → Type 0
 FindsFile world profile id (Ok row) = HasFile world profile id row
 FindsFile world profile id (Err refusal) =

@@ -14,20 +14,20 @@ pub record IsFolderPath (profile : Profile) (parent : ℕ) (found : List ℕ) : 
   pub no_file : is_file (node_at profile.nodes parent) ≡ false
   pub path_is : found ≡ path profile.nodes parent
 
--- by what the store answered: whether the node is there, or want of memory
+-- from what the store returned: whether the node is there, or that memory ran out
 abbrev pub taken_in : Result (Option ℕ) StoreFault → Result Bool Refusal
 taken_in (Ok found) = Ok (is_some found)
 taken_in (Err fault) = Err Memory
 
--- the path of the folder; or its refusal, whatever else is checked after it, or memory was refused
+-- the path of the folder; or its refusal, whatever is checked after it; or memory ran out
 abbrev pub FindsFolder : Profile → ℕ → Result (List ℕ) Refusal → Type 0
 FindsFolder profile parent (Ok found) = IsFolderPath profile parent found
 FindsFolder profile parent (Err refusal) =
     MatchBool (is_out_of_memory_of refusal) ⊤ ((more : List Check) →
     refusal_of ((is_missing profile.nodes parent, NoSuchNode) ∷ (is_file (node_at profile.nodes parent), NotAFolder) ∷ more) ≡ Some refusal)
 
--- the path of a new node that its place and name allow; or its first refusal, whatever else is checked after
--- these, or memory was refused
+-- the path of a new node that its place and name allow; or its first refusal, whatever is checked after these; or
+-- memory ran out
 abbrev pub FindsPlace : Profile → ℕ → List ℕ → Result (List ℕ) Refusal → Type 0
 FindsPlace profile parent name (Ok found) = (refusal_of (place_checks profile.nodes parent name) ≡ None) × (found ≡ path profile.nodes parent ++ 47 ∷ name)
 FindsPlace profile parent name (Err refusal) =

@@ -1,4 +1,4 @@
-//! The end of a file that is given up.
+//! Abandon: the end of a file that is given up.
 
 ghost use Rattle.std.specs.Prelude.{◌≡◌, ◌<◌, ◌^◌, None};
 ghost use Rattle.droid_core_requests.specs.Answering.{Answers};
@@ -11,7 +11,7 @@ use crate::file_rows::{file_of, place_of_file};
 use droid_core_state::{Holdings, Stamp, entry_of};
 use droid_frame::{Refusal, Reply};
 
-/// Abandons an unfinished file.
+/// Abandons an unfinished file, and drops its pieces.
 pub fn abandon(
     holdings: &mut Holdings,
     stamp: Stamp,

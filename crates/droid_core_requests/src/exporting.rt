@@ -1,4 +1,4 @@
-//! Parts of a profile's export.
+//! Export: parts of the text that shows a profile.
 
 ghost use Rattle.std.specs.Prelude.{◌≡◌, ◌≤◌, ℕ, IfOk, IfErr, IsOk, IsTrue, length};
 ghost use Rattle.droid_core_requests.specs.Answering.{AnswersIn};
@@ -21,8 +21,8 @@ use droid_frame::{Blob, Filter, Record, Refusal, Reply};
 use droid_store::Store;
 use std::alloc::Global;
 
-/// A part of the export of a profile's records that meet the filter. The text is kept for its further parts, and one
-/// that was kept for them is read.
+/// Returns a part of the text that shows the profile's records that meet the filter. Keeps the text for its further
+/// parts, and reads a kept one if it is the same.
 pub fn export(
     holdings: &mut Holdings,
     last: &mut Option<KeptText>,
@@ -33,7 +33,7 @@ pub fn export(
 ) -> Result<Reply, Refusal>
     ensures answers { (stamp : Stamp) → AnswersIn (λ setting world. IsIn setting world holdings.old × IsLastText setting world last.old) (λ setting world. judge_export setting world profile from max filter) stamp holdings.old holdings.new (answered result) }
     ensures last { (setting : Setting) (world : World) → IsIn setting world holdings.old → IsLastText setting world last.old → IsLastText setting world last.new }
-    // It costs nothing anew where it is the last text, and it is the last text where something is left.
+    // The text is kept if this part leaves something of it unread, so that the next part needs no new one.
     ensures kept { IfOk result (λ reply. IsTrue (is_followed from max reply) → IsFor profile filter last.new) }
 {
     let row = profile_of(holdings.store.profile(profile))?;
@@ -54,7 +54,7 @@ pub fn export(
     Ok(reply)
 }
 
-/// The records of a profile, of which each has a moment that can be written.
+/// Returns the records of a profile, each with a moment that can be written.
 fn records_in(store: &mut Store, profile: u32) -> Result<Vec<Record>, Refusal>
     ensures same { store.new ≡ store.old }
     ensures found { IfOk result (λ records. records.items ≡ records_of profile store.old) }
@@ -65,8 +65,8 @@ fn records_in(store: &mut Store, profile: u32) -> Result<Vec<Record>, Refusal>
     with_moments(records)
 }
 
-/// The records, of which each has a moment that can be written. That one hasn't is true of no service,
-/// and would be answered as if the database had refused.
+/// Returns the records, each with a moment that can be written. It cannot happen that one has not: a service accepts no
+/// other moment. The code would answer Store.
 fn with_moments(records: Vec<Record>) -> Result<Vec<Record>, Refusal>
     ensures same { IfOk result (λ written. written.items ≡ records.items) }
     ensures moments { IfOk result (λ written. HaveMoments written.items) }
@@ -92,7 +92,7 @@ fn have_moments(records: &[Record]) -> bool
     true
 }
 
-/// How many commands were accepted. The store always tells it.
+/// Returns the number of accepted commands, which the store always knows.
 fn accepted_by(store: &mut Store) -> u64
     ensures same { store.new ≡ store.old }
     ensures found { result ≡ length store.old.replies }
@@ -101,7 +101,7 @@ fn accepted_by(store: &mut Store) -> u64
     counts.accepted
 }
 
-/// The part of a text from a place on. Its bytes alone are copied, once.
+/// Returns the part of a text from a place on. Only its own bytes are copied, once.
 fn part_of(alloc: Global, accepted: u64, text: &Blob, from: u64, max: u32) -> Result<Reply, Refusal>
     ensures part { IfOk result (λ reply. reply ≡ part accepted text.now from max) }
     ensures spelled { (version : ℕ) → max ≤ 1048576 → HasReplySpelling version (answered result) }

@@ -1,4 +1,4 @@
-//! The rows and the assembly of the file that a request names, looked up.
+//! The look-up of the file that a request names: its rows and its assembly.
 
 ghost use Rattle.std.specs.Prelude.{◌≡◌, ◌<◌, length, false, Ok, Some, None, MatchBool, ⊤, IsSome, IfOk, IfErr, OnOk, OnErr, option_map};
 ghost use Rattle.std.specs.List.{slice_get};
@@ -27,7 +27,7 @@ pub struct FileRow {
 }
 
 impl FileRow {
-    /// Whether pieces of the file still come.
+    /// Whether the file is unfinished.
     pub fn is_unfinished(&self) -> bool
         ensures { result ≡ is_unfinished self.now.node.state }
     {
@@ -40,7 +40,7 @@ impl FileRow {
     }
 }
 
-/// The file with this number in this profile.
+/// Looks up the file with this number in this profile.
 pub fn file_of(store: &mut Store, profile: u32, file: u32) -> Result<FileRow, Refusal>
     ensures same { store.new ≡ store.old }
     ensures open { IfOk result (λ row. row.node.state ≡ Unfinished → IsOpen profile file store.old) }
@@ -57,8 +57,8 @@ pub fn file_of(store: &mut Store, profile: u32, file: u32) -> Result<FileRow, Re
     }
 }
 
-/// The node that was looked up in the store, which gives up for want of memory alone. One that isn't
-/// there, or was abandoned, is refused.
+/// Returns the node from what the store found, or refuses the request if it is not there or was abandoned. The store
+/// fails only if memory runs out.
 pub fn node_of(found: Result<Option<NodeRow>, StoreFault>) -> Result<NodeRow, Refusal>
     requires memory { IfErr found (λ fault. fault ≡ StoreFault.Memory) }
     ensures reported { result ≡ node_in found }
@@ -71,7 +71,8 @@ pub fn node_of(found: Result<Option<NodeRow>, StoreFault>) -> Result<NodeRow, Re
     }
 }
 
-/// The place of a file's assembly, counted from 0. An unfinished file has one.
+/// Returns the place of a file's assembly, counted from 0. It cannot happen that an unfinished file has none; the code
+/// would answer Store.
 pub fn place_of_file(files: &UnfinishedFiles, profile: u32, file: u32) -> Result<usize, Refusal>
     ensures place { IfOk result (λ place. slice_get files.now.files place ≡ open_at profile file files.now.files) }
     ensures within { IfOk result (λ place. place < length files.now.files) }
@@ -84,7 +85,8 @@ pub fn place_of_file(files: &UnfinishedFiles, profile: u32, file: u32) -> Result
     }
 }
 
-/// No piece of the file at this place is pending between two requests.
+/// Checks that no piece of the file at this place is pending, as the prover needs it. It cannot happen that one is,
+/// between two requests; the code would answer Store.
 pub fn none_is_pending(files: &UnfinishedFiles, place: usize) -> Result<(), Refusal>
     requires { place < length files.now.files }
     ensures none_pending { OnOk result (At files.now place (λ file. file.pending ≡ None)) }

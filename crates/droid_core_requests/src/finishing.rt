@@ -1,4 +1,4 @@
-//! The end of a file whose pieces are all there.
+//! Finish: the end of a file whose pieces were all taken.
 
 ghost use Rattle.std.specs.Prelude.{◌≡◌, ◌<◌, ◌^◌, ◌+◌, ℕ, List, length, true, false, None, Some, IsOk, MatchBool, ⊤, IfOk, IfErr, OnOk, OnErr};
 ghost use Rattle.std.specs.List.{AllByRecursion};
@@ -31,7 +31,7 @@ use droid_pronom::Registry;
 use droid_store::Store;
 use std::alloc::Global;
 
-/// Finishes a file: it is identified, and its pieces are dropped.
+/// Finishes a file: identifies it, keeps the finding, and drops its pieces.
 pub fn finish(
     holdings: &mut Holdings,
     stamp: Stamp,
@@ -73,7 +73,7 @@ pub fn finish(
     Ok(reply)
 }
 
-/// Identifies the file at this place, of which no piece is pending, by its name and its profile's mode.
+/// Identifies the file at this place by its name and its profile's mode. No piece of it may be pending.
 fn identify_file(
     alloc: Global,
     files: &mut UnfinishedFiles,
@@ -102,8 +102,8 @@ fn identify_file(
     }
 }
 
-/// Finds that a file's hash is of its profile's choice: so it is in each service, and where it wasn't, the
-/// request would be refused as by the database.
+/// Checks that a file's hash is of its profile's kind, as the prover needs it. It cannot happen that it is not; the
+/// code would answer Store.
 fn is_of_kind(hash: HashValue, kind: HashKind) -> Result<(), Refusal>
     ensures kind { OnOk result (hash_value_kind hash ≡ kind) }
     ensures its { hash_value_kind hash ≡ kind → IsOk result }
@@ -115,8 +115,8 @@ fn is_of_kind(hash: HashValue, kind: HashKind) -> Result<(), Refusal>
     Ok(())
 }
 
-/// Keeps what was found in the file at this place, and drops the file's pieces. Nothing changes where
-/// it isn't kept.
+/// Keeps the finding of the file at this place, and drops the file's pieces. If the finding is not kept, nothing
+/// changes.
 fn keep_finding(
     alloc: Global,
     store: &mut Store,
@@ -163,7 +163,7 @@ fn keep_finding(
     Ok(reply)
 }
 
-/// The reply that says what was found, with a copy of the identifiers: the store is given the others.
+/// Returns the reply with the finding, and with a copy of the identifiers: the store gets the originals.
 fn finished_reply(alloc: Global, finding: &Finding) -> Result<Reply, Refusal>
     requires well_formed { IsWellFormed finding.now }
     ensures reply { IfOk result (λ reply. reply ≡ finished_reply (finding_in finding.now)) }

@@ -7,7 +7,7 @@ ghost use Rattle.droid_core_requests.specs.declared.kept_text.KeptText.{KeptText
 use crate::same_filters::are_same_filters;
 use droid_frame::{Blob, Filter};
 
-/// No longer text is kept: 256 MiB.
+/// A longer text is not kept: 256 MiB.
 const MOST_KEPT: usize = 268_435_456;
 
 /// The text of an export of a profile by a filter.
@@ -18,7 +18,7 @@ pub struct KeptText {
     text: Blob,
 }
 
-/// The kept text, where it is of this profile and by this filter.
+/// Returns the kept text if it is of this profile and by this filter.
 pub fn text_for<'a>(last: &'a Option<KeptText>, profile: u32, filter: &Filter) -> Option<&'a Blob>
     ensures its { IfSome result (λ text. IsFor profile filter.now last.now) }
     ensures text { IfSome result (λ text. text.now ≡ bytes_in last.now) }
@@ -34,8 +34,8 @@ pub fn text_for<'a>(last: &'a Option<KeptText>, profile: u32, filter: &Filter) -
     Some(&kept.text)
 }
 
-/// Keeps the text in the place of another, where this part of it leaves something unread and it isn't too long.
-/// It takes no memory.
+/// Keeps the text in the place of another if this part leaves something of it unread and it is not too long. Takes no
+/// memory.
 pub fn keep_text(
     last: &mut Option<KeptText>,
     profile: u32,
@@ -63,7 +63,7 @@ pub fn keep_text(
     });
 }
 
-/// Forgets the kept text, and gives its memory back.
+/// Forgets the kept text and frees its memory.
 pub fn forget_text(last: &mut Option<KeptText>)
     ensures { last.new ≡ None }
 {

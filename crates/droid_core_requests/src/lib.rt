@@ -1,4 +1,4 @@
-//! The eight kinds of request: what each is answered, and what an accepted command changes. A file for each kind:
+//! The eight kinds of request: the reply to each, and what an accepted command changes. There is a file for each kind:
 //! `new_profiles`, `new_folders`, `new_files`, `pieces`, `finishing`, `abandoning`, `progress`, `exporting`.
 #![tactic(auto)]
 

@@ -1,4 +1,4 @@
-//! New files, whose pieces are still to come.
+//! AddFile: new files, whose pieces are still to come.
 
 ghost use Rattle.std.specs.Prelude.{◌≡◌, ◌<◌, ◌^◌, ℕ, None, IfOk, IfErr, OnOk, IsOk, IsTrue, length};
 ghost use Rattle.droid_assembly.specs.Pieces.{AreSizes};
@@ -74,7 +74,7 @@ pub fn add_file(
     Ok(reply)
 }
 
-/// How many files are unfinished, over all profiles, and how many may be.
+/// Returns the number of unfinished files of all profiles, and its limit.
 fn unfinished_room(holdings: &Holdings) -> Room
     ensures count { result.count ≡ length holdings.now.files.files }
     ensures limit { result.limit ≡ holdings.now.limits.unfinished }
@@ -85,8 +85,8 @@ fn unfinished_room(holdings: &Holdings) -> Room
     }
 }
 
-/// The assembly of a new file, of sizes that are in range. Only want of memory refuses it, or a scan
-/// limit out of range, which no profile has: that is answered as if the database had refused.
+/// Returns the assembly of a new file whose sizes are in range. Fails if there is no memory. It cannot happen that the
+/// scan limit is out of range, since no profile has such a one; the code would answer Store.
 fn new_assembly(
     alloc: Global,
     size: u64,
@@ -106,8 +106,8 @@ fn new_assembly(
     Ok(assembly)
 }
 
-/// Finds that one unfinished file more has room, and that none is kept under its number: both hold
-/// of each service, and where one failed, the request would be refused as by the database.
+/// Checks that there is room for one unfinished file more and that none has its number, as the prover needs it. It
+/// cannot happen that one of the two fails; the code would answer Store.
 fn has_room(files: &UnfinishedFiles, profile: u32, file: u32) -> Result<(), Refusal>
     ensures room { OnOk result (length files.now.files < files.now.limit) }
     ensures fresh { OnOk result (open_at profile file files.now.files ≡ None) }

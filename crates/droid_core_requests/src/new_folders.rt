@@ -1,4 +1,4 @@
-//! New folders.
+//! AddFolder: new folders.
 
 ghost use Rattle.std.specs.Prelude.{◌≡◌, ◌<◌, ◌^◌, None};
 ghost use Rattle.droid_core_requests.specs.Answering.{Answers};

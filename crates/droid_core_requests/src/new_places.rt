@@ -1,4 +1,4 @@
-//! The place of a new node, and the room that its profile has for one, looked up in the store.
+//! The look-up of a new node's place, and of the room that its profile has for one more.
 
 ghost use Rattle.std.specs.Prelude.{◌≡◌, ◌≢◌, Some, None, IfOk, IfErr, OnOk};
 ghost use Rattle.droid_core_spec.specs.Setting.{Setting};
@@ -14,7 +14,7 @@ use droid_frame::{Refusal, Text};
 use droid_store::{NodeRow, NodeState, ProfileRow, Store, StoreFault};
 use std::alloc::Global;
 
-/// The path of a new node of this folder, where its place and its name allow one.
+/// Returns the path of a new node of this folder, or the first refusal of its place and its name.
 pub fn path_of_new(
     alloc: Global,
     store: &mut Store,
@@ -41,7 +41,7 @@ pub fn path_of_new(
     Ok(new_path(alloc, folder.as_str(), name)?)
 }
 
-/// The path of a folder. The top's is empty.
+/// Returns the path of a folder. That of the top is empty.
 fn folder_path(alloc: Global, store: &mut Store, profile: u32, parent: u32) -> Result<Text, Refusal>
     ensures same { store.new ≡ store.old }
     ensures found { (setting : Setting) (world : World) (its : Profile) → KeepsWorld setting world store.old
@@ -54,7 +54,7 @@ fn folder_path(alloc: Global, store: &mut Store, profile: u32, parent: u32) -> R
     path_of(row)
 }
 
-/// The path of a node that is a folder.
+/// Returns the path of a node, or refuses the request if it is not a folder.
 fn path_of(row: NodeRow) -> Result<Text, Refusal>
     ensures folder { IfOk result (λ path. (row.state ≡ NodeState.Folder) × (path ≡ row.item.path)) }
     ensures file { IfErr result (λ refusal. (row.state ≢ NodeState.Folder) × (refusal ≡ Refusal.NotAFolder)) }
@@ -66,7 +66,7 @@ fn path_of(row: NodeRow) -> Result<Text, Refusal>
     }
 }
 
-/// Whether the node that was looked up in the store, which gives up for want of memory alone, is there.
+/// Whether the store found the node. The store fails only if memory runs out.
 fn is_taken(found: Result<Option<u32>, StoreFault>) -> Result<bool, Refusal>
     requires memory { IfErr found (λ fault. fault ≡ StoreFault.Memory) }
     ensures reported { result ≡ taken_in found }
@@ -75,7 +75,7 @@ fn is_taken(found: Result<Option<u32>, StoreFault>) -> Result<bool, Refusal>
     Ok(found?.is_some())
 }
 
-/// How many nodes a profile has had, and how many it may have.
+/// Returns the number of nodes that a profile has had, and its limit.
 pub fn node_room(holdings: &Holdings, profile: ProfileRow) -> Room
     ensures count { result.count ≡ profile.nodes }
     ensures limit { result.limit ≡ holdings.now.limits.nodes }

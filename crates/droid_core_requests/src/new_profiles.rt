@@ -1,4 +1,4 @@
-//! New profiles.
+//! CreateProfile: new profiles.
 
 ghost use Rattle.std.specs.Prelude.{◌≡◌, ◌<◌, ◌^◌, Err, None, length};
 ghost use Rattle.droid_core_requests.specs.Answering.{Answers};
@@ -14,7 +14,7 @@ ghost use Rattle.droid_store.specs.Rows.{reply_for};
 use droid_core_state::{Holdings, Room, Stamp, create_refusal, entry_of};
 use droid_frame::{HashKind, Refusal, Reply};
 
-/// Makes a profile, whose files get this hash.
+/// Makes a profile whose files get a hash of this kind.
 pub fn create_profile(
     holdings: &mut Holdings,
     stamp: Stamp,
@@ -26,7 +26,7 @@ pub fn create_profile(
     requires small { stamp.number < 2 ^ 63 }
     requires version { IsVersion stamp.version }
     ensures answers { Answers (λ setting world. judge_create setting world scan_limit match_all hash) stamp holdings.old holdings.new (answered result) }
-    // What is refused is refused with no want of memory: no call before it takes any.
+    // A refusal comes before any call that takes memory.
     ensures refused { (setting : Setting) (world : World) (refusal : RefusalValue) → IsIn setting world holdings.old
         → judge_create setting world scan_limit match_all hash ≡ Refuses refusal → result ≡ Err refusal }
 {
@@ -43,7 +43,7 @@ pub fn create_profile(
     Ok(reply)
 }
 
-/// How many profiles there are, and how many there may be. The store always tells it.
+/// Returns the number of profiles, which the store always knows, and its limit.
 fn profile_room(holdings: &mut Holdings) -> Room
     ensures count { result.count ≡ length holdings.old.store.profiles }
     ensures limit { result.limit ≡ holdings.old.limits.profiles }

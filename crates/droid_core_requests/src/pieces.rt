@@ -1,4 +1,4 @@
-//! Pieces of files.
+//! Piece: the pieces of files.
 
 ghost use Rattle.std.specs.Prelude.{◌≡◌, ◌<◌, ◌^◌, ◌+◌, ◌++◌, ◌∷◌, [], List, length, false, None, Some, IsSome, IfOk, IfErr, OnOk, OnErr};
 ghost use Rattle.droid_assembly.specs.Pieces.{Piece};
@@ -49,8 +49,8 @@ pub fn take_piece(
     Ok(reply)
 }
 
-/// How many pieces of the file at this place are taken with one more. No piece of it is pending
-/// between two requests.
+/// Returns the number of pieces of the file at this place, with one more. It cannot happen that a piece is pending
+/// between two requests; the code would answer Store.
 fn held_with_one_more(files: &UnfinishedFiles, place: usize) -> Result<u32, Refusal>
     requires { place < length files.now.files }
     ensures held { IfOk result (λ held. At files.now place (λ file. (pieces : List Piece) → StandsFor file pieces → held ≡ length pieces + 1)) }
@@ -85,8 +85,8 @@ fn put_piece(
     }
 }
 
-/// Keeps the reply to the pending piece of the file at this place, and then takes the piece for good.
-/// Where the reply isn't kept, the piece is taken back.
+/// Keeps the reply to the pending piece of the file at this place, and then takes the piece for good. If the reply is
+/// not kept, the piece is taken back.
 fn keep_piece(
     store: &mut Store,
     files: &mut UnfinishedFiles,

@@ -1,4 +1,4 @@
-//! How far a file is.
+//! Status: how many pieces of a file were taken.
 
 ghost use Rattle.std.specs.Prelude.{◌≡◌, ◌<◌, ◌^◌, ℕ, ℤ, List, false, Some, None, IsOk, IfOk, IfErr, OnErr};
 ghost use Rattle.droid_assembly.specs.Pieces.{piece_count};
@@ -18,7 +18,7 @@ use droid_core_files::UnfinishedFiles;
 use droid_core_state::Holdings;
 use droid_frame::{Refusal, Reply};
 
-/// Tells how far a file is.
+/// Returns how many pieces of a file were taken, and the first missing one.
 pub fn status(holdings: &mut Holdings, profile: u32, file: u32) -> Result<Reply, Refusal>
     ensures answers { (stamp : Stamp) → Answers (λ setting world. judge_status world profile file) stamp holdings.old holdings.new (answered result) }
 {
@@ -33,7 +33,7 @@ pub fn status(holdings: &mut Holdings, profile: u32, file: u32) -> Result<Reply,
     })
 }
 
-/// How far an unfinished file is.
+/// Returns the progress of an unfinished file.
 fn progress_of(files: &UnfinishedFiles, profile: u32, file: u32) -> Result<Reply, Refusal>
     ensures progress { IfOk result (λ reply. (world : World) (its : Profile) (parent : ℕ) (modified : ℤ) (name : List ℕ) (content : Content) → HasAssemblies world files.now
         → numbered world.profiles profile ≡ Some its → node_there its.nodes file ≡ Some (File parent modified name content) → content.finished ≡ false
@@ -49,8 +49,8 @@ fn progress_of(files: &UnfinishedFiles, profile: u32, file: u32) -> Result<Reply
     })
 }
 
-/// How many pieces a file of this size has. No file is accepted with pieces of no bytes, or with 2^32
-/// pieces or more: no row says so, and one that did would be answered as if the database had refused.
+/// Returns the number of pieces of a file of this size. It cannot happen that pieces have no bytes or that there are
+/// 2^32 or more, since no such file is accepted; the code would answer Store.
 fn count_of(size: u64, piece_size: u32) -> Result<u32, Refusal>
     ensures count { IfOk result (λ count. count ≡ piece_count size piece_size) }
     ensures fits { 0 < piece_size → piece_count size piece_size < 2 ^ 32 → IsOk result }

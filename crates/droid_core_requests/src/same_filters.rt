@@ -1,10 +1,10 @@
-//! Whether two filters are the same, criterion by criterion.
+//! Equality of filters, criterion by criterion.
 
 ghost use Rattle.std.specs.Prelude.{◌≡◌, IsTrue};
 
 use droid_frame::{Criterion, Filter, Text};
 
-/// Whether both join the same criteria in the same way.
+/// Whether two filters join the same criteria in the same way.
 pub fn are_same_filters(one: &Filter, other: &Filter) -> bool
     ensures same { IsTrue result → one.now ≡ other.now }
     ensures found { one.now ≡ other.now → IsTrue result }
@@ -15,7 +15,7 @@ pub fn are_same_filters(one: &Filter, other: &Filter) -> bool
     are_same_criteria(one.criteria.as_slice(), other.criteria.as_slice())
 }
 
-/// Whether these are the same criteria in the same order.
+/// Whether two lists have the same criteria in the same order.
 fn are_same_criteria(one: &[Criterion], other: &[Criterion]) -> bool
     ensures same { IsTrue result → one.now ≡ other.now }
     ensures found { one.now ≡ other.now → IsTrue result }
@@ -31,7 +31,7 @@ fn are_same_criteria(one: &[Criterion], other: &[Criterion]) -> bool
     true
 }
 
-/// Whether this is the same criterion.
+/// Whether two criteria are the same.
 fn are_same(one: &Criterion, other: &Criterion) -> bool
     ensures same { IsTrue result → one.now ≡ other.now }
     ensures found { one.now ≡ other.now → IsTrue result }
@@ -52,7 +52,7 @@ fn are_same(one: &Criterion, other: &Criterion) -> bool
     }
 }
 
-/// Whether these are the same texts in the same order.
+/// Whether two lists have the same texts in the same order.
 fn are_same_texts(one: &[Text], other: &[Text]) -> bool
     ensures same { IsTrue result → one.now ≡ other.now }
     ensures found { one.now ≡ other.now → IsTrue result }

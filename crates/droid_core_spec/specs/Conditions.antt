@@ -12,7 +12,7 @@ use Rattle.droid_core_spec.specs.World.{Node, Folder, File, Abandoned, node_at, 
 unfoldable pub is_scan_limit : ℕ → Bool
 is_scan_limit n = nat_le 1 n && nat_le n 65536
 
--- how many bytes a piece may have that is announced in this version
+-- the most bytes that a piece may have in a file that is announced in this version
 abbrev pub piece_size_limit : ℕ → ℕ
 piece_size_limit version = if version == 1 then 1048576 else 4194304
 
@@ -20,7 +20,7 @@ piece_size_limit version = if version == 1 then 1048576 else 4194304
 unfoldable pub is_piece_size : ℕ → ℕ → Bool
 is_piece_size version n = nat_le 1 n && nat_le n (piece_size_limit version)
 
--- how many bytes a part of an export may have: from 1 to 1,048,576, in both versions
+-- the bytes of a part of an export: from 1 to 1,048,576, in both versions
 unfoldable pub is_part_size : ℕ → Bool
 is_part_size n = nat_le 1 n && nat_le n 1048576
 
@@ -61,6 +61,6 @@ is_md5 hashes.Nothing = false
 is_md5 hashes.Md5 = true
 is_md5 hashes.Sha256 = false
 
--- a Finished of this version can tell a file's hash of this kind: in version 1 it has the bytes of an MD5 and no others
+-- a Finished of this version can carry a hash of this kind: in version 1 it carries an MD5 and no other hash
 abbrev pub is_carried : ℕ → HashKind → Bool
 is_carried version hash = if version == 1 then is_md5 hash else true

@@ -7,8 +7,8 @@ use Rattle.droid_core_spec.specs.Records.{records}
 use Rattle.droid_core_spec.specs.Setting.{Setting}
 use Rattle.droid_core_spec.specs.World.{Profile}
 
--- how many commands were accepted, the length of the whole text, and its bytes from this place on, so many
--- at most; none where the text ends before
+-- the number of accepted commands, the length of the whole text, and at most this many of its bytes from this place on;
+-- no bytes if the text ends before it
 abbrev pub part : ℕ → List ℕ → ℕ → ℕ → Reply
 part accepted text from max = replies.Part accepted (length text) (take max (drop from text))
 

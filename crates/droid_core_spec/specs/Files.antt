@@ -1,4 +1,4 @@
--- The files of a profile: what of them was taken, and what is made of a whole one.
+-- The files of a profile: which pieces were taken, and what a whole file is found to be.
 use Rattle.std.specs.Prelude.{ℕ, ◌+◌, ◌==◌, ◌&&◌, if◌then◌else◌, nat_lt, nat_le, Bool, true, false, not, List, [], ◌∷◌, ◌++◌, length, sum_by, is_some}
 use Rattle.std.specs.List.{count_by}
 use Rattle.droid_frame.specs.Hashes.{hash}
@@ -15,7 +15,7 @@ use Rattle.droid_core_spec.specs.World.{Content, Node, Folder, File, Abandoned, 
 abbrev pub count_of : Content → ℕ
 count_of content = pieces.piece_count content.size content.piece_size
 
--- the smallest index that wasn't taken, and the number of pieces where all were
+-- the smallest index that was not taken, or the number of pieces if all were
 abbrev pub missing_of : Content → ℕ
 missing_of content = pieces.missing (count_of content) content.pieces
 
@@ -43,7 +43,7 @@ with_piece content index bytes = record content { pieces = content.pieces ++ (in
 abbrev pub as_finished : Content → Content
 as_finished content = record content { finished = true }
 
--- what a finished file was found to be, as its reply, its record and its row tell it
+-- what a finished file was found to be, as its reply, its record and its row say it
 pub record Finding : Type 0 where
   pub method : Method
   pub mismatch : Bool
@@ -58,33 +58,33 @@ digest_of kind content = hash kind (bytes_of content)
 abbrev pub identified : Setting → Profile → List ℕ → Content → Identification
 identified setting profile name content = setting.identify name (bytes_of content) profile.scan_limit profile.match_all
 
--- a hash beside what the file is identified as
+-- a hash, and what the file is identified as
 abbrev pub found_as : Identification → HashValue → Finding
 found_as identification digest =
     record { method = identification.method; mismatch = identification.mismatch; digest = digest; puids = identification.puids }
 
--- what the whole file is found to be, with the hash of its profile's choice
+-- what the whole file is found to be, with a hash of its profile's kind
 abbrev pub finding_of : Setting → Profile → List ℕ → Content → Finding
 finding_of setting profile name content = found_as (identified setting profile name content) (digest_of profile.hash content)
 
--- the reply to who finishes the file
+-- the reply to a Finish of the file
 abbrev pub finished_reply : Finding → Reply
 finished_reply finding = replies.Finished finding.method finding.mismatch finding.digest finding.puids
 
--- how many pieces were taken, and the first missing one; of a finished file both are the number of its pieces
+-- the number of pieces taken, and the first missing index; of a finished file both are the number of its pieces
 abbrev pub progress_of : Content → Reply
 progress_of content =
     if content.finished
     then replies.Progress (count_of content) (count_of content)
     else replies.Progress (length content.pieces) (missing_of content)
 
--- ---- files over the whole world
+-- ---- files of the whole world
 
 abbrev pub is_unfinished : Node → Bool
 is_unfinished (Folder parent modified name) = false
 is_unfinished (File parent modified name content) = not content.finished
 is_unfinished Abandoned = false
 
--- how many files of all profiles are unfinished
+-- the number of unfinished files of all profiles
 abbrev pub unfinished_in : World → ℕ
 unfinished_in world = sum_by (λ profile. count_by is_unfinished profile.nodes) world.profiles

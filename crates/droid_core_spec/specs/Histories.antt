@@ -1,5 +1,5 @@
--- Histories: the accepted requests in order of first acceptance, the world that they make, and what a
--- request is answered after them (this project's own).
+-- Histories: the accepted requests in order of first acceptance, the world that they make, and the answer to a request
+-- after them (this project's own).
 use Rattle.std.specs.Prelude.{◌≡◌, ℕ, ◌^◌, ◌<◌, ◌==◌, ◌&&◌, if◌then◌else◌, Bool, true, List, [], ◌∷◌, ◌++◌, fold, Option, Some, None, IsSome, MatchBool}
 use Rattle.std.specs.List.{find}
 use Rattle.std.specs.Str.{bytes_eq}
@@ -16,7 +16,7 @@ use Rattle.droid_core_spec.specs.Setting.{Setting}
 use Rattle.droid_core_spec.specs.MemoryFaults.{is_out_of_memory}
 use Rattle.droid_core_spec.specs.World.{World, empty_world}
 
--- an accepted request whole, with its mark and its reply
+-- an accepted request with its mark and its reply
 pub record Entry : Type 0 where
   pub frame : Frame
   pub mark : List ℕ
@@ -35,8 +35,8 @@ pub record Asks (frame : Frame) (request : Request) : Type 0 where
 abbrev pub AsksNothing : Frame → Type 0
 AsksNothing frame = (request : Request) → Asks frame request → ⊥
 
--- the request that the frame asks, as it is found by reading the body: that it is the one of `Asks`, and none
--- where nothing is asked, is the law `laws::a_frame_asks_what_it_spells`
+-- the request that the frame asks, found by reading the body; the law `laws::a_frame_asks_what_it_spells` says that it
+-- is that of `Asks`, and that there is none if nothing is asked
 unfoldable pub command : Frame → Option Request
 command frame = request_in frame
 
@@ -47,7 +47,7 @@ frame_mark frame = mark_of frame.kind frame.body
 abbrev pub is_under : ℕ → ℕ → Entry → Bool
 is_under client number entry = (entry.frame.client == client) && (entry.frame.number == number)
 
--- the entry of this client and number, where one is kept
+-- the entry of this client and number, if one is kept
 abbrev pub kept : History → ℕ → ℕ → Option Entry
 kept history client number = find (is_under client number) history
 
@@ -68,8 +68,8 @@ world_asked setting world version (Some request) = world_after world (judge sett
 unfoldable pub world_of : Setting → History → World
 world_of setting history = fold (λ world entry. world_asked setting world entry.frame.version (command entry.frame)) empty_world history
 
--- the entry may come next: its number is new, its mark is its request's, and its command is accepted
--- there, with its reply
+-- the entry may come next: its number is new, its mark is that of its request, and its command is accepted there with
+-- its reply
 pub record IsNext (setting : Setting) (history : History) (entry : Entry) : Type 0 where
   pub is_new : kept history entry.frame.client entry.frame.number ≡ None
   pub marked : entry.mark ≡ frame_mark entry.frame
@@ -88,7 +88,7 @@ IsLegal setting history = GoesOn setting [] history
 
 -- ---- what a request meets
 
--- under one client and number a request is the one that was accepted where it has its version and its mark
+-- under one client and number, a request is the accepted one if it has the same version and the same mark
 abbrev pub is_same_request : ℕ → List ℕ → ℕ → List ℕ → Bool
 is_same_request accepted_version accepted_mark version mark = (accepted_version == version) && bytes_eq accepted_mark mark
 
@@ -106,7 +106,7 @@ pub data Meeting : Type 0 where
   -- its number is new, and its verdict is this
   New : (verdict : Verdict) → Meeting
 
--- by the entry of its client and number, where one is kept
+-- by the entry of its client and number, if one is kept
 abbrev pub meeting_under : Setting → History → Option Entry → Frame → Request → Meeting
 meeting_under setting history (Some entry) frame request = if is_request_of entry frame then Repeat entry else Reuse
 meeting_under setting history None frame request = New (judge setting (world_of setting history) frame.version request)
@@ -133,14 +133,14 @@ reply_to (Repeat entry) = entry.reply
 reply_to Reuse = Refused NumberReused
 reply_to (New verdict) = verdict_reply verdict
 
--- what the request is answered after the history
+-- the answer to the request after the history
 unfoldable pub answer : Setting → History → Frame → Reply
 answer setting history frame = reply_to (meeting setting history frame)
 
 abbrev pub entry_of : Frame → Reply → Entry
 entry_of frame reply = record { frame = frame; mark = frame_mark frame; reply = reply }
 
--- the history where the frame met this: one entry more where it is new and a command that is accepted
+-- the history after what the frame met: one entry more if it is a new command that is accepted
 abbrev pub history_with : History → Frame → Meeting → History
 history_with history frame Nothing = history
 history_with history frame (Repeat entry) = history
@@ -165,15 +165,15 @@ abbrev pub history_from : Setting → History → List Frame → History
 history_from setting history [] = history
 history_from setting history (frame ∷ frames) = history_from setting (next setting history frame) frames
 
--- what the requests of a list are answered, in order
+-- the answers to the requests of a list, in order
 abbrev pub answers : Setting → History → List Frame → List Reply
 answers setting history [] = []
 answers setting history (frame ∷ frames) = answer setting history frame ∷ answers setting (next setting history frame) frames
 
 -- ---- what handling a request gives
 
--- its answer, and what is said of the next history; or want of memory, which is never said of a malformed
--- request, and the same of this history
+-- either the answer, and the claim holds of the next history; or the reply says that memory ran out, which it never
+-- says of a malformed request, and the claim holds of this history
 abbrev pub Handles : Setting → History → Frame → Reply → (History → Type 0) → Type 0
 Handles setting history frame reply Stands =
     MatchBool (is_out_of_memory reply)

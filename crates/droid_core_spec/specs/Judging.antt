@@ -1,5 +1,5 @@
--- Judging a request in a world: the first refusal whose condition holds, or else the reply, and of a command
--- the world after it (this project's own). By the version in which it was sent only a new file and a finish are judged.
+-- Judging a request in a world: the first refusal whose condition holds, or else the reply and, for a command, the
+-- world after it (this project's own). Only AddFile and Finish are judged by the version in which they were sent.
 use Rattle.std.specs.Prelude.{ℕ, ℤ, ◌+◌, ◌-◌, ◌||◌, nat_lt, nat_le, if◌then◌else◌, Bool, false, not, List, [], ◌∷◌, ◌++◌, length, slice_set, Option, Some, None}
 use Rattle.droid_frame.specs.types.filter.Filter.{Filter}
 use Rattle.droid_frame.specs.types.hash_kind.HashKind.{HashKind}
@@ -17,14 +17,14 @@ use Rattle.droid_core_spec.specs.Files.{count_of, missing_of, has_piece, is_due,
 use Rattle.droid_core_spec.specs.Setting.{Setting}
 use Rattle.droid_core_spec.specs.World.{Content, Node, Folder, File, Abandoned, Profile, World, numbered, node_at, is_taken, world_with}
 
--- a command is accepted, with its reply and the world after it; a query is answered and changes nothing; or
--- either is refused and changes nothing
+-- a command is accepted, with its reply and the world after it; or a query is answered and changes nothing; or either
+-- is refused and changes nothing
 pub data Verdict : Type 0 where
   Accepted : (reply : Reply) (after : World) → Verdict
   Answered : (reply : Reply) → Verdict
   Refuses : (refusal : Refusal) → Verdict
 
--- a condition, and the refusal where it holds
+-- a condition, and the refusal if it holds
 abbrev pub Check : Type 0
 Check = Bool × Refusal
 
@@ -33,19 +33,19 @@ abbrev pub refusal_of : List Check → Option Refusal
 refusal_of [] = None
 refusal_of (check ∷ checks) = if check.0 then Some check.1 else refusal_of checks
 
--- the refusal, or else what comes of the request
+-- the refusal, or else the verdict on the request
 abbrev pub unless_refused : Option Refusal → Verdict → Verdict
 unless_refused (Some refusal) verdict = Refuses refusal
 unless_refused None verdict = verdict
 
--- ---- what is asked for is looked up first
+-- ---- look-ups come first
 
--- what comes of a request in the profile, where there is one
+-- the verdict on a request in the profile, if there is one
 abbrev pub in_profile : Option Profile → (Profile → Verdict) → Verdict
 in_profile None judge_there = Refuses NoSuchProfile
 in_profile (Some profile) judge_there = judge_there profile
 
--- what comes of a request for the file, where the node is one
+-- the verdict on a request for the file, if the node is one
 abbrev pub in_file : Option Node → (ℕ → ℤ → List ℕ → Content → Verdict) → Verdict
 in_file None judge_there = Refuses NoSuchNode
 in_file (Some Abandoned) judge_there = Refuses NoSuchNode
@@ -91,7 +91,7 @@ folder_checks limits nodes parent modified name =
     ∷ (nat_le limits.nodes (length nodes), LimitReached reached.Nodes)
     ∷ []
 
--- the limit of unfinished files is that of the whole service; a file may have larger pieces in version 2
+-- the limit of unfinished files is that of the whole service; version 2 allows larger pieces
 abbrev pub file_checks : Limits → World → ℕ → List Node → ℕ → ℤ → ℕ → ℕ → List ℕ → List Check
 file_checks limits world version nodes parent modified size piece_size name =
     place_checks nodes parent name
@@ -109,7 +109,7 @@ piece_checks content index bytes =
     ∷ (is_too_far content index, TooFarAhead (missing_of content))
     ∷ []
 
--- of a file that gets this hash, which the reply has to tell in the version that it answers
+-- of a file with this hash, which the reply has to carry in the version of the request
 abbrev pub finish_checks : ℕ → HashKind → Content → List Check
 finish_checks version hash content =
     (content.finished, AlreadyFinished)

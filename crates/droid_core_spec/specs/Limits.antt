@@ -1,7 +1,7 @@
--- How much a service takes at the most.
+-- The limits of a service.
 use Rattle.std.specs.Prelude.{ℕ}
 
--- profiles of the service, nodes ever accepted in one profile, unfinished files over the whole service
+-- the most profiles of the service, nodes ever accepted in one profile, and unfinished files of the whole service
 pub record Limits : Type 0 where
   pub profiles : ℕ
   pub nodes : ℕ

@@ -1,11 +1,11 @@
--- Which refusals say want of memory.
+-- Which refusals say that memory ran out.
 use Rattle.std.specs.Prelude.{Bool, true, false}
 use Rattle.droid_frame.specs.types.refusal.Refusal.{Refusal}
 use Rattle.droid_frame.specs.types.refusal.Refusal.TheVariants as refusals
 use Rattle.droid_frame.specs.types.reply.Reply.{Reply}
 use Rattle.droid_frame.specs.types.reply.Reply.TheVariants.{Made, Node, Refused}
 
--- Memory was refused. That a database refused for another cause (Store) is no want: no service answers it.
+-- The refusal Memory alone. Store says that the database refused for another cause, and no service answers it.
 abbrev pub is_out_of_memory_of : Refusal → Bool
 is_out_of_memory_of refusals.Memory = true
 is_out_of_memory_of refusals.Store = false

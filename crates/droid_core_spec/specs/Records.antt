@@ -13,7 +13,8 @@ abbrev pub found_record : Record → Finding → Record
 found_record plain finding =
     record plain { kind = kinds.File; method = finding.method; mismatch = finding.mismatch; hash = finding.digest; puids = finding.puids }
 
--- the record of the node with this number: a folder's has no hash; an unfinished or abandoned file has none
+-- the record of the node with this number: that of a folder has no hash, and an unfinished or abandoned file has no
+-- record
 abbrev pub record_of : Setting → Profile → ℕ → Node → Option Record
 record_of setting profile id (Folder parent modified name) =
     Some (record { id = id; parent = parent; path = path profile.nodes id; name = name; kind = kinds.Folder; size = 0; modified = modified; method = Unidentified; mismatch = false; hash = hashes.Nothing; puids = [] })

@@ -1,4 +1,4 @@
--- What a service is made with: its limits, and what its registry finds.
+-- What a service is made with: its limits, and the functions of its registry.
 use Rattle.std.specs.Prelude.{ℕ, Bool, List}
 use Rattle.droid_frame.specs.types.hash_kind.HashKind.{HashKind}
 use Rattle.droid_frame.specs.types.method.Method.{Method}
@@ -12,12 +12,13 @@ pub record Identification : Type 0 where
   pub mismatch : Bool
   pub puids : List (List ℕ)
 
--- What is found in a file: of its name, its bytes, how many of them are looked at from each end, and whether
--- a format with signatures may be found by its extension. droid_core_state's Identified.antt says which function this is.
+-- Identifies a file by its name, its bytes, the number of bytes that are scanned from each end, and whether a format
+-- with signatures may be found by its extension. droid_core_state's Identified.antt says which function this is.
 abbrev pub Identify : Type 0
 Identify = (name bytes : List ℕ) (scan_limit : ℕ) (match_all : Bool) → Identification
 
--- The text of an export: of records, a filter and which hash their files have. droid_core_state's Identified.antt says which function this is.
+-- The text of an export of records by a filter, for files with this kind of hash. droid_core_state's Identified.antt
+-- says which function this is.
 abbrev pub ExportText : Type 0
 ExportText = (records : List Record) (filter : Filter) (hash : HashKind) → List ℕ
 

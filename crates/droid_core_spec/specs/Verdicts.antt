@@ -1,4 +1,4 @@
--- What judging may come to: a command is accepted or refused, and a query is told or refused.
+-- Which verdicts there may be: a command is accepted or refused, and a query is answered or refused.
 use Rattle.std.specs.Prelude.{◌≡◌, ◌+◌, nat_lt, Bool, true, false}
 use Rattle.droid_frame.specs.Bodies.{request_kind}
 use Rattle.droid_frame.specs.types.refusal.Refusal.{Refusal}
@@ -17,8 +17,8 @@ abbrev pub is_refused : Reply → Bool
 is_refused (Refused refusal) = true
 is_refused _ = false
 
--- a refusal that judging may give: whether a frame asks something, and under which number, is seen before it, and
--- what memory and the database allow is none of its matters
+-- a refusal that judging may give: malformed frames and numbers that were used before are seen earlier, and memory and
+-- the database are no matter of judging
 abbrev pub is_of_judging : Refusal → Bool
 is_of_judging Malformed = false
 is_of_judging NumberReused = false
@@ -26,18 +26,18 @@ is_of_judging Memory = false
 is_of_judging Store = false
 is_of_judging _ = true
 
--- what is accepted is a command, its reply is no refusal, and one command more was accepted
+-- an accepted request is a command, its reply is no refusal, and one command more was accepted
 pub record MayBeAccepted (world : World) (request : Request) (reply : Reply) (after : World) : Type 0 where
   pub command : is_command request ≡ true
   pub no_refusal : is_refused reply ≡ false
   pub one_more : after.accepted ≡ world.accepted + 1
 
--- what is told is asked by a query, and no refusal
+-- an answered request is a query, and its reply is no refusal
 pub record MayAnswer (request : Request) (reply : Reply) : Type 0 where
   pub query : is_command request ≡ false
   pub no_refusal : is_refused reply ≡ false
 
--- the verdict is one that may come of the request in the world
+-- the request may get this verdict in the world
 abbrev pub MayCome : World → Request → Verdict → Type 0
 MayCome world request (Accepted reply after) = MayBeAccepted world request reply after
 MayCome world request (Answered reply) = MayAnswer request reply

@@ -1,9 +1,9 @@
--- What a finished file has: every piece, each of them taken once, and as many bytes as it was announced with.
+-- A finished file has every piece, each taken once, and as many bytes as it was announced with.
 use Rattle.std.specs.Prelude.{◌≡◌, ℕ, ℤ, true, List, length, Some}
 use Rattle.droid_core_spec.specs.Files.{count_of, missing_of, bytes_of}
 use Rattle.droid_core_spec.specs.World.{Content, File, Profile, World, numbered, node_at}
 
--- no piece is missing, as many were taken as the file has, and their bytes are as many as its size says
+-- no piece is missing, none was taken twice, and their bytes are as many as the file's size says
 pub record IsWhole (content : Content) : Type 0 where
   pub none_missing : missing_of content ≡ count_of content
   pub all_taken : length content.pieces ≡ count_of content

@@ -11,20 +11,20 @@ pub record Content : Type 0 where
   pub pieces : List (ℕ × List ℕ)
   pub finished : Bool
 
--- a node lies in the folder numbered parent, or at the top where parent is 0
+-- a node lies in the folder with the number parent, or at the top if parent is 0
 pub data Node : Type 0 where
   Folder : (parent : ℕ) (modified : ℤ) (name : List ℕ) → Node
   File : (parent : ℕ) (modified : ℤ) (name : List ℕ) (content : Content) → Node
   Abandoned : Node
 
--- how the files of a profile are looked at, which hash they get, and its nodes, in order of acceptance
+-- how the files of a profile are identified, the kind of their hash, and its nodes in order of acceptance
 pub record Profile : Type 0 where
   pub scan_limit : ℕ
   pub match_all : Bool
   pub hash : HashKind
   pub nodes : List Node
 
--- how many commands were accepted, and the profiles, in order of acceptance
+-- the number of accepted commands, and the profiles in order of acceptance
 pub record World : Type 0 where
   pub accepted : ℕ
   pub profiles : List Profile

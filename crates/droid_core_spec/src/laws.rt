@@ -1,4 +1,4 @@
-//! Laws of histories: each stands on a function that does nothing, and is proved with it.
+//! Laws of histories. Each is the contract of a function that does nothing, and is proved with it.
 
 ghost use Rattle.std.specs.Prelude.{◌≡◌, ◌≢◌, ◌+◌, ◌↔◌, ℕ, true, false, List, [], length, None, Some, IsSome};
 ghost use Rattle.std.specs.List.{AllByRecursion, Contains};
@@ -24,41 +24,41 @@ ghost use Rattle.droid_core_spec.specs.MemoryFaults.{is_out_of_memory};
 ghost use Rattle.droid_core_spec.specs.Whole.{FinishedAreWhole};
 ghost use Rattle.droid_core_spec.specs.World.{Profile, World};
 
-/// What a frame asks, for all kinds of request: a request exactly where its number is below 2^63 and its
-/// version, kind and body spell that request, and nothing exactly where there is no such request.
+/// A frame asks a request exactly if its number is below 2^63 and its version, kind and body spell that request. It
+/// asks nothing exactly if there is no such request.
 pub fn a_frame_asks_what_it_spells()
     ensures something { (frame : Frame) (request : Request) → IsBytes frame.body → (command frame ≡ Some request) ↔ Asks frame request }
     ensures nothing { (frame : Frame) → IsBytes frame.body → (command frame ≡ None) ↔ AsksNothing frame }
 {}
 
-/// A command is accepted or refused, and a query is told or refused. What is accepted or told is no refusal, an
-/// accepted command is one more, and judging refuses for no other reason than its own: never as Malformed, for
-/// a number used again, or for want of memory or of the database.
+/// A command is accepted or refused, and a query is answered or refused. Neither reply is then a refusal, an accepted
+/// command is counted, and judging has reasons of its own alone: it never refuses as Malformed, for a number that was
+/// used before, for memory or for the database.
 pub fn judging_goes_by_kind()
     ensures { (setting : Setting) (world : World) (version : ℕ) (request : Request) → MayCome world request (judge setting world version request) }
 {}
 
-/// Only a new file and a finish are judged by the version in which they were sent: all other requests come to the same
-/// in every version.
+/// Only AddFile and Finish are judged by the version in which they were sent. The verdict on every other request is the
+/// same in both versions.
 pub fn judging_goes_by_version_in_two_kinds()
     ensures { (setting : Setting) (world : World) (one other : ℕ) (request : Request) → request_kind request ≢ 3 → request_kind request ≢ 5
         → judge setting world one request ≡ judge setting world other request }
 {}
 
-/// Frames of another version than 1 and 2 ask nothing, and are answered so whatever was kept.
+/// A frame of another version than 1 and 2 asks nothing. It is answered Malformed, whatever replies are kept.
 pub fn other_versions_ask_nothing()
     ensures asks { (frame : Frame) → is_version frame.version ≡ false → command frame ≡ None }
     ensures answer { (setting : Setting) (history : History) (frame : Frame) → is_version frame.version ≡ false → answer setting history frame ≡ Refused Malformed }
 {}
 
-/// Where all frames are of version 1, it is as if there were no other: after any list of them each profile's files get
-/// MD5s and no file has larger pieces, and so no Finish of theirs is refused for its profile's hash.
+/// After any list of frames of version 1, each profile has MD5 as its hash and no file has pieces larger than those of
+/// version 1. So no Finish of version 1 is refused because of its profile's hash.
 pub fn version_1_stands_alone()
     ensures world { (setting : Setting) (frames : List Frame) → AllByRecursion IsOfVersion1 frames → IsWorldOfVersion1 (world_of setting (history_from setting [] frames)) }
     ensures finish { (setting : Setting) (world : World) (profile file : ℕ) → IsWorldOfVersion1 world → judge setting world 1 (Finish profile file) ≢ Refuses BadOption }
 {}
 
-/// After a legal history no answer is want of memory, and none is that the database refused.
+/// After a legal history no answer says that memory ran out, and none says that the database refused.
 pub fn answers_are_no_memory_faults()
     ensures memory { (setting : Setting) (history : History) (frame : Frame) → IsLegal setting history → is_out_of_memory (answer setting history frame) ≡ false }
     ensures store { (setting : Setting) (history : History) (frame : Frame) → IsLegal setting history → answer setting history frame ≢ Refused Store }
@@ -74,42 +74,41 @@ pub fn a_query_changes_nothing()
     ensures { (setting : Setting) (history : History) (frame : Frame) (request : Request) → command frame ≡ Some request → is_command request ≡ false → next setting history frame ≡ history }
 {}
 
-/// The reply under which a command was accepted is its answer for ever, whatever is asked after it.
+/// An accepted command gets the same reply for ever, whatever is asked after it.
 pub fn an_accepted_reply_stays()
-    // What a command is answered, unless it is refused, the next history has as its reply.
+    // The answer to a command that is not refused becomes the reply of the next history.
     ensures kept { (setting : Setting) (history : History) (frame : Frame) (request : Request) → command frame ≡ Some request → is_command request ≡ true
         → is_refused (answer setting history frame) ≡ false → HasReply (next setting history frame) frame (answer setting history frame) }
-    // A reply that a history has is the answer after it and after every list of requests more.
+    // A reply of a history is the answer after it, and after any further list of requests.
     ensures same { (setting : Setting) (history : History) (frame : Frame) (reply : Reply) (frames : List Frame) → HasReply history frame reply → IsSome (command frame)
         → answer setting (history_from setting history frames) frame ≡ reply }
-    // So what a command is answered, unless it is refused, it is answered ever after.
+    // So a command that is not refused gets the same answer ever after.
     ensures accepted { (setting : Setting) (history : History) (frame : Frame) (request : Request) (frames : List Frame) → command frame ≡ Some request → is_command request ≡ true
         → is_refused (answer setting history frame) ≡ false → answer setting (history_from setting (next setting history frame) frames) frame ≡ answer setting history frame }
-    // Where a legal history has an entry of this client, number, version, kind and body, its reply is the answer.
+    // If a legal history has an entry of this client, number, version, kind and body, its reply is the answer.
     ensures again { (setting : Setting) (history : History) (frame : Frame) (entry : Entry) (frames : List Frame) → IsLegal setting history → kept history frame.client frame.number ≡ Some entry
         → frame.version ≡ entry.frame.version → frame.kind ≡ entry.frame.kind → frame.body ≡ entry.frame.body → answer setting (history_from setting history frames) frame ≡ entry.reply }
-    // Another request under a number that is kept, also the same bytes in the other version, is told so, and one that
-    // asks nothing is malformed.
+    // Another request under a kept number is answered NumberReused, also if it has the same bytes in the other version.
+    // A frame that asks nothing is answered Malformed.
     ensures other { (setting : Setting) (history : History) (frame : Frame) (entry : Entry) (frames : List Frame) → kept history frame.client frame.number ≡ Some entry → IsSome (command frame)
         → is_request_of entry frame ≡ false → answer setting (history_from setting history frames) frame ≡ Refused NumberReused }
     ensures malformed { (setting : Setting) (history : History) (frame : Frame) → command frame ≡ None → answer setting history frame ≡ Refused Malformed }
 {}
 
-/// What a part of an export is as of is how many commands were accepted: the length of the history.
+/// The `as_of` of an export's part is the number of accepted commands: the length of the history.
 pub fn an_export_is_as_of_the_history()
     ensures accepted { (setting : Setting) (history : History) → IsLegal setting history → (world_of setting history).accepted ≡ length history }
     ensures part { (setting : Setting) (history : History) (version profile from max as_of total : ℕ) (filter : Filter) (bytes : List ℕ) → IsLegal setting history
         → judge setting (world_of setting history) version (Export profile from max filter) ≡ Answered (Part as_of total bytes) → as_of ≡ length history }
 {}
 
-/// In the world that any history leads to, no piece of a finished file is missing, and as many pieces of it
-/// were taken as it has. So the progress that is told of it, twice the number of its pieces, is true of those
-/// that were taken. The bytes of its pieces are as many as its size says.
+/// In the world of any history, all pieces of a finished file were taken, each once. So the progress that is reported
+/// of it, twice the number of its pieces, is that of the pieces taken. Their bytes are as many as its size says.
 pub fn a_finished_file_is_whole()
     ensures { (setting : Setting) (history : History) → FinishedAreWhole (world_of setting history) }
 {}
 
-/// The records of a profile are those of its nodes: that of each folder and each finished file, and no other.
+/// A profile has exactly one record for each folder and each finished file, and no others.
 pub fn records_are_of_nodes()
     ensures { (setting : Setting) (profile : Profile) (shown : Record) → Contains (records setting profile) shown ↔ IsRecordIn setting profile shown }
 {}

@@ -1,5 +1,5 @@
-//! Histories: which requests were accepted, the world that they make, and what a request is answered after
-//! them. Definitions, and laws; there is no code here.
+//! What a service answers: histories of accepted requests, the world that they make, and the answer to each request.
+//! Definitions and laws, without code.
 #![tactic(auto)]
 
 pub mod laws;

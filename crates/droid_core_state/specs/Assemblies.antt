@@ -6,8 +6,8 @@ use Rattle.droid_core_spec.specs.Files.{unfinished_in}
 use Rattle.droid_core_spec.specs.World.{Content, Node, Folder, File, Abandoned, Profile, World, numbered}
 use Rattle.droid_core_files.specs.Files.{OpenFile, OpenFiles, open_at}
 
--- the assembly is of the file's size and piece size and of its profile's scan limit and choice of hash, and stands
--- for its pieces, with none pending
+-- the assembly has the file's size and piece size, and its profile's scan limit and kind of hash; it stands for the
+-- file's pieces, with none pending
 pub record IsAssemblyOf (profile : Profile) (content : Content) (assembly : State) : Type 0 where
   pub size : assembly.size ≡ content.size
   pub piece_size : assembly.piece_size ≡ content.piece_size
@@ -16,7 +16,7 @@ pub record IsAssemblyOf (profile : Profile) (content : Content) (assembly : Stat
   pub pieces : assemblies.StandsFor assembly content.pieces
   pub none_pending : assembly.pending ≡ None
 
--- the file has one, and this is its assembly
+-- there is an assembly, and it is that of the file
 pub record IsOpenFor (profile : Profile) (content : Content) (found : Option OpenFile) : Type 0 where
   pub file : OpenFile
   pub there : found ≡ Some file
@@ -29,7 +29,7 @@ HasItsAssembly profile (Some (Folder parent modified name)) found = found ≡ No
 HasItsAssembly profile (Some (File parent modified name content)) found = MatchBool content.finished (found ≡ None) (IsOpenFor profile content found)
 HasItsAssembly profile (Some Abandoned) found = found ≡ None
 
--- the same of the node with this number in a profile, where there is one
+-- this holds of the node with this number in a profile, if there is one
 abbrev pub HasItsAssemblyIn : Option Profile → ℕ → Option OpenFile → Type 0
 HasItsAssemblyIn None id found = found ≡ None
 HasItsAssemblyIn (Some profile) id found = HasItsAssembly profile (numbered profile.nodes id) found

@@ -1,4 +1,4 @@
--- What one request changes inside the service, as the clauses of each request and of a repeat say it.
+-- What one request changes inside the service.
 use Rattle.std.specs.Prelude.{◌≡◌, ◌∷◌, [], ◌++◌, if◌then◌else◌, Bool, MatchBool, Result, Ok, Err}
 use Rattle.droid_frame.specs.Replies.{reply_kind, reply_bytes}
 use Rattle.droid_frame.specs.types.frame.Frame.{Frame}
@@ -16,7 +16,7 @@ use Rattle.droid_core_state.specs.declared.holdings.Holdings.{Holdings}
 use Rattle.droid_core_state.specs.declared.stamps.Stamp.{Stamp}
 use Rattle.droid_core_state.specs.Standing.{IsIn}
 
--- the reply that a call's result comes to
+-- the reply to a request from the result of its call
 abbrev pub answered : Result Reply Refusal → Reply
 answered (Ok reply) = reply
 answered (Err refusal) = Refused refusal
@@ -25,7 +25,7 @@ answered (Err refusal) = Refused refusal
 abbrev pub stamped : Stamp → Reply → rows.Entry
 stamped stamp reply = record { client = stamp.client; number = stamp.number; version = stamp.version; mark = stamp.mark; kind = reply_kind reply; body = reply_bytes stamp.version reply }
 
--- whose the request of a frame is, its version and its mark
+-- the stamp of a frame: its client and number, its version and its mark
 abbrev pub stamp_of : Frame → Stamp
 stamp_of frame = record { client = frame.client; number = frame.number; version = frame.version; mark = frame_mark frame }
 
@@ -33,7 +33,7 @@ stamp_of frame = record { client = frame.client; number = frame.number; version 
 abbrev pub is_row_of : rows.Entry → Stamp → Bool
 is_row_of entry stamp = is_same_request entry.version entry.mark stamp.version stamp.mark
 
--- what the request with this stamp is answered where the row is kept under its number, and spells this reply
+-- the answer to the request with this stamp if the row is kept under its number and spells this reply
 abbrev pub again : rows.Entry → Stamp → Reply → Reply
 again entry stamp kept = if is_row_of entry stamp then kept else Refused NumberReused
 
@@ -52,7 +52,7 @@ Leaves setting world old new stamp (Accepted reply after) = TakesOne setting aft
 Leaves setting world old new stamp (Answered reply) = Stays setting world old new
 Leaves setting world old new stamp (Refuses refusal) = Stays setting world old new
 
--- what a request under a new number makes of the service: what its verdict says, or want of memory and no change
+-- after a request under a new number: what its verdict says, or memory ran out and nothing changed
 abbrev pub Comes : Setting → World → Holdings → Holdings → Stamp → Verdict → Reply → Type 0
 Comes setting world old new stamp verdict reply =
     MatchBool (is_out_of_memory reply) (Stays setting world old new) ((reply ≡ verdict_reply verdict) × Leaves setting world old new stamp verdict)

@@ -1,4 +1,4 @@
--- The checks of a new node that don't look at its place (this project's own).
+-- The checks of a new node that do not look at its place (this project's own).
 use Rattle.std.specs.Prelude.{ℕ, ℤ, ◌||◌, not, List, [], ◌∷◌, nat_le}
 use Rattle.droid_frame.specs.types.refusal.Limit.TheVariants.{Nodes, Unfinished}
 use Rattle.droid_frame.specs.types.refusal.Refusal.TheVariants.{BadOption, TooLarge, LimitReached}

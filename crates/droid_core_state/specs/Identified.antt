@@ -1,4 +1,4 @@
--- Which functions a service's setting has: what its registry finds, and what an export of it says.
+-- Which functions the setting of a service has: how its registry identifies files, and the text of its exports.
 use Rattle.std.specs.Prelude.{◌≡◌, ℕ, Bool, List}
 use Rattle.droid_frame.specs.types.filter.Filter.{Filter}
 use Rattle.droid_frame.specs.types.hash_kind.HashKind.{HashKind}
@@ -15,7 +15,7 @@ use Rattle.droid_core_spec.specs.Setting.{Setting, Identification}
 abbrev pub found_in : Identification → Found
 found_in identification = record { method = identification.method; mismatch = identification.mismatch; puids = identification.puids }
 
--- In every file the setting finds what the registry does (there is one such thing: a law of droid_pronom), and
+-- The setting identifies every file as the registry does (which has exactly one answer, by a law of droid_pronom), and
 -- its exports are the texts of this registry.
 pub record IsOf (registry : Contents) (setting : Setting) : Type 0 where
   pub identifies : (name bytes : List ℕ) (limit : ℕ) (match_all : Bool) → IsFound registry name bytes limit match_all (found_in (setting.identify name bytes limit match_all))

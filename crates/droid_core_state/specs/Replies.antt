@@ -7,7 +7,7 @@ use Rattle.droid_core_spec.specs.Histories.{Entry, History}
 use Rattle.droid_store.specs.declared.rows.Entry as rows
 use Rattle.droid_store.specs.Rows.{Rows}
 
--- the row of an entry: whose it is, its version and its mark, and its reply as it is spelled in that version
+-- the row of an entry: its client and number, its version and mark, and its reply as spelled in that version
 abbrev pub entry_row : Entry → rows.Entry
 entry_row entry = record {
   client = entry.frame.client;
@@ -18,12 +18,12 @@ entry_row entry = record {
   body = reply_bytes entry.frame.version entry.reply;
 }
 
--- the entry's version is one, and its reply has a spelling in it
+-- the entry has a version that there is, and its reply has a spelling in it
 pub record IsSpelled (entry : Entry) : Type 0 where
   pub version : IsVersion entry.frame.version
   pub reply : HasReplySpelling entry.frame.version entry.reply
 
--- the reply rows in order are the entries', and each reply has a spelling
+-- the reply rows are those of the entries, in order, and each reply has a spelling
 pub record KeepsReplies (history : History) (rows : Rows) : Type 0 where
   pub replies : rows.replies ≡ map entry_row history
   pub spelled : AllByRecursion IsSpelled history

@@ -10,7 +10,7 @@ use Rattle.droid_store.specs.declared.rows.ProfileRow.{ProfileRow}
 use Rattle.droid_store.specs.Rows as rows
 use Rattle.droid_store.specs.Rows.{Rows}
 
--- the row of a profile; its nodes are counted, also those that were abandoned
+-- the row of a profile, whose count of nodes includes those that were abandoned
 abbrev pub profile_row : Profile → ProfileRow
 profile_row profile = record { scan_limit = profile.scan_limit; match_all = profile.match_all; nodes = length profile.nodes; hash = profile.hash }
 
@@ -18,15 +18,15 @@ profile_row profile = record { scan_limit = profile.scan_limit; match_all = prof
 abbrev pub found_row : Finding → rows.Node → rows.Node
 found_row finding plain = changes.finished finding.method finding.mismatch finding.digest finding.puids plain
 
--- the rows with that of this file finished
+-- the rows after this file was finished
 abbrev pub with_finding : ℕ → ℕ → Finding → Rows → Rows
 with_finding profile id finding rows = changes.with_finished profile id finding.method finding.mismatch finding.digest finding.puids rows
 
--- the row of a file: with what it was found to be where it is finished
+-- the row of a file, with what it was found to be if it is finished
 abbrev pub file_row : Setting → Profile → List ℕ → Content → rows.Node → rows.Node
 file_row setting profile name content plain = if content.finished then found_row (finding_of setting profile name content) plain else plain
 
--- the row of the node with this number in the profile with that number; an abandoned one has none
+-- the row of the node with this number in the profile with that number; an abandoned node has none
 abbrev pub node_row : Setting → ℕ → Profile → ℕ → Node → Option rows.Node
 node_row setting profile its id (Folder parent modified name) =
     Some (changes.new_folder profile id parent modified name (path its.nodes id))
@@ -41,7 +41,7 @@ node_rows_from setting profile its id [] = []
 node_rows_from setting profile its id (node ∷ nodes) =
     option_list (node_row setting profile its id node) ++ node_rows_from setting profile its (id + 1) nodes
 
--- the rows of all nodes of the profile, by number; where there is no profile there is no row
+-- the rows of all nodes of the profile, by number; none if there is no profile
 abbrev pub node_rows : Setting → ℕ → Option Profile → List rows.Node
 node_rows setting profile None = []
 node_rows setting profile (Some its) = node_rows_from setting profile its 1 its.nodes
@@ -50,15 +50,16 @@ node_rows setting profile (Some its) = node_rows_from setting profile its 1 its.
 abbrev pub rows_in : ℕ → Rows → List rows.Node
 rows_in profile rows = filter (λ node. node.profile == profile) rows.nodes
 
--- the profile rows are the world's
+-- the profile rows are those of the world
 abbrev pub KeepsProfiles : World → Rows → Type 0
 KeepsProfiles world rows = rows.profiles ≡ map profile_row world.profiles
 
--- the node rows are the world's, profile by profile, with abandoned nodes left out and finished files as found
+-- the node rows are those of the world, profile by profile: none for an abandoned node, and for a finished file what it
+-- was found to be
 abbrev pub KeepsNodes : Setting → World → Rows → Type 0
 KeepsNodes setting world rows = (profile : ℕ) → rows_in profile rows ≡ node_rows setting profile (numbered world.profiles profile)
 
--- a name of 255 bytes at most, and a path of 4,096 at most
+-- the name has at most 255 bytes, and the path at most 4,096
 pub record AreShort (called way : List ℕ) : Type 0 where
   pub name : length called ≤ 255
   pub path : length way ≤ 4096
@@ -66,8 +67,8 @@ pub record AreShort (called way : List ℕ) : Type 0 where
 abbrev pub IsShort : rows.Node → Type 0
 IsShort node = AreShort node.name node.path
 
--- The rows stand for the world, of which each accepted command has a reply row. The name and the path of each
--- node are short, so that its row fits whatever is found of it.
+-- The rows stand for the world, and each accepted command has a reply row. The name and the path of each node are
+-- short, so that its row fits whatever the file is found to be.
 pub record KeepsWorld (setting : Setting) (world : World) (rows : Rows) : Type 0 where
   pub profiles : KeepsProfiles world rows
   pub nodes : KeepsNodes setting world rows
@@ -76,7 +77,7 @@ pub record KeepsWorld (setting : Setting) (world : World) (rows : Rows) : Type 0
 
 -- ---- what is found of a node
 
--- the row of the node with this number, where the profile has had one and it was not abandoned
+-- the row of the node with this number, if there is such a node and it was not abandoned
 abbrev pub stored_in : Setting → ℕ → Profile → ℕ → Option Node → Option rows.Node
 stored_in setting profile its id None = None
 stored_in setting profile its id (Some node) = node_row setting profile its id node

@@ -1,4 +1,5 @@
--- What every world has that accepted commands made: nodes lie in folders, moments, sizes and scan limits are in range.
+-- What holds of every world that accepted commands made: nodes lie in folders, and moments, sizes and scan limits are
+-- in range.
 use Rattle.std.specs.Prelude.{◌≡◌, ℕ, zero, suc, Bool, true, false, IsTrue, List, Option, Some, None}
 use Rattle.std.specs.List.{AllByRecursion}
 use Rattle.droid_core_spec.specs.Conditions.{is_moment, is_piece_size, is_scan_limit, is_too_large}
@@ -15,7 +16,7 @@ abbrev pub IsPlace : List Node → ℕ → Type 0
 IsPlace nodes zero = Unit {0}
 IsPlace nodes (suc place) = IsTrue (is_folder (node_at nodes (suc place)))
 
--- the sizes of a file are in range: those of its pieces in that of version 2, which has that of version 1 in it
+-- the sizes of a file are in range; for its pieces that is the range of version 2, which contains that of version 1
 pub record IsSized (size piece_size : ℕ) : Type 0 where
   pub pieces : IsTrue (is_piece_size 2 piece_size)
   pub whole : is_too_large size piece_size ≡ false

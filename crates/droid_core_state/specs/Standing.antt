@@ -10,7 +10,7 @@ use Rattle.droid_core_state.specs.Assemblies.{HasAssemblies}
 use Rattle.droid_core_state.specs.declared.limits.Limits as given
 use Rattle.droid_core_state.specs.declared.holdings.Holdings.{Holdings}
 
--- limits as the definitions have them
+-- the limits of the code as those of the definitions
 abbrev pub limits_given : given.Limits → Limits
 limits_given limits = record { profiles = limits.profiles; nodes = limits.nodes; unfinished = limits.unfinished }
 
@@ -20,7 +20,7 @@ pub record AreAllowed (limits : Limits) : Type 0 where
   pub nodes : limits.nodes ≤ 100000
   pub unfinished : limits.unfinished ≤ 64
 
--- the setting has the limits and is of the registry that the holdings have
+-- the setting is that of the limits and the registry of the holdings
 pub record IsSettingOf (setting : Setting) (holdings : Holdings) : Type 0 where
   pub limits : setting.limits ≡ limits_given holdings.limits
   pub allowed : AreAllowed setting.limits

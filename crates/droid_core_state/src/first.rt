@@ -1,4 +1,4 @@
-//! Of the conditions of one request the first that holds.
+//! The first refusal of a request: the conditions that are checked behind its look-ups, in their order.
 
 ghost use Rattle.std.specs.Prelude.{◌≡◌, ◌<◌, ℕ, List, length, false, None, IsTrue, IfNone};
 ghost use Rattle.droid_assembly.specs.Pieces.{AreSizes};
@@ -13,7 +13,7 @@ use crate::options::{is_moment, is_part_size, is_piece_size, is_scan_limit, is_t
 use crate::room::Room;
 use droid_frame::{Limit, Refusal};
 
-/// The first refusal of a new profile, where there is one.
+/// Returns the first refusal of a new profile, if there is one.
 pub fn create_refusal(scan_limit: u32, profiles: Room) -> Option<Refusal>
     ensures first { (limits : Limits) (world : World) → profiles.limit ≡ limits.profiles → profiles.count ≡ length world.profiles
         → result ≡ refusal_of (create_checks limits world scan_limit) }
@@ -29,7 +29,7 @@ pub fn create_refusal(scan_limit: u32, profiles: Room) -> Option<Refusal>
     None
 }
 
-/// The first refusal of a new folder whose place and name are not refused, where there is one.
+/// Returns the first refusal of a new folder whose place and name are not refused, if there is one.
 pub fn folder_refusal(modified: i64, nodes: Room) -> Option<Refusal>
     ensures first { (limits : Limits) (all : List Node) (parent : ℕ) (name : List ℕ) → nodes.limit ≡ limits.nodes → nodes.count ≡ length all
         → refusal_of (place_checks all parent name) ≡ None
@@ -40,7 +40,7 @@ pub fn folder_refusal(modified: i64, nodes: Room) -> Option<Refusal>
     moment_refusal(modified, nodes)
 }
 
-/// The first refusal of a moment, or of one node more.
+/// Returns the first refusal of a moment, or of one node more.
 fn moment_refusal(modified: i64, nodes: Room) -> Option<Refusal>
     ensures first { result ≡ refusal_of (moment_checks modified nodes) }
     ensures moment { IfNone result (IsTrue (is_moment modified)) }
@@ -55,7 +55,7 @@ fn moment_refusal(modified: i64, nodes: Room) -> Option<Refusal>
     None
 }
 
-/// The first refusal of a new file whose place and name are not refused, where there is one.
+/// Returns the first refusal of a new file whose place and name are not refused, if there is one.
 pub fn file_refusal(
     version: u8,
     modified: i64,
@@ -76,7 +76,7 @@ pub fn file_refusal(
     size_refusal(version, modified, size, piece_size, nodes, unfinished)
 }
 
-/// The first refusal of a moment, of sizes, or of one unfinished file more.
+/// Returns the first refusal of a moment, of sizes, or of one unfinished file more.
 fn size_refusal(
     version: u8,
     modified: i64,
@@ -110,7 +110,7 @@ fn size_refusal(
     None
 }
 
-/// The refusal of an export by parts of so many bytes, where there is one.
+/// Returns the refusal of an export whose part may not have this many bytes.
 pub fn export_refusal(max: u32) -> Option<Refusal>
     ensures first { result ≡ refusal_of (export_checks max) }
 {

@@ -9,11 +9,11 @@ use std::alloc::Global;
 /// What a service holds: what it was made with, its rows and its unfinished files.
 #[derive(Drop)]
 pub struct Holdings {
-    /// Where memory comes from.
+    /// The allocator.
     pub alloc: Global,
-    /// How much the service takes at the most.
+    /// The limits of the service.
     pub limits: Limits,
-    /// What files are identified by.
+    /// The registry by which files are identified.
     pub registry: Registry,
     /// Profiles, nodes and kept replies.
     pub store: Store,

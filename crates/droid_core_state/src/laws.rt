@@ -1,4 +1,4 @@
-//! Laws of settings and of rows: each stands on a function that does nothing, and is proved with it.
+//! Laws of settings and of rows. Each is the contract of a function that does nothing, and is proved with it.
 
 ghost use Rattle.std.specs.Prelude.{◌≡◌, ℕ, Some};
 ghost use Rattle.droid_core_spec.specs.Limits.{Limits};
@@ -10,14 +10,14 @@ ghost use Rattle.droid_core_state.specs.Rows.{KeepsNodes};
 ghost use Rattle.droid_pronom.specs.Registry.{Contents};
 ghost use Rattle.droid_store.specs.Rows.{Rows, records_of};
 
-/// Of any limits and any registry there is a setting, and it can be computed: so what is said of every
-/// setting of a service's registry is said of some.
+/// For any limits and any registry there is a setting, and it can be computed. So a clause about every setting of a
+/// service's registry is about at least one.
 pub fn a_setting_is_there()
     ensures { (limits : Limits) (registry : Contents) → IsOf registry (setting_of limits registry) }
 {}
 
-/// Where the rows of nodes stand for a world, the records that the store reads from a profile's rows are the
-/// profile's: each folder's row and each finished file's is its record, in their order, and no other row is one.
+/// If the rows of nodes stand for a world, the records that the store reads from a profile's rows are those of the
+/// profile: one for each folder and each finished file, in their order, and no others.
 pub fn rows_are_the_records()
     ensures { (setting : Setting) (world : World) (rows : Rows) (number : ℕ) (profile : Profile) → KeepsNodes setting world rows
         → numbered world.profiles number ≡ Some profile → records_of number rows ≡ records setting profile }

@@ -1,6 +1,6 @@
-//! What the service keeps, and what all its requests have in common: whose a request is, the row of its reply, the
-//! profile that it names, and the conditions under which it is refused. Which rows of the store stand for which world and
-//! history stands here too, in definitions, with lemmas on what the look-ups find and what each commit makes of it.
+//! What the service holds, and what all its requests have in common: the stamp of a request, the row of its reply, the
+//! profile that it names, and the conditions under which it is refused. The definitions say which rows of the store
+//! stand for which world and history; the lemmas say what look-ups find and what each commit makes of them.
 #![tactic(auto)]
 
 mod first;

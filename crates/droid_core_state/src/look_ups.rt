@@ -1,4 +1,4 @@
-//! The profile that a request names, by what the store answered.
+//! The look-up of the profile that a request names.
 
 ghost use Rattle.std.specs.Prelude.{◌≡◌, ℕ, Option, Ok, Err, Some, None, IfOk, IfErr};
 ghost use Rattle.droid_frame.specs.types.refusal.Refusal.TheVariants.{NoSuchProfile};
@@ -12,8 +12,8 @@ ghost use Rattle.droid_store.specs.declared.fault.StoreFault.TheVariants.{Memory
 use droid_frame::Refusal;
 use droid_store::{ProfileRow, StoreFault};
 
-/// The profile that was looked up in the store, which gives up for want of memory alone. One that isn't
-/// there is refused.
+/// Returns the profile from what the store found, or refuses the request if there is none. The store fails only if
+/// memory runs out.
 pub fn profile_of(found: Result<Option<ProfileRow>, StoreFault>) -> Result<ProfileRow, Refusal>
     requires memory { IfErr found (λ fault. fault ≡ Memory) }
     ensures reported { result ≡ profile_in found }

@@ -1,4 +1,4 @@
-//! Which numbers a request may have, and which hash a reply can tell.
+//! The ranges of the numbers in requests, and which hash a reply can carry.
 
 ghost use Rattle.std.specs.Prelude.{◌≡◌, ◌<◌, IsTrue};
 ghost use Rattle.droid_core_spec.specs.Conditions.{is_scan_limit, is_piece_size, piece_size_limit, is_part_size, is_too_large, is_moment, is_md5, is_carried};
@@ -23,14 +23,14 @@ pub(crate) fn is_piece_size(version: u8, bytes: u32) -> bool
     1 <= bytes && bytes <= most
 }
 
-/// How many bytes a piece may have that is announced in this version.
+/// Returns the most bytes that a piece may have in a file that is announced in this version.
 fn piece_size_limit(version: u8) -> u32
     ensures { result ≡ piece_size_limit version }
 {
     if version == 1 { 1_048_576 } else { 4_194_304 }
 }
 
-/// Whether a part of an export may have so many bytes: from 1 to 1,048,576.
+/// Whether the size of a part of an export lies from 1 to 1,048,576.
 #[tactic(auto, using(crate::proofs::Meanings::part_size_is))]
 pub(crate) fn is_part_size(max: u32) -> bool
     ensures { result ≡ is_part_size max }
@@ -55,7 +55,7 @@ pub fn is_moment(seconds: i64) -> bool
     !(seconds < -62_135_596_800) && !(253_402_300_799 < seconds)
 }
 
-/// Whether a reply of this version can tell a file's hash of this kind.
+/// Whether a Finished of this version can carry a hash of this kind.
 pub fn is_carried(version: u8, hash: HashKind) -> bool
     ensures { result ≡ is_carried version hash }
 {

@@ -5,7 +5,7 @@ ghost use Rattle.std.specs.Prelude.{◌≡◌, ◌+◌, ◌++◌, ◌∷◌, nat
 use droid_frame::Text;
 use std::alloc::{AllocError, Global};
 
-/// Whether the path of a new node passes 4,096 bytes: that of its folder is given.
+/// Whether the path of a new node of this folder has more than 4,096 bytes.
 pub fn is_too_deep_below(parent_path: &str, name: &str) -> bool
     ensures { result ≡ nat_lt 4096 (length parent_path.now + 1 + length name.now) }
 {
@@ -16,7 +16,7 @@ pub fn is_too_deep_below(parent_path: &str, name: &str) -> bool
             .saturating_add(name.len())
 }
 
-/// The path of a new node: its folder's, then `/` and its name. Only want of memory refuses it.
+/// Returns the path of a new node: its folder's path, `/` and its name. Fails only if there is no memory.
 pub fn new_path(alloc: Global, parent_path: &str, name: &str) -> Result<Text, AllocError>
     ensures { IfOk result (λ path. path ≡ parent_path.now ++ 47 ∷ name.now) }
 {

@@ -1,4 +1,4 @@
-//! Kept replies: the row of a new one, and what a kept one answers.
+//! The rows of kept replies, and the answers that they give.
 
 ghost use Rattle.std.specs.Prelude.{◌≡◌, ◌≢◌, false, IfOk, IfErr, MatchBool, ⊤};
 ghost use Rattle.droid_core_state.specs.Changes.{again, answered, is_row_of, stamped};
@@ -14,7 +14,7 @@ use droid_frame::{BodyFault, Frame, Refusal, Reply, reply_body, reply_of};
 use droid_store::Entry;
 use std::alloc::Global;
 
-/// The row of a reply to the request with this stamp. Only want of memory refuses it.
+/// Returns the row of the reply to the request with this stamp. Fails only if there is no memory.
 pub fn entry_of(alloc: Global, stamp: Stamp, reply: &Reply) -> Result<Entry, Refusal>
     requires version { IsVersion stamp.version }
     requires spelling { HasReplySpelling stamp.version reply.now }
@@ -34,12 +34,12 @@ pub fn entry_of(alloc: Global, stamp: Stamp, reply: &Reply) -> Result<Entry, Ref
     })
 }
 
-/// What the request with this stamp is answered where this row is kept under its number: the kept reply
-/// where the versions and the marks are equal. Only the list of a `Finished` takes memory.
+/// Answers the request with this stamp by the row that is kept under its number: with the kept reply if the versions
+/// and the marks are equal, and else with NumberReused. Only the list of a `Finished` takes memory.
 pub fn answer_again(alloc: Global, entry: Entry, stamp: Stamp) -> Reply
     ensures kept { (kept : Reply) → SpellsReply entry.version entry.kind entry.body kept
         → MatchBool (is_out_of_memory result) ⊤ (result ≡ again entry stamp kept) }
-    // Another version or mark is never a want, and neither is any reply but a Finished.
+    // Memory may run out only while a Finished is read.
     ensures reused { is_row_of entry stamp ≡ false → result ≡ Refused refusals.NumberReused }
     ensures exact { (kept : Reply) → SpellsReply entry.version entry.kind entry.body kept → entry.kind ≢ 132 → result ≡ again entry stamp kept }
     ensures spelled { HasReplySpelling stamp.version result }
@@ -61,14 +61,14 @@ pub fn answer_again(alloc: Global, entry: Entry, stamp: Stamp) -> Reply
     }
 }
 
-/// Whether the row is that of the reply to the request with this stamp: of its version, and with its mark.
+/// Whether the row has the version and the mark of this stamp.
 fn is_row_of(entry: &Entry, stamp: Stamp) -> bool
     ensures { result ≡ is_row_of entry.now stamp }
 {
     entry.version == stamp.version && entry.mark.as_slice() == stamp.mark.as_slice()
 }
 
-/// The reply that a request's outcome comes to.
+/// Returns the reply, or the refusal as a reply.
 pub fn reply_from(outcome: Result<Reply, Refusal>) -> Reply
     ensures { result ≡ answered outcome }
 {

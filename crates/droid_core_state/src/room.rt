@@ -1,8 +1,8 @@
-//! How many there are of something, and how many there may be.
+//! Counts beside their limits.
 
 ghost use Rattle.std.specs.Prelude.{◌≡◌, nat_le};
 
-/// How many there are of something, and how many there may be.
+/// A count of profiles, nodes or unfinished files, beside its limit.
 #[derive(Clone, Copy, Debug, PartialEq, Eq)]
 pub struct Room {
     /// How many there are.
@@ -12,7 +12,7 @@ pub struct Room {
 }
 
 impl Room {
-    /// Whether there are as many as there may be, or more.
+    /// Whether the count has reached the limit.
     pub fn is_full(self) -> bool
         ensures { result ≡ nat_le self.limit self.count }
     {

@@ -1,9 +1,9 @@
-//! Whose a request is, and the row that keeps its reply.
+//! The stamp of a request.
 
-/// Whose a request is, the version in which it was sent, and its mark.
+/// The client and the number of a request, the version in which it was sent, and its mark.
 #[derive(Clone, Copy, Debug, PartialEq, Eq)]
 pub struct Stamp {
-    /// Who sent the request.
+    /// The client that sent the request.
     pub client: u32,
     /// The client's number for it, below 2^63.
     pub number: u64,
