@@ -4,7 +4,7 @@ use Rattle.droid_frame.proofs.InTurn.{reported_as}
 use Rattle.droid_lines.specs.Lines.{lines_of}
 use Rattle.droid_lines_send.specs.Along.{ReadsReply, WritesPrinted, WritesRequest}
 use Rattle.std.proofs.Common.{length}
-use Rattle.droid_desk_service.proofs.sending.send_lines.Goals as goal
+use Rattle.droid_desk_service.proofs.client.send_lines.Goals as goal
 
 pub returns-clause-ends : goal.returns-clause-ends
 returns-clause-ends g c =

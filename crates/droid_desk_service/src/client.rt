@@ -1,4 +1,4 @@
-//! The requests of lines, sent by a client that is made for them.
+//! A client that sends the requests of lines.
 
 ghost use Rattle.std.specs.Prelude.{◌≡◌, ◌<◌, ◌^◌, None, length};
 ghost use Rattle.droid_frame.specs.Seen.{IsSound, ReportsFault};
@@ -15,7 +15,7 @@ use droid_lines_send::{SendFault, send};
 use droid_wire::Client;
 use std::alloc::Global;
 
-/// Sends the requests of lines under numbers from `first` on, and tells how the program ends by that.
+/// Sends the requests of lines under numbers from `first` on, and returns how the program ends by that.
 pub fn send_lines<L: SteadyRead, R: SteadyRead, F: SteadyWrite, T: SteadyWrite>(
     alloc: Global,
     client: u32,
@@ -28,7 +28,7 @@ pub fn send_lines<L: SteadyRead, R: SteadyRead, F: SteadyWrite, T: SteadyWrite>(
     requires { first < 2 ^ 63 }
     ensures ends { SendEndsAs (new_core client first) result (L.remaining lines.old) (R.remaining replies.old) (R.remaining replies.new)
         (F.contents frames.old) (F.contents frames.new) (T.contents text.old) (T.contents text.new) }
-    // The streams are said to have failed exactly where they did, or were interrupted too often: the lines over all of them, the others for one line.
+    // A fault of a stream is reported exactly if it failed, or was interrupted too often: the lines over all of them, the other streams within one line.
     ensures lines_fault { IsSound (L.seen lines.old) → ReportsFault (L.seen lines.old).interruptions (L.seen lines.new) (result ≡ Ending.Send SendFault.Lines) }
     ensures replies_fault { IsSound (R.seen replies.old) → ReportsFaultInTurn R.seen (ReadsReply R.remaining) (AtMost (L.remaining lines.old) (λ script. length (lines_of script)))
         replies.old replies.new (result ≡ Ending.Send (SendFault.Replies FrameFault.Read)) }
