@@ -8,7 +8,7 @@ import struct
 import subprocess
 from typing import NamedTuple
 
-from harness import HEADER, PROGRAM, SECONDS, frame, in_version
+from harness import HEADER, PROGRAM, SECONDS, faults, frame, in_version
 
 REFUSING = os.environ["REFUSING"]
 COUNTS_FILE = os.path.join(os.path.dirname(REFUSING), "counts")
@@ -98,7 +98,7 @@ def run_over(frames, options=(), **variables):
         timeout=4 * SECONDS,
         env={"LD_PRELOAD": REFUSING, **{name: str(value) for name, value in variables.items()}},
     )
-    return done.returncode, done.stdout, done.stderr.decode("ascii")
+    return done.returncode, done.stdout, faults(done.stderr).decode("ascii")
 
 
 def counted(frames, options=()):

@@ -9,6 +9,7 @@ import tempfile
 import unittest
 from concurrent.futures import ThreadPoolExecutor
 
+from harness import faults
 from trees import PROGRAM, InFolder
 
 TOP = os.path.join(os.path.dirname(os.path.abspath(__file__)), "..", "..")
@@ -34,7 +35,7 @@ def run(*words, given=b"", **variables):
     """Runs a command, its allocations counted or one of them refused: its status, what it wrote, and what it said."""
     environment = {**os.environ, "LD_PRELOAD": os.environ["REFUSING"], **variables}
     done = subprocess.run([PROGRAM, *words], input=given, capture_output=True, timeout=60, env=environment)
-    return done.returncode, done.stdout, done.stderr
+    return done.returncode, done.stdout, faults(done.stderr)
 
 
 class Refused(InFolder):

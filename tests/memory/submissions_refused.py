@@ -10,6 +10,7 @@ import tempfile
 import unittest
 from concurrent.futures import ThreadPoolExecutor
 
+from harness import faults
 from submissions import PIECE, Service, WithTree
 from trees import PROGRAM
 
@@ -34,9 +35,9 @@ class Refused(WithTree):
             there = os.listdir(made)
             self.assertIn(there, [[], [b"export.csv"]])
             if not there:
-                return run.returncode, run.stderr, None
+                return run.returncode, faults(run.stderr), None
             with open(export, "rb") as file:
-                return run.returncode, run.stderr, file.read()
+                return run.returncode, faults(run.stderr), file.read()
 
     def count(self):
         """How many allocations a whole submission makes, and its export."""

@@ -84,7 +84,7 @@ class Told(InFolder):
     def test_quiet_on_terminal(self):
         self.file(b"/a.bin", b"x" * (8 << 20))
         told, _ = self.on_terminal("--quiet", env=slow(50))
-        self.assertEqual([line for line in told.replace(AWAY, b"").split(b"\r\n") if line], [b"registry: the program's own, of everyday formats"])
+        self.assertEqual([line for line in told.replace(AWAY, b"").split(b"\r\n") if line], [b"registry: the built-in registry of everyday formats"])
 
     def test_lines(self):
         # elsewhere there is a line every ten seconds

@@ -1,6 +1,7 @@
 """A folder is submitted, and its export is that of Python's walk."""
 import os
 
+from harness import send
 from submissions import Service, WithTree, submit
 from trees import profile, walk
 
@@ -51,15 +52,25 @@ class Whole(WithTree):
     def test_place_of_the_export(self):
         """Where no file can be made, nothing is sent."""
         status, err = submit(self.top, 1, 7, "--export", self.work + b"/none/export.csv")
-        self.assertEqual((status, err), (4, b"fault: Output\n"))
+        path = self.work + b"/none/export.csv"
+        self.assertEqual((status, err), (4, b"fault: Output\n" + path + b": cannot be created: its folder does not exist: create it first\n"))
 
     def test_nobody_listens(self):
         with Service() as service:
             port = service.port
         status, err = submit(self.top, port, 7, "--export", self.export)
-        self.assertEqual((status, err), (4, b"fault: Broken\n"))
+        sentence = b"nobody listens on port %d: start droid_desk serve --port %d first\n" % (port, port)
+        self.assertEqual((status, err), (4, b"fault: Socket\n" + sentence))
         self.assertFalse(os.path.exists(self.export))
+
+    def test_no_more_profiles(self):
+        with Service() as service:
+            for client in range(100, 164):
+                self.assertEqual(send(service.port, client, b"create 65536 0\n")[0], 0)
+            status, err = submit(self.top, service.port, 7)
+        sentence = b"port %d: the service refused a request, perhaps for its limit of 64 profiles: start another\n" % service.port
+        self.assertEqual((status, err), (4, b"fault: Reply\n" + sentence))
 
     def test_no_folder(self):
         status, err = submit(self.top + b"/none", 1, 7)
-        self.assertEqual((status, err), (4, b"fault: Folder\n"))
+        self.assertEqual((status, err), (4, b"fault: Folder\n" + self.top + b"/none: no such folder: check the path\n"))

@@ -14,7 +14,7 @@ import unittest
 from random import Random
 
 from frames import answer, frames_of, service_of_the_sample
-from harness import LIMITS, PROGRAM, SECONDS, Serve, connect, frame, free_port, in_version
+from harness import LIMITS, PROGRAM, SECONDS, Serve, connect, faults, frame, free_port, in_version
 from harness import read_exactly, read_until_reset, run
 from run_command import REQUESTS
 from serve_command import send_until_reset
@@ -281,7 +281,7 @@ class ClosedOutput(unittest.TestCase):
                 closing = ["sh", "-c", 'exec "$@" >&-', "sh", PROGRAM, *words]
                 given = b"1 1 create 65536 0\n" if words == ["script"] else REQUESTS
                 done = subprocess.run(closing, input=given, stderr=subprocess.PIPE, timeout=SECONDS)
-                self.assertEqual((done.returncode, done.stderr), (4, b"fault: Write\n"))
+                self.assertEqual((done.returncode, faults(done.stderr)), (4, b"fault: Write\n"))
 
 
 if __name__ == "__main__":

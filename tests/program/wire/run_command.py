@@ -7,7 +7,7 @@ import subprocess
 import tempfile
 import unittest
 
-from harness import HEADER, LIMITS, PROGRAM, SECONDS, frame, free_port, in_version, run
+from harness import HEADER, LIMITS, PROGRAM, SECONDS, faults, frame, free_port, in_version, run
 
 CREATE = frame(1, 1, 1, b"\0\1\0\0\0")
 FOLDER = frame(2, 1, 2, b"\0\0\0\1" + bytes(12) + b"in")
@@ -94,7 +94,7 @@ class Run(unittest.TestCase):
             done = subprocess.run([PROGRAM, "run"], stdin=folder, capture_output=True, timeout=SECONDS)
         finally:
             os.close(folder)
-        self.assertEqual((done.returncode, done.stdout, done.stderr), (4, b"", b"fault: Read\n"))
+        self.assertEqual((done.returncode, done.stdout, faults(done.stderr)), (4, b"", b"fault: Read\n"))
 
     def test_an_output_without_room(self):
         with open("/dev/full", "wb") as full:

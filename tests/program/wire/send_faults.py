@@ -6,7 +6,7 @@ import threading
 import unittest
 
 from harness import HEADER, LIMITS, PROGRAM, SECONDS, Serve, frame, free_port, in_version, lines_in_version, listen
-from harness import read_frame, run, send
+from harness import read_frame, run, run_plainly, send
 
 CREATE = b"create 65536 0\n"
 FOLDER = b"folder 1 0 0 in\n"
@@ -131,7 +131,10 @@ class Faults(unittest.TestCase):
         return service.heard
 
     def test_no_listener(self):
-        self.assertEqual(send(free_port(), 7, CREATE), (4, b"", "fault: Socket\n"))
+        port = free_port()
+        status, out, said = run_plainly(["send", "--port", port, "--client", 7], CREATE)
+        self.assertEqual((status, out), (4, b""))
+        self.assertEqual(said, f"fault: Socket\nnobody listens on port {port}: start droid_desk serve --port {port} first\n")
 
     def test_replies(self):
         """One reply, which is the fault; or the one that is due, and then the fault in the place of the second."""

@@ -8,7 +8,7 @@ import threading
 import unittest
 from hashlib import md5
 
-from harness import HEADER, LIMITS, SECONDS, Serve, connect, frame, listen, run, send
+from harness import HEADER, LIMITS, SECONDS, Serve, connect, frame, listen, run, run_plainly, send
 from harness import read_exactly, read_frame, read_until_reset
 from run_command import CREATE, FOLDER, MADE, MALFORMED, MOST_FRAMES, NODE, REPLIES, REQUESTS, SESSION, SHORT_FINISH
 from run_command import session_in
@@ -199,8 +199,10 @@ class ServeCommand(unittest.TestCase):
 
     def test_a_port_in_use(self):
         with listen() as listener:
-            told = run(["serve", "--port", listener.getsockname()[1]])
-        self.assertEqual(told, (4, b"", "fault: Socket\n"))
+            port = listener.getsockname()[1]
+            status, out, said = run_plainly(["serve", "--everyday", "--port", port])
+        self.assertEqual((status, out), (4, b""))
+        self.assertEqual(said, f"fault: Socket\nport {port} is in use: choose another, or stop the program that listens on it\n")
 
     def test_an_output_without_room(self):
         with listen() as listener:

@@ -5,7 +5,7 @@ import subprocess
 import tempfile
 import unittest
 
-from harness import LIMITS, PROGRAM, SECONDS, connect, frame, free_port, in_version, preloaded, read_until_reset
+from harness import LIMITS, PROGRAM, SECONDS, connect, faults, frame, free_port, in_version, preloaded, read_until_reset
 from run_command import REPLIES, SESSION, session_in
 from serve_command import send_until_reset
 
@@ -44,7 +44,7 @@ def served(requests, **variables):
         is_there = service.stdout.readline() == b"listening %d\n" % port
         came = [exchange(port, requests) for _ in range(CONNECTIONS)] if is_there else []
         _, said = service.communicate(timeout=SECONDS)
-    return service.returncode, said, came
+    return service.returncode, faults(said), came
 
 
 class ServeMemory(unittest.TestCase):
