@@ -24,12 +24,30 @@ def preloaded(library, **variables):
     return os.environ | {"LD_PRELOAD": os.environ[f"PRELOAD_{library}"]} | found
 
 
-def run(arguments, given=b"", out=subprocess.PIPE, env=None):
+def faults(said):
+    """Returns standard error (bytes) without notes on the registry and without the one sentence behind each fault. The
+    stored cases (tests/program/cases) and the tests of single faults have these sentences."""
+    kept, behind_fault = [], False
+    for line in said.splitlines(keepends=True):
+        if not behind_fault and not line.startswith(b"registry: "):
+            kept.append(line)
+        behind_fault = not behind_fault and line.startswith(b"fault: ")
+    assert not behind_fault, said
+    return b"".join(kept)
+
+
+def run_plainly(arguments, given=b"", out=subprocess.PIPE, env=None):
     """Runs the program over these bytes: its status, its standard output, and its standard error as text."""
     done = subprocess.run(
         [PROGRAM, *map(str, arguments)], input=given, stdout=out, stderr=subprocess.PIPE, timeout=SECONDS, env=env
     )
     return done.returncode, done.stdout, done.stderr.decode("ascii")
+
+
+def run(arguments, given=b"", out=subprocess.PIPE, env=None):
+    """Runs the program as `run_plainly` does, and returns of its standard error the faults."""
+    status, written, said = run_plainly(arguments, given, out, env)
+    return status, written, faults(said.encode("ascii")).decode("ascii")
 
 
 def send(port, client, lines, first=None, env=None):
@@ -73,7 +91,7 @@ class Serve:
             self.process.kill()
         out, err = self.process.communicate(timeout=SECONDS)
         if not is_killed:
-            assert (self.process.returncode, out, err) == (0, b"", b""), (self.process.returncode, out, err)
+            assert (self.process.returncode, out, faults(err)) == (0, b"", b""), (self.process.returncode, out, err)
 
 
 class Run:

@@ -14,7 +14,7 @@ from lib.program import PROGRAM
 
 # how the program's lines on standard error begin: of a skipped entry, and of how many there are
 SKIPPED, ALL_SKIPPED = b"left out: ", b"left out in all: "
-OWN_REGISTRY = b"registry: the program's own, of everyday formats"
+OWN_REGISTRY = b"registry: the built-in registry of everyday formats"
 
 
 def profile(*words, **more):

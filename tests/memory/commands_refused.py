@@ -6,7 +6,7 @@ import tempfile
 import unittest
 from concurrent.futures import ThreadPoolExecutor
 
-from lib.program import PROGRAM, SAMPLE, TOP
+from lib.program import PROGRAM, SAMPLE, TOP, faults
 from lib.trees import InFolder
 
 STORED = os.path.join(TOP, "crates", "droid_desk", "stdin")
@@ -31,7 +31,7 @@ def run(*words, given=b"", **variables):
     error."""
     environment = {**os.environ, "LD_PRELOAD": os.environ["REFUSING"], **variables}
     done = subprocess.run([PROGRAM, *words], input=given, capture_output=True, timeout=60, env=environment)
-    return done.returncode, done.stdout, done.stderr
+    return done.returncode, done.stdout, faults(done.stderr)
 
 
 class Refused(InFolder):
@@ -67,12 +67,12 @@ class Refused(InFolder):
         with tempfile.TemporaryDirectory(dir=self.work) as made:
             path = os.path.join(made, b"profile.csv")
             status, written, said = run("profile", self.top, "--registry", SAMPLE, "--output", path, **variables)
-            faults = b"".join(line for line in said.splitlines(True) if line.startswith(b"fault: "))
+            named = b"".join(line for line in said.splitlines(True) if line.startswith(b"fault: "))
             files = {}
             for name in os.listdir(made):
                 with open(os.path.join(made, name), "rb") as file:
                     files[name] = file.read()
-        return status, written + faults, files
+        return status, written + named, files
 
     def test_profile(self):
         """Two folders, a file that is identified and one that isn't. The output file is complete, or there is no

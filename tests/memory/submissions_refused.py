@@ -6,7 +6,7 @@ import tempfile
 import unittest
 from concurrent.futures import ThreadPoolExecutor
 
-from lib.program import Serve
+from lib.program import Serve, faults
 from lib.submissions import WithTree, submit
 
 # the most profiles of a service
@@ -21,7 +21,8 @@ class Refused(WithTree):
         with tempfile.TemporaryDirectory(dir=self.work) as made:
             export = os.path.join(made, b"export.csv")
             variables = {name: str(value) for name, value in more.items()}
-            ended = submit(self.top, port, client, "--export", export, env={**os.environ, **variables})
+            status, err = submit(self.top, port, client, "--export", export, env={**os.environ, **variables})
+            ended = status, faults(err)
             there = os.listdir(made)
             self.assertIn(there, [[], [b"export.csv"]])
             if not there:

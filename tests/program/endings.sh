@@ -1,8 +1,8 @@
 #!/bin/sh
 # Runs `script` over an input that can't be read, with one of its allocations refused in each run
-# (tests/memory/refuse.c): endings.sh PROGRAM. That there is no memory for the command line, for the registry or for
-# the service is told before anything about the input. So from the first allocation to the last the statuses begin with
-# 6, 3 and 6, and 3 does not come again; 4 is told where the service was made all the same.
+# (tests/memory/refuse.c): endings.sh PROGRAM. Running out of memory for the command line, the registry or the service is
+# reported before anything about the input. So from the first allocation to the last the statuses begin with 6, 3 and 6,
+# and 3 does not come again; 4 comes if the service was made all the same. Behind each fault stands one sentence.
 set -u
 program=$1
 top=$(cd "$(dirname "$0")/../.." && pwd)
@@ -10,10 +10,11 @@ work=$(mktemp -d) || exit 1
 trap 'rm -rf "$work"' EXIT
 ${CC:-cc} -shared -fPIC -o "$work/refuse.so" "$top/tests/memory/refuse.c" -ldl || exit 1
 
-# what the end is with this allocation refused: the status and what was said
+# the end with this allocation refused: the status, and the fault if one sentence stands behind it
 end_with_refused() {
     REFUSE=$1 ALLOCATIONS=$work/count LD_PRELOAD=$work/refuse.so "$program" script </ >"$work/out" 2>"$work/err"
-    end="$? $(cat "$work/err")"
+    end="$? $(head -n 1 "$work/err")"
+    [ "$(wc -l <"$work/err")" -eq 2 ] || end="$end, and not one sentence behind it"
 }
 
 passed=0

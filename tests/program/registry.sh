@@ -1,6 +1,7 @@
 #!/bin/sh
-# Runs the program with registry files, good and bad: registry.sh PROGRAM. With a bad one it writes nothing, says
-# the first fault and the number of its record, and ends with status 3, whatever its input is.
+# Runs the program with registry files, good and bad: registry.sh PROGRAM. With a bad one it writes nothing, prints
+# the first fault and the number of its record, and on the next line a sentence that begins with the file's path and,
+# for a record, its number; it ends with status 3, whatever its input is. With one that has no formats it prints a note.
 set -u
 program=$1
 tests=$(cd "$(dirname "$0")" && pwd)
@@ -13,19 +14,23 @@ echo "made 1" >"$work/made"
 
 passed=0
 failed=0
-# NAME FILE FAULT: the fault that the file comes to, or `-` for none
+# NAME FILE FAULT: the fault that the file comes to, or `-` for none, or `empty` for none and no formats
 check() {
     status=3
     wanted=$work/nothing
-    echo "fault: $3" >"$work/fault"
-    if [ "$3" = - ]; then
-        status=0
-        wanted=$work/made
-        : >"$work/fault"
-    fi
+    lines=2
+    first="fault: $3"
+    second="$2: "
+    case $3 in
+        *" at "*) second="$2: record ${3##* }: " ;;
+        -) status=0 wanted=$work/made lines=0 first='' second='' ;;
+        empty) status=0 wanted=$work/made lines=1 first="registry: $2 has no formats, so no file will be identified" second='' ;;
+    esac
     "$program" script --registry "$2" <"$input" >"$work/out" 2>"$work/err"
     ended=$?
-    if [ "$ended" = "$status" ] && cmp -s "$wanted" "$work/out" && cmp -s "$work/fault" "$work/err"; then
+    said=$(sed -n 2p "$work/err")
+    if [ "$ended" = "$status" ] && cmp -s "$wanted" "$work/out" && [ "$(wc -l <"$work/err")" -eq $lines ] &&
+        [ "$(head -n 1 "$work/err")" = "$first" ] && { [ -z "$second" ] || [ "${said#"$second"}" != "$said" ]; }; then
         passed=$((passed + 1))
     else
         failed=$((failed + 1))
@@ -38,10 +43,10 @@ check sample "$tests/sample_registry.csv" -
 check not_there "$work/not_there.csv" Read
 check not_there_in_a_file "$work/in/registry.csv" Read
 check a_folder "$work" Read
-check empty "$work/nothing" -
-check no_file /dev/null -
+check empty "$work/nothing" empty
+check no_file /dev/null empty
 
-# where a registry is bad, its fault is told before anything about the input
+# a bad registry is reported before anything about the input
 echo "hello" >"$work/hello"
 head -c 67108865 /dev/zero >"$work/long"
 printf 'X\n' >"$work/bad.csv"
@@ -82,7 +87,7 @@ printf 61 >>"$work/registry.csv"
 check pattern_too_long "$work/registry.csv" "BadPattern at 2"
 
 yes '' | head -c 16777216 >"$work/registry.csv"
-check longest_file "$work/registry.csv" -
+check longest_file "$work/registry.csv" empty
 yes '' | head -c 16777217 >"$work/registry.csv"
 check file_too_long "$work/registry.csv" TooLong
 { printf 'X\n'; yes '' | head -c 16777215; } >"$work/registry.csv"

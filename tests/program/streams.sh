@@ -9,16 +9,24 @@ work=$(mktemp -d) || exit 1
 trap 'rm -rf "$work"' EXIT
 ${CC:-cc} -shared -fPIC -o "$work/streams.so" "$top/tests/program/streams.c" -ldl || exit 1
 
+# the sentence that says what a fault means
+sentence() {
+    case $1 in
+        Read) echo "standard input could not be read" ;;
+        Write) echo "standard output could not be written: is the disk full, or its reader gone?" ;;
+    esac
+}
+
 passed=0
 failed=0
 # COMMAND INPUT REPLIES, and rows: NAME STATUS BYTES FAULT VARIABLE=NUMBER ..
 compare() {
     while read -r name status bytes fault variables; do
         # shellcheck disable=SC2086
-        env $variables LD_PRELOAD="$work/streams.so" "$program" "$1" <"$2" >"$work/out" 2>"$work/err"
+        env $variables LD_PRELOAD="$work/streams.so" "$program" "$1" --everyday <"$2" >"$work/out" 2>"$work/err"
         ended=$?
         : >"$work/wanted"
-        [ "$fault" = - ] || echo "fault: $fault" >"$work/wanted"
+        [ "$fault" = - ] || { echo "fault: $fault" && sentence "$fault"; } >"$work/wanted"
         head -c "$bytes" "$3" >"$work/front"
         if [ "$ended" = "$status" ] && cmp -s "$work/front" "$work/out" && cmp -s "$work/wanted" "$work/err"; then
             passed=$((passed + 1))

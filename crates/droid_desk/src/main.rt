@@ -1,9 +1,11 @@
-//! The program: a service for DROID profiles, as a script, on standard streams or over connections, and a client.
+//! The program: it profiles folders, submits them to a service, runs such a service, and sends it requests.
 #![tactic(auto)]
+
+mod program;
 
 use std::io::IsTerminal;
 use std::process::ExitCode;
 
 fn main(rt: HostRuntime) -> ExitCode {
-    droid_desk_service::run(&rt, rt.stderr().is_terminal())
+    program::run(&rt, rt.stderr().is_terminal())
 }

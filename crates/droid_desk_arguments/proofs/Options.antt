@@ -1,9 +1,10 @@
 -- What the getters of a command's matches read, by the rows of its options.
-use Rattle.std.proofs.Common.{◌≡◌, ◌∙◌, ap, sym, subst, refl, inl, inr, ℕ, Bool, true, false, List, Option, Some, None, Ok, Err, Result, codes, option_map, unwrap_or}
-use Rattle.clap.specs.Words.{ReadsOne, Text, one_of, one_text, rows_of}
+use Rattle.std.proofs.Common.{◌≡◌, ◌∙◌, ap, sym, subst, refl, inl, inr, ℕ, Bool, true, false, List, Option, Some, None, Ok, Err, Result, IfSome, codes, option_map, unwrap_or}
+use Rattle.clap.specs.Words.{ReadsOne, Row, Text, first_of, one_of, one_text, rows_of}
 use Rattle.clap.specs.declared.parser.matches.Found.{Found}
 use Rattle.clap.proofs.WalkLemmas.{one_text-rows}
-use Rattle.droid_desk_arguments.specs.Asking.{IsFlag, IsNumber, IsNumberOr, number_of}
+use Rattle.droid_desk_arguments.specs.Asking.{IsChosen, IsFlag, IsNumber, IsNumberOr, IsSource, number_of}
+use Rattle.droid_desk_arguments.specs.declared.source.RegistrySource.{RegistrySource}
 
 given : {E : Type 0} (gives : List ℕ → Result ℕ E → Type 0) → ((text : Text) (x : ℕ) → gives text (Ok x) → x ≡ number_of text)
     → (o : Option Text) (n : ℕ) → (o ≡ None → Some n ≡ None) → ((text : Text) → o ≡ Some text → ReadsOne gives text (Some n))
@@ -44,3 +45,10 @@ set_or_not (Some text) flag none on off = (λ is. on (ap (λ (t : Text). Some t)
 pub flag_given : (f : Found) (id : Text) (flag : Bool) → (one_text f id ≡ None → flag ≡ false) → (one_text f id ≡ Some (codes "true") → flag ≡ true) → (one_text f id ≡ Some (codes "false") → flag ≡ false)
     → IsFlag (one_of id (rows_of f)) flag
 flag_given f id flag none on off = subst (λ (o : Option Text). IsFlag o flag) (one_text-rows f id) (set_or_not (one_text f id) flag none on off)
+
+-- the registry that the options name
+pub source_given : (rows : List Row) (everyday : Bool) (file : Option Text) (chosen : Option RegistrySource) → IsFlag (one_of (codes "everyday") rows) everyday → file ≡ first_of (codes "registry") rows
+    → IfSome chosen (IsChosen everyday file) → IfSome chosen (IsSource rows)
+source_given rows everyday file None flag is named = tt
+source_given rows everyday file (Some source) flag is named =
+    record { everyday = everyday; is_flag = flag; is_chosen = subst (λ (o : Option Text). IsChosen everyday o source) is named }

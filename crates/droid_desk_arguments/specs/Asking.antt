@@ -7,7 +7,11 @@ use Rattle.droid_frame.specs.types.hash_kind.HashKind.TheVariants as hashes
 use Rattle.droid_desk_arguments.specs.Commands.{program}
 use Rattle.droid_desk_arguments.specs.declared.arguments.Asked.{Asked}
 use Rattle.droid_desk_arguments.specs.declared.arguments.Asked.TheVariants.{Profile, Submit, Script, Run, Serve, Send}
-use Rattle.droid_desk_arguments.specs.declared.submit.Place.{Place}
+use Rattle.droid_desk_arguments.specs.declared.profile.ProfileOptions.{ProfileOptions}
+use Rattle.droid_desk_arguments.specs.declared.source.RegistrySource.{RegistrySource}
+use Rattle.droid_desk_arguments.specs.declared.source.RegistrySource.TheVariants as sources
+use Rattle.droid_desk_arguments.specs.declared.submit.Destination.{Destination}
+use Rattle.droid_desk_arguments.specs.declared.submit.SubmitOptions.{SubmitOptions}
 
 -- the number that a text's digits write; a plus may stand first
 abbrev pub number_of : Text → ℕ
@@ -34,37 +38,53 @@ IsHash (Some text) hashes.Nothing = text ≡ codes "none"
 IsHash (Some text) hashes.Md5 = text ≡ codes "md5"
 IsHash (Some text) hashes.Sha256 = text ≡ codes "sha256"
 
+-- the registry that the flag `--everyday` and the file of `--registry` choose: both together choose none
+abbrev pub IsChosen : Bool → Option Text → RegistrySource → Type 0
+IsChosen everyday file sources.Sample = (everyday ≡ false) × (file ≡ None)
+IsChosen everyday file sources.Everyday = (everyday ≡ true) × (file ≡ None)
+IsChosen everyday file (sources.File path) = (everyday ≡ false) × (file ≡ Some path.now)
+
+-- the registry that the options name
+pub record IsSource (rows : List Row) (source : RegistrySource) : Type 0 where
+  pub everyday : Bool
+  pub is_flag : IsFlag (one_of (codes "everyday") rows) everyday
+  pub is_chosen : IsChosen everyday (first_of (codes "registry") rows) source
+
+-- the options of `profile`
+pub record IsProfile (rows : List Row) (options : ProfileOptions) : Type 0 where
+  pub folder : Some options.folder.now ≡ first_of (codes "folder") rows
+  pub registry : option_map (λ path. path.now) options.registry ≡ first_of (codes "registry") rows
+  pub limit : IsNumberOr 32 65536 (one_of (codes "limit") rows) options.limit
+  pub match_all : IsFlag (one_of (codes "match-all") rows) options.match_all
+  pub hash : IsHash (first_of (codes "hash") rows) options.hash
+  pub output : option_map (λ path. path.now) options.output ≡ first_of (codes "output") rows
+  pub quiet : IsFlag (one_of (codes "quiet") rows) options.quiet
+
 -- where a submission goes
-pub record IsSentBy (rows : List Row) (place : Place) : Type 0 where
-  pub port : option_map number_of (one_of (codes "port") rows) ≡ Some place.port
-  pub client : option_map number_of (one_of (codes "client") rows) ≡ Some place.client
-  pub first : IsNumberOr 64 1 (one_of (codes "first") rows) place.first
+pub record IsSentTo (rows : List Row) (to : Destination) : Type 0 where
+  pub port : option_map number_of (one_of (codes "port") rows) ≡ Some to.port
+  pub client : option_map number_of (one_of (codes "client") rows) ≡ Some to.client
+  pub first : IsNumberOr 64 1 (one_of (codes "first") rows) to.first
+
+-- the options of `submit`
+pub record IsSubmit (rows : List Row) (options : SubmitOptions) : Type 0 where
+  pub folder : Some options.folder.now ≡ first_of (codes "folder") rows
+  pub destination : IsSentTo rows options.to
+  pub piece_size : IsNumberOr 32 262144 (one_of (codes "piece-size") rows) options.piece_size
+  pub limit : IsNumberOr 32 65536 (one_of (codes "limit") rows) options.limit
+  pub match_all : IsFlag (one_of (codes "match-all") rows) options.match_all
+  pub hash : IsHash (first_of (codes "hash") rows) options.hash
+  pub export : option_map (λ path. path.now) options.export ≡ first_of (codes "export") rows
+  pub quiet : IsFlag (one_of (codes "quiet") rows) options.quiet
 
 -- what the options of the command with this name ask for
 abbrev pub IsAskedBy : Text → List Row → Asked → Type 0
-IsAskedBy name rows (Profile folder registry limit match_all hash output quiet) =
-    (name ≡ codes "profile") × (Some folder.now ≡ first_of (codes "folder") rows)
-    × (option_map (λ path. path.now) registry ≡ first_of (codes "registry") rows)
-    × IsNumberOr 32 65536 (one_of (codes "limit") rows) limit
-    × IsFlag (one_of (codes "match-all") rows) match_all
-    × IsHash (first_of (codes "hash") rows) hash
-    × (option_map (λ path. path.now) output ≡ first_of (codes "output") rows)
-    × IsFlag (one_of (codes "quiet") rows) quiet
-IsAskedBy name rows (Submit folder place piece_size limit match_all hash export quiet) =
-    (name ≡ codes "submit") × (Some folder.now ≡ first_of (codes "folder") rows)
-    × IsSentBy rows place
-    × IsNumberOr 32 262144 (one_of (codes "piece-size") rows) piece_size
-    × IsNumberOr 32 65536 (one_of (codes "limit") rows) limit
-    × IsFlag (one_of (codes "match-all") rows) match_all
-    × IsHash (first_of (codes "hash") rows) hash
-    × (option_map (λ path. path.now) export ≡ first_of (codes "export") rows)
-    × IsFlag (one_of (codes "quiet") rows) quiet
-IsAskedBy name rows (Script registry) =
-    (name ≡ codes "script") × (option_map (λ path. path.now) registry ≡ first_of (codes "registry") rows)
-IsAskedBy name rows (Run registry) =
-    (name ≡ codes "run") × (option_map (λ path. path.now) registry ≡ first_of (codes "registry") rows)
+IsAskedBy name rows (Profile options) = (name ≡ codes "profile") × IsProfile rows options
+IsAskedBy name rows (Submit options) = (name ≡ codes "submit") × IsSubmit rows options
+IsAskedBy name rows (Script registry) = (name ≡ codes "script") × IsSource rows registry
+IsAskedBy name rows (Run registry) = (name ≡ codes "run") × IsSource rows registry
 IsAskedBy name rows (Serve registry port connections) =
-    (name ≡ codes "serve") × (option_map (λ path. path.now) registry ≡ first_of (codes "registry") rows)
+    (name ≡ codes "serve") × IsSource rows registry
     × (option_map number_of (one_of (codes "port") rows) ≡ Some port)
     × IsNumberOr 32 1 (one_of (codes "connections") rows) connections
 IsAskedBy name rows (Send port client first) =

@@ -13,20 +13,20 @@ abbrev pub number_named : Text → ℕ → ℕ → Rule
 number_named name least most = record (option_named name) { parser = Some (Unsigned least most) }
 
 -- the option must be there
-abbrev pub wanted : Rule → Rule
-wanted rule = record rule { required = true }
+abbrev pub needed : Rule → Rule
+needed rule = record rule { required = true }
 
 abbrev pub registry_option : Rule
 registry_option = option_named (codes "registry")
 
 abbrev pub port_option : Rule
-port_option = wanted (number_named (codes "port") 1 65535)
+port_option = needed (number_named (codes "port") 1 65535)
 
 abbrev pub connections_option : Rule
 connections_option = number_named (codes "connections") 1 1000
 
 abbrev pub client_option : Rule
-client_option = wanted (number_named (codes "client") 0 4294967295)
+client_option = needed (number_named (codes "client") 0 4294967295)
 
 abbrev pub first_option : Rule
 first_option = number_named (codes "first") 0 9223372036854775807
@@ -79,22 +79,25 @@ abbrev pub submit_command : App
 submit_command =
     with_rule (with_rule (with_rule (with_rule submit_numbers (flag_named (codes "match-all"))) hash_option) export_option) (flag_named (codes "quiet"))
 
+abbrev pub everyday_flag : Rule
+everyday_flag = flag_named (codes "everyday")
+
 abbrev pub script_command : App
-script_command = with_rule (new_app (codes "script")) registry_option
+script_command = with_rule (with_rule (new_app (codes "script")) everyday_flag) registry_option
 
 abbrev pub run_command : App
-run_command = with_rule (new_app (codes "run")) registry_option
+run_command = with_rule (with_rule (new_app (codes "run")) everyday_flag) registry_option
 
 abbrev pub serve_command : App
 serve_command =
-    with_rule (with_rule (with_rule (new_app (codes "serve")) port_option) connections_option) registry_option
+    with_rule (with_rule (with_rule (with_rule (new_app (codes "serve")) port_option) connections_option) everyday_flag) registry_option
 
 abbrev pub send_command : App
 send_command = with_rule (with_rule (with_rule (new_app (codes "send")) port_option) client_option) first_option
 
--- one of the commands must be named
-abbrev pub requiring_command : App → App
-requiring_command a = record a { top = record a.top { subcommand_required = true } }
+-- one of the commands must be named, unless `--version` asks for the version
+abbrev pub top_command : App → App
+top_command a = record a { top = record a.top { subcommand_required = true; has_version = true } }
 
 -- the program with its six commands
 abbrev pub program : App
@@ -104,7 +107,7 @@ program =
     (with_subcommand
     (with_subcommand
     (with_subcommand
-    (with_subcommand (requiring_command (new_app (codes "droid_desk"))) profile_command.top)
+    (with_subcommand (top_command (new_app (codes "droid_desk"))) profile_command.top)
     submit_command.top)
     script_command.top)
     run_command.top)

@@ -1,4 +1,4 @@
--- A command line that names no command to run (this project's own).
+-- A command line that asks for nothing that can be run (this project's own).
 use Rattle.std.specs.Prelude.{ℕ}
 use Rattle.std.specs.declared.io.ErrorKind.{ErrorKind as InputErrorKind}
 use Rattle.std.specs.declared.io.ErrorKind.TheVariants as reading
@@ -15,12 +15,12 @@ status_without (Wrong error) = 2
 status_without NoText = 2
 status_without Memory = 6
 
--- its words could not be had: for want of memory, or one of them is no text
+-- its words could not be read: out of memory, or one of them is not UTF-8
 abbrev pub unread_words : InputErrorKind → NoCommand
 unread_words reading.OutOfMemory = Memory
 unread_words _ = NoText
 
--- its words were had: there was no memory to read them, they ask for help, or they are wrong
+-- its words were read: out of memory, they ask for help or the version, or they are wrong
 abbrev pub unused_words : ErrorKind → Error → NoCommand
 unused_words parsing.OutOfMemory error = Memory
 unused_words parsing.DisplayHelp error = Help error

@@ -1,23 +1,23 @@
-//! The command line: its words, and what they ask for.
+//! The command line: what its words ask for.
 
 ghost use Rattle.std.specs.Prelude.{◌≡◌, [], IfOk, IfSome, codes, false, map, string_bytes, true};
 ghost use Rattle.clap.specs.Words.{app_of, fault_of, found_of, is_simple, is_simple_and_free, new_app, rows_of, rule_of, subcommand_of, subcommand_rows_of};
 ghost use Rattle.clap.specs.declared.builder.command.Command.TheViews.{out-Command};
 ghost use Rattle.droid_desk_arguments.specs.Asking.{IsAsked, IsAskedBy, WordsAsk};
-ghost use Rattle.droid_desk_arguments.specs.Commands.{client_option, connections_option, first_option, number_named, port_option, profile_command, program, registry_option, run_command, script_command, send_command, serve_command, requiring_command};
+ghost use Rattle.droid_desk_arguments.specs.Commands.{client_option, connections_option, first_option, number_named, port_option, profile_command, program, registry_option, run_command, script_command, send_command, serve_command, top_command};
 
-use crate::help::{ABOUT, HELP, REGISTRY_HELP, SCRIPT_ABOUT, SCRIPT_HELP};
+use crate::help::{ABOUT, EVERYDAY_HELP, HELP, REGISTRY_HELP, SCRIPT_ABOUT, SCRIPT_HELP};
 use crate::no_command::{NoCommand, unused_words};
-use crate::profile::{PROFILE, profile, profile_asked};
+use crate::profile::{PROFILE, ProfileOptions, flag, profile, profile_asked};
+use crate::source::{EVERYDAY, RegistrySource, source_of};
 use crate::stream_help::{
     CLIENT_HELP, CONNECTIONS_HELP, FIRST_HELP, RUN_ABOUT, RUN_HELP, SEND_ABOUT, SEND_HELP,
     SEND_PORT_HELP, SERVE_ABOUT, SERVE_HELP, SERVE_PORT_HELP,
 };
-use crate::submit::{Place, SUBMIT, submit, submit_asked};
+use crate::submit::{SUBMIT, SubmitOptions, submit, submit_asked};
 use clap::builder::ValueParser;
 use clap::error::ErrorKind;
 use clap::{Arg, ArgAction, ArgMatches, Command, Error};
-use droid_frame::HashKind;
 use std::alloc::{AllocError, Global};
 
 // The names of the commands and of their options.
@@ -39,56 +39,44 @@ pub(crate) const CLIENT: &str = "client";
 
 pub(crate) const FIRST: &str = "first";
 
-/// How many connections are served where the command line names no number.
+/// How many connections `serve` serves by default.
 const DEFAULT_CONNECTIONS: u32 = 1;
 
-/// The number of the first request that is sent where the command line names none.
+/// The number of the first request that `send` sends by default.
 const DEFAULT_FIRST: u64 = 1;
 
-/// What is said of a hash that isn't one of the three.
+/// The version that `--version` prints.
+const VERSION: &str = "0.9.0";
+
+/// The error for an unknown hash.
 const NO_SUCH_HASH: &str = "the value of '--hash <HASH>' is none of md5, sha256 and none";
 
-/// What the command line asks for. A registry is the path of a registry file; without it the sample registry
-/// is used.
+/// The error for two registries.
+const TWO_REGISTRIES: &str =
+    "the options '--everyday' and '--registry <FILE>' cannot be used together";
+
+/// What the command line asks for.
 #[derive(Clone, Copy)]
 pub enum Asked<'a> {
-    /// The profile of a folder of this machine is written. Without a registry the program's own of everyday formats is
-    /// used.
-    Profile {
-        folder: &'a str,
-        registry: Option<&'a str>,
-        limit: u32,
-        match_all: bool,
-        hash: HashKind,
-        output: Option<&'a str>,
-        quiet: bool,
-    },
-    /// A folder of this machine is submitted to a service, and its CSV written where a file is named for it.
-    Submit {
-        folder: &'a str,
-        place: Place,
-        piece_size: u32,
-        limit: u32,
-        match_all: bool,
-        hash: HashKind,
-        export: Option<&'a str>,
-        quiet: bool,
-    },
-    /// A script is run.
+    /// Write the profile of a folder of this machine.
+    Profile(ProfileOptions<'a>),
+    /// Submit a folder of this machine to a service.
+    Submit(SubmitOptions<'a>),
+    /// Run a script.
     Script {
-        registry: Option<&'a str>,
+        registry: RegistrySource<'a>,
     },
-    /// A stream of frames is answered.
+    /// Answer the frames of standard input.
     Run {
-        registry: Option<&'a str>,
+        registry: RegistrySource<'a>,
     },
-    /// So many connections to a port are served.
+    /// Serve this many connections to a port.
     Serve {
-        registry: Option<&'a str>,
+        registry: RegistrySource<'a>,
         port: u16,
         connections: u32,
     },
-    /// The requests of lines are sent to a port, under a client's numbers from the first on.
+    /// Send requests to a port, as this client, under numbers from `first` on.
     Send {
         port: u16,
         client: u32,
@@ -96,10 +84,10 @@ pub enum Asked<'a> {
     },
 }
 
-/// What the words ask for. Words that don't ask for one of the commands are an error.
+/// Reads the words of a command line, the program's own name first. The error has what to print, and the exit status.
 pub fn what_is_asked<'a>(alloc: Global, words: &'a [String]) -> Result<Asked<'a>, NoCommand>
     ensures asks { IfOk result (λ asked. WordsAsk (map string_bytes words.entry.now) asked) }
-    // They have no fault: no option is unknown, and each number is in its range.
+    // The words have no fault: each option is known, and each number is in its range.
     ensures taken { IfOk result (λ _. fault_of program (map string_bytes words.entry.now) ≡ []) }
 {
     match asked_of_program(alloc, words) {
@@ -116,7 +104,7 @@ fn asked_of_program<'a>(alloc: Global, words: &'a [String]) -> Result<Asked<'a>,
     asked_of(&mut command, words)
 }
 
-/// What the words ask the command for.
+/// Reads the words by a command.
 fn asked_of<'a>(command: &mut Command<'a>, words: &'a [String]) -> Result<Asked<'a>, Error>
     ensures asks { is_simple (app_of command.old) ≡ true → IfOk result (λ asked. IsAsked (subcommand_of (app_of command.old) (map string_bytes words.entry.now)) asked) }
     ensures taken { is_simple_and_free (app_of command.old) ≡ true → IfOk result (λ _. fault_of (app_of command.old) (map string_bytes words.entry.now) ≡ []) }
@@ -124,11 +112,19 @@ fn asked_of<'a>(command: &mut Command<'a>, words: &'a [String]) -> Result<Asked<
     let matches = command.try_get_matches_from_mut(words)?;
     match asked_by(&matches) {
         Some(asked) => Ok(asked),
-        None => Err(command.error(ErrorKind::InvalidValue, NO_SUCH_HASH)?),
+        None => Err(command.error(ErrorKind::InvalidValue, mistake_in(&matches))?),
     }
 }
 
-/// What the matched words ask for; where the words matched, they ask for something, unless they name an unknown hash.
+/// Says what is wrong with words that match the command, but ask for nothing.
+fn mistake_in(matches: &ArgMatches<'_>) -> &'static str {
+    match matches.subcommand_name() {
+        Some(PROFILE) | Some(SUBMIT) => NO_SUCH_HASH,
+        _ => TWO_REGISTRIES,
+    }
+}
+
+/// Reads the matched words. They ask for nothing if they name an unknown hash or two registries.
 fn asked_by<'a>(matches: &ArgMatches<'a>) -> Option<Asked<'a>>
     ensures { IfSome result (λ asked. IsAsked (subcommand_rows_of matches.now) asked) }
 {
@@ -139,10 +135,10 @@ fn asked_by<'a>(matches: &ArgMatches<'a>) -> Option<Asked<'a>>
         return submit_asked(submit);
     }
     if let Some(script) = matches.subcommand_matches(SCRIPT) {
-        return Some(script_asked(script));
+        return script_asked(script);
     }
     if let Some(run) = matches.subcommand_matches(RUN) {
-        return Some(run_asked(run));
+        return run_asked(run);
     }
     if let Some(serve) = matches.subcommand_matches(SERVE) {
         return serve_asked(serve);
@@ -150,26 +146,24 @@ fn asked_by<'a>(matches: &ArgMatches<'a>) -> Option<Asked<'a>>
     send_asked(matches.subcommand_matches(SEND)?)
 }
 
-fn script_asked<'a>(script: &ArgMatches<'a>) -> Asked<'a>
-    ensures { IsAskedBy (codes "script") (rows_of (found_of script.now)) result }
+fn script_asked<'a>(script: &ArgMatches<'a>) -> Option<Asked<'a>>
+    ensures { IfSome result (λ asked. IsAskedBy (codes "script") (rows_of (found_of script.now)) asked) }
 {
-    Asked::Script {
-        registry: script.get_str(REGISTRY),
-    }
+    let registry = source_of(script)?;
+    Some(Asked::Script { registry })
 }
 
-fn run_asked<'a>(run: &ArgMatches<'a>) -> Asked<'a>
-    ensures { IsAskedBy (codes "run") (rows_of (found_of run.now)) result }
+fn run_asked<'a>(run: &ArgMatches<'a>) -> Option<Asked<'a>>
+    ensures { IfSome result (λ asked. IsAskedBy (codes "run") (rows_of (found_of run.now)) asked) }
 {
-    Asked::Run {
-        registry: run.get_str(REGISTRY),
-    }
+    let registry = source_of(run)?;
+    Some(Asked::Run { registry })
 }
 
 fn serve_asked<'a>(serve: &ArgMatches<'a>) -> Option<Asked<'a>>
     ensures { IfSome result (λ asked. IsAskedBy (codes "serve") (rows_of (found_of serve.now)) asked) }
 {
-    let registry = serve.get_str(REGISTRY);
+    let registry = source_of(serve)?;
     let port = serve.get_one(PORT)?;
     let connections = serve.get_one(CONNECTIONS).unwrap_or(DEFAULT_CONNECTIONS);
     Some(Asked::Serve {
@@ -204,11 +198,12 @@ fn command<'a>(alloc: Global) -> Result<Command<'a>, AllocError>
         .subcommand(send(alloc)?)
 }
 
-/// The program's command without the commands below it.
+/// Makes the program's command, without the commands below it.
 fn top<'a>(alloc: Global) -> Command<'a>
-    ensures { app_of result ≡ requiring_command (new_app (codes "droid_desk")) }
+    ensures { app_of result ≡ top_command (new_app (codes "droid_desk")) }
 {
     Command::new(alloc, "droid_desk")
+        .version(VERSION)
         .about(ABOUT)
         .after_help(HELP)
         .subcommand_required(true)
@@ -221,6 +216,7 @@ fn script<'a>(alloc: Global) -> Result<Command<'a>, AllocError>
     Command::new(alloc, SCRIPT)
         .about(SCRIPT_ABOUT)
         .after_help(SCRIPT_HELP)
+        .arg(flag(alloc, EVERYDAY, EVERYDAY_HELP))?
         .arg(registry(alloc, REGISTRY_HELP))
 }
 
@@ -231,6 +227,7 @@ fn run<'a>(alloc: Global) -> Result<Command<'a>, AllocError>
     Command::new(alloc, RUN)
         .about(RUN_ABOUT)
         .after_help(RUN_HELP)
+        .arg(flag(alloc, EVERYDAY, EVERYDAY_HELP))?
         .arg(registry(alloc, REGISTRY_HELP))
 }
 
@@ -243,6 +240,7 @@ fn serve<'a>(alloc: Global) -> Result<Command<'a>, AllocError>
         .after_help(SERVE_HELP)
         .arg(port(alloc, SERVE_PORT_HELP))?
         .arg(connections(alloc))?
+        .arg(flag(alloc, EVERYDAY, EVERYDAY_HELP))?
         .arg(registry(alloc, REGISTRY_HELP))
 }
 
@@ -297,7 +295,7 @@ fn first<'a>(alloc: Global) -> Arg<'a>
     number(alloc, FIRST, "N", FIRST_HELP, 0, 9_223_372_036_854_775_807)
 }
 
-/// An option with a number from `least` to `most`.
+/// Makes an option with a number from `least` to `most`.
 pub(crate) fn number<'a>(
     alloc: Global,
     name: &'a str,

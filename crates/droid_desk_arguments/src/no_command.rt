@@ -1,4 +1,4 @@
-//! A command line that names no command to run.
+//! A command line that asks for nothing that can be run.
 
 ghost use Rattle.std.specs.Prelude.{◌≡◌};
 ghost use Rattle.clap.specs.Values.{kind_of};
@@ -9,21 +9,21 @@ use clap::Error;
 use clap::error::ErrorKind;
 use std::io;
 
-/// Why the command line names no command to run.
+/// Why there is no command to run.
 #[derive(Drop)]
 pub enum NoCommand {
-    /// It asks for help.
+    /// The command line asks for help, or for the version.
     Help(Error),
-    /// It is wrong.
+    /// The command line is wrong.
     Wrong(Error),
-    /// One of its words is no text.
+    /// A word of the command line is not UTF-8.
     NoText,
-    /// There is no memory for it.
+    /// Out of memory.
     Memory,
 }
 
 impl NoCommand {
-    /// The exit status.
+    /// Returns the exit status.
     pub fn status(&self) -> u8
         ensures { result ≡ status_without self.now }
     {
@@ -34,17 +34,19 @@ impl NoCommand {
         }
     }
 
-    /// Prints the help, or what is wrong.
+    /// Prints the help or the version to standard output, or what is wrong to standard error.
     pub fn print<R: Print + Eprint>(&self, rt: &R) -> io::Result<()> {
         match self {
             NoCommand::Help(error) | NoCommand::Wrong(error) => error.print(rt),
             NoCommand::NoText => eprintln!(rt; "error: a word of the command line is not UTF-8"),
-            NoCommand::Memory => eprintln!(rt; "fault: Memory"),
+            NoCommand::Memory => {
+                eprintln!(rt; "fault: Memory\nout of memory while the command line was read")
+            }
         }
     }
 }
 
-/// Why the words of the command line can't be had.
+/// Says why the words of the command line could not be read.
 pub fn unread_words(error: &io::Error) -> NoCommand
     ensures { result ≡ unread_words (error_kind error.now) }
 {
@@ -54,7 +56,7 @@ pub fn unread_words(error: &io::Error) -> NoCommand
     }
 }
 
-/// Why the words name no command to run.
+/// Says why the words give no command to run.
 pub(crate) fn unused_words(error: Error) -> NoCommand
     ensures { result ≡ unused_words (kind_of error) error }
 {

@@ -1,9 +1,9 @@
-//! The command that profiles a folder: its words, and what they ask for.
+//! The command `profile`: its options, and what they ask for.
 
 ghost use Rattle.std.specs.Prelude.{◌≡◌, IfOk, IfSome, codes, false, option_map};
 ghost use Rattle.clap.specs.Words.{app_of, found_of, one_of, rows_of, rule_of};
 ghost use Rattle.clap.specs.declared.builder.command.Command.TheViews.{out-Command};
-ghost use Rattle.droid_desk_arguments.specs.Asking.{IsAskedBy, IsFlag, IsHash};
+ghost use Rattle.droid_desk_arguments.specs.Asking.{IsAskedBy, IsFlag, IsHash, IsProfile};
 ghost use Rattle.droid_desk_arguments.specs.Commands.{flag_named, folder_word, limit_option, option_named, profile_command, profile_input};
 
 use crate::arguments::{Asked, REGISTRY, number, registry};
@@ -30,11 +30,37 @@ const OUTPUT: &str = "output";
 
 pub(crate) const QUIET: &str = "quiet";
 
-/// How many bytes at each end of a file are looked at where the command line names no number.
-const DEFAULT_LIMIT: u32 = 65_536;
+/// How many bytes at each end of a file are searched for signatures by default.
+pub(crate) const DEFAULT_LIMIT: u32 = 65_536;
+
+/// The folder to profile, and how.
+#[derive(Clone, Copy)]
+pub struct ProfileOptions<'a> {
+    /// The path of the folder.
+    pub folder: &'a str,
+    /// The path of the registry file, or `None` for the built-in registry of everyday formats.
+    pub registry: Option<&'a str>,
+    /// How many bytes at each end of a file are searched for signatures: 1 to 65,536.
+    pub limit: u32,
+    /// Whether extensions also count for formats that have signatures, where no signature matches.
+    pub match_all: bool,
+    /// Which hash the files get.
+    pub hash: HashKind,
+    /// The path of the CSV file, or `None` for standard output.
+    pub output: Option<&'a str>,
+    /// Whether neither progress nor the summary is printed.
+    pub quiet: bool,
+}
 
 pub(crate) fn profile_asked<'a>(profile: &ArgMatches<'a>) -> Option<Asked<'a>>
     ensures { IfSome result (λ asked. IsAskedBy (codes "profile") (rows_of (found_of profile.now)) asked) }
+{
+    let options = profile_options(profile)?;
+    Some(Asked::Profile(options))
+}
+
+fn profile_options<'a>(profile: &ArgMatches<'a>) -> Option<ProfileOptions<'a>>
+    ensures { IfSome result (IsProfile (rows_of (found_of profile.now))) }
 {
     let folder = profile.get_str(FOLDER)?;
     let registry = profile.get_str(REGISTRY);
@@ -44,7 +70,7 @@ pub(crate) fn profile_asked<'a>(profile: &ArgMatches<'a>) -> Option<Asked<'a>>
     let hash = hash_of(hash_word)?;
     let output = profile.get_str(OUTPUT);
     let quiet = flag_of(profile, QUIET);
-    Some(Asked::Profile {
+    Some(ProfileOptions {
         folder,
         registry,
         limit,
@@ -55,7 +81,7 @@ pub(crate) fn profile_asked<'a>(profile: &ArgMatches<'a>) -> Option<Asked<'a>>
     })
 }
 
-/// The hash that this word names: MD5 without one. Of another word than `md5`, `sha256` and `none` there is none.
+/// Reads the name of a hash: `md5`, `sha256` or `none`. Without a name the hash is MD5.
 pub(crate) fn hash_of(word: Option<&str>) -> Option<HashKind>
     ensures { IfSome result (λ hash. IsHash (option_map (λ text. text.now) word.entry) hash) }
 {
@@ -74,7 +100,7 @@ pub(crate) fn hash_of(word: Option<&str>) -> Option<HashKind>
     None
 }
 
-/// Whether a flag is set.
+/// Returns whether a flag is set.
 pub(crate) fn flag_of(matches: &ArgMatches<'_>, name: &str) -> bool
     ensures { IsFlag (one_of name.now (rows_of (found_of matches.now))) result }
 {
@@ -92,7 +118,7 @@ pub(crate) fn profile<'a>(alloc: Global) -> Result<Command<'a>, AllocError>
         .arg(flag(alloc, QUIET, QUIET_HELP))
 }
 
-/// The command with what is profiled, and by what.
+/// Makes the command with its first options.
 fn input<'a>(alloc: Global) -> Result<Command<'a>, AllocError>
     ensures shape { IfOk result (λ c. app_of c ≡ profile_input) }
     ensures local { IfOk result (λ c. (out-Command c).has_globals ≡ false) }
@@ -123,7 +149,7 @@ pub(crate) fn limit<'a>(alloc: Global) -> Arg<'a>
     number(alloc, LIMIT, "BYTES", LIMIT_HELP, 1, 65_536)
 }
 
-/// An option with one value.
+/// Makes an option with one value.
 pub(crate) fn named<'a>(alloc: Global, name: &'a str, value: &'a str, help: &'a str) -> Arg<'a>
     ensures rule { rule_of result ≡ option_named name.entry.now }
     ensures local { result.global ≡ false }
@@ -135,7 +161,7 @@ pub(crate) fn named<'a>(alloc: Global, name: &'a str, value: &'a str, help: &'a 
         .action(ArgAction::Set)
 }
 
-/// An option without a value.
+/// Makes an option without a value.
 pub(crate) fn flag<'a>(alloc: Global, name: &'a str, help: &'a str) -> Arg<'a>
     ensures rule { rule_of result ≡ flag_named name.entry.now }
     ensures local { result.global ≡ false }

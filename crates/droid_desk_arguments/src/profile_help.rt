@@ -1,57 +1,59 @@
-//! What the program says of its command that profiles a folder.
+//! Help texts of `profile`, and of the options that `submit` shares with it.
 
 pub const PROFILE_ABOUT: &str =
-    "Identify every file below a folder of this machine, and write the CSV of the folders and files";
+    "Identify every file below a folder of this machine, and write a CSV of the folders and files";
 
-pub const FOLDER_HELP: &str =
-    "The folder: all that lies below it is profiled, and not the folder itself";
+pub const FOLDER_HELP: &str = "The folder to profile: everything inside it; it has no row itself";
 
 pub const OWN_REGISTRY_HELP: &str =
-    "Identify files by the formats of this registry file; without it, by the program's own of everyday formats";
+    "Identify files by this registry file (default: the built-in registry of everyday formats)";
 
 pub const LIMIT_HELP: &str =
-    "Look at so many bytes at each end of a file (1 to 65536); without it, at 65536";
+    "Search this many bytes at each end of a file (1 to 65536, default 65536)";
 
-pub const MATCH_ALL_HELP: &str = "Let a format with signatures be found by its extension too";
+pub const MATCH_ALL_HELP: &str =
+    "If no signature matches, try all formats' extensions (default: only those of formats without signatures)";
 
-pub const HASH_HELP: &str = "Give files this hash: md5, sha256 or none; without it, md5";
+pub const HASH_HELP: &str = "Hash of each file: md5 (default), sha256 or none";
 
 pub const OUTPUT_HELP: &str =
-    "Write to this file, which is complete or not there; without it, to standard output";
+    "Write the CSV to this file, never a part of it (default: standard output)";
 
-pub const QUIET_HELP: &str = "Tell no progress and no table";
+pub const QUIET_HELP: &str = "Print neither progress nor the summary";
 
 pub const PROFILE_HELP: &str = "\
-The CSV comes once all is read: a header, and for each folder and each file a row, or one for each
-format where a file has several. FILE_PATH is the path from DIR on and begins with `/`; PARENT_ID is
-the ID of the folder that it lies in, or nothing at the top; METHOD is Signature, Extension or
-nothing, and LAST_MODIFIED is in UTC. Folders come before what lies in them, and what is in a folder
-in the order of the names' bytes.
+The CSV is written once all files are read: a header, a row for each folder, and a row for each
+file, or one for each format if a file has several. FILE_PATH is the path below DIR and begins with
+`/`; PARENT_ID is the ID of the parent folder, or empty at the top; METHOD is Signature, Extension or
+empty; and LAST_MODIFIED is in UTC. A folder comes before its contents, which are sorted by the bytes
+of their names.
 
-Symbolic links below DIR are never followed. What can't be taken is reported on standard error with its
-path and why, and the rest is profiled: links, sockets and devices, names that are no UTF-8 or that
-a profile can't have, what can't be opened or read, and files that change in length while they are
-read. Which registry was taken is reported there too where none is named, and how far it is: every ten
-seconds, or on a terminal in one line that is written anew. At the end come how many files were
-found by signature, by extension and not at all, mismatches, the ten most frequent formats, what
-was left out, bytes and seconds. A path that is no text, or has control characters, is reported with
+Symbolic links below DIR are never followed. What can't be profiled is skipped, and printed on
+standard error with its path and the reason: links, sockets and devices; names that are not UTF-8 or
+that a profile can't have; what can't be opened or read; and files whose length changes while they
+are read. Standard error also has the registry, if none was named, and the progress: every ten
+seconds, or on a terminal in one line that is updated. The summary at the end counts the files
+identified by signature, by extension and not at all, mismatches, the ten most frequent formats, what
+was skipped, bytes and seconds. Paths that are not UTF-8 or have control characters are printed with
 escapes.
 
-FILE may lie below DIR: what is written there isn't in the CSV. What stood there before is.
+FILE may be inside DIR: its old version is listed, the new one isn't.
 
 Exit status:
 
-  0  all that lies below the folder is in the CSV
+  0  everything in the folder is in the CSV
   2  the command line is wrong
-  3  the registry file could not be opened or read, or is no registry: the fault is on
-     standard error, with the number of the first record at fault
-  4  there is no such folder (Folder); the CSV could not be written (Write), or its file not be
-     made or put in its place (Output): it isn't there then, and what stood there before is as it
-     was; there are more than 100,000 folders and files, which is seen before any is read
-     (Entries); they are too long together to be counted (Bytes); folders came while they were
-     read (Folders); or memory was refused (Memory); the fault is on standard error
-  5  the CSV is written, but something was left out
-  6  no service could be made, or there was no memory for the command line; the fault is
-     on standard error
+  3  the registry file could not be opened or read, or is not a registry
+  4  DIR is not a folder (Folder); the CSV could not be written (Write); FILE could not be created
+     or replaced (Output); there are more than 100,000 folders and files, which is seen before any
+     is read (Entries); the files are too long together to be counted (Bytes); new folders appeared
+     meanwhile: run it again (Folders); or memory ran out (Memory). FILE is as it was before
+  5  the CSV is written, but something was skipped
+  6  there was no memory to start: for the command line or the service
 
-Of several the first in the order 2, 3, 6, 4, 5 is given.";
+If several apply: the first of 2, 3, 6, 4, 5. With 3, 4 and 6 standard error says what happened
+and what to do.
+
+Example:
+
+  droid_desk profile --output deposit.csv deposit";

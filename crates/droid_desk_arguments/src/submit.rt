@@ -1,14 +1,15 @@
-//! The command that submits a folder: its words, and what they ask for.
+//! The command `submit`: its options, and what they ask for.
 
 ghost use Rattle.std.specs.Prelude.{◌≡◌, IfOk, IfSome, codes, false};
 ghost use Rattle.clap.specs.Words.{app_of, found_of, rows_of, rule_of};
 ghost use Rattle.clap.specs.declared.builder.command.Command.TheViews.{out-Command};
-ghost use Rattle.droid_desk_arguments.specs.Asking.{IsAskedBy, IsSentBy};
+ghost use Rattle.droid_desk_arguments.specs.Asking.{IsAskedBy, IsSentTo, IsSubmit};
 ghost use Rattle.droid_desk_arguments.specs.Commands.{early_first_option, piece_size_option, submit_command, submit_input, submit_numbers};
 
 use crate::arguments::{Asked, CLIENT, FIRST, PORT, client, number, port};
 use crate::profile::{
-    FOLDER, HASH, LIMIT, MATCH_ALL, QUIET, flag, flag_of, folder, hash_of, limit, named,
+    DEFAULT_LIMIT, FOLDER, HASH, LIMIT, MATCH_ALL, QUIET, flag, flag_of, folder, hash_of, limit,
+    named,
 };
 use crate::profile_help::{HASH_HELP, MATCH_ALL_HELP, QUIET_HELP};
 use crate::submit_help::{
@@ -16,6 +17,7 @@ use crate::submit_help::{
     SUBMIT_FOLDER_HELP, SUBMIT_HELP, SUBMIT_PORT_HELP,
 };
 use clap::{Arg, ArgMatches, Command};
+use droid_frame::HashKind;
 use std::alloc::{AllocError, Global};
 
 // The names of the command and of its options.
@@ -25,18 +27,18 @@ const PIECE_SIZE: &str = "piece-size";
 
 const EXPORT: &str = "export";
 
-/// How many bytes a piece has where the command line names no number.
+/// How many bytes a piece has by default.
 const DEFAULT_PIECE_SIZE: u32 = 262_144;
 
-/// The number of the first request where the command line names none.
+/// The number of the first request by default.
 const DEFAULT_FIRST: u64 = 1;
 
-/// How many bytes at each end of a file are looked at where the command line names no number.
-const DEFAULT_LIMIT: u32 = 65_536;
+/// The largest number that the first request may have: those from 2^61 on are for queries.
+const LAST_FIRST: u64 = (1 << 61) - 1;
 
-/// Where a submission goes, and under which numbers.
+/// The service that a submission goes to, and whose requests they are.
 #[derive(Clone, Copy)]
-pub struct Place {
+pub struct Destination {
     /// The port.
     pub port: u16,
     /// The client.
@@ -45,10 +47,38 @@ pub struct Place {
     pub first: u64,
 }
 
+/// The folder to submit, and how.
+#[derive(Clone, Copy)]
+pub struct SubmitOptions<'a> {
+    /// The path of the folder.
+    pub folder: &'a str,
+    /// Where it goes.
+    pub to: Destination,
+    /// How many bytes each piece of a file has but the last: 1 to 4,194,304.
+    pub piece_size: u32,
+    /// How many bytes at each end of a file are searched for signatures: 1 to 65,536.
+    pub limit: u32,
+    /// Whether extensions also count for formats that have signatures, where no signature matches.
+    pub match_all: bool,
+    /// Which hash the files get.
+    pub hash: HashKind,
+    /// The path of the CSV file, or `None` for no CSV.
+    pub export: Option<&'a str>,
+    /// Whether neither progress nor the summary is printed.
+    pub quiet: bool,
+}
+
 pub(crate) fn submit_asked<'a>(submit: &ArgMatches<'a>) -> Option<Asked<'a>>
     ensures { IfSome result (λ asked. IsAskedBy (codes "submit") (rows_of (found_of submit.now)) asked) }
 {
-    let place = place_of(submit)?;
+    let options = submit_options(submit)?;
+    Some(Asked::Submit(options))
+}
+
+fn submit_options<'a>(submit: &ArgMatches<'a>) -> Option<SubmitOptions<'a>>
+    ensures { IfSome result (IsSubmit (rows_of (found_of submit.now))) }
+{
+    let to = destination_of(submit)?;
     let folder = submit.get_str(FOLDER)?;
     let piece_size = submit.get_one(PIECE_SIZE).unwrap_or(DEFAULT_PIECE_SIZE);
     let limit = submit.get_one(LIMIT).unwrap_or(DEFAULT_LIMIT);
@@ -57,9 +87,9 @@ pub(crate) fn submit_asked<'a>(submit: &ArgMatches<'a>) -> Option<Asked<'a>>
     let hash = hash_of(hash_word)?;
     let export = submit.get_str(EXPORT);
     let quiet = flag_of(submit, QUIET);
-    Some(Asked::Submit {
+    Some(SubmitOptions {
         folder,
-        place,
+        to,
         piece_size,
         limit,
         match_all,
@@ -69,14 +99,13 @@ pub(crate) fn submit_asked<'a>(submit: &ArgMatches<'a>) -> Option<Asked<'a>>
     })
 }
 
-/// Where a submission goes.
-fn place_of(submit: &ArgMatches<'_>) -> Option<Place>
-    ensures { IfSome result (IsSentBy (rows_of (found_of submit.now))) }
+fn destination_of(submit: &ArgMatches<'_>) -> Option<Destination>
+    ensures { IfSome result (IsSentTo (rows_of (found_of submit.now))) }
 {
     let port = submit.get_one(PORT)?;
     let client = submit.get_one(CLIENT)?;
     let first = submit.get_one(FIRST).unwrap_or(DEFAULT_FIRST);
-    Some(Place {
+    Some(Destination {
         port,
         client,
         first,
@@ -94,7 +123,7 @@ pub(crate) fn submit<'a>(alloc: Global) -> Result<Command<'a>, AllocError>
         .arg(flag(alloc, QUIET, QUIET_HELP))
 }
 
-/// The command with its numbers.
+/// Makes the command without its last options.
 fn numbers<'a>(alloc: Global) -> Result<Command<'a>, AllocError>
     ensures shape { IfOk result (λ c. app_of c ≡ submit_numbers) }
     ensures local { IfOk result (λ c. (out-Command c).has_globals ≡ false) }
@@ -105,7 +134,7 @@ fn numbers<'a>(alloc: Global) -> Result<Command<'a>, AllocError>
         .arg(limit(alloc))
 }
 
-/// The command with what is submitted, and where it goes.
+/// Makes the command with its first options.
 fn input<'a>(alloc: Global) -> Result<Command<'a>, AllocError>
     ensures shape { IfOk result (λ c. app_of c ≡ submit_input) }
     ensures local { IfOk result (λ c. (out-Command c).has_globals ≡ false) }
@@ -122,14 +151,7 @@ fn first<'a>(alloc: Global) -> Arg<'a>
     ensures rule { rule_of result ≡ early_first_option }
     ensures local { result.global ≡ false }
 {
-    number(
-        alloc,
-        FIRST,
-        "N",
-        SUBMIT_FIRST_HELP,
-        0,
-        2_305_843_009_213_693_951,
-    )
+    number(alloc, FIRST, "N", SUBMIT_FIRST_HELP, 0, LAST_FIRST)
 }
 
 fn piece_size<'a>(alloc: Global) -> Arg<'a>

@@ -1,4 +1,4 @@
--- What tells that a folder isn't the one that was submitted before (this project's own).
+-- Which refusals mean that a folder isn't the one that was submitted before (this project's own).
 use Rattle.std.specs.Prelude.{◌≡◌, Bool, true, false}
 use Rattle.droid_frame.specs.types.refusal.Refusal.TheVariants.{NumberReused, NameTaken}
 use Rattle.droid_tree.specs.Heard.{Heard, Left}

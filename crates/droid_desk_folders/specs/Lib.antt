@@ -1,4 +1,4 @@
 pub mod Changed
-pub mod Endings
+pub mod ProfileEndings
 pub mod SubmissionEndings
 pub mod Ways

@@ -6,17 +6,17 @@ use Rattle.droid_tree_remote.specs.declared.fault.SendFault.{SendFault}
 use Rattle.droid_tree_remote.specs.declared.fault.SendFault.TheVariants as sending
 use Rattle.droid_tree_remote.specs.declared.fault.SubmitFault.TheVariants as submitting
 use Rattle.droid_desk_progress.specs.Faults.{walk_fault_text}
-use Rattle.droid_desk_folders.specs.declared.submitted.Submitted.{Submitted}
-use Rattle.droid_desk_folders.specs.declared.submitted.Submitted.TheVariants.{Whole, Partly, NoFolder, Fault, NoExport, Disturbed, NoOutput}
+use Rattle.droid_desk_folders.specs.declared.submission_ending.SubmissionEnding.{SubmissionEnding}
+use Rattle.droid_desk_folders.specs.declared.submission_ending.SubmissionEnding.TheVariants.{Whole, Partly, NoFolder, NoConnection, Fault, NoExport, Disturbed, NoOutput}
 
 -- the exit status
-abbrev pub status_of : Submitted → ℕ
+abbrev pub status_of : SubmissionEnding → ℕ
 status_of Whole = 0
 status_of Partly = 5
 status_of (Fault (submitting.Sending sending.Changed)) = 5
 status_of _ = 4
 
--- what a fault of sending is called
+-- the name of a fault of sending
 abbrev pub send_fault_text : SendFault → List ℕ
 send_fault_text sending.Memory = codes "Memory"
 send_fault_text sending.Broken = codes "Broken"
@@ -24,11 +24,12 @@ send_fault_text sending.Stranger = codes "Stranger"
 send_fault_text sending.Changed = codes "Changed"
 send_fault_text sending.NumbersUsedUp = codes "NumbersUsedUp"
 
--- what the fault is called, where the ending is one
-abbrev pub fault_text : Submitted → Option (List ℕ)
+-- the name of the fault, if the ending is one
+abbrev pub fault_text : SubmissionEnding → Option (List ℕ)
 fault_text Whole = None
 fault_text Partly = None
 fault_text NoFolder = Some (codes "Folder")
+fault_text (NoConnection cause) = Some (codes "Socket")
 fault_text (Fault (submitting.Sending fault)) = Some (send_fault_text fault)
 fault_text (Fault (submitting.Walking fault)) = Some (walk_fault_text fault)
 fault_text (NoExport (exporting.Sending fault)) = Some (send_fault_text fault)

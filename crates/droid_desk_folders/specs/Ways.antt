@@ -1,4 +1,4 @@
--- What comes of the profile of a tree that is counted first (this project's own).
+-- The profile of a tree that is counted first (this project's own).
 use Rattle.std.specs.Prelude.{◌+◌, ◌≤◌, ℕ, false, List, Option}
 use Rattle.droid_tree_local.specs.Profiled.{WritesProfile, WritesTree}
 use Rattle.droid_tree_local.specs.Setting.{Setting}
@@ -8,8 +8,8 @@ use Rattle.droid_tree.specs.Observation.{Observation}
 use Rattle.droid_tree.specs.declared.counting.Counted.{Counted}
 use Rattle.droid_tree.specs.declared.walking.Options.{Options}
 
--- the tree was counted, and has no more folders and files than the limit; then it was walked from there, nothing was left
--- out, and the export of what came was written
+-- the tree was counted, and has no more folders and files than the limit; then it was walked from there, nothing was
+-- skipped, and the export of what came was written
 pub record CountsAndWrites {T : Type 0} (observes : T → Observation → T → Type 0) (setting : Setting) (options : Options) (limit : ℕ) (tree tree_after : T) (written written_after : Option (List ℕ)) : Type 0 where
   pub counted : Counted
   pub middle : T
@@ -17,7 +17,7 @@ pub record CountsAndWrites {T : Type 0} (observes : T → Observation → T → 
   pub within : counted.folders + counted.files ≤ limit
   pub writes : WritesProfile observes setting options middle tree_after written written_after
 
--- the same where something was left out: the watcher was told how much there is, and then of each thing
+-- the same if something was skipped: the watcher heard how much there is, and then of each thing
 pub record CountsAndWritesRest {T W : Type 0} (observes : T → Observation → T → Type 0) (expects : W → Counted → W → Type 0) (hears : W → Heard → W → Type 0) (setting : Setting) (options : Options) (limit : ℕ) (tree tree_after : T) (watcher watcher_after : W) (written written_after : Option (List ℕ)) : Type 0 where
   pub counted : Counted
   pub middle : T

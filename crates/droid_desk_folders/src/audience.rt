@@ -1,4 +1,4 @@
-//! Who is told how much there is, before it is told of each thing.
+//! Watchers that hear how much there is before a walk begins.
 
 ghost use Rattle.droid_tree.specs.declared.counting.Counted.{Counted};
 
@@ -6,12 +6,12 @@ use droid_desk_progress::Reporter;
 use droid_tree::{Counted, Watcher};
 use std::time::Clock;
 
-/// A watcher that is told before a walk how much there is.
+/// A watcher that hears before a walk how much there is.
 pub trait Audience: Watcher {
-    /// In the first state it may be told so, and is then in the second.
+    /// The relation between the states before and after it heard so.
     ghost expects: { Self → Counted → Self → Type 0 } = { λ old counted new. Unit {0} };
 
-    /// There is so much.
+    /// Takes how many folders, files and bytes there are.
     fn hear_count(&mut self, counted: Counted)
         ensures { expects self.old counted self.new };
 }

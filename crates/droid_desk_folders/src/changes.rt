@@ -1,4 +1,4 @@
-//! What is told while a folder is submitted, and which path has changed since it was submitted before.
+//! The messages of a submission: its progress, and what has changed since an earlier submission.
 
 ghost use Rattle.std.specs.Prelude.{◌≡◌};
 ghost use Rattle.droid_desk_folders.specs.Changed.{HearsOf, is_changed};
@@ -10,20 +10,22 @@ use droid_tree_remote::{SendFault, SubmitFault};
 use std::alloc::Global;
 use std::time::Clock;
 
-/// Tells on standard error what a walk does, and notes what has changed since the folder was submitted before.
+/// Prints on standard error what a walk does, and what has changed since an earlier submission.
 #[derive(Drop)]
 pub struct Changes<'a, R> {
     runtime: &'a R,
     alloc: Global,
     reporter: Reporter<'a, R>,
-    /// The file of which bytes were taken last, where there was memory to note it.
+    /// The file whose bytes were taken last, if there was memory to note it.
     last: Option<Text>,
-    /// Whether something was told to have changed.
+    /// Whether a change was printed.
     observed: bool,
+    /// Whether the profile was made, and anything of it was heard.
+    began: bool,
 }
 
 impl<'a, R: Eprint + Clock> Changes<'a, R> {
-    /// Nothing has changed so far.
+    /// Starts with nothing changed.
     pub fn new(runtime: &'a R, alloc: Global, reporter: Reporter<'a, R>) -> Changes<'a, R> {
         Changes {
             runtime,
@@ -31,33 +33,37 @@ impl<'a, R: Eprint + Clock> Changes<'a, R> {
             reporter,
             last: None,
             observed: false,
+            began: false,
         }
     }
 
-    /// Tells what was done, at the end.
+    /// Prints the summary.
     pub fn end(self) {
         self.reporter.end();
     }
 
-    /// Tells what was done until this fault; and where it is that the folder has changed, which path, and what to do.
+    /// Prints the summary, and what has changed if that is the fault.
     pub fn end_early(self, fault: SubmitFault) {
         let Changes {
             runtime,
             reporter,
             last,
             observed,
+            began,
             ..
         } = self;
         reporter.end();
         let SubmitFault::Sending(SendFault::Changed) = fault else {
             return;
         };
-        if !observed && let Some(path) = last {
-            report_changed(runtime, path.as_str().as_bytes());
+        if observed {
+            return;
         }
-        let _ = eprintln!(runtime;
-            "the folder has changed since it was submitted: submit it by another client, or from another first number"
-        );
+        match last {
+            Some(path) => report_changed(runtime, path.as_str().as_bytes()),
+            None if began => {}
+            None => report_other(runtime),
+        }
     }
 }
 
@@ -65,6 +71,7 @@ impl<R: Eprint + Clock> Watcher for Changes<'_, R> {
     ghost hears = { λ old heard new. HearsOf old heard new };
 
     fn skipped(&mut self, path: &[u8], why: Skipped) {
+        self.began = true;
         if is_changed(why) {
             self.observed = true;
             self.reporter.clear();
@@ -75,29 +82,40 @@ impl<R: Eprint + Clock> Watcher for Changes<'_, R> {
     }
 
     fn held(&mut self, path: &str, count: u64) {
+        self.began = true;
         self.reporter.held(path, count);
     }
 
     fn took_bytes(&mut self, path: &str, count: u32) {
+        self.began = true;
         note(self.alloc, &mut self.last, path);
         self.reporter.took_bytes(path, count);
     }
 
     fn took_folder(&mut self, path: &str) {
+        self.began = true;
         self.reporter.took_folder(path);
     }
 
     fn took_file(&mut self, path: &str, found: &Reply) {
+        self.began = true;
         self.reporter.took_file(path, found);
     }
 }
 
-/// Tells that what is at this path has changed.
+/// Prints that what is at this path has changed.
 fn report_changed<R: Eprint>(rt: &R, path: &[u8]) {
     let _ = eprintln!(rt; "changed: {}", Shown(path));
 }
 
-/// Notes a path, unless it is noted already. Where there is no memory for it, none is.
+/// Prints that another profile was made under the first number.
+fn report_other<R: Eprint>(rt: &R) {
+    let _ = eprintln!(rt;
+        "changed: --limit, --match-all or --hash, or the client was used for something else"
+    );
+}
+
+/// Notes a path, unless it is noted already. Without memory for it, none is noted.
 fn note(alloc: Global, last: &mut Option<Text>, path: &str) {
     if let Some(noted) = last
         && noted.as_str() == path
@@ -107,7 +125,7 @@ fn note(alloc: Global, last: &mut Option<Text>, path: &str) {
     *last = Text::copy_of(alloc, path).ok();
 }
 
-/// Whether this tells that the folder isn't the one that was submitted before.
+/// Returns whether this refusal means that the folder isn't the one that was submitted before.
 fn is_changed(why: Skipped) -> bool
     ensures { result ≡ is_changed why }
 {

@@ -3,15 +3,15 @@
 
 mod audience;
 mod changes;
-mod ending;
+mod folder_advice;
+mod folder_profile;
 mod loopback;
-mod profiling;
-mod submitted;
-mod submitting;
+mod profile_ending;
+mod submission;
+mod submission_ending;
 
 pub use audience::Audience;
-pub use droid_desk_progress::Verbosity;
-pub use ending::Profiled;
-pub use profiling::{Wanted, profile_folder, profile_of, profile_tree};
-pub use submitted::Submitted;
-pub use submitting::{ToSubmit, submit_folder};
+pub use folder_profile::{profile_folder, profile_of, profile_tree};
+pub use profile_ending::ProfileEnding;
+pub use submission::submit_folder;
+pub use submission_ending::SubmissionEnding;

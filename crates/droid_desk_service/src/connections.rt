@@ -12,15 +12,15 @@ use droid_core::Service;
 use std::alloc::Global;
 use std::io;
 
-/// Where connections come from.
+/// A source of connections.
 pub trait Connections {
-    /// How many were taken so far.
+    /// How many connections were accepted so far.
     ghost taken: { Self → ℕ };
 
-    /// How many frames of each are answered at the most.
+    /// The most frames that are answered on each.
     ghost turns: { Self → ℕ };
 
-    /// Waits for the next connection, and serves it until it ends. On an error none came.
+    /// Waits for the next connection, and serves it until it ends. On an error no connection was accepted.
     fn serve_next(&mut self, alloc: Global, service: &mut Service) -> io::Result<()>
         ensures goes_on { (setting : Setting) (history : History) → StandsFor setting service.old history → GoesOnFrom setting history (turns self.old) service.new }
         ensures turns { turns self.new ≡ turns self.old }
@@ -30,7 +30,7 @@ pub trait Connections {
         ensures registry { registry_of service.new ≡ registry_of service.old };
 }
 
-/// Serves so many connections, one after the other. Where one can't be taken, no more is waited for.
+/// Serves `count` connections, one after the other. Stops at the first that cannot be accepted.
 pub fn serve_connections<C: Connections>(
     alloc: Global,
     service: &mut Service,
@@ -38,7 +38,7 @@ pub fn serve_connections<C: Connections>(
     count: u32,
 ) -> Ending
     ensures came { CameTo result (C.taken connections.old) (C.taken connections.new) count }
-    // One service served them all: it goes on from the history that it had, by at most so many requests for each that came.
+    // One service serves all: it goes on from its history by at most `turns` requests for each connection that came.
     ensures goes_on { (setting : Setting) (history : History) → StandsFor setting service.old history →
         GoesOnFrom setting history ((C.taken connections.new - C.taken connections.old) * C.turns connections.old) service.new }
     ensures limits { limits_of service.new ≡ limits_of service.old }

@@ -14,26 +14,26 @@ use std::io;
 /// How the program ends.
 #[derive(Drop)]
 pub enum Ending {
-    /// All is done.
+    /// Everything is done.
     Done,
-    /// The registry was not read.
+    /// The registry could not be read.
     Registry(RegistryFault),
     /// No service could be made.
     NoService(StoreFault),
     /// The script ended early.
     Script(ScriptFault),
-    /// A frame could not be read, or a reply not be written.
+    /// A frame could not be read, or a reply could not be written.
     Stream(ServeFault),
     /// Sending lines ended early.
     Send(SendFault),
-    /// A port could not be listened on or connected to, or a connection not be taken.
+    /// Listening on a port, connecting to one or accepting a connection failed.
     Socket,
     /// Some line was bad.
     BadLine,
 }
 
 impl Ending {
-    /// The exit status.
+    /// Returns the exit status.
     pub fn status(&self) -> u8
         ensures { result ≡ status_of self.now }
     {
@@ -46,7 +46,7 @@ impl Ending {
         }
     }
 
-    /// Prints what the ending has to say.
+    /// Prints the line with the fault's name to standard error, if the program ends with a fault.
     pub fn print<R: Eprint>(&self, rt: &R) -> io::Result<()> {
         match self {
             Ending::Registry(fault) => eprintln!(rt; "fault: {fault}"),
@@ -64,7 +64,7 @@ fn print_fault<R: Eprint>(rt: &R, name: &str) -> io::Result<()> {
     eprintln!(rt; "fault: {name}")
 }
 
-/// How the program ends where all lines were handled.
+/// Says how the program ends once all lines were handled.
 pub fn after_lines(tally: Tally) -> Ending
     ensures { result ≡ after_lines tally }
 {
@@ -74,7 +74,7 @@ pub fn after_lines(tally: Tally) -> Ending
     }
 }
 
-/// What the program calls a fault of the database: as the refusal of a request for the same cause.
+/// Names a fault of the database, as the refusal of a request for the same cause is named.
 fn name_of(fault: StoreFault) -> &'static str
     ensures { result.now ≡ name_of fault }
 {
@@ -84,7 +84,7 @@ fn name_of(fault: StoreFault) -> &'static str
     }
 }
 
-/// What the program calls a fault of a stream of frames.
+/// Names a fault of a stream of frames.
 fn stream_name_of(fault: ServeFault) -> &'static str
     ensures { result.now ≡ stream_name_of fault }
 {

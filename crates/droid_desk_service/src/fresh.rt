@@ -10,23 +10,31 @@ use droid_frame::SteadyRead;
 use droid_pronom::{Registry, RegistryFault};
 use std::alloc::Global;
 
-/// What the program's service takes at the most.
+/// The limits of the program's service.
 pub const LIMITS: Limits = Limits {
     profiles: 64,
     nodes: 100_000,
     unfinished: 64,
 };
 
-/// Reads a registry file, and makes an empty service that identifies files by it and has the program's limits.
-pub fn fresh_service<F: SteadyRead>(alloc: Global, file: &mut F) -> Result<Service, Ending>
+/// Reads a registry file, and makes an empty service that identifies files by it and has the program's limits. Notes in
+/// `formats` how many formats the registry has, once it was read.
+pub fn fresh_service<F: SteadyRead>(
+    alloc: Global,
+    file: &mut F,
+    formats: &mut Option<usize>,
+) -> Result<Service, Ending>
     ensures made { IfOk result (IsMadeOf (F.remaining file.old)) }
     ensures not_made { IfErr result (IsNotMadeOf (F.remaining file.old)) }
-    // The file is said to have failed exactly where it did, or was interrupted too often.
+    // A fault of the file is reported exactly if reading failed, or was interrupted too often.
     ensures registry_fault { IsSound (F.seen file.old) →
         ReportsFault (F.seen file.old).interruptions (F.seen file.new) (IsErrOf result (Ending.Registry RegistryFault.Read)) }
 {
     match Registry::read(alloc, file) {
-        Ok(registry) => service_with(alloc, registry),
+        Ok(registry) => {
+            *formats = Some(registry.len());
+            service_with(alloc, registry)
+        }
         Err(fault) => Err(Ending::Registry(fault)),
     }
 }

@@ -1,16 +1,21 @@
-//! What the program's commands do, and how it ends: scripts, frames on standard streams, connections to a port, and
-//! lines that are sent to one.
+//! The commands of a service: `script` over lines, `run` over frames of standard input, `serve` over connections to a
+//! port, and `send`, a client of one. Also makes the service that `profile` uses.
 #![tactic(auto)]
 
+mod advice;
+mod client;
+mod commands;
 mod connections;
+mod ended;
 mod ending;
 mod fresh;
 mod port;
-mod profiles;
-mod program;
+mod registry;
 mod sample;
 mod scripts;
-mod sending;
 mod stream;
 
-pub use program::run;
+pub use commands::{run_command, script_command, send_command, serve_command};
+pub use ended::Ended;
+pub use ending::Ending;
+pub use registry::service_for;

@@ -1,4 +1,4 @@
-//! A port of this machine that is listened on.
+//! A port of this machine on which the program listens.
 
 ghost use Rattle.std.specs.Prelude.{◌≡◌, Option, List, ℕ, IfErr, IfSome, OnOk};
 ghost use Rattle.std.specs.IoError.{error_kind};
@@ -16,7 +16,7 @@ use std::alloc::Global;
 use std::io::{self, BufReader, ErrorKind, Read};
 use std::net::TcpListener;
 
-/// A port that is listened on.
+/// A port on which the program listens.
 #[derive(Drop)]
 pub struct Port {
     listener: TcpListener,
@@ -25,14 +25,14 @@ pub struct Port {
 }
 
 impl Port {
-    /// Takes up a listener. Of each connection as many frames are answered as of a stream.
+    /// Wraps a listener. On each connection as many frames are answered as on a stream.
     pub fn new(listener: TcpListener) -> Port
         ensures { result.turns ≡ stream_turns }
     {
         Port::with_turns(listener, TURNS)
     }
 
-    /// Takes up a listener. Of each connection at most so many frames are answered.
+    /// Wraps a listener. On each connection at most `turns` frames are answered.
     fn with_turns(listener: TcpListener, turns: u32) -> Port
         ensures { result.turns ≡ turns }
     {
@@ -55,7 +55,7 @@ impl Connections for Port {
         };
         let (stream, _) = self.listener.accept()?;
         self.taken = taken;
-        // A reply is one write, which needn't wait for more of them.
+        // A reply is one write: don't delay it.
         let _ = stream.set_nodelay(true);
         let mut writer = Noted::new(&stream);
         let served = serve_stream(alloc, service, &stream, &mut writer, self.turns);
@@ -64,8 +64,8 @@ impl Connections for Port {
     }
 }
 
-/// Serves one connection through both halves of its stream, at most `turns` frames of it. The error says that there is
-/// no memory to read it through a buffer; nothing was served then.
+/// Serves one connection through both halves of its stream, at most `turns` frames of it. The error is out of memory, for
+/// the buffer; then nothing was served.
 fn serve_stream<R: Read + Drop, W: SteadyWrite>(
     alloc: Global,
     service: &mut Service,

@@ -1,9 +1,9 @@
-//! A small registry of four formats, to try the service with. Its identifiers are invented.
+//! The sample registry: four formats with invented identifiers, for trying.
 
 ghost use Rattle.std.specs.Prelude.{◌≡◌};
 ghost use Rattle.droid_desk_service.specs.Sample.{sample};
 
-/// The bytes of the sample registry, a file of 14 records. It takes no memory.
+/// Returns the bytes of the sample registry, a file of 14 records. Allocates nothing.
 pub fn sample_registry() -> &'static [u8]
     ensures { result.now ≡ sample }
 {

@@ -20,7 +20,7 @@ use droid_lines_script::{ScriptFault, script};
 use droid_pronom::RegistryFault;
 use std::alloc::Global;
 
-/// Runs a script over a fresh service, which identifies files by the sample registry.
+/// Runs a script over a fresh service that identifies files by the sample registry.
 pub fn script_by_sample<R: SteadyRead, W: SteadyWrite>(
     alloc: Global,
     reader: &mut R,
@@ -33,24 +33,26 @@ pub fn script_by_sample<R: SteadyRead, W: SteadyWrite>(
         ReportsFaultInTurn W.seen (WritesAnswer W.contents) (AtMost (R.remaining reader.old) (λ script. length (lines_of script))) writer.old writer.new (result ≡ Ending.Script ScriptFault.Write) }
 {
     let mut file = sample_registry();
-    script_by_registry(alloc, &mut file, reader, writer)
+    script_by_registry(alloc, &mut file, &mut None, reader, writer)
 }
 
-/// Reads a registry file, and runs a script over a fresh service that identifies files by it.
+/// Reads a registry file, and runs a script over a fresh service that identifies files by it. Notes in `formats` how many
+/// formats the registry has, once it was read.
 pub fn script_by_registry<F: SteadyRead, R: SteadyRead, W: SteadyWrite>(
     alloc: Global,
     file: &mut F,
+    formats: &mut Option<usize>,
     reader: &mut R,
     writer: &mut W,
 ) -> Ending
     ensures ends { EndsOver (F.remaining file.old) result (R.remaining reader.old) (W.contents writer.old) (W.contents writer.new) }
-    // The streams are said to have failed exactly where they did, or were interrupted too often.
+    // A fault of a stream is reported exactly if the stream failed, or was interrupted too often.
     ensures registry_fault { IsSound (F.seen file.old) → ReportsFault (F.seen file.old).interruptions (F.seen file.new) (result ≡ Ending.Registry RegistryFault.Read) }
     ensures read_fault { IsSound (R.seen reader.old) → ReportsFault (R.seen reader.old).interruptions (R.seen reader.new) (result ≡ Ending.Script ScriptFault.Read) }
     ensures write_fault { IsSound (W.seen writer.old) → W.room writer.old ≡ None →
         ReportsFaultInTurn W.seen (WritesAnswer W.contents) (AtMost (R.remaining reader.old) (λ script. length (lines_of script))) writer.old writer.new (result ≡ Ending.Script ScriptFault.Write) }
 {
-    match fresh_service(alloc, file) {
+    match fresh_service(alloc, file, formats) {
         Ok(mut service) => script_over(alloc, &mut service, reader, writer),
         Err(ending) => ending,
     }

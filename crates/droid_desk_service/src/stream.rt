@@ -16,10 +16,10 @@ use droid_frame::{FrameFault, SteadyRead, SteadyWrite};
 use droid_wire::{Ended, ServeFault, serve};
 use std::alloc::Global;
 
-/// How many frames of a stream are answered at the most.
+/// The most frames of a stream that are answered.
 pub const TURNS: u32 = 1_000_000;
 
-/// Answers the frames of a stream, and tells how the program ends by that.
+/// Answers the frames of a stream, and returns how the program ends by that.
 pub fn answer_stream<R: SteadyRead, W: SteadyWrite>(
     alloc: Global,
     service: &mut Service,
@@ -28,7 +28,7 @@ pub fn answer_stream<R: SteadyRead, W: SteadyWrite>(
 ) -> Ending
     ensures ends { (setting : Setting) (history : History) → StandsFor setting service.old history → IfSome (R.remaining reader.old) (λ input.
         StreamEndsAs setting history result input (R.remaining reader.new) (W.contents writer.old) (W.contents writer.new) service.new) }
-    // The streams are said to have failed exactly where they did, or were interrupted too often for one frame or reply.
+    // A fault of a stream is reported exactly if it failed, or was interrupted too often within one frame or reply.
     ensures read_fault { IsSound (R.seen reader.old) →
         ReportsFaultInTurn R.seen (ReadsFrame R.remaining) (λ count. count ≤ 1000000) reader.old reader.new (result ≡ Ending.Stream (ServeFault.Frame FrameFault.Read)) }
     ensures write_fault { IsSound (W.seen writer.old) → W.room writer.old ≡ None →
@@ -50,7 +50,7 @@ fn end_of(outcome: Result<Ended, ServeFault>) -> Ending
     }
 }
 
-/// Answers the frames of one connection, at most `turns` of them. What ends it is not told.
+/// Answers the frames of one connection, at most `turns` of them. What ends the connection is not reported.
 pub fn serve_connection<R: SteadyRead, W: SteadyWrite>(
     alloc: Global,
     service: &mut Service,
@@ -60,7 +60,7 @@ pub fn serve_connection<R: SteadyRead, W: SteadyWrite>(
 )
     ensures gives { (setting : Setting) (history : History) → StandsFor setting service.old history → IfSome (R.remaining reader.old) (λ input.
         ConnectionGives setting history turns input (R.remaining reader.new) (W.contents writer.old) (W.contents writer.new) service.new) }
-    // Whatever came, the service goes on from the history that the connections before have made.
+    // Whatever comes, the service goes on from the history that the connections before have made.
     ensures goes_on { (setting : Setting) (history : History) → StandsFor setting service.old history → GoesOnFrom setting history turns service.new }
     ensures limits { limits_of service.new ≡ limits_of service.old }
     ensures registry { registry_of service.new ≡ registry_of service.old }

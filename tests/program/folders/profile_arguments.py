@@ -25,9 +25,11 @@ class Arguments(InFolder):
         bad = self.work + b"/bad.csv"
         with open(bad, "wb") as file:
             file.write(b"X\n")
-        for registry, fault in ((bad, b"BadRecord at 1"), (self.work + b"/none", b"Read")):
+        bad_record = b": record 1: expected six fields, the first of them F, E, S, B or P: is it a registry file?\n"
+        missing = b": no such file: check the path after --registry\n"
+        for registry, fault, said in ((bad, b"BadRecord at 1", bad_record), (self.work + b"/none", b"Read", missing)):
             status, out, err = profile(self.work + b"/none", "--registry", registry, "--output", self.work + b"/out")
-            self.assertEqual((status, out, err), (3, b"", b"fault: " + fault + b"\n"))
+            self.assertEqual((status, out, err), (3, b"", b"fault: " + fault + b"\n" + registry + said))
         self.assertEqual(os.listdir(self.work).count(b"out"), 0)
 
     def test_quiet(self):

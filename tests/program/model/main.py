@@ -1,5 +1,5 @@
 #!/usr/bin/env -S python3 -S -B
-"""A plain model of the program's scripts: `main.py script [--registry FILE]`.
+"""A plain model of the program's scripts: `main.py script [--everyday | --registry FILE]`.
 
 It keeps whole files in dictionaries and looks at each request by itself, so it is slow, and short enough to be read
 beside the documents. It writes the output that the program has to write, and ends with the same status.
@@ -13,12 +13,28 @@ from registry import Registry, RegistryFault
 from service import Service
 
 LONGEST_INPUT = 67_108_864
-SAMPLE = os.path.join(os.path.dirname(os.path.abspath(__file__)), "..", "sample_registry.csv")
+TESTS = os.path.join(os.path.dirname(os.path.abspath(__file__)), "..")
+SAMPLE = os.path.join(TESTS, "sample_registry.csv")
+EVERYDAY = os.path.join(TESTS, "..", "..", "registries", "common.csv")
+
+# the sentence behind a fault, which says what it means and what to do
+UNREAD = "standard input could not be read"
+LONG = "standard input has more than 67,108,864 bytes: use serve and send"
+UNWRITTEN = "standard output could not be written: is the disk full, or its reader gone?"
+EXPECTED = {
+    "TooLong": "more than 16,777,216 bytes: is it a registry file?",
+    "NotUtf8": "a field is not UTF-8 text: save the file as UTF-8",
+    "BadRecord": "expected six fields, the first of them F, E, S, B or P: is it a registry file?",
+    "BadPattern": "the last field is not a pattern: expected one as 25504446",
+    "UnknownPuid": "expected an identifier that an F record above gives",
+    "DuplicatePuid": "an F record above has this identifier: each may stand once",
+    "TooMany": "one more of its kind than a registry may have: shorten it",
+}
 
 
-def end(status, fault=None):
+def end(status, fault=None, sentence=None):
     if fault is not None:
-        os.write(2, f"fault: {fault}\n".encode("ascii"))
+        os.write(2, f"fault: {fault}\n{sentence}\n".encode())
     os._exit(status)
 
 
@@ -26,10 +42,14 @@ def read_registry(path):
     try:
         with open(path, "rb") as file:
             return Registry(file.read())
-    except OSError:
-        end(3, "Read")
+    except (FileNotFoundError, NotADirectoryError):
+        end(3, "Read", f"{path}: no such file: check the path after --registry")
+    except IsADirectoryError:
+        end(3, "Read", f"{path}: a folder: name the registry file in it")
     except RegistryFault as fault:
-        end(3, fault)
+        name, _, at = str(fault).partition(" at ")
+        record = f"record {at}: " if at else ""
+        end(3, fault, f"{path}: {record}{EXPECTED[name]}")
 
 
 def write(text):
@@ -37,10 +57,10 @@ def write(text):
         while text:
             written = os.write(1, text)
             if written == 0:
-                end(4, "Write")
+                end(4, "Write", UNWRITTEN)
             text = text[written:]
     except OSError:
-        end(4, "Write")
+        end(4, "Write", UNWRITTEN)
 
 
 def run_script(service):
@@ -48,9 +68,9 @@ def run_script(service):
     try:
         text = sys.stdin.buffer.read()
     except OSError:
-        end(4, "Read")
+        end(4, "Read", UNREAD)
     if len(text) > LONGEST_INPUT:
-        end(4, "TooLong")
+        end(4, "TooLong", LONG)
     is_bad = False
     for line in lines_of(text):
         try:
@@ -62,10 +82,20 @@ def run_script(service):
 
 
 def main(words):
-    if words[:1] != ["script"] or len(words) not in (1, 3) or words[1:2] not in ([], ["--registry"]):
-        sys.exit("the model takes: script [--registry FILE]")
-    registry = read_registry(words[2] if len(words) == 3 else SAMPLE)
-    end(5 if run_script(Service(registry)) else 0)
+    match words:
+        case ["script"]:
+            path = SAMPLE
+        case ["script", "--everyday"]:
+            path = EVERYDAY
+        case ["script", "--registry", path]:
+            pass
+        case _:
+            sys.exit("the model takes: script [--everyday | --registry FILE]")
+    registry = read_registry(path)
+    is_bad = run_script(Service(registry))
+    if not registry.formats:
+        os.write(2, f"registry: {path} has no formats, so no file will be identified\n".encode())
+    end(5 if is_bad else 0)
 
 
 main(sys.argv[1:])

@@ -83,6 +83,7 @@ class Disturbed(InFolder):
     def test_given_up(self):
         with Serve.lasting() as service, Between(service.port, BEGINNINGS) as between:
             ended = submit(self.top, between.port, 7, "--export", self.export)
-        self.assertEqual(ended, (4, b"fault: Disturbed\n"))
+        sentence = b"port %d: other clients were busy there: run the same command again later\n" % between.port
+        self.assertEqual(ended, (4, b"fault: Disturbed\n" + sentence))
         self.assertEqual(between.begun, BEGINNINGS)
         self.assertEqual(os.listdir(self.work), [b"tree"])

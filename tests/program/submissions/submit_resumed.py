@@ -18,7 +18,8 @@ class Resumed(WithTree):
                 with Proxy(service.port, itertools.chain(itertools.islice(cuts_by(seed, 9000), 2), itertools.repeat(3))) as proxy:
                     ended = submit(self.top, proxy.port, 7, "--export", self.export)
                     # the rest may fit into the two connections that last longer
-                    self.assertIn(ended, [(4, b"fault: Broken\n"), (0, b"")])
+                    broken = b"fault: Broken\nport %d: the connection broke ten times: run the same command again to resume\n" % proxy.port
+                    self.assertIn(ended, [(4, broken), (0, b"")])
                     self.assertEqual(os.path.exists(self.export), ended[0] == 0)
                     if ended[0] == 0:
                         break
@@ -48,7 +49,8 @@ class Resumed(WithTree):
             status, err = submit(self.top, service.port, 7)
             self.assertEqual(status, 5)
             self.assertIn(b"changed: /in/2.bin\n", err)
-            self.assertTrue(err.endswith(b"fault: Changed\n"))
+            sentence = b"port %d: the folder or the options have changed since they were submitted: use another --client or --first\n"
+            self.assertTrue(err.endswith(b"fault: Changed\n" + sentence % service.port))
             self.assertEqual(submit(self.top, service.port, 8)[0], 0)
 
     def test_a_new_file(self):
@@ -58,3 +60,10 @@ class Resumed(WithTree):
             status, err = submit(self.top, service.port, 7)
             self.assertEqual(status, 5)
             self.assertIn(b"changed: /a.txt\n", err)
+
+    def test_other_options(self):
+        with Service() as service:
+            self.assertEqual(submit(self.top, service.port, 7)[0], 0)
+            status, err = submit(self.top, service.port, 7, "--hash", "sha256")
+        self.assertEqual(status, 5)
+        self.assertIn(b"changed: --limit, --match-all or --hash, or the client was used for something else\n", err)

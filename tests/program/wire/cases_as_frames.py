@@ -13,6 +13,7 @@ from registry import Registry
 from service import Service
 
 CASES = os.path.join(os.path.dirname(os.path.abspath(__file__)), "..", "cases")
+EVERYDAY = os.path.join(os.path.dirname(os.path.abspath(__file__)), "..", "..", "..", "registries", "common.csv")
 
 
 def stored(case, name):
@@ -70,7 +71,8 @@ def is_in_version_1(case):
 
 def service_of(options):
     """Makes a service of the model with the registry of a case."""
-    with open(options[1] if options else SAMPLE, "rb") as file:
+    path = {(): SAMPLE, ("--everyday",): EVERYDAY}.get(tuple(options)) or options[1]
+    with open(path, "rb") as file:
         return Service(Registry(file.read()))
 
 

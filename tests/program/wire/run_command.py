@@ -10,7 +10,7 @@ import unittest
 from lib import frames
 from lib.connections import SECONDS, free_port
 from lib.frames import HEADER, LIMITS, create, file, finish, folder, frame, in_version, refusal, reply
-from lib.program import PROGRAM, run
+from lib.program import PROGRAM, faults, run
 
 CREATE = create(1)
 FOLDER, OTHER_FOLDER = folder(2, b"in"), folder(2, b"out")
@@ -95,7 +95,7 @@ class Run(unittest.TestCase):
             done = subprocess.run([PROGRAM, "run"], stdin=folder, capture_output=True, timeout=SECONDS)
         finally:
             os.close(folder)
-        self.assertEqual((done.returncode, done.stdout, done.stderr), (4, b"", b"fault: Read\n"))
+        self.assertEqual((done.returncode, done.stdout, faults(done.stderr)), (4, b"", b"fault: Read\n"))
 
     def test_an_output_without_room(self):
         with open("/dev/full", "wb") as full:

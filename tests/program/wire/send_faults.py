@@ -9,7 +9,7 @@ from lib import frames
 from lib.connections import SECONDS, free_port, listen, read_frame
 from lib.frames import ADD_FOLDER, CREATE_PROFILE, EXPORT, HEADER, LIMITS
 from lib.frames import export_body, folder_body, frame, in_version, lines_in_version, profile_body, refusal, reply
-from lib.program import PROGRAM, Serve, run, send
+from lib.program import PROGRAM, Serve, run, run_plainly, send
 
 CREATE = b"create 65536 0\n"
 FOLDER = b"folder 1 0 0 in\n"
@@ -134,7 +134,10 @@ class Faults(unittest.TestCase):
         return service.received
 
     def test_no_listener(self):
-        self.assertEqual(send(free_port(), 7, CREATE), (4, b"", "fault: Socket\n"))
+        port = free_port()
+        status, out, said = run_plainly(["send", "--port", port, "--client", 7], CREATE)
+        self.assertEqual((status, out), (4, b""))
+        self.assertEqual(said, f"fault: Socket\nnobody listens on port {port}: start droid_desk serve --port {port} first\n")
 
     def test_replies(self):
         """The first reply is the fault, or the second one."""

@@ -8,7 +8,7 @@ import unittest
 
 from lib.connections import SECONDS, connect, listen, read_exactly, read_frame, read_until_reset, reset
 from lib.frames import ADD_FOLDER, CREATE_PROFILE, LIMITS, NODE, in_version, lines_in_version, reply
-from lib.program import PROGRAM, Serve, preloaded, send
+from lib.program import PROGRAM, Serve, faults, preloaded, send
 from run_command import ENDS, REPLIED, session_in
 from send_faults import made
 
@@ -131,7 +131,7 @@ class SendStreams(unittest.TestCase):
                 done = subprocess.run(words, stdin=folder, capture_output=True, timeout=SECONDS)
         finally:
             os.close(folder)
-        self.assertEqual((done.returncode, done.stdout, done.stderr), (4, b"", b"fault: Read\n"))
+        self.assertEqual((done.returncode, done.stdout, faults(done.stderr)), (4, b"", b"fault: Read\n"))
 
 
 def each_at(places, times):
@@ -215,7 +215,7 @@ class Resets(unittest.TestCase):
 
     def ends(self, fault):
         out, said = self.sender.communicate(timeout=SECONDS)
-        self.assertEqual((self.sender.returncode, out, said), (4, b"made 1\n", f"fault: {fault}\n".encode("ascii")))
+        self.assertEqual((self.sender.returncode, out, faults(said)), (4, b"made 1\n", f"fault: {fault}\n".encode("ascii")))
 
     def test_where_a_reply_is_due(self):
         self.give(b"folder 1 0 0 in\n")
@@ -236,7 +236,7 @@ class Resets(unittest.TestCase):
         time.sleep(0.1)
         self.give(b"folder 1 0 0 in\n")
         out, said = self.sender.communicate(timeout=SECONDS)
-        self.assertEqual((self.sender.returncode, out, said), (4, b"", b"fault: Write\n"))
+        self.assertEqual((self.sender.returncode, out, faults(said)), (4, b"", b"fault: Write\n"))
 
 
 class ResetsInVersion2(Resets):

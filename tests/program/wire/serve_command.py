@@ -11,7 +11,7 @@ from hashlib import md5
 from lib.connections import SECONDS, connect, listen, read_exactly, read_frame, read_until_reset, reset
 from lib.connections import send_until_reset
 from lib.frames import FINISHED, HEADER, LIMITS, export, file, finish, folder, piece
-from lib.program import Serve, run, send
+from lib.program import Serve, run, run_plainly, send
 from lib.rows import COLUMNS, IN_ROW
 from run_command import CREATE, FOLDER, MADE, MALFORMED, MOST_FRAMES, NODE, REPLIES, REQUESTS, SESSION, SHORT_FINISH
 from run_command import session_in
@@ -193,8 +193,10 @@ class ServeCommand(unittest.TestCase):
 
     def test_a_port_in_use(self):
         with listen() as listener:
-            ended = run(["serve", "--port", listener.getsockname()[1]])
-        self.assertEqual(ended, (4, b"", "fault: Socket\n"))
+            port = listener.getsockname()[1]
+            status, out, said = run_plainly(["serve", "--everyday", "--port", port])
+        self.assertEqual((status, out), (4, b""))
+        self.assertEqual(said, f"fault: Socket\nport {port} is in use: choose another, or stop the program that listens on it\n")
 
     def test_an_output_without_room(self):
         with listen() as listener:

@@ -1,0 +1,81 @@
+//! Reads the command line, runs the command that it asks for, and returns the exit status.
+
+use droid_desk_arguments::{
+    Asked, NoCommand, ProfileOptions, RegistrySource, SubmitOptions, unread_words, what_is_asked,
+};
+use droid_desk_folders::{profile_folder, submit_folder};
+use droid_desk_service::{
+    Ended, run_command, script_command, send_command, serve_command, service_for,
+};
+use std::process::ExitCode;
+use std::{env, io};
+
+/// Runs the program. `on_terminal` says whether standard error is a terminal.
+pub fn run(rt: &HostRuntime, on_terminal: bool) -> ExitCode {
+    let words = match words(rt) {
+        Ok(words) => words,
+        Err(error) => return end_without(rt, &unread_words(&error)),
+    };
+    match what_is_asked(rt.alloc(), words.as_slice()) {
+        Ok(asked) => fulfil(rt, asked, on_terminal),
+        Err(why) => end_without(rt, &why),
+    }
+}
+
+fn words(rt: &HostRuntime) -> io::Result<Vec<String>> {
+    let words = env::args(rt)?.collect(rt.alloc())?;
+    Ok(words)
+}
+
+fn fulfil(rt: &HostRuntime, asked: Asked<'_>, on_terminal: bool) -> ExitCode {
+    match asked {
+        Asked::Profile(options) => profile(rt, options, on_terminal),
+        Asked::Submit(options) => submit(rt, options, on_terminal),
+        Asked::Script { registry } => end(rt, &script_command(rt, registry)),
+        Asked::Run { registry } => end(rt, &run_command(rt, registry)),
+        Asked::Serve {
+            registry,
+            port,
+            connections,
+        } => end(rt, &serve_command(rt, registry, port, connections)),
+        Asked::Send {
+            port,
+            client,
+            first,
+        } => end(rt, &send_command(rt, port, client, first)),
+    }
+}
+
+fn profile(rt: &HostRuntime, options: ProfileOptions<'_>, on_terminal: bool) -> ExitCode {
+    let source = match options.registry {
+        Some(path) => RegistrySource::File(path),
+        None => {
+            let _ = eprintln!(rt; "registry: the built-in registry of everyday formats");
+            RegistrySource::Everyday
+        }
+    };
+    match service_for(rt, source) {
+        Ok(service) => {
+            let ending = profile_folder(rt, service, options, on_terminal);
+            let _ = ending.print(rt, options);
+            ExitCode::from(ending.status())
+        }
+        Err(ended) => end(rt, &ended),
+    }
+}
+
+fn submit(rt: &HostRuntime, options: SubmitOptions<'_>, on_terminal: bool) -> ExitCode {
+    let ending = submit_folder(rt, options, on_terminal);
+    let _ = ending.print(rt, options);
+    ExitCode::from(ending.status())
+}
+
+fn end(rt: &HostRuntime, ended: &Ended<'_>) -> ExitCode {
+    let _ = ended.print(rt);
+    ExitCode::from(ended.status())
+}
+
+fn end_without(rt: &HostRuntime, why: &NoCommand) -> ExitCode {
+    let _ = why.print(rt);
+    ExitCode::from(why.status())
+}

@@ -1,0 +1,26 @@
+use Rattle.std.proofs.Common.{◌∙◌, Option, codes, subst}
+use Rattle.std.specs.Str.Parse.{ExplainsUnsignedError, HasUnsignedDigitsIfOk, ParsesUnsigned}
+use Rattle.clap.specs.Words.{Text, found_of}
+use Rattle.clap.proofs.WalkLemmas.{first_value-rows}
+use Rattle.droid_desk_arguments.specs.Asking.{IsHash}
+use Rattle.droid_desk_arguments.proofs.Options.{number_or}
+use Rattle.droid_desk_arguments.proofs.profile.profile_options.Goals as goal
+
+pub returns : goal.returns
+returns c =
+    let found = found_of c.args.profile.now in
+    let folder = c.in_ok-folder.ensures ∙ first_value-rows found (codes "folder") in
+    let registry = c.get_str-registry.ensures ∙ first_value-rows found (codes "registry") in
+    let limit = number_or (λ bs r. ParsesUnsigned 32 10 bs r × ExplainsUnsignedError 10 bs r × HasUnsignedDigitsIfOk bs r) 32 65536 (λ text x gives. gives.0.1) (λ text e gives. gives.0)
+    found (codes "limit") c.get_one.result c.unwrap_or-limit.result c.get_one.ensures.none c.get_one.ensures.value c.unwrap_or-limit.ensures in
+    let hash = subst (λ (o : Option Text). IsHash o c.in_ok-hash.hash) (c.get_str-hash_word.ensures ∙ first_value-rows found (codes "hash")) c.in_ok-hash.ensures in
+    let output = c.get_str-output.ensures ∙ first_value-rows found (codes "output") in
+    record {
+      folder = folder;
+      registry = registry;
+      limit = limit;
+      match_all = c.flag_of-match_all.ensures;
+      hash = hash;
+      output = output;
+      quiet = c.flag_of-quiet.ensures;
+    }

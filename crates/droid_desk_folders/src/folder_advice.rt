@@ -1,0 +1,79 @@
+//! Sentences that say what a fault of `profile` or `submit` means and what to do.
+
+use droid_desk_progress::Shown;
+use droid_tree::WalkFault;
+use std::fs::{self, Files};
+use std::io::{self, ErrorKind};
+
+pub(crate) const NO_MEMORY: &str =
+    "out of memory: close other programs, or allow this one more, and try again";
+
+/// Says why a path is not a folder.
+pub(crate) fn print_no_folder<R: Files + Eprint>(rt: &R, path: &str) -> io::Result<()> {
+    let shown = Shown(path.as_bytes());
+    match fs::metadata(rt, path) {
+        Ok(_) => eprintln!(rt; "{shown}: not a folder: name the folder that has the files"),
+        Err(error) => match error.kind() {
+            ErrorKind::NotFound => eprintln!(rt; "{shown}: no such folder: check the path"),
+            kind => eprintln!(rt; "{shown}: {kind}"),
+        },
+    }
+}
+
+/// Says why a file could not be created or replaced.
+pub(crate) fn print_no_output<R: Files + Eprint>(rt: &R, path: &str) -> io::Result<()> {
+    let shown = Shown(path.as_bytes());
+    if let Ok(found) = fs::metadata(rt, path)
+        && !found.is_file()
+    {
+        return eprintln!(rt; "{shown}: something else than a file has this name: choose another");
+    }
+    match folder_fault(rt, folder_of(path)) {
+        Some(kind) => eprintln!(rt; "{shown}: cannot be created: {}", folder_advice(kind)),
+        None => eprintln!(rt;
+            "{shown}: cannot be created: is its folder yours to write, and the disk not full?"
+        ),
+    }
+}
+
+/// Returns the path of the folder that a file lies in.
+fn folder_of(path: &str) -> &str {
+    match path.rsplit_once("/") {
+        Some(("", _)) => "/",
+        Some((folder, _)) => folder,
+        None => ".",
+    }
+}
+
+/// Returns why a folder cannot be used, or `None` if it is there.
+fn folder_fault<R: Files>(rt: &R, path: &str) -> Option<ErrorKind> {
+    match fs::metadata(rt, path) {
+        Ok(found) if found.is_dir() => None,
+        Ok(_) => Some(ErrorKind::NotADirectory),
+        Err(error) => Some(error.kind()),
+    }
+}
+
+fn folder_advice(kind: ErrorKind) -> &'static str {
+    match kind {
+        ErrorKind::NotFound => "its folder does not exist: create it first",
+        ErrorKind::NotADirectory => "a file stands in the place of its folder: choose another",
+        ErrorKind::PermissionDenied => "permission denied: choose another folder",
+        _ => "its folder cannot be used: choose another",
+    }
+}
+
+/// Says why a walk ended early.
+pub(crate) fn walk_advice(fault: WalkFault) -> &'static str {
+    match fault {
+        WalkFault::Memory => NO_MEMORY,
+        WalkFault::Exchange | WalkFault::Reply | WalkFault::TooLong => {
+            "this is a mistake in droid_desk"
+        }
+        WalkFault::Names => "a folder lists one name twice: check the file system",
+        WalkFault::Folders => "new folders appeared while it was read: run it again",
+        WalkFault::Entries => "too large: take its subfolders one by one",
+        WalkFault::Bytes =>
+            "its files are too long together to be counted: take its subfolders one by one",
+    }
+}

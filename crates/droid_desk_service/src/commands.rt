@@ -1,0 +1,167 @@
+//! The commands of a service, over files, standard streams and ports of this machine.
+
+ghost use Rattle.std.specs.Prelude.{◌<◌, ◌^◌};
+
+use crate::client::send_lines;
+use crate::connections::serve_connections;
+use crate::ended::Ended;
+use crate::ending::Ending;
+use crate::port::Port;
+use crate::registry::{note_formats, open_registry, service_for};
+use crate::scripts::{script_by_registry, script_by_sample};
+use crate::stream::answer_stream;
+use droid_core::Service;
+use droid_desk_arguments::RegistrySource;
+use droid_frame::{FrameFault, NUMBER_LIMIT, Noted};
+use droid_lines_send::SendFault;
+use droid_pronom_common::common_registry;
+use droid_wire::ServeFault;
+use std::fs::Files;
+use std::io::{self, BufReader};
+use std::net::{Ipv4Addr, Net, TcpListener, TcpStream};
+
+/// Runs a script from standard input to standard output, over a new service.
+pub fn script_command<'a, R: Files + Input + Print + Eprint + AllocGlobal>(
+    rt: &R,
+    source: RegistrySource<'a>,
+) -> Ended<'a> {
+    let mut input = Noted::new(rt.reader());
+    let mut output = Noted::new(io::writer(rt));
+    let ending = match source {
+        RegistrySource::Sample => script_by_sample(rt.alloc(), &mut input, &mut output),
+        RegistrySource::Everyday => script_by_registry(
+            rt.alloc(),
+            &mut common_registry(),
+            &mut None,
+            &mut input,
+            &mut output,
+        ),
+        RegistrySource::File(path) => return script_by_file(rt, path),
+    };
+    Ended::over(ending, source)
+}
+
+fn script_by_file<'a, R: Files + Input + Print + Eprint + AllocGlobal>(
+    rt: &R,
+    path: &'a str,
+) -> Ended<'a> {
+    let source = RegistrySource::File(path);
+    let file = match open_registry(rt, path) {
+        Ok(file) => file,
+        Err(cause) => return Ended::unopened(source, cause),
+    };
+    let mut formats = None;
+    let ending = script_by_registry(
+        rt.alloc(),
+        &mut Noted::new(file),
+        &mut formats,
+        &mut Noted::new(rt.reader()),
+        &mut Noted::new(io::writer(rt)),
+    );
+    note_formats(rt, path, formats);
+    Ended::over(ending, source)
+}
+
+/// Answers the frames of standard input on standard output, by a new service.
+pub fn run_command<'a, R: Files + Input + Print + Eprint + AllocGlobal>(
+    rt: &R,
+    source: RegistrySource<'a>,
+) -> Ended<'a> {
+    note_sample(rt, source);
+    match service_for(rt, source) {
+        Ok(mut service) => Ended::over(answer_input(rt, &mut service), source),
+        Err(ended) => ended,
+    }
+}
+
+fn answer_input<R: Input + Print + AllocGlobal>(rt: &R, service: &mut Service) -> Ending {
+    let Ok(input) = BufReader::new(rt.alloc(), rt.reader()) else {
+        return Ending::Stream(ServeFault::Frame(FrameFault::Memory));
+    };
+    answer_stream(
+        rt.alloc(),
+        service,
+        &mut Noted::new(input),
+        &mut Noted::new(io::writer(rt)),
+    )
+}
+
+/// Serves this many connections to a port, over one new service.
+pub fn serve_command<'a, R>(
+    rt: &R,
+    source: RegistrySource<'a>,
+    port: u16,
+    connections: u32,
+) -> Ended<'a>
+where
+    R: Files + Print + Eprint + AllocGlobal + Net<Listener = TcpListener, Stream = TcpStream>,
+{
+    note_sample(rt, source);
+    match service_for(rt, source) {
+        Ok(mut service) => serve_port(rt, &mut service, port, connections),
+        Err(ended) => ended,
+    }
+}
+
+/// Listens on a port, prints so, and serves this many connections.
+fn serve_port<'a, R>(rt: &R, service: &mut Service, port: u16, connections: u32) -> Ended<'a>
+where
+    R: Print + AllocGlobal + Net<Listener = TcpListener, Stream = TcpStream>,
+{
+    let listener = match TcpListener::bind(rt, (Ipv4Addr::LOCALHOST, port)) {
+        Ok(listener) => listener,
+        Err(error) => return Ended::unconnected(port, error.kind()),
+    };
+    if println!(rt; "listening {port}").is_err() {
+        return Ended::at(Ending::Stream(ServeFault::Write { written: 0 }), port);
+    }
+    let ending = serve_connections(rt.alloc(), service, &mut Port::new(listener), connections);
+    Ended::at(ending, port)
+}
+
+/// Notes on standard error that the sample registry is used.
+fn note_sample<R: Eprint>(rt: &R, source: RegistrySource<'_>) {
+    if let RegistrySource::Sample = source {
+        let _ = eprintln!(rt;
+            "registry: the sample of four invented formats, for trying: use --everyday or --registry FILE for real ones"
+        );
+    }
+}
+
+/// Sends the requests of the lines of standard input to a port, as this client, under numbers from `first` on.
+pub fn send_command<'a, R>(rt: &R, port: u16, client: u32, first: u64) -> Ended<'a>
+where
+    R: Input + Print + AllocGlobal + Net<Listener = TcpListener, Stream = TcpStream>,
+{
+    if first >= NUMBER_LIMIT {
+        return Ended::at(Ending::Send(SendFault::NumbersUsedUp), port);
+    }
+    match TcpStream::connect(rt, (Ipv4Addr::LOCALHOST, port)) {
+        Ok(stream) => Ended::at(send_over(rt, &stream, client, first), port),
+        Err(error) => Ended::unconnected(port, error.kind()),
+    }
+}
+
+fn send_over<R: Input + Print + AllocGlobal>(
+    rt: &R,
+    stream: &TcpStream,
+    client: u32,
+    first: u64,
+) -> Ending
+    requires { first < 2 ^ 63 }
+{
+    // A request's frame is two writes, and its reply is waited for: don't delay the second.
+    let _ = stream.set_nodelay(true);
+    let Ok(replies) = BufReader::new(rt.alloc(), stream) else {
+        return Ending::Send(SendFault::Memory);
+    };
+    send_lines(
+        rt.alloc(),
+        client,
+        first,
+        &mut Noted::new(rt.reader()),
+        &mut Noted::new(replies),
+        &mut Noted::new(stream),
+        &mut Noted::new(io::writer(rt)),
+    )
+}

@@ -1,0 +1,157 @@
+//! How a command ended, with what standard error says of it.
+
+use crate::advice::{
+    frame_advice, is_of_the_service, record_of, registry_advice, script_advice, send_advice,
+    service_advice, unread_advice,
+};
+use crate::ending::Ending;
+use droid_desk_arguments::RegistrySource;
+use droid_pronom::RegistryFault;
+use std::io::{self, ErrorKind};
+
+/// How a command ended, and what the sentence behind its fault speaks of.
+#[derive(Drop)]
+pub struct Ended<'a> {
+    /// How it ended.
+    pub ending: Ending,
+    /// What the command used.
+    pub used: Used<'a>,
+    /// Why a file could not be opened, or a port not be used, if that ended the command.
+    pub cause: Option<ErrorKind>,
+}
+
+/// What a command used.
+#[derive(Clone, Copy)]
+pub enum Used<'a> {
+    /// A registry.
+    Registry(RegistrySource<'a>),
+    /// A port of this machine.
+    Port(u16),
+}
+
+impl<'a> Ended<'a> {
+    /// Ends a command that used this registry.
+    pub(crate) fn over(ending: Ending, source: RegistrySource<'a>) -> Ended<'a> {
+        Ended {
+            ending,
+            used: Used::Registry(source),
+            cause: None,
+        }
+    }
+
+    /// Ends a command whose registry file could not be opened.
+    pub(crate) fn unopened(source: RegistrySource<'a>, cause: ErrorKind) -> Ended<'a> {
+        Ended {
+            ending: Ending::Registry(RegistryFault::Read),
+            used: Used::Registry(source),
+            cause: Some(cause),
+        }
+    }
+
+    /// Ends a command that used this port.
+    pub(crate) fn at(ending: Ending, port: u16) -> Ended<'a> {
+        Ended {
+            ending,
+            used: Used::Port(port),
+            cause: None,
+        }
+    }
+
+    /// Ends a command that could not use this port.
+    pub(crate) fn unconnected(port: u16, cause: ErrorKind) -> Ended<'a> {
+        Ended {
+            ending: Ending::Socket,
+            used: Used::Port(port),
+            cause: Some(cause),
+        }
+    }
+}
+
+impl Ended<'_> {
+    /// Returns the exit status.
+    pub fn status(&self) -> u8 {
+        self.ending.status()
+    }
+
+    /// Prints the fault to standard error, and behind it a sentence that says what happened and what to do.
+    pub fn print<R: Eprint>(&self, rt: &R) -> io::Result<()> {
+        self.ending.print(rt)?;
+        match &self.ending {
+            Ending::Done | Ending::BadLine => Ok(()),
+            Ending::Registry(fault) => print_registry(rt, self.used, fault, self.cause),
+            Ending::NoService(fault) => print_sentence(rt, service_advice(*fault)),
+            Ending::Script(fault) => print_sentence(rt, script_advice(fault)),
+            Ending::Stream(fault) => print_sentence(rt, frame_advice(*fault)),
+            Ending::Send(fault) if is_of_the_service(fault) => {
+                eprintln!(rt; "port {}: {}", port_of(self.used), send_advice(fault))
+            }
+            Ending::Send(fault) => print_sentence(rt, send_advice(fault)),
+            Ending::Socket => print_port(rt, port_of(self.used), self.cause),
+        }
+    }
+}
+
+fn print_sentence<R: Eprint>(rt: &R, sentence: &str) -> io::Result<()> {
+    eprintln!(rt; "{sentence}")
+}
+
+fn port_of(used: Used<'_>) -> u16 {
+    match used {
+        Used::Port(port) => port,
+        Used::Registry(_) => 0,
+    }
+}
+
+/// Says what is wrong with a registry: at which record, and what was expected there.
+fn print_registry<R: Eprint>(
+    rt: &R,
+    used: Used<'_>,
+    fault: &RegistryFault,
+    cause: Option<ErrorKind>,
+) -> io::Result<()> {
+    let name = match used {
+        Used::Registry(RegistrySource::File(path)) => path,
+        _ => "the built-in registry",
+    };
+    if let RegistryFault::Read = fault {
+        return match unread_advice(cause) {
+            Some(advice) => eprintln!(rt; "{name}: {advice}"),
+            None => print_cause(rt, name, cause),
+        };
+    }
+    match record_of(fault) {
+        Some(record) => eprintln!(rt; "{name}: record {record}: {}", registry_advice(fault)),
+        None => eprintln!(rt; "{name}: {}", registry_advice(fault)),
+    }
+}
+
+/// Says why a file could not be opened, as the system gives it.
+fn print_cause<R: Eprint>(rt: &R, name: &str, cause: Option<ErrorKind>) -> io::Result<()> {
+    match cause {
+        Some(kind) => eprintln!(rt; "{name}: {kind}"),
+        None => eprintln!(rt; "{name}: reading failed: try again with a copy of the file"),
+    }
+}
+
+/// Says why a port could not be used.
+fn print_port<R: Eprint>(rt: &R, port: u16, cause: Option<ErrorKind>) -> io::Result<()> {
+    match cause {
+        Some(ErrorKind::AddrInUse) => {
+            eprintln!(rt;
+                "port {port} is in use: choose another, or stop the program that listens on it"
+            )
+        }
+        Some(ErrorKind::ConnectionRefused) => {
+            eprintln!(rt;
+                "nobody listens on port {port}: start droid_desk serve --port {port} first"
+            )
+        }
+        Some(ErrorKind::PermissionDenied) => {
+            eprintln!(rt; "port {port}: permission denied: choose a port above 1023")
+        }
+        Some(kind) => eprintln!(rt; "port {port}: {kind}"),
+        None => eprintln!(rt;
+            "port {port}: no connection could be accepted: start the service again"
+        ),
+    }
+}

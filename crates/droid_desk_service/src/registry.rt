@@ -1,0 +1,68 @@
+//! The registry that a command uses: the sample, the built-in one, or a file.
+
+use crate::ended::Ended;
+use crate::fresh::fresh_service;
+use crate::sample::sample_registry;
+use droid_core::Service;
+use droid_desk_arguments::RegistrySource;
+use droid_frame::Noted;
+use droid_pronom_common::common_registry;
+use std::fs::{self, Files, OpenFile};
+use std::io::ErrorKind;
+
+/// Makes an empty service that identifies files by this registry. A registry file without formats is noted on standard
+/// error.
+pub fn service_for<'a, R: Files + Eprint + AllocGlobal>(
+    rt: &R,
+    source: RegistrySource<'a>,
+) -> Result<Service, Ended<'a>> {
+    let made = match source {
+        RegistrySource::Sample => fresh_service(rt.alloc(), &mut sample_registry(), &mut None),
+        RegistrySource::Everyday => fresh_service(rt.alloc(), &mut common_registry(), &mut None),
+        RegistrySource::File(path) => return service_by_file(rt, path),
+    };
+    match made {
+        Ok(service) => Ok(service),
+        Err(ending) => Err(Ended::over(ending, source)),
+    }
+}
+
+fn service_by_file<'a, R: Files + Eprint + AllocGlobal>(
+    rt: &R,
+    path: &'a str,
+) -> Result<Service, Ended<'a>> {
+    let source = RegistrySource::File(path);
+    let file = match open_registry(rt, path) {
+        Ok(file) => file,
+        Err(cause) => return Err(Ended::unopened(source, cause)),
+    };
+    let mut formats = None;
+    match fresh_service(rt.alloc(), &mut Noted::new(file), &mut formats) {
+        Ok(service) => {
+            note_formats(rt, path, formats);
+            Ok(service)
+        }
+        Err(ending) => Err(Ended::over(ending, source)),
+    }
+}
+
+/// Opens a registry file. The error says why it could not be opened, or that it is a folder.
+pub(crate) fn open_registry<R: Files>(rt: &R, path: &str) -> Result<R::File, ErrorKind> {
+    let file = match fs::open(rt, path) {
+        Ok(file) => file,
+        Err(error) => return Err(error.kind()),
+    };
+    if let Ok(metadata) = file.metadata()
+        && metadata.is_dir()
+    {
+        return Err(ErrorKind::IsADirectory);
+    }
+    Ok(file)
+}
+
+/// Notes on standard error that a registry file has no formats.
+pub(crate) fn note_formats<R: Eprint>(rt: &R, path: &str, formats: Option<usize>) {
+    if let Some(0) = formats {
+        let _ = eprintln!(rt; "registry: {path} has no formats, so no file will be identified");
+    }
+}
