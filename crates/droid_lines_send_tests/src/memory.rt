@@ -91,7 +91,7 @@ fn are_joined(bytes: &[u8], parts: &[&[u8]]) -> bool {
     rest.is_empty()
 }
 
-/// Returns whether the first `count` lines were sent, and of the next at most its frame.
+/// Returns whether the first `done` lines were sent, and of the next at most its frame.
 fn is_front(done: usize, frames: &[u8], text: &[u8]) -> bool {
     let (done, more) = (done.min(4), done.saturating_add(1).min(4));
     are_joined(text, &PRINTED[..done])

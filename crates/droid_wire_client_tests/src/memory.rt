@@ -64,7 +64,7 @@ fn are_pending(client: &Client, count: usize, refused: Option<Refusal>) -> bool 
         && client.refusal(2).is_none()
 }
 
-// Submits a request after `count` others, and once more if memory was refused and those are unchanged.
+// Submits a request after `before` others, and once more if memory was refused and those are unchanged.
 fn submitted(client: &mut Client, version: u8, before: usize) -> Option<u64> {
     let (first, second) = (finish(), finish());
     if !first.fits(version) || !second.fits(version) {
