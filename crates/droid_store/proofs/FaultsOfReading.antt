@@ -1,4 +1,4 @@
--- A row that was found is one that can be read, so it isn't read for want of memory alone.
+-- Reading a row that was found fails only if memory runs out.
 use Rattle.std.proofs.Common.{◌≡◌, Option, Some, None, option_map, Result, Ok, Err, IfErr, IsErrAnd, refl, ◌∙◌, arith}
 use Rattle.sqlite.specs.Order.{Row}
 use Rattle.droid_store.specs.declared.fault.StoreFault.{StoreFault}

@@ -1,4 +1,4 @@
--- An UPDATE or a DELETE of the store that fails does so for want alone.
+-- An UPDATE or a DELETE of the store fails only if memory runs out.
 use Rattle.std.proofs.Common.{◌≡◌, ◌≤◌, ℕ, pos, List, [], ◌∷◌, length, map, filter, find, Bool, true, false, not, inl, inr, Option, Some, None, Err, refl, sym, ap, ◌∙◌}
 use Rattle.std.specs.Option.{option_to_list}
 use Rattle.sqlite_rules.specs.Calls.{ids_of}

@@ -1,4 +1,4 @@
--- A look-up of the store that fails does so for want alone.
+-- A look-up of the store fails only if memory runs out.
 use Rattle.std.proofs.Common.{◌≡◌, ◌≢◌, ℕ, List, [], ◌∷◌, true, false, inl, inr, codes, Option, None, Ok, Err, Result, IfErr, IsErrAnd, sym, subst}
 use Rattle.sqlite.specs.declared.types.Value.TheVariants.{Text}
 use Rattle.sqlite.specs.declared.error.Error.{Error}
@@ -19,7 +19,7 @@ use Rattle.droid_store.specs.Rows.{Rows}
 use Rattle.droid_store.specs.Tables.{store_schema}
 use Rattle.droid_store.proofs.Meanings.{by_id, by_number, by_name, by_sender, listed, node_columns, node_names, find_profile_query, find_profile_is, find_profile_plain, find_profile_whole, find_node_query, find_node_is, find_node_plain, find_node_whole, find_child_query, find_child_is, find_child_plain, find_child_whole, find_reply_query, find_reply_is, find_reply_plain, find_reply_whole, records_query, records_is, records_plain, records_whole}
 
--- an answer that is no row and not told as none
+-- an error other than that there is no row
 pub row_or_none : (answer : Result Row Error) (r : Result (Option Row) Error) → IfErr r (λ e. (answer ≡ Err e) × (e ≢ QueryReturnedNoRows)) → ((e : Error) → e ≢ QueryReturnedNoRows → answer ≡ Err e → IsOutOfMemory e) → IfErr r IsOutOfMemory
 row_or_none answer (Ok found) reported memory_faults = tt
 row_or_none answer (Err e) reported memory_faults = memory_faults e reported.1 reported.0

@@ -1,4 +1,4 @@
--- A table of the store that is not made was refused for want alone.
+-- Creating a table fails only if memory runs out.
 use Rattle.std.proofs.Common.{◌≡◌, ℕ, [], None, Ok, Err, Result, IfErr, refl, sym, subst, arith}
 use Rattle.std.proofs.lemmas.Str.{IsUtf8-from_is_utf8}
 use Rattle.std.specs.Str.{is_utf8, chars}

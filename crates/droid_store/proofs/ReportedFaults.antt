@@ -1,4 +1,4 @@
--- Which fault is told of an error of the database.
+-- Which fault an error of the database is.
 use Rattle.std.proofs.Common.{◌≡◌, ◌≢◌, ◌<◌, ◌^◌, inl, inr, ℕ, pos, List, length, IsUtf8, Result, Ok, Err, IfErr, IsErrAnd, sym, ap, subst, ◌∙◌}
 use Rattle.sqlite.specs.declared.error.Error.{Error}
 use Rattle.sqlite.specs.declared.error.Error.TheVariants.{SqliteFailure}
@@ -12,7 +12,7 @@ use Rattle.droid_store.specs.declared.fault.StoreFault.{StoreFault}
 use Rattle.droid_store.specs.declared.fault.StoreFault.TheVariants.{Memory}
 use Rattle.droid_store.specs.Faults.{fault_of}
 
--- a want is told as that
+-- running out of memory is the fault Memory
 pub want_is_memory : (e : Error) → IsOutOfMemory e → fault_of e ≡ Memory
 want_is_memory e (inl is) = ap fault_of is
 want_is_memory e (inr is) = ap fault_of is
@@ -22,7 +22,7 @@ pub told_memory : {T : Type 0} (r : Result T StoreFault) (e : Error) → IsErrAn
 told_memory (Ok done) e reported failure = tt
 told_memory (Err fault) e reported failure = reported ∙ want_is_memory e failure
 
--- a column that holds what is asked for fails for want of memory alone
+-- reading a column of the right type fails only if memory runs out
 pub reads_or_wants : (row : Row) (at : ℕ) (e : Error) (Readable : Type 0) → IsReadError at (column row at) e → (e ≢ SqliteFailure OutOfMemory → at < length row → ¬ Readable) → at < length row → Readable → fault_of e ≡ Memory
 reads_or_wants row at e Readable (inl is) bad within fine = absurd (bad (λ same. let both = sym is ∙ same in cc) within fine)
 reads_or_wants row at e Readable (inr (inl is)) bad within fine = absurd (bad (λ same. let both = sym is ∙ same in cc) within fine)

@@ -11,7 +11,7 @@ use Rattle.droid_store.specs.declared.rows.NodeState.TheVariants.{Folder, Unfini
 use Rattle.droid_store.specs.declared.rows.ProfileRow.{ProfileRow}
 use Rattle.droid_store.specs.Rows.{Node, Rows, is_node, profile_at, node_at}
 
--- the newest entry
+-- with this newest reply
 abbrev pub with_reply : Entry → Rows → Rows
 with_reply e rows = record rows { replies = rows.replies ++ e ∷ [] }
 
@@ -19,18 +19,18 @@ abbrev pub with_profile : ℕ → Bool → HashKind → Rows → Rows
 with_profile scan_limit match_all hash rows =
     record rows { profiles = rows.profiles ++ record { scan_limit = scan_limit; match_all = match_all; nodes = 0; hash = hash } ∷ [] }
 
--- the profile with this number counts so many nodes
+-- the profile with this number has accepted this many nodes
 abbrev pub counted : ℕ → ℕ → List ProfileRow → List ProfileRow
 counted profile nodes [] = []
 counted zero nodes (p ∷ ps) = p ∷ ps
 counted (suc zero) nodes (p ∷ ps) = record p { nodes = nodes } ∷ ps
 counted (suc (suc profile)) nodes (p ∷ ps) = p ∷ counted (suc profile) nodes ps
 
--- the newest node, whose number is how many its profile has had
+-- with this newest node; its number is the count of its profile
 abbrev pub with_node : Node → Rows → Rows
 with_node n rows = record rows { profiles = counted n.profile n.id rows.profiles; nodes = rows.nodes ++ n ∷ [] }
 
--- a node as it is accepted: nothing is known of its bytes yet
+-- a new node, before anything is found in it
 abbrev pub new_node : ℕ → ℕ → ℕ → ℤ → NodeState → ℕ → ℕ → List ℕ → List ℕ → Node
 new_node profile id parent modified state size piece_size name path = record {
   profile = profile;
@@ -57,22 +57,22 @@ new_file profile id parent modified size piece_size name path = new_node profile
 abbrev pub finished : Method → Bool → HashValue → List (List ℕ) → Node → Node
 finished method mismatch hash puids n = record n { state = Finished; method = method; mismatch = mismatch; hash = hash_bytes hash; puids = puids }
 
--- this node is finished, and no other is changed
+-- with this node finished and no other changed
 abbrev pub with_finished : ℕ → ℕ → Method → Bool → HashValue → List (List ℕ) → Rows → Rows
 with_finished profile file method mismatch hash puids rows =
     record rows { nodes = map (λ n. if is_node profile file n then finished method mismatch hash puids n else n) rows.nodes }
 
--- this node's row is no more; its profile still counts it
+-- without this node; its profile still counts it
 abbrev pub without_node : ℕ → ℕ → Rows → Rows
 without_node profile file rows = record rows { nodes = filter (λ n. not (is_node profile file n)) rows.nodes }
 
--- ---- what the layer above sees to
+-- ---- what callers have to make sure of
 
--- the number is the next one of the profile
+-- the number is the profile's next one
 abbrev pub IsNext : ℕ → ℕ → Rows → Type 0
 IsNext profile id rows = option_map (λ p. p.nodes + 1) (profile_at profile rows) ≡ Some id
 
--- the node is a file whose pieces still come
+-- the node is an unfinished file
 abbrev pub IsOpen : ℕ → ℕ → Rows → Type 0
 IsOpen profile file rows = option_map (λ n. n.state) (node_at profile file rows) ≡ Some Unfinished
 
@@ -80,7 +80,7 @@ IsOpen profile file rows = option_map (λ n. n.state) (node_at profile file rows
 abbrev pub IsOfKind : ℕ → HashValue → Rows → Type 0
 IsOfKind profile hash rows = option_map (λ p. p.hash) (profile_at profile rows) ≡ Some (hash_value_kind hash)
 
--- some bytes, none of which is a space
+-- a text that is not empty and has no space
 pub record IsWord (text : List ℕ) : Type 0 where
   pub some : text ≢ []
   pub no_space : All (λ byte. byte ≢ 32) text

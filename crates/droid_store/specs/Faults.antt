@@ -1,4 +1,4 @@
--- As what a failed call of the database is told, and what of it a client is told.
+-- Which fault an error of the database is, and which refusal the client gets for it.
 use Rattle.droid_frame.specs.types.refusal.Refusal.{Refusal}
 use Rattle.droid_frame.specs.types.refusal.Refusal.TheVariants as refusals
 use Rattle.sqlite.specs.declared.error.Error.{Error}
@@ -7,13 +7,14 @@ use Rattle.sqlite.specs.declared.error.ErrorCode.TheVariants.{OutOfMemory, NoRow
 use Rattle.droid_store.specs.declared.fault.StoreFault.{StoreFault}
 use Rattle.droid_store.specs.declared.fault.StoreFault.TheVariants.{Memory, Refused}
 
--- Want of memory as that, and want of a number for a row too: there are more of those than any memory has room for rows. Whatever else the database says is a refusal.
+-- Running out of memory, and of numbers for rows: there are more numbers than any memory has room for rows. Any other
+-- error is a refusal.
 abbrev pub fault_of : Error → StoreFault
 fault_of (SqliteFailure OutOfMemory) = Memory
 fault_of (SqliteFailure NoRowid) = Memory
 fault_of _ = Refused
 
--- the refusal that a client is told where a call of the store gave up
+-- the refusal that the client gets when a call of the store fails
 abbrev pub reported_as : StoreFault → Refusal
 reported_as Memory = refusals.Memory
 reported_as Refused = refusals.Store

@@ -16,7 +16,7 @@ use Rattle.droid_store.specs.Encoded.{profile_row, node_row, reply_row, rows_in}
 use Rattle.droid_store.specs.Rows.{Node, Rows, is_child, is_for, profile_at}
 use Rattle.droid_store.specs.Tables.{store_schema}
 
--- the trees have the rows and nothing else; the rows of nodes have numbers of the database's own choice
+-- the trees hold these rows and nothing else; the database chose the numbers of the rows of nodes
 pub record Holds (rows : Rows) (db : Database) : Type 0 where
   pub schema : db.schema ≡ store_schema
   pub profiles : db.trees 0 ≡ map profile_row (numbered_from 1 rows.profiles)
@@ -32,18 +32,18 @@ abbrev pub AreInOrder : List Node → Type 0
 AreInOrder [] = Unit {0}
 AreInOrder (n ∷ ns) = AllByRecursion (λ m. m.profile ≡ n.profile → n.id < m.id) ns × AreInOrder ns
 
--- how many nodes the profile with this number has accepted, and 0 where there is no such profile
+-- how many nodes the profile with this number has accepted, or 0 if there is no such profile
 abbrev pub accepted_in : ℕ → Rows → ℕ
 accepted_in profile rows = unwrap_or (option_map (λ p. p.nodes) (profile_at profile rows)) 0
 
--- no two rows under one key, and no node above what its profile counts
+-- no two rows have one key, and no node has a number above the count of its profile
 pub record AreApart (rows : Rows) : Type 0 where
   pub replies : (client number : ℕ) → length (filter (is_for client number) rows.replies) ≤ 1
   pub children : (profile parent : ℕ) (name : List ℕ) → length (filter (is_child profile parent name) rows.nodes) ≤ 1
   pub numbers : AreInOrder rows.nodes
   pub accepted : AllByRecursion (λ (n : Node). n.id ≤ accepted_in n.profile rows) rows.nodes
 
--- no two rows under one unique key
+-- no two rows have one unique key
 pub record HasKeys (rows : Rows) : Type 0 where
   pub replies : (client number : ℕ) → length (filter (is_for client number) rows.replies) ≤ 1
   pub children : (profile parent : ℕ) (name : List ℕ) → length (filter (is_child profile parent name) rows.nodes) ≤ 1
@@ -52,19 +52,19 @@ pub record HasKeys (rows : Rows) : Type 0 where
 abbrev pub kept : Held TreeStore → Rows
 kept c = rows_in (state over_trees c).now
 
--- while the tables are made: this schema, and these trees have no row
+-- while the tables are created: this schema, and no row in these trees
 pub record HasEmpty (wanted : Schema) (trees : List ℕ) (db : Database) : Type 0 where
   pub schema : db.schema ≡ wanted
   pub empty : AllByRecursion (λ tree. db.trees tree ≡ []) trees
 
--- a step in a transaction: where it succeeds, these rows are seen in the place of those
+-- a step in a transaction: if it succeeds, the transaction sees the rows `after`
 abbrev pub Steps : {U : Type 0} → State → State → Result U Error → Rows → Rows → Type 0
 Steps old new r before after = (saved : Rows) → Within old (Holds before) (Holds saved) → OnOk r (Within new (Holds after) (Holds saved))
 
--- and where it fails, a rollback still goes back to what it did
+-- and if it fails, a rollback still restores the saved rows
 abbrev pub Saves : {U : Type 0} → State → State → Result U Error → Rows → Type 0
 Saves old new r before = (saved : Rows) → Within old (Holds before) (Holds saved) → OnErr r (Holds saved new.committed)
 
--- and where it fails, it does so for want alone
+-- and it fails only if memory runs out
 abbrev pub FailsForMemory : {U : Type 0} → State → State → Result U Error → Rows → Type 0
 FailsForMemory old new r before = (saved : Rows) → Within old (Holds before) (Holds saved) → old.step_limit ≡ None → IfErr r IsOutOfMemory

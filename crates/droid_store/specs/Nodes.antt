@@ -1,4 +1,4 @@
--- A new node as the code hands it on.
+-- The node that a `NewNode` of the code is.
 use Rattle.std.specs.Prelude.{ℤ}
 use Rattle.droid_store.specs.declared.changes.NewNode.{NewNode}
 use Rattle.droid_store.specs.Changes.{new_node}

@@ -1,4 +1,5 @@
--- Rows that can be read back: numbers in the range of their types, and a request's below 2^63, texts that are UTF-8, marks of 16 bytes, hashes of their lengths.
+-- Rows that can be read back: numbers in the range of their types (of requests below 2^63), texts in UTF-8, marks of
+-- 16 bytes, hashes of the length of their kind.
 use Rattle.std.specs.Prelude.{◌≡◌, ◌==◌, ◌||◌, ◌<◌, ◌^◌, ℕ, Bool, IsTrue, length, IsUtf8}
 use Rattle.std.specs.List.{AllByRecursion}
 use Rattle.droid_store.specs.declared.rows.Entry.{Entry}
@@ -6,7 +7,7 @@ use Rattle.droid_store.specs.declared.rows.ProfileRow.{ProfileRow}
 use Rattle.droid_store.specs.Encoded.{joined}
 use Rattle.droid_store.specs.Rows.{Node, Rows}
 
--- no byte, the 16 of an MD5, or the 32 of a SHA-256
+-- 0 bytes for no hash, 16 for an MD5, 32 for a SHA-256
 abbrev pub is_hash_length : ℕ → Bool
 is_hash_length n = (n == 0) || ((n == 16) || (n == 32))
 

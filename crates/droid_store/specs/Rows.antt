@@ -1,4 +1,4 @@
--- What a store holds: typed rows in order (this project's own).
+-- The rows of a store (this project's own definition).
 use Rattle.std.specs.Prelude.{ℕ, zero, suc, ℤ, ◌==◌, ◌&&◌, Bool, true, false, not, List, [], map, filter, find, length, if◌then◌else◌, Option, None}
 use Rattle.std.specs.List.{slice_get, count_by}
 use Rattle.std.specs.Str.{bytes_eq}
@@ -15,7 +15,7 @@ use Rattle.droid_store.specs.declared.rows.NodeState.{NodeState}
 use Rattle.droid_store.specs.declared.rows.NodeState.TheVariants.{Folder, Unfinished, Finished}
 use Rattle.droid_store.specs.declared.rows.ProfileRow.{ProfileRow}
 
--- a folder or a file that was not abandoned, with the number of its profile and its own
+-- a folder or a file that was not abandoned, with its number and that of its profile
 pub record Node : Type 0 where
   pub profile : ℕ
   pub id : ℕ
@@ -29,10 +29,10 @@ pub record Node : Type 0 where
   pub name : List ℕ
   pub path : List ℕ
   pub puids : List (List ℕ)
-  -- the bytes of its hash, of which a node that isn't a finished file has none
+  -- the digest; empty for all nodes but finished files with a hash
   pub hash : List ℕ
 
--- profiles by number, the first is 1; nodes of all profiles in order of acceptance; the newest reply last
+-- the profiles by number from 1 on, the nodes of all profiles and the replies in order of acceptance
 pub record Rows : Type 0 where
   pub profiles : List ProfileRow
   pub nodes : List Node
@@ -41,7 +41,7 @@ pub record Rows : Type 0 where
 abbrev pub no_rows : Rows
 no_rows = record { profiles = []; nodes = []; replies = [] }
 
--- ---- what is looked up
+-- ---- look-ups
 
 -- the profile with this number
 abbrev pub profile_at : ℕ → Rows → Option ProfileRow
@@ -55,7 +55,7 @@ is_node profile id n = (n.profile == profile) && (n.id == id)
 abbrev pub node_at : ℕ → ℕ → Rows → Option Node
 node_at profile id rows = find (is_node profile id) rows.nodes
 
--- it lies in this folder under this name, byte for byte
+-- the node lies in this folder and has this name, byte for byte
 abbrev pub is_child : ℕ → ℕ → List ℕ → Node → Bool
 is_child profile parent name n = (n.profile == profile) && ((n.parent == parent) && bytes_eq n.name name)
 
@@ -65,18 +65,18 @@ child_at profile parent name rows = find (is_child profile parent name) rows.nod
 abbrev pub is_for : ℕ → ℕ → Entry → Bool
 is_for client number e = (e.client == client) && (e.number == number)
 
--- the entry that is kept under this client and number
+-- the reply under this client and number
 abbrev pub reply_for : ℕ → ℕ → Rows → Option Entry
 reply_for client number rows = find (is_for client number) rows.replies
 
--- ---- what is shown
+-- ---- what queries return
 
 abbrev pub kind_of : NodeState → NodeKind
 kind_of Folder = kind.Folder
 kind_of Unfinished = kind.File
 kind_of Finished = kind.File
 
--- the hash of these bytes: none, the 16 of an MD5, or the 32 of a SHA-256
+-- the hash with this digest: none for 0 bytes, MD5 for 16, SHA-256 for 32
 abbrev pub hash_of : List ℕ → HashValue
 hash_of bytes = if length bytes == 0 then hashes.Nothing else if length bytes == 16 then hashes.Md5 bytes else hashes.Sha256 bytes
 

@@ -1,4 +1,4 @@
--- What the look-ups show of a row.
+-- The columns of a row that look-ups return.
 use Rattle.std.specs.Prelude.{[], ◌∷◌}
 use Rattle.sqlite.specs.declared.types.Value.TheVariants.{Int, Text, Blob}
 use Rattle.sqlite.specs.Order.{Row}

@@ -1,4 +1,4 @@
--- The tables of the store as SQL has them.
+-- The tables of the store.
 use Rattle.std.specs.Prelude.{true, false, [], ◌∷◌, Some, None, codes, List, ℕ}
 use Rattle.sqlite.specs.Collation.TheVariants.{Binary}
 use Rattle.sqlite.specs.declared.types.Value.TheVariants.{Null}
@@ -10,7 +10,7 @@ use Rattle.sqlite_schema.specs.declared.schema.Column.{Column}
 use Rattle.sqlite_value.specs.Keys.{plain}
 use Rattle.sqlite.specs.Change.{created}
 
--- the column that is the row's number
+-- a column that is the number of its row
 abbrev pub key_column : List ℕ → Column
 key_column name = record { name = name; kind = Integer; is_strict = true; not_null = false; default = Null; collation = Binary }
 

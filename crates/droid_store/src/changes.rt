@@ -1,4 +1,4 @@
-//! Single statements in a transaction.
+//! The single statements of a transaction.
 
 ghost use Rattle.std.specs.Prelude.{◌≡◌, ◌+◌, ◌<◌, ◌^◌, ◌++◌, ◌∷◌, [], List, ℕ, Some, length, pos};
 ghost use Rattle.sqlite.specs.Held.{state};
@@ -20,7 +20,7 @@ use droid_frame::{HashKind, HashValue, Method};
 use droid_store_trees::TreeStore;
 use sqlite::{Error, Transaction, params};
 
-/// A node as it is accepted.
+/// A new folder or file, without its time of modification.
 #[derive(Clone, Copy)]
 pub(crate) struct NewNode<'a> {
     pub profile: u32,
@@ -33,7 +33,7 @@ pub(crate) struct NewNode<'a> {
     pub path: &'a str,
 }
 
-/// The number as the database takes it.
+/// Converts a number to the signed one that the database takes.
 pub(crate) fn signed(number: u64) -> i64
     requires { number < 2 ^ 63 }
     ensures { result ≡ pos number }
@@ -146,13 +146,13 @@ pub(crate) fn add_node(
     count_nodes(tx, node.profile, node.id)
 }
 
-/// What a file that was identified is given.
+/// What was found in a file, as the columns of its row.
 #[derive(Clone, Copy)]
 pub(crate) struct Findings<'a> {
     pub method: Method,
     pub mismatch: bool,
     pub hash: HashValue,
-    /// The formats' identifiers joined by a space.
+    /// The identifiers of the formats, joined by a space.
     pub formats: &'a str,
 }
 
@@ -182,7 +182,7 @@ pub(crate) fn finish_node(
     )
 }
 
-/// The number that the database keeps for it.
+/// Returns the number of the method in the database.
 fn number_of(method: Method) -> u32
     ensures { result ≡ method_number method }
 {

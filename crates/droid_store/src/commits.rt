@@ -1,4 +1,4 @@
-//! Whole transactions: a change and the newest reply, both or neither.
+//! Whole transactions: each writes a change and the reply to its command, both or neither.
 
 ghost use Rattle.std.specs.Prelude.{◌≡◌, ◌+◌, ◌<◌, ◌^◌, List, ℕ, None, Some, length, OnOk, OnErr, IfErr};
 ghost use Rattle.std.specs.List.{AllByRecursion};
@@ -22,7 +22,7 @@ use droid_frame::HashKind;
 use droid_store_trees::TreeStore;
 use sqlite::{Connection, Error};
 
-/// A reply alone.
+/// Writes a reply and no other change.
 pub(crate) fn write_reply(conn: &mut Connection<TreeStore>, entry: &Entry) -> Result<(), Error>
     requires holds { Settled (state over_trees conn.old) (Holds (kept conn.old)) }
     requires small { entry.now.number < 2 ^ 63 }
@@ -37,6 +37,7 @@ pub(crate) fn write_reply(conn: &mut Connection<TreeStore>, entry: &Entry) -> Re
     tx.commit()
 }
 
+/// Writes a new profile and the reply.
 pub(crate) fn write_profile(
     conn: &mut Connection<TreeStore>,
     entry: &Entry,
@@ -60,6 +61,7 @@ pub(crate) fn write_profile(
     tx.commit()
 }
 
+/// Writes a new folder or file, the count of its profile, and the reply.
 pub(crate) fn write_node(
     conn: &mut Connection<TreeStore>,
     entry: &Entry,
@@ -81,6 +83,7 @@ pub(crate) fn write_node(
     tx.commit()
 }
 
+/// Writes what was found in a file, and the reply.
 pub(crate) fn write_finish(
     conn: &mut Connection<TreeStore>,
     entry: &Entry,
@@ -104,6 +107,7 @@ pub(crate) fn write_finish(
     tx.commit()
 }
 
+/// Deletes a file and writes the reply.
 pub(crate) fn write_abandon(
     conn: &mut Connection<TreeStore>,
     entry: &Entry,

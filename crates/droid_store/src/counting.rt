@@ -1,4 +1,4 @@
-//! How much there is, after each change. A counter ends only after memory: each step takes a row.
+//! Counters of what the store holds. Memory runs out before a counter does, since each step adds a row.
 
 ghost use Rattle.std.specs.Prelude.{◌≡◌, ◌+◌, ◌-◌, ◌≤◌, IfOk, IfErr};
 ghost use Rattle.droid_store.specs.declared.fault.StoreFault.TheVariants.{Memory};

@@ -1,4 +1,4 @@
-//! Why a call of the store gave up.
+//! The errors of the store.
 
 ghost use Rattle.std.specs.Prelude.{◌≡◌};
 
@@ -7,13 +7,13 @@ use sqlite::{Error as SqlError, ErrorCode};
 use std::alloc::AllocError;
 use thiserror::Error;
 
-/// Why a call of the store gave up. Each leaves the rows as they were.
+/// Why a call of the store failed. It changed nothing.
 #[derive(Clone, Copy, Debug, PartialEq, Eq, Error)]
 pub enum StoreFault {
-    /// Memory was refused, or no number is left for a row: there are more of them than any memory has room for.
+    /// Memory ran out, or no number was left for a new row. There are more numbers than any memory has room for rows.
     #[error("memory was refused")]
     Memory,
-    /// The database refused for another cause.
+    /// The database refused for another reason.
     #[error("the database refused")]
     Refused,
 }
@@ -47,7 +47,7 @@ impl From<StoreFault> for Refusal {
 
     ghost from_gives = { λ fault refusal. refusal ≡ reported_as fault };
 
-    /// What a client is told: Memory, or Store where the database refused for another cause.
+    /// Converts to the refusal that the client gets: Memory, or Store for `Refused`.
     fn from(fault: StoreFault) -> Refusal {
         match fault {
             StoreFault::Memory => Refusal::Memory,

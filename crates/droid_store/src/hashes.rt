@@ -1,4 +1,4 @@
-//! Hashes as the tables keep them: kinds as numbers, values as the bytes of a digest.
+//! Hashes in the tables: kinds as numbers, values as the bytes of a digest.
 
 ghost use Rattle.std.specs.Prelude.{◌≡◌, IfSome, IsSome, IsTrue, Some, length};
 ghost use Rattle.droid_frame.specs.Hashes.{IsHashValue, hash_kind_number};
@@ -9,14 +9,14 @@ ghost use Rattle.droid_store.specs.Rows.{hash_of};
 
 use droid_frame::{HashKind, HashValue};
 
-/// The number that the database keeps for it.
+/// Returns the number of the kind in the database.
 pub(crate) fn kind_number(hash: HashKind) -> u32
     ensures { result ≡ hash_kind_number hash }
 {
     u32::from(hash.number())
 }
 
-/// The kind of this number, if there is one.
+/// Returns the kind with this number.
 pub(crate) fn kind_of(number: u32) -> Option<HashKind>
     ensures { (kind : HashKindValue) → number ≡ hash_kind_number kind → result ≡ Some kind }
 {
@@ -28,7 +28,7 @@ pub(crate) fn kind_of(number: u32) -> Option<HashKind>
     }
 }
 
-/// The hash of so many bytes, if there is one.
+/// Returns the hash with this digest, or `None` for a digest of another length than 0, 16 or 32 bytes.
 pub(crate) fn hash_of(bytes: &[u8]) -> Option<HashValue>
     ensures value { IfSome result (λ hash. hash ≡ hash_of bytes.now) }
     ensures some { IsTrue (is_hash_length (length bytes.now)) → IsSome result }
@@ -52,7 +52,7 @@ fn long_hash_of(bytes: &[u8]) -> Option<HashValue>
     }
 }
 
-/// Each digest has the length of its kind. The function does nothing, and is proved with what it says.
+/// States a fact that the prover needs: each digest has the length of its kind. Does nothing.
 pub(crate) fn has_its_length(hash: HashValue)
     ensures { IsHashValue hash }
 {

@@ -1,7 +1,8 @@
-//! Records and kept replies in a database in memory, one transaction for each accepted command.
+//! The profiles, nodes and replies of a service in a database in memory, with one transaction for each accepted
+//! command.
 //!
-//! Callers and contracts see a [`Store`] as its rows: profiles, nodes and replies in order of
-//! acceptance. That they lie in tables of SQL is this crate's own affair.
+//! For callers and contracts a [`Store`] is its rows: profiles, nodes and replies in order of acceptance. That SQL
+//! tables hold them is internal to this crate.
 #![tactic(auto)]
 
 mod changes;

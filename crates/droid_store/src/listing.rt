@@ -1,4 +1,4 @@
-//! The listing of a profile. It changes nothing, also where it fails.
+//! The list of the records of a profile. It changes nothing, even if it fails.
 
 ghost use Rattle.std.specs.Prelude.{◌≡◌, None, IfOk, IfErr};
 ghost use Rattle.sqlite.specs.Held.{state};
@@ -17,8 +17,10 @@ use droid_store_trees::TreeStore;
 use sqlite::{Connection, params};
 use std::alloc::Global;
 
-/// The folders and finished files of the profile, by number. Each row is read before the next one is asked for, so no
-/// more than some quarter of a megabyte of rows lies beside the records.
+/// Returns the folders and finished files of the profile by number.
+///
+/// Each row is converted before the next one is read, so beside the records there is at most about a quarter of a
+/// megabyte of rows in memory.
 pub(crate) fn list_records(
     conn: &mut Connection<TreeStore>,
     alloc: Global,
@@ -46,6 +48,6 @@ pub(crate) fn list_records(
             Err(_) => return Err(StoreFault::Memory),
         }
     }
-    // No database has this many rows.
+    // No database has that many rows.
     Err(StoreFault::Memory)
 }

@@ -1,4 +1,4 @@
-//! Look-ups of one row by its key. They change nothing, also where they fail.
+//! Look-ups of one row by its key. They change nothing, even if they fail.
 
 ghost use Rattle.std.specs.Prelude.{◌≡◌, ◌≢◌, ◌<◌, ◌^◌, None, IfOk, IfErr, MatchOption, Ok, Err, option_map};
 ghost use Rattle.sqlite.specs.Held.{state};
@@ -15,7 +15,7 @@ use crate::statements::{FIND_CHILD, FIND_NODE, FIND_PROFILE, FIND_REPLY};
 use droid_store_trees::TreeStore;
 use sqlite::{Connection, Error, Row, params};
 
-/// The row, or `None` where the answer has none.
+/// Returns the row, or `None` if there is none.
 fn or_none(answer: Result<Row, Error>) -> Result<Option<Row>, Error>
     ensures found { IfOk result (λ found. MatchOption found (answer ≡ Err QueryReturnedNoRows) (λ row. answer ≡ Ok row)) }
     ensures err { IfErr result (λ e. (answer ≡ Err e) × (e ≢ QueryReturnedNoRows)) }

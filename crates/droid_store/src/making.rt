@@ -1,4 +1,4 @@
-//! The three tables are made.
+//! Creates the three tables.
 
 ghost use Rattle.std.specs.Prelude.{◌≡◌, None, OnOk, IfOk, IfErr, [], ◌∷◌};
 ghost use Rattle.sqlite.specs.Held.{state};
@@ -14,7 +14,7 @@ use droid_store_trees::TreeStore;
 use sqlite::{Connection, Error};
 use std::alloc::Global;
 
-/// A database in memory with no table.
+/// Opens a database in memory without tables.
 pub(crate) fn open_empty(alloc: Global) -> Result<Connection<TreeStore>, Error>
     ensures empty { IfOk result (λ conn. Settled (state over_trees conn) (HasEmpty no_schema [])) }
     ensures limit { IfOk result (λ conn. conn.step_limit ≡ None) }
@@ -26,7 +26,7 @@ pub(crate) fn open_empty(alloc: Global) -> Result<Connection<TreeStore>, Error>
     }
 }
 
-/// Makes the three tables in an empty database.
+/// Creates the three tables in an empty database.
 pub(crate) fn make_tables(conn: &mut Connection<TreeStore>) -> Result<(), Error>
     requires { Settled (state over_trees conn.old) (HasEmpty no_schema []) }
     ensures made { OnOk result (Settled (state over_trees conn.new) (Holds no_rows)) }

@@ -1,4 +1,4 @@
-//! Rows that a look-up shows, read as what they stand for.
+//! Converts rows of the database to profiles, nodes, records and replies.
 
 ghost use Rattle.std.specs.Prelude.{◌≡◌, ◌<◌, ◌^◌, List, ℕ, IfOk, IfErr, IsTrue, Some, length, pos};
 ghost use Rattle.std.specs.List.{AllByRecursion};
@@ -51,7 +51,7 @@ fn hash_kind_in(row: &Row) -> Result<HashKind, StoreFault>
     }
 }
 
-/// The 16 bytes in this column.
+/// Reads a digest of 16 bytes from this column.
 fn digest_in(row: &Row, at: usize) -> Result<[u8; 16], StoreFault>
     ensures read { IfOk result (λ read. (bytes : List ℕ) → column row.now at ≡ BlobValue bytes → read ≡ bytes) }
     ensures memory { (bytes : List ℕ) → at < length row.now → column row.now at ≡ BlobValue bytes → length bytes ≡ 16 → IfErr result (λ fault. fault ≡ Memory) }
@@ -63,7 +63,7 @@ fn digest_in(row: &Row, at: usize) -> Result<[u8; 16], StoreFault>
     }
 }
 
-/// The hash of the bytes in this column.
+/// Reads a hash from this column.
 fn hash_in(row: &Row, at: usize) -> Result<HashValue, StoreFault>
     ensures read { IfOk result (λ read. (bytes : List ℕ) → column row.now at ≡ BlobValue bytes → read ≡ hash_of bytes) }
     ensures memory { (bytes : List ℕ) → at < length row.now → column row.now at ≡ BlobValue bytes → IsTrue (is_hash_length (length bytes)) → IfErr result (λ fault. fault ≡ Memory) }
@@ -75,7 +75,7 @@ fn hash_in(row: &Row, at: usize) -> Result<HashValue, StoreFault>
     }
 }
 
-/// The reply that is kept under this client and number.
+/// Converts the row of a reply, which is kept under this client and number.
 pub(crate) fn entry_of(row: &Row, client: u32, number: u64) -> Result<Entry, StoreFault>
     ensures read { IfOk result (λ read. (e : EntryValue) → e.client ≡ client → e.number ≡ number → row.now ≡ shown_reply e → read ≡ e) }
     ensures memory { (e : EntryValue) → row.now ≡ shown_reply e → EntryFits e → IfErr result (λ fault. fault ≡ Memory) }
@@ -95,7 +95,7 @@ pub(crate) fn entry_of(row: &Row, client: u32, number: u64) -> Result<Entry, Sto
     })
 }
 
-/// The byte in this column.
+/// Reads a byte from this column.
 fn byte_in(row: &Row, at: usize) -> Result<u8, StoreFault>
     ensures read { IfOk result (λ read. (n : ℕ) → column row.now at ≡ Int (pos n) → read ≡ n) }
     ensures memory { (n : ℕ) → at < length row.now → column row.now at ≡ Int (pos n) → n < 2 ^ 8 → IfErr result (λ fault. fault ≡ Memory) }
@@ -107,7 +107,7 @@ fn byte_in(row: &Row, at: usize) -> Result<u8, StoreFault>
     }
 }
 
-/// Where a node lies and what has become of it.
+/// The columns of a node that are numbers.
 #[derive(Clone, Copy)]
 struct Head {
     id: u32,
@@ -138,7 +138,7 @@ fn head_of(row: &Row) -> Result<Head, StoreFault>
     })
 }
 
-/// How a file was identified.
+/// What was found in a file.
 #[derive(Drop)]
 struct Findings {
     method: Method,
@@ -247,7 +247,7 @@ fn method_of(number: u32) -> Option<Method>
     }
 }
 
-/// The record of a row.
+/// Converts the row of a node to its record.
 pub(crate) fn record_in(alloc: Global, row: &Row) -> Result<Record, StoreFault>
     ensures read { IfOk result (λ read. (n : Node) → AllByRecursion IsWord n.puids → row.now ≡ shown_node n → read ≡ record_of n) }
     ensures memory { (n : Node) → row.now ≡ shown_node n → NodeFits n → IfErr result (λ fault. fault ≡ Memory) }

@@ -1,20 +1,20 @@
-//! What the store keeps, and what its reading calls answer.
+//! The rows of the store, and what its queries return.
 
 ghost use Rattle.std.specs.Prelude.{◌≡◌};
 ghost use Rattle.droid_store.specs.Encoded.{state_number};
 
 use droid_frame::{Blob, HashKind, Record};
 
-/// An accepted command's reply, kept for good under its client and number.
+/// The reply to an accepted command. The store keeps it for as long as it lives, under client and number.
 #[derive(Debug, Drop)]
 pub struct Entry {
-    /// Who sent the command.
+    /// The client that sent the command.
     pub client: u32,
-    /// The client's number for it, below 2^63.
+    /// The number that the client gave it, below 2^63.
     pub number: u64,
-    /// The version of the command's frame.
+    /// The version of the frame of the command.
     pub version: u8,
-    /// The mark of the command's kind and body.
+    /// The mark of the command: the digest of its kind and body, by which a repeat is recognised.
     pub mark: [u8; 16],
     /// The kind of the reply.
     pub kind: u8,
@@ -22,32 +22,32 @@ pub struct Entry {
     pub body: Blob,
 }
 
-/// A profile.
+/// A profile: its options and how many nodes it has accepted.
 #[derive(Clone, Copy, Debug, PartialEq, Eq)]
 pub struct ProfileRow {
-    /// How many first and last bytes of a file are looked at.
+    /// How many bytes at the beginning and at the end of a file are searched.
     pub scan_limit: u32,
-    /// Whether extensions are matched also for formats that have a signature.
+    /// Whether extensions also match formats that have a signature.
     pub match_all: bool,
-    /// How many nodes were ever accepted in it. An abandoned one still counts.
+    /// How many nodes it has accepted. Abandoned ones count too.
     pub nodes: u32,
-    /// Which hash its files get.
+    /// The hash that its files get.
     pub hash: HashKind,
 }
 
-/// What has become of a node.
+/// The state of a node.
 #[derive(Clone, Copy, Debug, PartialEq, Eq)]
 pub enum NodeState {
-    /// It is a folder.
+    /// A folder.
     Folder,
-    /// It is a file whose pieces still come.
+    /// A file that is not finished: its pieces are still expected.
     Unfinished,
-    /// It is a file that was identified.
+    /// A file that was identified.
     Finished,
 }
 
 impl NodeState {
-    /// The number that the database keeps for it.
+    /// Returns the number of the state in the database.
     pub(crate) fn number(self) -> u32
         ensures { result ≡ state_number self }
     {
@@ -59,25 +59,24 @@ impl NodeState {
     }
 }
 
-/// A node that was not abandoned.
+/// A folder or a file that was not abandoned.
 #[derive(Debug, Drop)]
 pub struct NodeRow {
-    /// What has become of it.
+    /// Its state.
     pub state: NodeState,
-    /// How long a file's pieces are but for the last, in bytes. A folder has 0.
+    /// The length in bytes of each piece of the file but the last. A folder has 0.
     pub piece_size: u32,
-    /// All that the export shows of it. An unfinished file has no method and no formats yet, no
-    /// mismatch, and no hash.
+    /// What the export shows of it. An unfinished file has no method, no formats, no mismatch and no hash yet.
     pub item: Record,
 }
 
-/// How much the store holds.
+/// How many rows the store has.
 #[derive(Clone, Copy, Debug, PartialEq, Eq)]
 pub struct Counts {
-    /// How many profiles there are.
+    /// The number of profiles.
     pub profiles: u64,
-    /// How many files are unfinished, over all profiles.
+    /// The number of unfinished files of all profiles.
     pub unfinished: u64,
-    /// How many commands were accepted.
+    /// The number of accepted commands.
     pub accepted: u64,
 }

@@ -1,4 +1,4 @@
-//! Every statement that the store gives to the database.
+//! All SQL statements of the store.
 
 pub(crate) const MAKE_PROFILES: &str =
     "CREATE TABLE profiles (id INTEGER PRIMARY KEY, scan_limit INTEGER NOT NULL, match_all INTEGER NOT NULL, nodes INTEGER NOT NULL, hash INTEGER NOT NULL) STRICT";

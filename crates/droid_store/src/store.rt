@@ -1,4 +1,4 @@
-//! The store: its reading calls, and one call for each kind of accepted command.
+//! The store: its queries, and one call for each kind of accepted command.
 
 ghost use Rattle.std.specs.Prelude.{◌≡◌, IfOk, IfErr};
 ghost use Rattle.droid_store.specs.Rows.{no_rows};
@@ -15,8 +15,9 @@ use std::marker::Model;
 mod committing;
 mod reading;
 
-/// The rows of a service: profiles, nodes and kept replies. It keeps the allocator that it was
-/// made with.
+/// The rows of a service: profiles, nodes and replies. They live as long as this value, and nothing is written to disk.
+///
+/// Each call takes its memory from the allocator with which the store was made. A call that fails changes nothing.
 #[derive(Drop)]
 pub struct Store {
     conn: Connection<TreeStore>,
@@ -41,7 +42,7 @@ impl Model for Store {
 }
 
 impl Store {
-    /// A store with no rows.
+    /// Makes a store without rows. Fails only if memory runs out.
     pub fn in_memory(alloc: Global) -> Result<Store, StoreFault>
         ensures empty { IfOk result (λ store. store ≡ no_rows) }
         ensures memory { IfErr result (λ fault. fault ≡ Memory) }

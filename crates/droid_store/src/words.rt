@@ -1,4 +1,4 @@
-//! The identifiers of a file's formats, joined by a space as the database keeps them.
+//! The identifiers of a file's formats. The database keeps them in one text, joined by a space.
 
 ghost use Rattle.std.specs.Prelude.{◌≡◌, ◌++◌, ◌∷◌, IfOk, OnOk, if◌then◌else◌, string_bytes};
 ghost use Rattle.std.specs.Prelude.{◌==◌};
@@ -8,7 +8,7 @@ ghost use Rattle.droid_store.specs.Encoded.{joined, words_of};
 use droid_frame::{Text, Texts};
 use std::alloc::{AllocError, Global};
 
-/// The words, with one space between each two. Only want of memory refuses it.
+/// Joins the words by a space. Fails only if memory runs out.
 pub(crate) fn join(alloc: Global, words: &Texts) -> Result<String, AllocError>
     ensures { IfOk result (λ text. string_bytes text ≡ joined words.now) }
 {
@@ -29,7 +29,7 @@ fn append(text: &mut String, word: &str, is_first: bool) -> Result<(), AllocErro
     text.push_str(word)
 }
 
-/// The words of such a text. Only want of memory refuses it.
+/// Splits such a text into its words. Fails only if memory runs out.
 pub(crate) fn words(alloc: Global, text: &str) -> Result<Texts, AllocError>
     ensures { IfOk result (λ words. words ≡ words_of text.now) }
 {

@@ -1,4 +1,4 @@
--- A call of a database in memory that fails does so for want alone, where its statement can't be refused.
+-- A call of a database in memory fails only if memory runs out, if no rule can refuse its statement.
 use Rattle.std.proofs.Common.{◌≡◌, ◌≢◌, inl, inr, ℕ, ◌||◌, true, false, List, length, Option, Some, None, Result, Ok, Err, is_some, append-nil, refl, sym, ap, subst, subst₂, ◌∙◌, arith}
 use Rattle.sqlite_trees.specs.declared.error.StoreError.{StoreError}
 use Rattle.sqlite_trees.specs.declared.error.StoreError.TheVariants.{OutOfMemory, Io, Corrupt, Full, Broken, Unstorable}

@@ -1,4 +1,4 @@
--- A CREATE TABLE that no rule refuses fails for want alone.
+-- A CREATE TABLE that no rule refuses fails only if memory runs out.
 use Rattle.std.proofs.Common.{◌≡◌, ◌^◌, ◌<◌, inl, inr, ℕ, true, false, List, [], ◌∷◌, IsUtf8, Option, Some, None, Ok, Err, sym, ap, subst, ◌∙◌, arith}
 use Rattle.std.specs.List.{AllByRecursion}
 use Rattle.sqlite_catalog.specs.Calls.{RefusesTable, IsLongTable}

@@ -3,7 +3,7 @@ use Rattle.std.specs.Prelude.{ℕ, suc, ◌+◌, ◌<◌, Bool, if◌then◌else
 use Rattle.std.specs.List.{AllByRecursion}
 use Rattle.sqlite.specs.Tree.{IsAscending}
 
--- the rows with their numbers, from this one on
+-- the rows with the numbers from n on
 abbrev pub numbered_from : {R : Type 0} → ℕ → List R → List (ℕ × R)
 numbered_from n [] = []
 numbered_from n (r ∷ rs) = (n, r) ∷ numbered_from (suc n) rs
@@ -17,10 +17,10 @@ module _ {X : Type 0} (key : X → ℕ) where
   abbrev pub AreBelow : ℕ → List X → Type 0
   AreBelow n = AllByRecursion (λ x. key x < n)
 
-  -- the rowid that SQL gives to a new row where it may choose: one more than the last, and 1 for the first row
+  -- the rowid that SQL chooses for a new row: one more than the last, and 1 for the first row
   abbrev pub next_key : List X → ℕ
   next_key = fold (λ _ x. key x + 1) 1
 
--- the elements, with those that pass the test changed
+-- changes an element that passes the test, and no other
 abbrev pub changed_where : {X : Type 0} → (X → Bool) → (X → X) → X → X
 changed_where test change x = if test x then change x else x

@@ -1,4 +1,4 @@
--- Why a call of a database in memory fails: for want alone, where its statement can't be refused.
+-- Why a call of a database in memory fails: only because memory runs out, if no rule can refuse its statement.
 use Rattle.std.specs.Prelude.{◌≡◌, ◌⊎◌, ◌||◌, ℕ, true, false, List, length, Option, Some, None, Result, Ok, Err, IsTrue}
 use Rattle.std.specs.List.{list_all}
 use Rattle.sqlite.specs.declared.error.Error.{Error}
@@ -18,28 +18,28 @@ use Rattle.sqlite.specs.Schema.{Schema}
 use Rattle.sqlite.specs.State.{State, IsMisplaced, Escapes, is_pragma}
 use Rattle.sqlite.specs.Tree.{Trees, with_tree}
 
--- memory was refused, or no number is left for a row: there are more of them than any memory has room for
+-- memory ran out, or no number is left for a row: there are more numbers than any memory has room for rows
 abbrev pub IsOutOfMemory : Error → Type 0
 IsOutOfMemory e = (e ≡ SqliteFailure OutOfMemory) ⊎ (e ≡ SqliteFailure NoRowid)
 
--- the store is open, no disk lies under it, and a statement may take as many steps as it needs
+-- the store is open, it has no disk, and a statement may take as many steps as it needs
 pub record InMemory (old new : State) : Type 0 where
   pub live : IsTrue old.is_open
   pub sure : ¬ MoreFaults old.faults new.faults
   pub unlimited : old.step_limit ≡ None
 
--- the text is one statement to its end, and takes so many parameters
+-- the text is one statement, with this many parameters
 abbrev pub IsWhole : List ℕ → ℕ → Result Compiled CompileError → Type 0
 IsWhole sql given (Ok c) = (c.tail ≡ length sql) × (length c.names ≡ given)
 IsWhole sql given (Err e) = ⊥
 
--- the command shows no rows, and neither begins nor ends a transaction or a savepoint
+-- the command returns no rows, and neither begins nor ends a transaction or a savepoint
 pub record IsEdit (command : Command) : Type 1 where
   pub silent : (is_query command || (is_pragma command || false)) ≡ false
   pub placed : (s : State) (e : Error) → ¬ IsMisplaced s command e
   pub stays : (s : State) → ¬ Escapes 0 s command
 
--- a part of a statement that stops only where no number is left for a row
+-- a part of a statement that stops only if no number is left for a row
 abbrev pub IsSure : {A : Type 0} → Part A → Type 0
 IsSure P = (stop : Option Error) → P (Err stop) → stop ≡ Some (SqliteFailure NoRowid)
 

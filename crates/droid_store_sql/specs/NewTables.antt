@@ -1,4 +1,4 @@
--- A table that no rule of names and sizes refuses.
+-- A new table that no rule of names and sizes refuses.
 use Rattle.std.specs.Prelude.{◌≡◌, ◌+◌, ◌*◌, ◌^◌, ◌<◌, ℕ, true, false, List, length, codes, IsUtf8}
 use Rattle.std.specs.List.{AllByRecursion}
 use Rattle.sqlite_catalog.specs.Listing.{is_fit, is_formed}

@@ -1,4 +1,4 @@
--- The SELECTs of one table: the columns that are shown of each row that meets every test, in an order.
+-- SELECTs of one table: which columns they return, of the rows that meet every test, and in which order.
 use Rattle.std.specs.Prelude.{ℕ, pos, negsuc, false, None, List, [], ◌∷◌}
 use Rattle.sqlite.specs.declared.types.Value.TheVariants.{Int}
 use Rattle.sqlite.specs.Query.{Query, inner, end}

@@ -1,7 +1,6 @@
-//! What SQL statements do to the rows of a table, for proofs above.
+//! Lemmas about SQL statements, for the proofs of `droid_store`. There is no code here.
 //!
-//! The crate has definitions and lemmas alone: what a statement of the kit's `sqlite` that answered
-//! leaves in its table and in the others, what a look-up answers, and what a transaction leaves that
-//! ended, that failed in the middle or at its commit, or that was dropped. They hold of any table and
-//! any text; a store above gives its own.
+//! They say what a statement of the kit's `sqlite` leaves in its table and in all other tables, what a query returns,
+//! and what a transaction leaves that was committed, that failed, or that was dropped. They hold for any table and any
+//! text of SQL.
 #![tactic(auto)]

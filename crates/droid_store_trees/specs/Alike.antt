@@ -1,4 +1,4 @@
--- When two sets of trees show the same, and when one tree is another.
+-- When two sets of trees show the same rows, and when one tree was replaced.
 use Rattle.std.specs.Prelude.{◌≡◌, ℕ, ◌<◌, length, slice_set}
 use Rattle.sqlite_trees.specs.declared.schema.Object.{Object}
 use Rattle.sqlite_trees.specs.Objects.{description}
@@ -11,7 +11,7 @@ pub record AreAlike (old new : Forest) : Type 0 where
   pub shapes : shape_of new ≡ shape_of old
   pub shown : shown new ≡ shown old
 
--- with room for the number, the tree that has it is the new one
+-- the tree with this number is the new one; missing trees below it were added as absent ones
 pub record Replaces (old new : Forest) (tree : ℕ) (it : Tree) : Type 0 where
   pub room : Forest
   pub alike : AreAlike old room
@@ -19,7 +19,7 @@ pub record Replaces (old new : Forest) (tree : ℕ) (it : Tree) : Type 0 where
   pub is : new.trees.items ≡ slice_set room.trees.items tree it
   pub version : new.version ≡ room.version
 
--- the tree has its shape and its rows, and the object's description
+-- the tree keeps its shape and rows, and has the object's description
 pub record Relabels (old new : Forest) (tree : ℕ) (o : Object) : Type 0 where
   pub it : Tree
   pub heading : heading it ≡ (shape_of old tree, o.reals, description o)

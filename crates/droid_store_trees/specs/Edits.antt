@@ -1,4 +1,4 @@
--- A write to a tree.
+-- What a write makes of a tree.
 use Rattle.std.specs.Prelude.{◌≡◌, List, IsTrue}
 use Rattle.sqlite_value.specs.Order.{Row}
 use Rattle.sqlite_trees.specs.declared.store.Shape.{Shape}
@@ -14,7 +14,7 @@ edited (Delete id) = without_rowid id
 edited (Insert order entry) = insert_entry order entry.now
 edited (Remove order entry) = remove_entry order entry.now
 
--- the shape of a tree that takes this write
+-- the write fits a tree of this shape
 abbrev pub Fits : Edit → Shape → Type 0
 Fits (Put row) shape = (shape ≡ Table) × IsTrue (is_int (rowid row.now))
 Fits (Delete id) shape = shape ≡ Table

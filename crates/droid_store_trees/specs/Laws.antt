@@ -1,4 +1,4 @@
--- The laws of a store, for trees that each keep their order.
+-- For proofs: the laws of a store, which hold for trees that keep their order.
 use Rattle.std.specs.Prelude.{◌≡◌, ℕ, zero, suc, ◌==◌, if◌then◌else◌, true, false, List, [], ◌∷◌, map, slice_index_or}
 use Rattle.std.proofs.Common.{subst, refl}
 use Rattle.std.proofs.Math.Logic.{∥∥₁_elim}

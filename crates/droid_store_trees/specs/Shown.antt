@@ -34,11 +34,11 @@ abbrev pub left_from : Direction → ℕ → List Row → List Row
 left_from Forward at rows = drop at rows
 left_from Backward at rows = reverse (take at rows)
 
--- what a cursor has left to give
+-- the rows that a cursor has still to read
 abbrev pub left_of : Forest → Cursor → List Row
 left_of f c = left_from c.direction c.at (rows_of f c.tree)
 
--- the cursor gave this row and has moved, or it was at its end
+-- the cursor read this row and moved on, or it was at its end
 abbrev pub Steps : Forest → Cursor → Row → Option Cursor → Type 0
 Steps f cursor row None = left_of f cursor ≡ []
 Steps f cursor row (Some moved) = left_of f cursor ≡ row ∷ left_of f moved

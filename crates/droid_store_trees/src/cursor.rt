@@ -1,8 +1,8 @@
-//! A place in a tree, and the way to go from there.
+//! A position in a tree, and the direction of reading from there.
 
 use sqlite_trees::store::Direction;
 
-/// Forward it has the entries from `at` on left, and backward those before `at`.
+/// A cursor. Forward, it still has the entries from `at` on to read, and backward those before `at`.
 #[derive(Clone, Copy, Debug)]
 pub(crate) struct Cursor {
     pub tree: usize,

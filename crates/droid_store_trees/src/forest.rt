@@ -1,4 +1,4 @@
-//! All trees at one moment, by their numbers, with the user version.
+//! All trees of the database by number, with its user version.
 
 ghost use Rattle.std.specs.Prelude.{◌≡◌, ◌<◌, [], length, IfOk, OnOk, OnErr};
 ghost use Rattle.sqlite_trees.specs.Tree.{order_of, sought, with_tree};
@@ -75,7 +75,7 @@ impl Forest {
         }
     }
 
-    // The cursor after it has given a row, or `None` at its end.
+    // Reads the next row. Returns the moved cursor, or `None` at the end.
     pub(crate) fn step(&self, cursor: Cursor, row: &mut Row) -> Result<Option<Cursor>, AllocError>
         ensures { IfOk result (Steps self.now cursor row.new) }
     {
@@ -126,7 +126,7 @@ impl Forest {
         self.trees[tree as usize].apply(alloc, edit)
     }
 
-    // Where trees are missing below this number, they are there as absent ones.
+    // Adds absent trees until there is one with this number.
     fn make_room(&mut self, alloc: Global, tree: u32) -> Result<(), AllocError>
         ensures room { OnOk result (tree < length self.new.trees.items) }
         ensures same { AreAlike self.old self.new }
@@ -146,7 +146,7 @@ impl Forest {
         Ok(())
     }
 
-    /// The same trees, one of them described as this object.
+    /// Describes one tree anew, as this object. All rows stay.
     pub(crate) fn relist(
         &mut self,
         alloc: Global,

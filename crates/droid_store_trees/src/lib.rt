@@ -1,5 +1,5 @@
-//! The tables and indexes of a database in memory, each a list whose copies share what they have in
-//! common: a transaction writes to a copy, and a rollback lets it go.
+//! The storage of a database in memory: its tables and indexes, each a list of rows. Copies of a list share their rows,
+//! so a transaction writes to a copy, and a rollback drops it.
 #![tactic(auto)]
 
 mod cursor;

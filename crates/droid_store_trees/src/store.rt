@@ -1,4 +1,4 @@
-//! The store that a database in memory stands on.
+//! The storage of a database in memory, as `sqlite_trees` asks for it.
 
 ghost use Rattle.std.specs.Prelude.{◌≡◌, ◌≢◌, ℕ, [], IfOk, IfErr, OnOk, OnErr};
 ghost use Rattle.sqlite_trees.specs.declared.error.StoreError.TheVariants.{OutOfMemory};
@@ -16,13 +16,15 @@ use std::alloc::{AllocError, Global};
 mod altering;
 mod storing;
 
-/// Numbered trees in memory, with one transaction that is always open. A write takes memory for the
-/// way down its tree, a commit and a rollback take none, and what is refused changes nothing.
+/// Numbered trees in memory, with one transaction that is always open.
+///
+/// A write allocates new nodes on the way down its tree. If memory runs out, it changes nothing. A commit and a
+/// rollback only move and drop trees: neither allocates.
 #[derive(Drop)]
 pub struct TreeStore {
     alloc: Global,
     base: Forest,
-    /// What the transaction sees, once it has written.
+    /// What the transaction sees, once it has written something.
     changed: Option<Forest>,
     cursors: Vec<Option<Cursor>>,
     marks: Vec<Forest>,
@@ -33,7 +35,7 @@ impl TreeStore {
     ghost use Rattle.droid_store_trees.specs.Edits.{edited, Fits};
     ghost use Rattle.droid_store_trees.specs.Shown.{current, view, SetsCursor, IsStill};
 
-    /// A store with no tree.
+    /// Makes a store without trees. It takes no memory.
     pub fn new(alloc: Global) -> TreeStore
         ensures trees { (t : ℕ) → t ≢ version_tree → (view result).trees t ≡ [] }
         ensures version { (view result).trees version_tree ≡ version_rows 0 }
@@ -58,7 +60,7 @@ impl TreeStore {
         }
     }
 
-    // What the transaction writes to.
+    // Takes the trees that the transaction writes to: those it has written already, or a copy.
     fn take_changed(&mut self) -> Result<Forest, AllocError>
         ensures ok { IfOk result (AreAlike (current self.old)) }
         ensures err { OnErr result (self.new ≡ self.old) }

@@ -1,4 +1,4 @@
-//! One tree: its description, and its entries in order.
+//! One table or index: its description, and its rows in order.
 
 ghost use Rattle.std.specs.Prelude.{◌≡◌, ◌^◌, ◌<◌, false, [], take, true, IsTrue, IfOk, IfSome, OnOk, OnErr};
 ghost use Rattle.std.specs.Ordering.{is_eq};
@@ -78,7 +78,7 @@ impl Tree {
         })
     }
 
-    /// The same tree with another description.
+    /// Copies the tree with another description.
     pub(crate) fn described_as(
         &self,
         alloc: Global,
@@ -96,7 +96,7 @@ impl Tree {
         })
     }
 
-    /// Its row in the list of objects.
+    /// Returns its row in the list of objects.
     pub(crate) fn listing(&self, alloc: Global, tree: usize) -> Result<Row, AllocError>
         requires { tree < 2 ^ 62 }
         ensures { IfOk result (λ row. row ≡ take 5 (listing tree self.now.described.value self.now.shape self.now.reals)) }
@@ -143,9 +143,10 @@ impl Tree {
         }
     }
 
-    /// The row with this rowid, where it is found without a search. Rowids begin with 1, so as long as no row was taken
-    /// out each stands at its own; then as many places before the row that stands there as its rowid is below that row's,
-    /// unless one between them was taken out too.
+    /// Finds the row with this rowid at one of two likely positions, without a search.
+    ///
+    /// Rowids begin with 1, so until a row is deleted each row stands at its rowid. After that it stands before the row
+    /// at that position, by the difference of their rowids, unless a row between them was deleted too.
     fn found_at_once(&self, id: i64) -> Option<&PackedRow>
         requires { self.now.shape ≡ Shape.Table }
         ensures { IfSome result (λ found. Finds self.now.rows id found.now true) }
@@ -159,7 +160,7 @@ impl Tree {
         self.numbered_at(at, id)
     }
 
-    /// The row at this place, if it has this rowid.
+    /// Returns the row at this position, if it has this rowid.
     fn numbered_at(&self, at: usize, id: i64) -> Option<&PackedRow>
         requires { self.now.shape ≡ Shape.Table }
         ensures { IfSome result (λ found. Finds self.now.rows id found.now true) }
@@ -172,7 +173,8 @@ impl Tree {
         }
     }
 
-    /// As many places before this one, or before the last, as the rowid is below that of the row there. It is a guess.
+    /// Guesses the position of the rowid: before this position, or before the last one, by the difference to the rowid
+    /// there.
     fn earlier_place(&self, at: usize, id: i64) -> Option<usize> {
         let last = self.rows.len().checked_sub(1)?;
         let at = at.min(last);

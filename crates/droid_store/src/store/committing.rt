@@ -1,4 +1,4 @@
-//! One call for each kind of accepted command: a change of the rows and its entry, both or neither.
+//! One call for each kind of accepted command. Each makes its change and keeps the reply, both or neither.
 
 ghost use Rattle.std.specs.Prelude.{◌≡◌, ◌+◌, ◌<◌, ◌^◌, None, Some, length, OnOk, OnErr, IfErr};
 ghost use Rattle.std.specs.List.{AllByRecursion};
@@ -18,7 +18,8 @@ use crate::words::join;
 use droid_frame::{HashKind, HashValue, Method, Texts};
 
 impl Store {
-    /// Makes the profile with the next number.
+    /// Adds the profile with the next number. `scan_limit` is how many bytes at both ends of a file are searched,
+    /// `match_all` whether extensions also match formats with a signature, and `hash` the hash of its files.
     pub fn commit_profile(
         &mut self,
         entry: &Entry,
@@ -41,8 +42,8 @@ impl Store {
         Ok(())
     }
 
-    /// Adds a folder under the profile's next number. `parent` is 0 at the top, and `path` is `/`
-    /// and the names from the top joined by `/`.
+    /// Adds a folder under the profile's next number. `parent` is 0 at the top, `modified` is in seconds since 1970,
+    /// and `path` is `/` and the names from the top, joined by `/`.
     pub fn commit_folder(
         &mut self,
         entry: &Entry,
@@ -77,7 +78,8 @@ impl Store {
         Ok(())
     }
 
-    /// Adds a file, whose pieces are still to come, under the profile's next number.
+    /// Adds an unfinished file under the profile's next number. `size` and `piece_size` are in bytes; for `parent`,
+    /// `modified` and `path` see [`Store::commit_folder`].
     pub fn commit_file(
         &mut self,
         entry: &Entry,
@@ -116,7 +118,7 @@ impl Store {
         Ok(())
     }
 
-    /// Keeps the reply to a piece: the pieces themselves lie elsewhere.
+    /// Keeps the reply to a piece. The store does not hold the bytes of pieces.
     pub fn commit_piece(&mut self, entry: &Entry) -> Result<(), StoreFault>
         requires new { reply_for entry.now.client entry.now.number self.old ≡ None }
         requires small { entry.now.number < 2 ^ 63 }
@@ -130,8 +132,8 @@ impl Store {
         Ok(())
     }
 
-    /// Finishes an unfinished file with what was found of its bytes, and with the hash that its profile's
-    /// files get. Each identifier has a byte, and none of its bytes is a space.
+    /// Finishes an unfinished file with what was found in it. The hash is of the kind of its profile, and no identifier
+    /// is empty or has a space.
     pub fn commit_finish(
         &mut self,
         entry: &Entry,
@@ -166,7 +168,7 @@ impl Store {
         Ok(())
     }
 
-    /// Takes an unfinished file out. Its profile still counts it, so its number isn't used again.
+    /// Deletes an unfinished file. Its profile still counts it, so its number is not used again.
     pub fn commit_abandon(
         &mut self,
         entry: &Entry,

@@ -1,4 +1,4 @@
-//! Trees are made, dropped and described anew.
+//! Creates trees, drops them and describes them anew.
 
 use crate::store::TreeStore;
 use crate::tree::Tree;

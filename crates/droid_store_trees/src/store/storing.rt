@@ -1,4 +1,4 @@
-//! Reading, writing and the transaction.
+//! Reads and writes rows, and ends the transaction.
 
 ghost use Rattle.std.specs.Prelude.{◌≡◌, refl, true, false};
 ghost use Rattle.std.proofs.Common.{true≢false};
