@@ -1,8 +1,9 @@
-//! The calls that read. They leave the rows as they are, also where they fail.
+//! The queries of the store. They change no row, even if they fail.
 
 ghost use Rattle.std.specs.Prelude.{◌≡◌, IfOk, IfErr, Ok, option_map};
 ghost use Rattle.droid_store.specs.declared.fault.StoreFault.TheVariants.{Memory};
 ghost use Rattle.droid_store.specs.Rows.{profile_at, node_at, child_at, reply_for, records_of, counts_of, row_of};
+ghost use Rattle.droid_store.specs.RecordOrder.{AreByNumber};
 
 use crate::fault::StoreFault;
 use crate::listing::list_records;
@@ -13,7 +14,7 @@ use crate::store::Store;
 use droid_frame::{NUMBER_LIMIT, Record};
 
 impl Store {
-    /// What is kept under this client and number. No row has a number of 2^63 or more.
+    /// Returns the reply under this client and number. For a number of 2^63 or more there is none.
     pub fn reply_of(&mut self, client: u32, number: u64) -> Result<Option<Entry>, StoreFault>
         ensures same { self.new ≡ self.old }
         ensures found { IfOk result (λ found. found ≡ reply_for client number self.old) }
@@ -29,7 +30,7 @@ impl Store {
         Ok(Some(entry_of(&row, client, number)?))
     }
 
-    /// The profile with this number.
+    /// Returns the profile with this number.
     pub fn profile(&mut self, profile: u32) -> Result<Option<ProfileRow>, StoreFault>
         ensures same { self.new ≡ self.old }
         ensures found { IfOk result (λ found. found ≡ profile_at profile self.old) }
@@ -41,7 +42,7 @@ impl Store {
         Ok(Some(profile_of(&row)?))
     }
 
-    /// The node with this number in this profile, unless it was abandoned.
+    /// Returns the node of this profile with this number, unless it was abandoned.
     pub fn node(&mut self, profile: u32, id: u32) -> Result<Option<NodeRow>, StoreFault>
         ensures same { self.new ≡ self.old }
         ensures found { IfOk result (λ found. found ≡ option_map row_of (node_at profile id self.old)) }
@@ -53,7 +54,7 @@ impl Store {
         Ok(Some(node_of(self.alloc, &row)?))
     }
 
-    /// The number of the node that lies in this folder under this name, byte for byte. The top is
+    /// Returns the number of the node with this name in this folder. Names are compared byte for byte, and the top is
     /// folder 0.
     pub fn child(
         &mut self,
@@ -71,17 +72,18 @@ impl Store {
         Ok(Some(row.get(0)?))
     }
 
-    /// The folders and finished files of the profile, by number.
+    /// Returns the folders and finished files of the profile by number.
     pub fn records(&mut self, profile: u32) -> Result<Vec<Record>, StoreFault>
         ensures same { self.new ≡ self.old }
         ensures found { IfOk result (λ found. found.items ≡ records_of profile self.old) }
+        ensures by_number { IfOk result (λ found. AreByNumber found.items) }
         ensures memory { IfErr result (λ fault. fault ≡ Memory) }
     {
         let records = list_records(&mut self.conn, self.alloc, profile)?;
         Ok(records)
     }
 
-    /// How much there is. It goes through no table and always answers.
+    /// Returns the number of rows. It reads no table and never fails.
     pub fn counts(&mut self) -> Result<Counts, StoreFault>
         ensures same { self.new ≡ self.old }
         ensures found { result ≡ Ok (counts_of self.old) }
