@@ -21,6 +21,7 @@ pub mod NodeOrder
 pub mod Opened
 pub mod ReadableAfter
 pub mod Started
+pub mod RecordsByNumber
 pub mod ReportedFaults
 pub mod Unique
 pub mod MemoryFaultsIn

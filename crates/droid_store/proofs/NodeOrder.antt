@@ -1,10 +1,10 @@
 -- What follows from it that the nodes of a profile have rising numbers.
-use Rattle.std.proofs.Common.{◌≡◌, inl, inr, ℕ, ◌<◌, ◌≤◌, ◌==◌, List, [], ◌∷◌, length, map, filter, not, refl, sym, subst, ◌∙◌, arith}
+use Rattle.std.proofs.Common.{◌≡◌, inl, inr, ℕ, ◌<◌, ◌≤◌, ◌==◌, List, [], ◌∷◌, length, filter, not, refl, sym, subst, ◌∙◌, arith}
 use Rattle.std.proofs.lemmas.Bool.{cases_Bool, and_parts, eqb-true}
 use Rattle.std.specs.List.{AllByRecursion}
 use Rattle.droid_store_sql.specs.KeyedRows.{AreRising}
 use Rattle.droid_store.specs.Kept.{AreInOrder}
-use Rattle.droid_store.specs.Rows.{Node, is_node, is_listed, is_unfinished, record_of, AreByNumber}
+use Rattle.droid_store.specs.Rows.{Node, is_node, is_listed, is_unfinished}
 
 none_later : (profile id : ℕ) (n : Node) (ns : List Node) → n.profile ≡ profile → n.id ≡ id → AllByRecursion (λ m. m.profile ≡ n.profile → n.id < m.id) ns → filter (is_node profile id) ns ≡ []
 none_later profile id n [] at is above = refl
@@ -41,21 +41,4 @@ rising_listed profile (n ∷ ns) rise = elim (cases_Bool (is_listed profile n)) 
       let at = eqb-true n.profile profile (and_parts (n.profile == profile) (not (is_unfinished n.state)) is).0 in
       rw is (above_listed profile n.id ns (subst (λ p. AllByRecursion (λ m. m.profile ≡ p → n.id < m.id) ns) at rise.0), rising_listed profile ns rise.1)
   | inr isnt ↦ rw isnt (rising_listed profile ns rise.1)
-]
-
-records_above : (profile low : ℕ) (ns : List Node) → AllByRecursion (λ m. m.profile ≡ profile → low < m.id) ns → AllByRecursion (λ r. low < r.id) (map record_of (filter (is_listed profile) ns))
-records_above profile low [] above = tt
-records_above profile low (m ∷ ms) above = elim (cases_Bool (is_listed profile m)) [
-  | inl is ↦ rw is (above.0 (eqb-true m.profile profile (and_parts (m.profile == profile) (not (is_unfinished m.state)) is).0), records_above profile low ms above.1)
-  | inr isnt ↦ rw isnt (records_above profile low ms above.1)
-]
-
--- and their records too
-pub records_by_number : (profile : ℕ) (ns : List Node) → AreInOrder ns → AreByNumber (map record_of (filter (is_listed profile) ns))
-records_by_number profile [] rise = tt
-records_by_number profile (n ∷ ns) rise = elim (cases_Bool (is_listed profile n)) [
-  | inl is ↦
-      let at = eqb-true n.profile profile (and_parts (n.profile == profile) (not (is_unfinished n.state)) is).0 in
-      rw is (records_above profile n.id ns (subst (λ p. AllByRecursion (λ m. m.profile ≡ p → n.id < m.id) ns) at rise.0), records_by_number profile ns rise.1)
-  | inr isnt ↦ rw isnt (records_by_number profile ns rise.1)
 ]

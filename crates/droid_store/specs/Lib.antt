@@ -4,6 +4,7 @@ pub mod Faults
 pub mod Kept
 pub mod Nodes
 pub mod Ranges
+pub mod RecordOrder
 pub mod Rows
 pub mod Shown
 pub mod Sizes

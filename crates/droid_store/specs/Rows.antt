@@ -1,6 +1,6 @@
 -- The rows of a store (this project's own definition).
-use Rattle.std.specs.Prelude.{ℕ, zero, suc, ℤ, ◌==◌, ◌&&◌, ◌<◌, Bool, true, false, not, List, [], ◌∷◌, map, filter, find, length, if◌then◌else◌, Option, None}
-use Rattle.std.specs.List.{AllByRecursion, slice_get, count_by}
+use Rattle.std.specs.Prelude.{ℕ, zero, suc, ℤ, ◌==◌, ◌&&◌, Bool, true, false, not, List, [], map, filter, find, length, if◌then◌else◌, Option, None}
+use Rattle.std.specs.List.{slice_get, count_by}
 use Rattle.std.specs.Str.{bytes_eq}
 use Rattle.droid_frame.specs.types.hash_value.HashValue.{HashValue}
 use Rattle.droid_frame.specs.types.hash_value.HashValue.TheVariants as hashes
@@ -110,11 +110,6 @@ is_listed profile n = (n.profile == profile) && not (is_unfinished n.state)
 -- the folders and finished files of a profile, in order of acceptance
 abbrev pub records_of : ℕ → Rows → List Record
 records_of profile rows = map record_of (filter (is_listed profile) rows.nodes)
-
--- each record has a greater number than those before it
-abbrev pub AreByNumber : List Record → Type 0
-AreByNumber [] = Unit {0}
-AreByNumber (r ∷ rs) = AllByRecursion (λ s. r.id < s.id) rs × AreByNumber rs
 
 abbrev pub counts_of : Rows → Counts
 counts_of rows = record {

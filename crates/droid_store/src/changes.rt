@@ -148,7 +148,7 @@ pub(crate) fn add_node(
 
 /// What was found in a file, as the columns of its row.
 #[derive(Clone, Copy)]
-pub(crate) struct FindingColumns<'a> {
+pub(crate) struct Findings<'a> {
     pub method: Method,
     pub mismatch: bool,
     pub hash: HashValue,
@@ -160,7 +160,7 @@ pub(crate) fn finish_node(
     tx: &mut Transaction<'_, TreeStore>,
     profile: u32,
     file: u32,
-    findings: &FindingColumns<'_>,
+    findings: &Findings<'_>,
 ) -> Result<usize, Error>
     ensures same_reference { tx.new.conn.ghost_name ≡ tx.old.conn.ghost_name }
     ensures ok { (rows : Rows) → AreApart rows → (puids : List (List ℕ)) → AllByRecursion IsWord puids → findings.now.formats.now ≡ joined puids

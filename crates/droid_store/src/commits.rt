@@ -15,7 +15,7 @@ ghost use Rattle.droid_store.specs.Rows.{Node, node_at};
 ghost use Rattle.droid_store.specs.Sizes.{entry_size, node_size, FitsARow};
 
 use crate::changes::{
-    FindingColumns, NewNode, add_node, delete_node, finish_node, insert_profile, insert_reply,
+    Findings, NewNode, add_node, delete_node, finish_node, insert_profile, insert_reply,
 };
 use crate::rows::Entry;
 use droid_frame::HashKind;
@@ -89,7 +89,7 @@ pub(crate) fn write_finish(
     entry: &Entry,
     profile: u32,
     file: u32,
-    findings: &FindingColumns<'_>,
+    findings: &Findings<'_>,
 ) -> Result<(), Error>
     requires holds { Settled (state over_trees conn.old) (Holds (kept conn.old)) }
     requires apart { AreApart (kept conn.old) }

@@ -7,16 +7,16 @@
 
 mod changes;
 mod commits;
-mod counters;
+mod counting;
 mod fault;
 mod hashes;
+mod listing;
 mod look_ups;
-mod record_list;
-mod row_reader;
+mod making;
+mod read_rows;
 mod rows;
 mod statements;
 mod store;
-mod tables;
 mod words;
 
 pub use fault::StoreFault;

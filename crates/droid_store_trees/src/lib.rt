@@ -5,7 +5,7 @@
 mod cursor;
 mod edit;
 mod forest;
+mod store;
 mod tree;
-mod tree_store;
 
-pub use tree_store::TreeStore;
+pub use store::TreeStore;

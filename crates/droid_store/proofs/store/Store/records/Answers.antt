@@ -1,5 +1,5 @@
 use Rattle.droid_store.specs.Kept.{kept}
-use Rattle.droid_store.proofs.NodeOrder.{records_by_number}
+use Rattle.droid_store.proofs.RecordsByNumber.{records_by_number}
 use Rattle.droid_store.proofs.store.Store.records.Goals as goal
 
 pub returns-clause-by_number : goal.returns-clause-by_number
