@@ -1,4 +1,4 @@
--- How a service that stands for a history stands for the next one, its rows at hand and its last text included.
+-- How a service that stands for a history stands for the next one, with its cached rows and its last text.
 use Rattle.std.proofs.Common.{◌≡◌, ℕ, Bool, true, false, List, [], ◌∷◌, ◌++◌, find, Option, Some, None, option_map, refl, sym, ap, subst, ◌∙◌}
 use Rattle.std.proofs.lemmas.Bool.{eq-eqb}
 use Rattle.std.proofs.lemmas.List.Folds.{find-append}
@@ -30,7 +30,7 @@ use Rattle.droid_core.specs.Standing.{Stand, StandsFor}
 use Rattle.droid_core.specs.declared.service.Service.{Service}
 use Rattle.droid_core.proofs.KeptReplies.{entry_kept, none_kept}
 
--- ---- a row at hand is the store's
+-- ---- a cached row is the store's
 
 pub store_has : (history : History) (store : Rows) (client number : ℕ) (row : rows.Entry) → KeepsReplies history store → IsKeptRow history (client, number) row → reply_for client number store ≡ Some row
 store_has history store client number row keeps is = reply_found history store client number keeps ∙ is
@@ -38,7 +38,15 @@ store_has history store client number row keeps is = reply_found history store c
 pub kept_in_store : (history : History) (store : Rows) (client number : ℕ) (row : rows.Entry) → KeepsReplies history store → reply_for client number store ≡ Some row → IsKeptRow history (client, number) row
 kept_in_store history store client number row keeps found = sym (reply_found history store client number keeps) ∙ found
 
--- ---- the rows at hand are the next history's too
+-- a number with a row is not new
+no_row : {P : Type 0} (o : Option Entry) (row : rows.Entry) → option_map entry_row o ≡ Some row → o ≡ None → P
+no_row None row e is = absurd cc
+no_row (Some entry) row e is = absurd cc
+
+pub not_new : {P : Type 0} (history : History) (client number : ℕ) (row : rows.Entry) → IsKeptRow history (client, number) row → kept history client number ≡ None → P
+not_new history client number row its is_new = no_row (kept history client number) row its is_new
+
+-- ---- the cached rows are the next history's too
 
 row_next : (setting : Setting) (history : History) (frame : Frame) (whose : Whose) (row : rows.Entry) (o : Option Entry) → kept history whose.0 whose.1 ≡ o → option_map entry_row o ≡ Some row → IsKeptRow (next setting history frame) whose row
 row_next setting history frame whose row None there is = absurd cc
@@ -47,7 +55,7 @@ row_next setting history frame whose row (Some entry) there is = ap (option_map 
 rows_next : (setting : Setting) (history : History) (frame : Frame) (pairs : List (Whose × rows.Entry)) → AreKept history pairs → AreKept (next setting history frame) pairs
 rows_next setting history frame pairs all = λ pair there. row_next setting history frame pair.0 pair.1 (kept history pair.0.0 pair.0.1) refl (all pair there)
 
--- ---- what handling gives, with the rows at hand
+-- ---- what handling gives, with the cached rows
 
 each_way : (b : Bool) (P Q : Type 0) {R S T U : Type 0} → MatchBool b (P × R) (Q × S) → (R → T) → (S → U) → MatchBool b (P × T) (Q × U)
 each_way true P Q came one other = (came.0, one came.1)
@@ -96,7 +104,7 @@ no_want : (reply : Reply) → is_refused reply ≡ false → is_out_of_memory re
 no_want (Refused refusal) is = absurd cc
 no_want _ is = refl
 
--- what puts a reply at hand keeps the rows there those of any history that has this reply
+-- caching a reply leaves the cached rows those of any history that has this reply
 abbrev Keeps : List (Whose × rows.Entry) → List (Whose × rows.Entry) → Bool → Stamp → Reply → Type 0
 Keeps old new commands stamp reply = (history : History) → AreKept history old → (commands ≡ true → is_refused reply ≡ false → IsKeptRow history (stamp.client, stamp.number) (stamped stamp reply)) → AreKept history new
 
@@ -136,7 +144,7 @@ kept_by false setting history frame request reply old service failure asked is_n
   },
 )
 
--- the reply to a new request, put at hand where it is kept
+-- the reply to a new request, cached where it is kept
 pub with_new : (setting : Setting) (history : History) (frame : Frame) (request : Request) (stamp : Stamp) (reply : Reply) (commands : Bool) (before : Service) (service : Service) → stamp ≡ stamp_of frame → command frame ≡ Some request
     → commands ≡ is_command request → StandsFor setting before history → reply_for stamp.client stamp.number before.holdings.store ≡ None
     → Keeps before.recent.rows.entries service.recent.rows.entries commands stamp reply

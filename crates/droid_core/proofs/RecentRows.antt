@@ -1,20 +1,17 @@
--- The rows at hand stay the history's, whatever is looked for or put there.
-use Rattle.std.proofs.Common.{◌≡◌, ℕ, Bool, true, nat_eq, ◌&&◌, ◌⊎◌, inl, inr, List, [], Contains, IfSome, Option, Some, None, sym, ap, subst, arith}
+-- The cached rows stay the history's, whatever is looked up or cached.
+use Rattle.std.proofs.Common.{◌≡◌, ℕ, Bool, true, false, nat_eq, ◌⊎◌, IsTrue, IsSome, is_some, inl, inr, List, [], Contains, IfSome, Option, Some, None, option_map, refl, sym, ap, subst, arith}
 use Rattle.std.specs.Prelude.{Result, Ok, Err, OnOk, OnErr}
 use Rattle.std.specs.Map.{lookup}
 use Rattle.std.proofs.lemmas.Bool.{and_parts, eqb-true}
 use Rattle.lru.specs.LruCache.{LruCache, lru_cache, promoted, put_entries}
 use Rattle.lru.proofs.CallerLemmas.{Contains-promoted, Contains-lookup, Contains-put_entries, IsPut}
-use Rattle.droid_core_spec.specs.Histories.{History}
-use Rattle.droid_core.specs.Recent.{Whose, IsKeptRow, AreKept}
+use Rattle.droid_core_spec.specs.Histories.{Entry, History, kept}
+use Rattle.droid_core_requests.specs.Replies.{entry_row}
+use Rattle.droid_core.specs.Recent.{Whose, is_same, IsKeptRow, AreKept, is_cached_in}
 use Rattle.droid_store.specs.declared.rows.Entry as rows
 
 abbrev pub Cache : Type 0
 Cache = LruCache Whose rows.Entry
-
--- the same client and the same number
-abbrev pub is_same : Whose → Whose → Bool
-is_same one other = nat_eq one.0 other.0 && nat_eq one.1 other.1
 
 same_parts : (one other : Whose) → is_same one other ≡ true → (one.0 ≡ other.0) × (one.1 ≡ other.1)
 same_parts one other same =
@@ -62,3 +59,21 @@ put_kept history (Err y) old new whose row goes stays all its = subst (λ (cache
 -- where there is none, each is any history's
 pub none_kept_yet : (history : History) (pairs : List (Whose × rows.Entry)) → pairs ≡ [] → AreKept history pairs
 none_kept_yet history pairs none = subst (AreKept history) (sym none) (λ pair there. absurd (let within = there.1 in omega arith))
+
+-- the size of the cache stays, whether the row is cached or not
+pub put_room : {X Y : Type 0} (result : Result X Y) (old new : Cache) (whose : Whose) (row : rows.Entry)
+    → OnOk result (new ≡ lru_cache (put_entries is_same old whose row) old.cap) → OnErr result (new ≡ old) → new.cap ≡ old.cap
+put_room (Ok x) old new whose row goes stays = ap (λ (cache : Cache). cache.cap) goes
+put_room (Err y) old new whose row goes stays = ap (λ (cache : Cache). cache.cap) stays
+
+-- what is cached is kept
+kept_where_row : (o : Option Entry) (row : rows.Entry) → option_map entry_row o ≡ Some row → IsSome o
+kept_where_row None row e = absurd cc
+kept_where_row (Some entry) row e = refl
+
+cached_kept_in : (history : History) (pairs : List (Whose × rows.Entry)) (whose : Whose) (o : Option rows.Entry) → AreKept history pairs → lookup (is_same whose) pairs ≡ o → IsTrue (is_some o) → IsSome (kept history whose.0 whose.1)
+cached_kept_in history pairs whose None all found is = absurd cc
+cached_kept_in history pairs whose (Some row) all found is = kept_where_row (kept history whose.0 whose.1) row (found_kept history pairs whose row all found)
+
+pub cached_kept : (history : History) (pairs : List (Whose × rows.Entry)) (client number : ℕ) → AreKept history pairs → IsTrue (is_cached_in pairs client number) → IsSome (kept history client number)
+cached_kept history pairs client number all is = cached_kept_in history pairs (client, number) (lookup (is_same (client, number)) pairs) all refl is

@@ -1,18 +1,18 @@
--- How many bytes of content a service keeps of a file, and how many at most.
+-- The number of bytes of content that a service keeps of a file, and its bound.
 use Rattle.std.specs.Prelude.{ℕ, ◌+◌, ◌*◌, ◌≤◌, ⊤, min, if◌then◌else◌, Option, None, Some}
 use Rattle.droid_assembly.specs.Pieces.{kept_bytes}
 use Rattle.droid_core_spec.specs.Files.{count_of}
 use Rattle.droid_core_spec.specs.World.{Content, Node, Folder, File, Abandoned, Profile, World, numbered, node_at}
 
--- so many are kept of the pieces of an unfinished file
+-- the number of bytes that are kept of the pieces of an unfinished file
 abbrev pub bytes_kept : Profile → Content → ℕ
 bytes_kept profile content = kept_bytes profile.scan_limit (count_of content) content.pieces
 
--- and no more than two windows and sixteen pieces, whichever were taken
+-- its bound: two windows and sixteen pieces, whichever pieces were taken
 abbrev pub most_bytes : Profile → Content → ℕ
 most_bytes profile content = 2 * min profile.scan_limit content.size + 16 * content.piece_size
 
--- what is counted of an unfinished file; none of any other node
+-- a count of an unfinished file; none of any other node
 abbrev pub of_node : (Profile → Content → ℕ) → Profile → Option Node → Option ℕ
 of_node counted profile None = None
 of_node counted profile (Some (Folder parent modified name)) = None
@@ -23,18 +23,18 @@ abbrev pub in_profile : (Profile → Content → ℕ) → Option Profile → ℕ
 in_profile counted None id = None
 in_profile counted (Some profile) id = of_node counted profile (node_at profile.nodes id)
 
--- of the file with this number in this profile; none unless it is unfinished
+-- the count for the file with this number in this profile; none unless it is unfinished
 abbrev pub kept_bytes_of : World → ℕ → ℕ → Option ℕ
 kept_bytes_of world profile id = in_profile bytes_kept (numbered world.profiles profile) id
 
 abbrev pub most_bytes_of : World → ℕ → ℕ → Option ℕ
 most_bytes_of world profile id = in_profile most_bytes (numbered world.profiles profile) id
 
--- how many bytes its pieces have, the last one perhaps fewer
+-- the size of its pieces, of which the last may have fewer bytes
 abbrev pub piece_size_of : World → ℕ → ℕ → Option ℕ
 piece_size_of world profile id = in_profile (λ its content. content.piece_size) (numbered world.profiles profile) id
 
--- both are there and the first is no larger, or neither is there
+-- both are there and the first is at most the second, or neither is there
 abbrev pub IsAtMost : Option ℕ → Option ℕ → Type 0
 IsAtMost None None = ⊤
 IsAtMost None (Some most) = ⊥

@@ -13,7 +13,9 @@ pub use Rattle.droid_core_spec.specs.Whole
 pub use Rattle.droid_core_spec.specs.World
 -- Which setting a registry makes.
 pub use Rattle.droid_core_requests.specs.Identified
--- What the service stands for, and what a list of requests gives.
+-- What the service stands for and caches, and what one request and a list of requests come to.
+pub mod Cached
+pub mod Handled
 pub mod KeptBytes
 pub mod Recent
 pub mod Running

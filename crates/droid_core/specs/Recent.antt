@@ -1,6 +1,7 @@
--- The latest kept replies, which are looked for before the store is asked (this project's own).
-use Rattle.std.specs.Prelude.{◌≡◌, ℕ, List, Some, option_map}
+-- The cache of kept replies, in which a service looks before it asks the store (this project's own).
+use Rattle.std.specs.Prelude.{◌≡◌, ℕ, nat_eq, ◌&&◌, Bool, List, Some, is_some, option_map}
 use Rattle.std.specs.List.{Contains}
+use Rattle.std.specs.Map.{lookup}
 use Rattle.droid_core_spec.specs.Histories.{History, kept}
 use Rattle.droid_core_requests.specs.Replies.{entry_row}
 use Rattle.droid_store.specs.declared.rows.Entry as rows
@@ -9,10 +10,18 @@ use Rattle.droid_store.specs.declared.rows.Entry as rows
 abbrev pub Whose : Type 0
 Whose = ℕ × ℕ
 
+-- the same client and the same number
+abbrev pub is_same : Whose → Whose → Bool
+is_same one other = nat_eq one.0 other.0 && nat_eq one.1 other.1
+
 -- the row is that of the entry which the history keeps under this client and this number
 abbrev pub IsKeptRow : History → Whose → rows.Entry → Type 0
 IsKeptRow history whose row = option_map entry_row (kept history whose.0 whose.1) ≡ Some row
 
--- each row that is at hand under a client and a number is that of the history's entry there
+-- each cached row is that of the history's entry under its client and number
 abbrev pub AreKept : History → List (Whose × rows.Entry) → Type 0
 AreKept history pairs = (pair : Whose × rows.Entry) → Contains pairs pair → IsKeptRow history pair.0 pair.1
+
+-- whether a row is cached under this client and this number
+abbrev pub is_cached_in : List (Whose × rows.Entry) → ℕ → ℕ → Bool
+is_cached_in pairs client number = is_some (lookup (is_same (client, number)) pairs)

@@ -1,4 +1,4 @@
--- What a service stands for.
+-- Which history a service stands for.
 use Rattle.droid_core_spec.specs.Histories.{History, IsLegal, world_of}
 use Rattle.droid_core_spec.specs.Limits.{Limits}
 use Rattle.droid_core_spec.specs.Setting.{Setting}
@@ -19,15 +19,15 @@ limits_of service = holdings.limits_given service.holdings.limits
 abbrev pub registry_of : Service → Contents
 registry_of service = service.holdings.registry
 
--- the holdings are where the history leads: each entry was accepted at its place, the kept replies are the
--- entries', and all else is the history's world
+-- the holdings stand for the history: each entry was accepted at its place, the kept replies are those of the entries,
+-- and all else is the history's world
 pub record Stand (setting : Setting) (holdings : Holdings) (history : History) : Type 0 where
   pub legal : IsLegal setting history
   pub replies : KeepsReplies history holdings.store
   pub world : IsIn setting (world_of setting history) holdings
 
--- the service is where the history leads: its holdings are, each reply that it has at hand is the history's, and where it has
--- kept the text of an export, that is the export's text of its profile by its filter in the history's world
+-- the service stands for the history: its holdings do, each cached reply is one of the history, and a kept text is that
+-- of an export in the history's world
 pub record StandsFor (setting : Setting) (service : Service) (history : History) : Type 0 where
   pub holdings : Stand setting service.holdings history
   pub recent : AreKept history service.recent.rows.entries

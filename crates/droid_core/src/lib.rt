@@ -1,5 +1,5 @@
-//! The submission service for DROID profiles: it judges requests, changes by the accepted ones, and keeps
-//! their replies for good.
+//! The submission service for DROID profiles: it judges requests, carries out the accepted ones, and keeps their replies
+//! for good.
 #![tactic(auto)]
 
 mod service;

@@ -1,20 +1,25 @@
-//! The service: what it keeps, and how it answers.
+//! The service: what it keeps, and the calls of its users.
 
-ghost use Rattle.std.specs.Prelude.{◌≡◌, ◌≢◌, ◌≤◌, [], false, IfOk, IfErr, IfSome, OnErr, vec_len};
+ghost use Rattle.std.specs.Prelude.{◌≡◌, ◌≢◌, ◌≤◌, ℕ, [], None, Some, false, IfOk, IfErr, IfSome, IsSome, IsTrue, OnErr, vec_len};
 ghost use Rattle.std.specs.List.{AllByRecursion};
+ghost use Rattle.std.specs.NonZero.{non_zero_usize_get};
+ghost use Rattle.droid_core.specs.Cached.{KeepsText, cache_size_of, cached_in, caches};
 ghost use Rattle.droid_core.specs.KeptBytes.{IsAtMost, kept_bytes_of, most_bytes_of, piece_size_of};
 ghost use Rattle.droid_core.specs.Running.{Runs};
 ghost use Rattle.droid_core.specs.Standing.{StandsFor, limits_of, registry_of};
+ghost use Rattle.droid_core_requests.specs.KeptTexts.{is_followed};
 ghost use Rattle.droid_core_requests.specs.Standing.{limits_given};
 ghost use Rattle.droid_frame.specs.Replies.{HasReplySpelling};
 ghost use Rattle.droid_frame.specs.Versions.{is_version};
+ghost use Rattle.droid_frame.specs.types.filter.Filter.{Filter};
 ghost use Rattle.droid_frame.specs.types.refusal.Refusal.TheVariants as refusals;
 ghost use Rattle.droid_frame.specs.types.reply.Reply.TheVariants.{Refused};
-ghost use Rattle.droid_core_spec.specs.Histories.{History, Handles, world_of};
+ghost use Rattle.droid_frame.specs.types.request.Request.TheVariants as requests;
+ghost use Rattle.droid_core_spec.specs.Histories.{History, Handles, command, kept, world_of};
 ghost use Rattle.droid_core_requests.specs.Identified.{IsOf};
 ghost use Rattle.droid_core_spec.specs.Setting.{Setting};
 
-use answering::answer;
+use answers::answer;
 use droid_core_requests::{Holdings, KeptText, Limits, Stamp, UnfinishedFiles};
 use droid_frame::{BodyFault, Frame, Refusal, Reply, mark, request_of};
 use droid_pronom::Registry;
@@ -23,24 +28,22 @@ use recent::RecentReplies;
 use std::alloc::{AllocError, Global};
 use std::num::NonZeroUsize;
 
-mod answering;
+mod answers;
 mod recent;
-#[cfg(test)]
-mod tests;
 
-/// How many of the latest kept replies are at hand.
-const RECENT: usize = 256;
+/// How many replies a service caches, if nothing else is said.
+const CACHED: usize = 256;
 
-/// The submission service: it judges requests, changes by the accepted ones, and keeps their replies
-/// for good. The latest of them are at hand, so that a request which comes again soon asks no database, and so is the
-/// text of the last export, for its further parts.
+/// The submission service: it judges requests, carries out the accepted ones, and keeps their replies for good. It caches
+/// the replies that were used last, so that a request which comes again soon needs no look-up in the database. It also
+/// keeps the text of the last export, for the parts that follow.
 pub struct Service {
     holdings: Holdings,
     recent: RecentReplies,
     last: Option<KeptText>,
 }
 
-// by hand, so that crates above needn't prove again how each part is dropped
+// Written by hand, so that the crates above do not prove again how each part is dropped.
 impl Drop for Service {
     fn drop(self) {
         let Service {
@@ -52,8 +55,8 @@ impl Drop for Service {
 }
 
 impl Service {
-    /// A service with nothing in it, which identifies files by this registry. Only want of memory, for the
-    /// places of recent replies too, refuses it.
+    /// Creates an empty service, which identifies files by this registry and caches up to 256 replies. Fails only if there
+    /// is no memory.
     pub fn new(alloc: Global, registry: Registry, limits: Limits) -> Result<Service, StoreFault>
         requires profiles { limits.profiles ≤ 64 }
         requires nodes { limits.nodes ≤ 100000 }
@@ -63,13 +66,15 @@ impl Service {
         ensures memory { IfErr result (λ fault. fault ≡ StoreFault.Memory) }
         ensures limits { IfOk result (λ service. limits_of service ≡ limits_given limits) }
         ensures registry { IfOk result (λ service. registry_of service ≡ registry) }
+        ensures cache { IfOk result (λ service. cache_size_of service ≡ 256) }
     {
-        let places = NonZeroUsize::new(RECENT).unwrap();
-        Service::with_places(alloc, registry, limits, places)
+        let places = NonZeroUsize::new(CACHED).unwrap();
+        Service::with_cache(alloc, registry, limits, places)
     }
 
-    /// The same, with places for so many recent replies.
-    fn with_places(
+    /// Creates an empty service that caches up to `places` replies. The size of the cache changes no reply. Fails only if
+    /// there is no memory, which the places take too.
+    pub fn with_cache(
         alloc: Global,
         registry: Registry,
         limits: Limits,
@@ -83,6 +88,7 @@ impl Service {
         ensures memory { IfErr result (λ fault. fault ≡ StoreFault.Memory) }
         ensures limits { IfOk result (λ service. limits_of service ≡ limits_given limits) }
         ensures registry { IfOk result (λ service. registry_of service ≡ registry) }
+        ensures cache { IfOk result (λ service. cache_size_of service ≡ non_zero_usize_get places) }
     {
         let holdings = Holdings {
             alloc,
@@ -99,8 +105,9 @@ impl Service {
         })
     }
 
-    /// Handles one request, and gives its one reply, which has a spelling in the request's version. A frame of another
-    /// version than 1 and 2 is malformed. That the database refused for another cause than memory it never answers.
+    /// Handles one request and returns its one reply, which has a spelling in the request's version. A frame of another
+    /// version than 1 and 2 is malformed. If memory runs out, the reply says so and nothing has changed. No reply says that
+    /// the database refused for another cause than memory.
     pub fn handle(&mut self, frame: Frame) -> Reply
         ensures handles { (setting : Setting) (history : History) → StandsFor setting self.old history →
             Handles setting history frame result (StandsFor setting self.new) }
@@ -109,6 +116,12 @@ impl Service {
         ensures other_version { is_version frame.version ≡ false → result ≡ Refused refusals.Malformed }
         ensures limits { limits_of self.new ≡ limits_of self.old }
         ensures registry { registry_of self.new ≡ registry_of self.old }
+        ensures cache { cache_size_of self.new ≡ cache_size_of self.old }
+
+        // The part that follows needs no new export: the text is kept if this part leaves something of it unread.
+        ensures text { (setting : Setting) (history : History) (profile from max : ℕ) (filter : Filter) → StandsFor setting self.old history
+            → command frame ≡ Some (requests.Export profile from max filter) → kept history frame.client frame.number ≡ None
+            → IsTrue (is_followed from max result) → KeepsText profile filter self.new }
     {
         let stamp = Stamp {
             client: frame.client,
@@ -123,8 +136,8 @@ impl Service {
         }
     }
 
-    /// Handles requests in order, and gives a reply for each. Want of memory for the list of replies is
-    /// found before the first request is handled.
+    /// Handles requests in order and returns a reply for each. Fails only if there is no memory for the list of replies,
+    /// before the first request is handled.
     pub fn run(&mut self, frames: Vec<Frame>) -> Result<Vec<Reply>, AllocError>
         ensures runs { IfOk result (λ replies. (setting : Setting) (history : History) → StandsFor setting self.old history →
             Runs setting history frames.items replies.items self.new) }
@@ -134,6 +147,7 @@ impl Service {
         ensures unchanged { OnErr result (self.new ≡ self.old) }
         ensures limits { limits_of self.new ≡ limits_of self.old }
         ensures registry { registry_of self.new ≡ registry_of self.old }
+        ensures cache { cache_size_of self.new ≡ cache_size_of self.old }
     {
         let mut replies = Vec::with_capacity(self.holdings.alloc, frames.len())?;
         for frame in frames {
@@ -143,8 +157,8 @@ impl Service {
         Ok(replies)
     }
 
-    /// How many bytes of content are kept of the file with this number in this profile, or `None`
-    /// unless it is unfinished: at most 67,239,936, and 16,908,288 of a file whose pieces version 1 allows.
+    /// Returns how many bytes of content are kept of the file with this number in this profile, or `None` if it is not an
+    /// unfinished file. They are at most 67,239,936, and at most 16,908,288 if version 1 allows pieces of the file's size.
     pub fn kept_bytes(&self, profile: u32, file: u32) -> Option<u64>
         ensures kept { (setting : Setting) (history : History) → StandsFor setting self.now history
             → result ≡ kept_bytes_of (world_of setting history) profile file }
@@ -156,5 +170,21 @@ impl Service {
     {
         let place = self.holdings.files.place_of(profile, file)?;
         Some(self.holdings.files.kept_bytes(place))
+    }
+
+    /// Returns how many replies are cached, at most as many as the cache has places.
+    pub fn cached(&self) -> usize
+        ensures count { result ≡ cached_in self.now }
+        ensures bound { result ≤ cache_size_of self.now }
+    {
+        self.recent.len()
+    }
+
+    /// Whether the reply to the request of this client under this number is cached. Only kept replies are.
+    pub fn is_cached(&self, client: u32, number: u64) -> bool
+        ensures its { result ≡ caches self.now client number }
+        ensures kept { (setting : Setting) (history : History) → StandsFor setting self.now history → IsTrue result → IsSome (kept history client number) }
+    {
+        self.recent.contains(client, number)
     }
 }

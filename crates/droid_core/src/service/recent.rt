@@ -1,7 +1,9 @@
-//! The latest kept replies, which are looked for before the store is asked.
+//! The cache of kept replies, in which a service looks before it asks the store.
 
-ghost use Rattle.std.specs.Prelude.{◌≡◌, [], IfOk, IfSome};
-ghost use Rattle.droid_core.specs.Recent.{AreKept, IsKeptRow};
+ghost use Rattle.std.specs.Prelude.{◌≡◌, ◌≤◌, [], length, IfOk, IfSome};
+ghost use Rattle.std.specs.NonZero.{non_zero_usize_get};
+ghost use Rattle.lru.specs.LruCache.{lru_cache, promoted};
+ghost use Rattle.droid_core.specs.Recent.{AreKept, IsKeptRow, is_cached_in, is_same};
 ghost use Rattle.droid_core_spec.specs.Histories.{History};
 ghost use Rattle.droid_core_requests.specs.Changes.{stamped};
 ghost use Rattle.droid_frame.specs.Replies.{HasReplySpelling};
@@ -14,8 +16,8 @@ use lru::LruCache;
 use std::alloc::{AllocError, Global};
 use std::num::NonZeroUsize;
 
-/// Rows of kept replies by client and number, those that were used last. A row for which memory was
-/// refused is left out, and nobody is told: the store has it.
+/// The rows of the kept replies that were used last, by client and number. If there is no memory to cache a row, it is
+/// skipped, and nothing is reported: the store has it.
 #[derive(Drop)]
 pub struct RecentReplies {
     alloc: Global,
@@ -23,9 +25,10 @@ pub struct RecentReplies {
 }
 
 impl RecentReplies {
-    /// No row, with places for so many. Only want of memory refuses it.
+    /// Creates an empty cache for `capacity` rows. Fails only if there is no memory.
     pub fn new(alloc: Global, capacity: NonZeroUsize) -> Result<RecentReplies, AllocError>
         ensures none { IfOk result (λ recent. recent.rows.entries ≡ []) }
+        ensures room { IfOk result (λ recent. recent.rows.cap ≡ non_zero_usize_get capacity) }
     {
         Ok(RecentReplies {
             alloc,
@@ -33,11 +36,27 @@ impl RecentReplies {
         })
     }
 
-    /// A copy of the row of this client and number, or `None` where it isn't at hand or memory was
-    /// refused for a copy. A row that is looked for is the last to make place for another.
+    /// Returns how many rows are cached.
+    pub fn len(&self) -> usize
+        ensures count { result ≡ length self.now.rows.entries }
+        ensures bound { result ≤ self.now.rows.cap }
+    {
+        self.rows.len()
+    }
+
+    /// Whether a row of this client and number is cached. The order in which rows were used stays.
+    pub fn contains(&self, client: u32, number: u64) -> bool
+        ensures { result ≡ is_cached_in self.now.rows.entries client number }
+    {
+        self.rows.contains(&(client, number))
+    }
+
+    /// Returns a copy of the row of this client and number, or `None` if it is not cached or there is no memory for a copy.
+    /// A look-up makes the row the most recently used.
     pub fn find(&mut self, client: u32, number: u64) -> Option<Entry>
         ensures found { (history : History) → AreKept history self.old.rows.entries → IfSome result (λ row. IsKeptRow history (client, number) row) }
         ensures kept { (history : History) → AreKept history self.old.rows.entries → AreKept history self.new.rows.entries }
+        ensures used { self.new.rows ≡ lru_cache (promoted (is_same (client, number)) self.old.rows.entries) self.old.rows.cap }
     {
         let whose = (client, number);
         let _ = self.rows.promote(&whose);
@@ -45,12 +64,13 @@ impl RecentReplies {
         copy_of(self.alloc, row)
     }
 
-    /// Puts the reply to the request with this stamp at hand.
+    /// Caches the reply to the request with this stamp.
     pub fn put_reply(&mut self, stamp: Stamp, reply: &Reply)
         requires version { IsVersion stamp.version }
         requires spelled { HasReplySpelling stamp.version reply.now }
         ensures kept { (history : History) → AreKept history self.old.rows.entries → IsKeptRow history (stamp.client, stamp.number) (stamped stamp reply.now)
             → AreKept history self.new.rows.entries }
+        ensures room { self.new.rows.cap ≡ self.old.rows.cap }
     {
         let Ok(row) = entry_of(self.alloc, stamp, reply) else {
             return;
@@ -58,10 +78,11 @@ impl RecentReplies {
         self.put(stamp.client, stamp.number, row);
     }
 
-    /// Puts a copy of this client's and number's row at hand.
+    /// Caches a copy of the row of this client and number.
     pub fn put_copy(&mut self, client: u32, number: u64, row: &Entry)
         ensures kept { (history : History) → AreKept history self.old.rows.entries → IsKeptRow history (client, number) row.now
             → AreKept history self.new.rows.entries }
+        ensures room { self.new.rows.cap ≡ self.old.rows.cap }
     {
         let Some(copy) = copy_of(self.alloc, row) else {
             return;
@@ -69,15 +90,17 @@ impl RecentReplies {
         self.put(client, number, copy);
     }
 
+    /// Caches a row, and drops the one that was used least recently if there is no place left.
     fn put(&mut self, client: u32, number: u64, row: Entry)
         ensures kept { (history : History) → AreKept history self.old.rows.entries → IsKeptRow history (client, number) row
             → AreKept history self.new.rows.entries }
+        ensures room { self.new.rows.cap ≡ self.old.rows.cap }
     {
         let _ = self.rows.put((client, number), row);
     }
 }
 
-/// A copy of a row, or `None` where memory was refused.
+/// Copies a row. Returns `None` if there is no memory.
 fn copy_of(alloc: Global, row: &Entry) -> Option<Entry>
     ensures { IfSome result (λ copy. copy ≡ row.now) }
 {

@@ -1,4 +1,4 @@
-use Rattle.std.proofs.Common.{ℕ, List, refl, ap, ◌∙◌}
+use Rattle.std.proofs.Common.{◌≡◌, ℕ, List, Some, refl, sym, ap, ◌∙◌}
 use Rattle.droid_frame.specs.Frames.{mark_of}
 use Rattle.droid_core_requests.specs.stamps.Stamp.{Stamp}
 use Rattle.droid_core_spec.proofs.Asked.{asked, is_asked, nothing_asked}
@@ -6,13 +6,22 @@ use Rattle.droid_core.specs.Standing.{StandsFor}
 use Rattle.droid_core.proofs.Handling.{handles_malformed, never_store}
 use Rattle.droid_core.proofs.service.Service.handle.Goals as goal
 
+some_same : {A : Type 0} {one other : A} → Some one ≡ Some other → one ≡ other
+some_same e = cc
+
 pub returns-in-Ok-clause-handles : goal.returns-in-Ok-clause-handles
 returns-in-Ok-clause-handles c = λ setting history stands.
     let frame = c.args.frame in
     let stamp : List ℕ → Stamp = λ mark. record { client = frame.client; number = frame.number; version = frame.version; mark = mark } in
     let marked = c.mark.ensures ∙ ap (mark_of frame.kind) c.as_slice.ensures.value in
     let spelled = c.in-Ok.ensures.found in
-    c.answer.ensures.handles setting history frame (ap stamp marked) (asked frame c.in-Ok.request spelled.0 spelled.1) stands
+    c.answer.ensures.answers.handles setting history frame (ap stamp marked) (asked frame c.in-Ok.request spelled.0 spelled.1) stands
+
+pub returns-in-Ok-clause-text : goal.returns-in-Ok-clause-text
+returns-in-Ok-clause-text c = λ setting history profile from max filter stands asks is_new followed.
+    let spelled = c.in-Ok.ensures.found in
+    let same = sym (asked c.args.frame c.in-Ok.request spelled.0 spelled.1) ∙ asks in
+    c.answer.ensures.answers.text setting history profile from max filter stands (some_same same) is_new followed
 
 pub returns-in-Err-Malformed-clause-handles : goal.returns-in-Err-Malformed-clause-handles
 returns-in-Err-Malformed-clause-handles c = λ setting history stands.

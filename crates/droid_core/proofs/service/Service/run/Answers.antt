@@ -28,6 +28,7 @@ loop-frame-preserved c =
           rw replies (each_with_one_more (λ (reply : Reply). reply ≢ Refused Store) c.loop-frame.replies.items c.handle-reply.result (c.loop-frame.invariant.no_store setting history stands) (c.handle-reply.ensures.no_store setting _ runs.stands));
       limits = c.handle-reply.ensures.limits ∙ c.loop-frame.invariant.limits;
       registry = c.handle-reply.ensures.registry ∙ c.loop-frame.invariant.registry;
+      cache = c.handle-reply.ensures.cache ∙ c.loop-frame.invariant.cache;
       count = grind (arith, common_steps);
       room = omega (arith, c.push.ensures.capacity, c.loop-frame.invariant.room);
     }
@@ -44,4 +45,5 @@ returns c =
       unchanged = tt;
       limits = c.loop-frame.invariant.limits;
       registry = c.loop-frame.invariant.registry;
+      cache = c.loop-frame.invariant.cache;
     }

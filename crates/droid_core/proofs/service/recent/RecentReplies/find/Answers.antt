@@ -1,5 +1,6 @@
 use Rattle.std.proofs.Common.{sym, ap, ◌∙◌, option_copied}
-use Rattle.droid_core.proofs.RecentRows.{is_same, found_kept, copied_kept, promoted_kept}
+use Rattle.droid_core.specs.Recent.{is_same}
+use Rattle.droid_core.proofs.RecentRows.{found_kept, copied_kept, promoted_kept}
 use Rattle.droid_core.proofs.service.recent.RecentReplies.find.Goals as goal
 
 pub returns-in_err-row-clause-kept : goal.returns-in_err-row-clause-kept

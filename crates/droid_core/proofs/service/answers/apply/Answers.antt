@@ -1,8 +1,9 @@
-use Rattle.std.proofs.Common.{FitsSigned, rules}
+use Rattle.std.proofs.Common.{FitsSigned, rules, sym, ◌∙◌}
 use Rattle.std.proofs.lemmas.Int.{to_z-of_z}
 use Rattle.std.specs.Int.{w64}
 use Rattle.droid_core_spec.proofs.ByKind.{is_create, is_folder, is_file, is_piece, is_finish, is_abandon, is_status, is_export}
-use Rattle.droid_core.proofs.service.answering.apply.Goals as goal
+use Rattle.droid_core.proofs.FollowedTexts.{kept_by, text_kept}
+use Rattle.droid_core.proofs.service.answers.apply.Goals as goal
 
 pub returns-in-CreateProfile-clause-answers : goal.returns-in-CreateProfile-clause-answers
 returns-in-CreateProfile-clause-answers c = record {
@@ -79,3 +80,8 @@ returns-in-Export-clause-answers c = record {
   limits = (c.export.ensures.answers c.args.stamp).limits;
   registry = (c.export.ensures.answers c.args.stamp).registry;
 }
+
+pub returns-in-Export-clause-text : goal.returns-in-Export-clause-text
+returns-in-Export-clause-text c = λ profile from max filter is followed.
+    let same = sym c.in-Export.is ∙ is in
+    text_kept c.export.result profile from max filter c.export.new.last (kept_by c.export.result c.export.new.last same c.export.ensures.kept) followed

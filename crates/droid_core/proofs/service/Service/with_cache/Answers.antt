@@ -3,7 +3,7 @@ use Rattle.droid_core_spec.specs.Limits.{Limits}
 use Rattle.droid_core_requests.specs.holdings.Holdings.{Holdings}
 use Rattle.droid_core.proofs.RecentRows.{none_kept_yet}
 use Rattle.droid_core.proofs.Starting.{starts}
-use Rattle.droid_core.proofs.service.Service.with_places.Goals as goal
+use Rattle.droid_core.proofs.service.Service.with_cache.Goals as goal
 
 pub returns-clause-empty : goal.returns-clause-empty
 returns-clause-empty c = λ setting limits registry.

@@ -1,0 +1,7 @@
+use Rattle.std.proofs.Common.{sym, ◌∙◌}
+use Rattle.droid_core.proofs.service.answers.cache_reply.Goals as goal
+
+pub returns-clause-kept : goal.returns-clause-kept
+returns-clause-kept c = λ history all its.
+    let unrefused = sym c.refuses.ensures ∙ c.if-refuses.false in
+    c.put_reply.ensures.kept history all (its c.if-not-commands.false unrefused)

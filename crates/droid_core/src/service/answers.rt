@@ -1,0 +1,180 @@
+//! How the service answers a request: a kept reply again, and a new request by its kind.
+
+ghost use Rattle.std.specs.Prelude.{◌≡◌, ◌≢◌, ◌<◌, ◌^◌, ℕ, true, false, None, Some, IsTrue};
+ghost use Rattle.droid_core_requests.specs.Answering.{AnswersIn};
+ghost use Rattle.droid_core_requests.specs.Changes.{again, answered, is_row_of, stamped};
+ghost use Rattle.droid_core.specs.Handled.{IsHandled};
+ghost use Rattle.droid_core.specs.Recent.{AreKept, IsKeptRow};
+ghost use Rattle.droid_core_requests.specs.KeptTexts.{IsFor, IsLastText, is_followed};
+ghost use Rattle.droid_core_requests.specs.Standing.{IsIn};
+ghost use Rattle.droid_frame.specs.Replies.{HasReplySpelling, SpellsReply};
+ghost use Rattle.droid_frame.specs.Versions.{IsVersion};
+ghost use Rattle.droid_frame.specs.types.filter.Filter.{Filter};
+ghost use Rattle.droid_frame.specs.types.refusal.Refusal.TheVariants.{NumberReused};
+ghost use Rattle.droid_frame.specs.types.reply.Reply.{Reply as ReplyValue};
+ghost use Rattle.droid_frame.specs.types.reply.Reply.TheVariants.{Refused};
+ghost use Rattle.droid_frame.specs.types.request.Request.{Request as RequestValue};
+ghost use Rattle.droid_frame.specs.types.request.Request.TheVariants as requests;
+ghost use Rattle.droid_core_spec.specs.Histories.{History};
+ghost use Rattle.droid_core_spec.specs.Judging.{judge};
+ghost use Rattle.droid_core_spec.specs.Setting.{Setting};
+ghost use Rattle.droid_core_spec.specs.Verdicts.{is_command, is_refused};
+ghost use Rattle.droid_core_spec.specs.World.{World};
+ghost use Rattle.droid_store.specs.Rows.{reply_for};
+
+use crate::service::Service;
+use crate::service::recent::RecentReplies;
+use droid_core_requests::{
+    Holdings, KeptText, Stamp, abandon, add_file, add_folder, answer_again, create_profile, export,
+    finish, forget_text, reply_from, status, take_piece,
+};
+use droid_frame::{Refusal, Reply, Request};
+use droid_store::Entry;
+
+/// Answers the request of a frame. Looks for a kept reply under its number, first in the cache and then in the store, and
+/// judges the request if there is none.
+pub fn answer(service: &mut Service, stamp: Stamp, request: Request) -> Reply
+    requires small { stamp.number < 2 ^ 63 }
+    requires version { IsVersion stamp.version }
+    ensures answers { IsHandled stamp request service.old service.new result }
+{
+    if let Some(row) = service.recent.find(stamp.client, stamp.number) {
+        return answer_again(service.holdings.alloc, row, stamp);
+    }
+    match service.holdings.store.reply_of(stamp.client, stamp.number) {
+        Err(fault) => Reply::Refused(Refusal::from(fault)),
+        Ok(Some(row)) => answer_kept(service, stamp, row),
+        Ok(None) => answer_new(service, stamp, request),
+    }
+}
+
+/// Answers a request under whose number the store keeps this row, and caches the row. If there is no memory to cache it,
+/// the reply is the same: another version or mark is refused as such, and only a Finished takes memory to be read.
+fn answer_kept(service: &mut Service, stamp: Stamp, row: Entry) -> Reply
+    requires found { reply_for stamp.client stamp.number service.old.holdings.store ≡ Some row }
+    ensures answers { (request : RequestValue) → IsHandled stamp request service.old service.new result }
+    ensures reused { is_row_of row stamp ≡ false → result ≡ Refused NumberReused }
+    ensures exact { (kept : ReplyValue) → SpellsReply row.version row.kind row.body kept → row.kind ≢ 132 → result ≡ again row stamp kept }
+{
+    service.recent.put_copy(stamp.client, stamp.number, &row);
+    answer_again(service.holdings.alloc, row, stamp)
+}
+
+/// Answers a request under a new number by its verdict, and caches the reply to an accepted command.
+fn answer_new(service: &mut Service, stamp: Stamp, request: Request) -> Reply
+    requires new { reply_for stamp.client stamp.number service.old.holdings.store ≡ None }
+    requires small { stamp.number < 2 ^ 63 }
+    requires version { IsVersion stamp.version }
+    ensures answers { IsHandled stamp request service.old service.new result }
+{
+    let commands = asks_command(&request);
+    let outcome = apply(&mut service.holdings, &mut service.last, stamp, request);
+    let reply = reply_from(outcome);
+    cache_reply(
+        &mut service.recent,
+        &mut service.last,
+        stamp,
+        commands,
+        &reply,
+    );
+    reply
+}
+
+/// Caches the reply to an accepted command, and forgets the text of the last export, which the command has made out of date.
+/// Does nothing after a query or a refusal. If there is no memory to cache the reply, nothing is reported.
+fn cache_reply(
+    recent: &mut RecentReplies,
+    last: &mut Option<KeptText>,
+    stamp: Stamp,
+    commands: bool,
+    reply: &Reply,
+)
+    requires version { IsVersion stamp.version }
+    requires spelled { HasReplySpelling stamp.version reply.now }
+    ensures kept { (history : History) → AreKept history recent.old.rows.entries
+        → (commands ≡ true → is_refused reply.now ≡ false → IsKeptRow history (stamp.client, stamp.number) (stamped stamp reply.now))
+        → AreKept history recent.new.rows.entries }
+    ensures still { (setting : Setting) (world : World) → IsLastText setting world last.old → IsLastText setting world last.new }
+    ensures forgotten { commands ≡ true → is_refused reply.now ≡ false → last.new ≡ None }
+    ensures query { commands ≡ false → last.new ≡ last.old }
+    ensures refused { is_refused reply.now ≡ true → last.new ≡ last.old }
+    ensures room { recent.new.rows.cap ≡ recent.old.rows.cap }
+{
+    if !commands {
+        return;
+    }
+    if refuses(reply) {
+        return;
+    }
+    forget_text(last);
+    recent.put_reply(stamp, reply);
+}
+
+/// Whether a request is a command, which changes the service if it is accepted. The others are queries.
+fn asks_command(request: &Request) -> bool
+    ensures { result ≡ is_command request.now }
+{
+    !matches!(request, Request::Status { .. } | Request::Export { .. })
+}
+
+/// Whether a reply is a refusal.
+fn refuses(reply: &Reply) -> bool
+    ensures { result ≡ is_refused reply.now }
+{
+    matches!(reply, Reply::Refused(_))
+}
+
+/// Judges a request under a new number, and carries out an accepted command. Keeps the text of an export that leaves
+/// something of it unread.
+fn apply(
+    holdings: &mut Holdings,
+    last: &mut Option<KeptText>,
+    stamp: Stamp,
+    request: Request,
+) -> Result<Reply, Refusal>
+    requires new { reply_for stamp.client stamp.number holdings.old.store ≡ None }
+    requires small { stamp.number < 2 ^ 63 }
+    requires version { IsVersion stamp.version }
+    ensures answers { AnswersIn (λ setting world. IsIn setting world holdings.old × IsLastText setting world last.old) (λ setting world. judge setting world stamp.version request) stamp holdings.old holdings.new (answered result) }
+    ensures last { (setting : Setting) (world : World) → IsIn setting world holdings.old → IsLastText setting world last.old → IsLastText setting world last.new }
+    ensures text { (profile from max : ℕ) (filter : Filter) → request ≡ requests.Export profile from max filter → IsTrue (is_followed from max (answered result)) → IsFor profile filter last.new }
+{
+    match request {
+        Request::CreateProfile {
+            scan_limit,
+            match_all,
+            hash,
+        } => create_profile(holdings, stamp, scan_limit, match_all, hash),
+        Request::AddFolder {
+            profile,
+            parent,
+            modified,
+            name,
+        } => add_folder(holdings, stamp, profile, parent, modified, name),
+        Request::AddFile {
+            profile,
+            parent,
+            modified,
+            size,
+            piece_size,
+            name,
+        } => add_file(
+            holdings, stamp, profile, parent, modified, size, piece_size, name,
+        ),
+        Request::Piece {
+            profile,
+            file,
+            index,
+            bytes,
+        } => take_piece(holdings, stamp, profile, file, index, bytes),
+        Request::Finish { profile, file } => finish(holdings, stamp, profile, file),
+        Request::Abandon { profile, file } => abandon(holdings, stamp, profile, file),
+        Request::Status { profile, file } => status(holdings, profile, file),
+        Request::Export {
+            profile,
+            from,
+            max,
+            filter,
+        } => export(holdings, last, profile, from, max, filter),
+    }
+}
