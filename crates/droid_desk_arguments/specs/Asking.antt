@@ -17,7 +17,7 @@ use Rattle.droid_desk_arguments.specs.declared.submit.SubmitOptions.{SubmitOptio
 abbrev pub number_of : Text → ℕ
 number_of text = digits_value 10 (without_leading_plus text)
 
--- the text is a number of so many bits
+-- the text is a number below 2^bits
 abbrev pub IsNumber : ℕ → Text → Type 0
 IsNumber bits text = IsNumeral 10 (without_leading_plus text) × (number_of text < 2 ^ bits)
 

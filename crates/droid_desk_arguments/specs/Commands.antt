@@ -88,9 +88,11 @@ script_command = with_rule (with_rule (new_app (codes "script")) everyday_flag) 
 abbrev pub run_command : App
 run_command = with_rule (with_rule (new_app (codes "run")) everyday_flag) registry_option
 
+abbrev pub serve_numbers : App
+serve_numbers = with_rule (with_rule (new_app (codes "serve")) port_option) connections_option
+
 abbrev pub serve_command : App
-serve_command =
-    with_rule (with_rule (with_rule (with_rule (new_app (codes "serve")) port_option) connections_option) everyday_flag) registry_option
+serve_command = with_rule (with_rule serve_numbers everyday_flag) registry_option
 
 abbrev pub send_command : App
 send_command = with_rule (with_rule (with_rule (new_app (codes "send")) port_option) client_option) first_option

@@ -4,7 +4,7 @@ ghost use Rattle.std.specs.Prelude.{◌≡◌, [], IfOk, IfSome, codes, false, m
 ghost use Rattle.clap.specs.Words.{app_of, fault_of, found_of, is_simple, is_simple_and_free, new_app, rows_of, rule_of, subcommand_of, subcommand_rows_of};
 ghost use Rattle.clap.specs.declared.builder.command.Command.TheViews.{out-Command};
 ghost use Rattle.droid_desk_arguments.specs.Asking.{IsAsked, IsAskedBy, WordsAsk};
-ghost use Rattle.droid_desk_arguments.specs.Commands.{client_option, connections_option, first_option, number_named, port_option, profile_command, program, registry_option, run_command, script_command, send_command, serve_command, top_command};
+ghost use Rattle.droid_desk_arguments.specs.Commands.{client_option, connections_option, first_option, number_named, port_option, profile_command, program, registry_option, run_command, script_command, send_command, serve_command, serve_numbers, top_command};
 
 use crate::help::{ABOUT, EVERYDAY_HELP, HELP, REGISTRY_HELP, SCRIPT_ABOUT, SCRIPT_HELP};
 use crate::no_command::{NoCommand, unused_words};
@@ -235,13 +235,21 @@ fn serve<'a>(alloc: Global) -> Result<Command<'a>, AllocError>
     ensures shape { IfOk result (λ c. app_of c ≡ serve_command) }
     ensures local { IfOk result (λ c. (out-Command c).has_globals ≡ false) }
 {
+    serve_numbers(alloc)?
+        .arg(flag(alloc, EVERYDAY, EVERYDAY_HELP))?
+        .arg(registry(alloc, REGISTRY_HELP))
+}
+
+/// Makes the command with its first options.
+fn serve_numbers<'a>(alloc: Global) -> Result<Command<'a>, AllocError>
+    ensures shape { IfOk result (λ c. app_of c ≡ serve_numbers) }
+    ensures local { IfOk result (λ c. (out-Command c).has_globals ≡ false) }
+{
     Command::new(alloc, SERVE)
         .about(SERVE_ABOUT)
         .after_help(SERVE_HELP)
         .arg(port(alloc, SERVE_PORT_HELP))?
-        .arg(connections(alloc))?
-        .arg(flag(alloc, EVERYDAY, EVERYDAY_HELP))?
-        .arg(registry(alloc, REGISTRY_HELP))
+        .arg(connections(alloc))
 }
 
 fn send<'a>(alloc: Global) -> Result<Command<'a>, AllocError>

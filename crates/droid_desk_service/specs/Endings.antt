@@ -34,12 +34,12 @@ status_of (Send fault) = 4
 status_of Socket = 4
 status_of BadLine = 5
 
--- what a fault of the database is called: as the refusal of a request for the same cause
+-- the name of a fault of the database: as the refusal of a request for the same cause
 abbrev pub name_of : StoreFault → List ℕ
 name_of store_faults.Memory = codes "Memory"
 name_of store_faults.Refused = codes "Store"
 
--- what a fault of a stream of frames is called
+-- the name of a fault of a stream of frames
 abbrev pub stream_name_of : ServeFault → List ℕ
 stream_name_of (serve_faults.Frame fault) = frame_fault_name fault
 stream_name_of (serve_faults.Write written) = codes "Write"
@@ -66,12 +66,12 @@ pub record IsProgramSetting (registry : Contents) (setting : Setting) : Type 0 w
 abbrev pub PrintsAll : Setting → List ℕ → Option (List ℕ) → Option (List ℕ) → Type 0
 PrintsAll setting input old new = (service : Service) × RunsAll setting [] (lines_of input) service old new
 
--- the same of the first lines, and of the first bytes of what they print
+-- the first lines ran, and a writer's bytes grew by the first bytes of what they print
 abbrev pub PrintsFront : Setting → List ℕ → Option (List ℕ) → Option (List ℕ) → Type 0
 PrintsFront setting input old new = (service : Service) × RunsFront setting [] (lines_of input) service old new
 
--- a script over a fresh service with this setting ends so: what each ending says of the input and of what
--- was written
+-- a script over a fresh service with this setting ends like this: what each ending says of the input and of what was
+-- written
 abbrev pub EndsAs : Setting → Ending → List ℕ → Option (List ℕ) → Option (List ℕ) → Type 0
 EndsAs setting Done input old new = PrintsAll setting input old new × (count_by is_bad (lines_of input) ≡ 0)
 EndsAs setting BadLine input old new = PrintsAll setting input old new × (0 < count_by is_bad (lines_of input))
@@ -85,21 +85,20 @@ EndsAs setting (Stream fault) input old new = ⊥
 EndsAs setting (Send fault) input old new = ⊥
 EndsAs setting Socket input old new = ⊥
 
--- a registry file, where its bytes are known, comes to this fault, unless memory was refused or the file could
--- not be read
+-- a registry file, if its bytes are known, gives this fault, unless memory ran out or the file could not be read
 abbrev pub IsFaultOf : Option (List ℕ) → RegistryFault → Type 0
 IsFaultOf file registry_faults.Memory = Unit {0}
 IsFaultOf file registry_faults.Read = Unit {0}
 IsFaultOf file fault = IfSome file (λ bytes. File bytes (Err fault))
 
--- the file comes to this registry, and a script over a fresh service with it ends so
+-- the file gives this registry, and a script over a fresh service with it ends like this
 pub record RunsWith (file : Option (List ℕ)) (ending : Ending) (input old new : Option (List ℕ)) : Type 0 where
   pub registry : Contents
   pub is_read : IfSome file (λ bytes. File bytes (Ok registry))
   pub ends : (setting : Setting) → IsProgramSetting registry setting → IfSome input (λ bytes. EndsAs setting ending bytes old new)
 
--- A registry file is read first. It is at fault, and nothing is written; or a script runs with it. What is not
--- known of a file or of the input is None.
+-- A registry file is read first. It is at fault, and nothing is written; or a script runs with it. Bytes of a file or of
+-- the input that are not known are None.
 abbrev pub EndsOver : Option (List ℕ) → Ending → Option (List ℕ) → Option (List ℕ) → Option (List ℕ) → Type 0
 EndsOver file (Registry fault) input old new = IsFaultOf file fault × Keeps old new
 EndsOver file ending input old new = RunsWith file ending input old new

@@ -1,4 +1,4 @@
--- A fresh service: what it is made of, and why none is made.
+-- A fresh service: its registry and limits, and why none is made.
 use Rattle.std.specs.Prelude.{◌≡◌, ℕ, List, [], Option, IfSome, Ok}
 use Rattle.droid_core.specs.Standing.{StandsFor, limits_of}
 use Rattle.droid_core.specs.declared.service.Service.{Service}
@@ -14,7 +14,7 @@ pub record IsMadeWith (registry : Contents) (service : Service) : Type 0 where
   pub stands : (setting : Setting) → IsProgramSetting registry setting → StandsFor setting service []
   pub limits : limits_of service ≡ program_limits
 
--- the file comes to a registry, where its bytes are known, and the service is made with it
+-- the file gives a registry, if its bytes are known, and the service is made with it
 pub record IsMadeOf (file : Option (List ℕ)) (service : Service) : Type 0 where
   pub registry : Contents
   pub is_read : IfSome file (λ bytes. File bytes (Ok registry))
@@ -31,7 +31,7 @@ IsNoService Socket = ⊥
 IsNoService BadLine = ⊥
 IsNoService Done = ⊥
 
--- the file comes to this fault; or it comes to a registry, and no service could be made with it
+-- the file gives this fault; or it gives a registry, and no service could be made with it
 abbrev pub IsNotMadeOf : Option (List ℕ) → Ending → Type 0
 IsNotMadeOf file (Registry fault) = IsFaultOf file fault
 IsNotMadeOf file ending = IsNoService ending × (registry : Contents) × IfSome file (λ bytes. File bytes (Ok registry))

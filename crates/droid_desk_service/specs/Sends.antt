@@ -13,7 +13,7 @@ abbrev pub sending_end_of : Result Tally SendFault → Ending
 sending_end_of (Ok tally) = after_lines tally
 sending_end_of (Err fault) = Send fault
 
--- all lines were sent, and something is said of how many of them were bad
+-- all lines were sent, and P holds of the number of bad lines
 pub record SendsWhole (core : Core) (P : ℕ → Type 0) (script input left old_frames new_frames old_text new_text : Option (List ℕ)) : Type 0 where
   pub after : Core
   pub tally : Tally
@@ -25,7 +25,7 @@ pub record SendsSome (core : Core) (fault : SendFault) (script input left old_fr
   pub after : Core
   pub front : SendsFront fault core script input left old_frames new_frames old_text new_text after
 
--- sending the lines by a client ends so: which lines were sent, what was read and written, and why no more
+-- sending the lines by a client ends like this: which lines were sent, what was read and written, and why no more
 abbrev pub SendEndsAs : Core → Ending → Option (List ℕ) → Option (List ℕ) → Option (List ℕ) → Option (List ℕ) → Option (List ℕ) → Option (List ℕ) → Option (List ℕ) → Type 0
 SendEndsAs core Done script input left old_frames new_frames old_text new_text = SendsWhole core (λ bad. bad ≡ 0) script input left old_frames new_frames old_text new_text
 SendEndsAs core BadLine script input left old_frames new_frames old_text new_text = SendsWhole core (λ bad. 0 < bad) script input left old_frames new_frames old_text new_text

@@ -9,7 +9,7 @@ use Rattle.droid_wire.specs.Serving.{Outcome}
 use Rattle.droid_wire.specs.declared.ended.Ended.{Ended}
 use Rattle.droid_wire.specs.declared.serve_fault.ServeFault.{ServeFault}
 
--- how many frames of a stream are answered at the most
+-- the most frames of a stream that are answered
 abbrev pub stream_turns : ℕ
 stream_turns = 1000000
 
@@ -30,12 +30,12 @@ StreamEndsAs setting history (Send fault) input left old new after = ⊥
 StreamEndsAs setting history Socket input left old new after = ⊥
 StreamEndsAs setting history BadLine input left old new after = ⊥
 
--- a connection, of which so many frames are answered at the most, gives one of the outcomes of serving its stream, which
--- isn't told
+-- a connection, on which at most `turns` frames are answered, has one of the outcomes of serving its stream; which one
+-- isn't reported
 abbrev pub ConnectionGives : Setting → History → ℕ → List ℕ → Option (List ℕ) → Option (List ℕ) → Option (List ℕ) → Service → Type 0
 ConnectionGives setting history turns input left old new after = (outcome : Result Ended ServeFault) × Outcome setting history turns input left old new after outcome
 
--- Of so many connections that were to be served, all came; or one could not be taken, and fewer came.
+-- All `count` connections came; or one could not be accepted, and fewer came.
 abbrev pub CameTo : Ending → ℕ → ℕ → ℕ → Type 0
 CameTo Done old new count = new ≡ old + count
 CameTo Socket old new count = new < old + count

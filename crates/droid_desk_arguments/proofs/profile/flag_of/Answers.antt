@@ -1,4 +1,3 @@
-use Rattle.std.proofs.Common.{codes}
 use Rattle.clap.specs.Words.{found_of}
 use Rattle.droid_desk_arguments.proofs.Options.{flag_given}
 use Rattle.droid_desk_arguments.proofs.profile.flag_of.Goals as goal

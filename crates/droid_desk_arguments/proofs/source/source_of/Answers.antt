@@ -1,5 +1,5 @@
-use Rattle.std.proofs.Common.{◌∙◌, Option, IfSome, codes, subst}
-use Rattle.clap.specs.Words.{Text, found_of}
+use Rattle.std.proofs.Common.{◌∙◌, codes}
+use Rattle.clap.specs.Words.{found_of}
 use Rattle.clap.proofs.WalkLemmas.{first_value-rows}
 use Rattle.droid_desk_arguments.proofs.Options.{source_given}
 use Rattle.droid_desk_arguments.proofs.source.source_of.Goals as goal
