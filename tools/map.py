@@ -34,7 +34,7 @@ AS_IN_STD = {"std", "core", "io", "os", "libc", "bytes"}
 MOST_PATHS = 1500
 MOST_LIBRARIES = 33
 # each costs the gate a check of its crate
-MOST_EDITS = 90
+MOST_EDITS = 45
 
 
 def libraries():
