@@ -5,7 +5,7 @@ ghost use Rattle.droid_export.specs.Text.{HaveMoments};
 
 use crate::nodes::{everything, folder, message};
 use droid_export::{ExportFault, export, export_text};
-use droid_frame::{HashKind, Noted, Record};
+use droid_frame::{Blob, HashKind, Noted, Record};
 use droid_frame_shaky::{Manner, STEADY, ShakyWriter, Stop};
 use droid_pronom::Registry;
 use droid_pronom_sample::SAMPLE;
@@ -22,17 +22,23 @@ fn three_nodes(alloc: Global) -> Result<[Record; 3], AllocError>
     ])
 }
 
-/// Exports three records to a writer, and returns whether it has got the text of `export_text`, or exactly the first
-/// `written` bytes if the text is longer. Then the error has to say so.
+/// Returns the text of the three records.
+fn text_of_three(alloc: Global, registry: &Registry) -> Result<Blob, AllocError> {
+    let records = three_nodes(alloc)?;
+    export_text(alloc, &records, registry, &everything(alloc), HashKind::Md5)
+}
+
+/// Exports the three records to a writer, and returns whether it has got their text, or exactly the first `written`
+/// bytes if the text is longer. Then the error has to say so.
 fn gives(
     alloc: Global,
     registry: &Registry,
+    text: &[u8],
     writer: ShakyWriter,
     written: usize,
 ) -> Result<bool, AllocError> {
     let records = three_nodes(alloc)?;
     let filter = everything(alloc);
-    let text = export_text(alloc, &records, registry, &filter, HashKind::Md5)?;
     let mut stream = Noted::new(writer);
     let answer = export(
         alloc,
@@ -48,18 +54,22 @@ fn gives(
         Ok(())
     };
     let first = written.min(text.len());
-    Ok(answer == wanted && text.as_slice().get(..first) == Some(stream.stream.taken()))
+    Ok(answer == wanted && text.get(..first) == Some(stream.stream.taken()))
 }
 
-/// A writer that stops once and would then take the rest is not asked again. The text has less than 1,200 bytes.
+/// A writer that stops once and would then take the rest is not asked again.
 #[test]
 fn stops_after_each_byte(rt: HostRuntime) -> Result<(), Fail> {
     let alloc = rt.alloc();
     let registry = Registry::parse(alloc, SAMPLE.as_bytes())?;
+    let text = text_of_three(alloc, &registry)?;
     for stop in [Stop::Fails, Stop::Ends] {
-        for room in 0..1_200 {
+        for room in 0..text.len() {
             let writer = ShakyWriter::new(Vec::new(alloc), room, stop, STEADY);
-            assert!(rt; gives(alloc, &registry, writer, room)?, "{room}");
+            assert!(rt;
+                gives(alloc, &registry, text.as_slice(), writer, room)?,
+                "{room}"
+            );
         }
     }
     Ok(())
@@ -77,6 +87,7 @@ const MANNERS: [(usize, u32, usize); 3] = [
 fn small_steps_and_interruptions(rt: HostRuntime) -> Result<(), Fail> {
     let alloc = rt.alloc();
     let registry = Registry::parse(alloc, SAMPLE.as_bytes())?;
+    let text = text_of_three(alloc, &registry)?;
     for (width, interruptions, written) in &MANNERS {
         let manner = Manner {
             width: *width,
@@ -84,7 +95,10 @@ fn small_steps_and_interruptions(rt: HostRuntime) -> Result<(), Fail> {
             ..STEADY
         };
         let writer = ShakyWriter::new(Vec::new(alloc), usize::MAX, Stop::Fails, manner);
-        assert!(rt; gives(alloc, &registry, writer, *written)?, "{written}");
+        assert!(rt;
+            gives(alloc, &registry, text.as_slice(), writer, *written)?,
+            "{written}"
+        );
     }
     Ok(())
 }
