@@ -138,7 +138,7 @@ enum Outcome {
 }
 
 /// Runs these lines and shows the service then. `None` if the test itself had no memory.
-fn outcome(alloc: Global, service: &mut Service, lines: &[u8]) -> Option<Outcome> {
+fn run_lines(alloc: Global, service: &mut Service, lines: &[u8]) -> Option<Outcome> {
     let mut buffer = [0; 128];
     let (ended, count) = ran(alloc, service, lines, &mut buffer);
     let printed = &buffer[..count.min(128)];
@@ -180,11 +180,11 @@ fn outcome_of(ended: &Result<Tally, ScriptFault>, printed: &[u8], shown: &[u8]) 
 /// Whether these lines come out right with an empty service. If they ended early, the same again comes to its end.
 fn is_run(alloc: Global, lines: &[u8]) -> Option<bool> {
     let mut service = service(alloc, LARGEST, 256)?;
-    match outcome(alloc, &mut service, lines)? {
+    match run_lines(alloc, &mut service, lines)? {
         Outcome::Whole => Some(true),
         Outcome::Refused => Some(true),
         Outcome::Ended => {
-            let again = outcome(alloc, &mut service, lines)?;
+            let again = run_lines(alloc, &mut service, lines)?;
             Some(matches!(again, Outcome::Whole))
         }
         Outcome::Wrong => Some(false),
