@@ -1,4 +1,4 @@
-//! What the faults say: that of a script its name, which the program prints.
+//! What the faults print. That of a script prints its name, as the program does.
 
 use droid_core_files::IdentifyFault;
 use droid_lines_script::ScriptFault;
@@ -6,7 +6,7 @@ use std::alloc::Global;
 use std::fmt::Display;
 use std::test::Fail;
 
-/// Whether the fault is printed so.
+/// Whether the fault prints this text.
 fn says<T: Display>(alloc: Global, fault: &T, text: &str) -> Result<bool, Fail> {
     Ok(format!(in alloc; "{fault}")?.as_str() == text)
 }

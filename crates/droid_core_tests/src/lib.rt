@@ -1,12 +1,12 @@
-//! Tests of the service, over the public calls of `droid_core` and of scripts alone: what the built program can't show.
+//! Tests of the service, over the public calls of `droid_core` and of scripts alone: what the built program cannot show.
 //! (Requests and their replies stand in tests/program/cases.) Requests are written as lines of scripts, and replies are
-//! compared with what they print.
+//! compared with what they print. Services that cache one reply and 256 have to answer alike.
 #![tactic(auto)]
 
 #[cfg(test)]
-mod asking;
+mod by_chance;
 #[cfg(test)]
-mod asking_again;
+mod cache;
 #[cfg(test)]
 mod faults;
 #[cfg(test)]
@@ -18,8 +18,18 @@ mod malformed;
 #[cfg(test)]
 mod memory;
 #[cfg(test)]
-mod orders;
+mod page;
 #[cfg(test)]
-mod running;
+mod runs;
 #[cfg(test)]
-mod scripts;
+mod script_memory;
+#[cfg(test)]
+mod steps;
+#[cfg(test)]
+mod texts;
+#[cfg(test)]
+mod versions;
+#[cfg(test)]
+mod worked_files;
+#[cfg(test)]
+mod worked_folders;

@@ -1,139 +1,122 @@
-//! Limits of profiles, of nodes and of unfinished files.
+//! Limits of profiles, of nodes and of unfinished files, beside those of the worked rows.
 
-use crate::asking::{Step, ask, ask_all, service};
-use droid_core::Limits;
-use std::test::Fail;
+use crate::steps::{CREATE, LARGEST, Step, ask, is_answered, service};
+use droid_core::{Limits, Service};
+use std::alloc::Global;
 
-const CREATE: Step = ("1 1 create 65536 0", "made 1\n");
+const ONE_NODE: Limits = Limits {
+    nodes: 1,
+    ..LARGEST
+};
+
+const ONE_ABANDONED: &[Step] = &[
+    CREATE,
+    ("1 2 file 1 0 0 4 4 x", "node 1\n"),
+    ("1 3 abandon 1 1", "abandoned\n"),
+    ("1 4 file 1 0 0 4 4 x", "refused 17 nodes\n"),
+];
+
+const ONE_PROFILE: Limits = Limits {
+    profiles: 1,
+    ..LARGEST
+};
+
+const ANOTHER_PROFILE: &[Step] = &[
+    CREATE,
+    ("2 1 create 65536 0", "refused 17 profiles\n"),
+    CREATE,
+    ("1 1 create 1 0", "refused 2\n"),
+];
+
+const NOTHING: Limits = Limits {
+    profiles: 0,
+    nodes: 0,
+    unfinished: 0,
+};
+
+const NO_PROFILE: &[Step] = &[("1 1 create 65536 0", "refused 17 profiles\n")];
+
+const ONE_UNFINISHED: Limits = Limits {
+    unfinished: 1,
+    ..LARGEST
+};
+
+const FINISHED: &[Step] = &[
+    CREATE,
+    ("1 2 file 1 0 0 0 4 x", "node 1\n"),
+    ("1 3 file 1 0 0 4 4 y", "refused 17 unfinished\n"),
+    (
+        "1 4 finish 1 1",
+        "finished none false d41d8cd98f00b204e9800998ecf8427e -\n",
+    ),
+    ("1 3 file 1 0 0 4 4 y", "node 2\n"),
+];
+
+const ABANDONED: &[Step] = &[
+    CREATE,
+    ("1 2 file 1 0 0 4 4 x", "node 1\n"),
+    ("1 3 file 1 0 0 4 4 y", "refused 17 unfinished\n"),
+    ("1 4 abandon 1 1", "abandoned\n"),
+    ("1 3 file 1 0 0 4 4 y", "node 2\n"),
+];
 
 #[test]
-fn limits(rt: HostRuntime) -> Result<(), Fail> {
-    let rows: [(&str, u32, u32, u32, &[Step]); 6] = [
-        (
-            "nodes",
-            64,
-            1,
-            64,
-            &[
-                CREATE,
-                ("1 2 folder 1 0 0 in", "node 1\n"),
-                ("1 3 folder 1 0 0 out", "refused 17 nodes\n"),
-                ("1 2 folder 1 0 0 in", "node 1\n"),
-            ],
-        ),
-        (
-            "nodes, of which one is abandoned",
-            64,
-            1,
-            64,
-            &[
-                CREATE,
-                ("1 2 file 1 0 0 4 4 x", "node 1\n"),
-                ("1 3 abandon 1 1", "abandoned\n"),
-                ("1 4 file 1 0 0 4 4 x", "refused 17 nodes\n"),
-            ],
-        ),
-        (
-            "profiles",
-            1,
-            100_000,
-            64,
-            &[
-                CREATE,
-                ("2 1 create 65536 0", "refused 17 profiles\n"),
-                ("1 1 create 65536 0", "made 1\n"),
-                ("1 1 create 1 0", "refused 2\n"),
-            ],
-        ),
-        (
-            "no profile at all",
-            0,
-            0,
-            0,
-            &[("1 1 create 65536 0", "refused 17 profiles\n")],
-        ),
-        (
-            "unfinished, the first is finished",
-            64,
-            100_000,
-            1,
-            &[
-                CREATE,
-                ("1 2 file 1 0 0 0 4 x", "node 1\n"),
-                ("1 3 file 1 0 0 4 4 y", "refused 17 unfinished\n"),
-                (
-                    "1 4 finish 1 1",
-                    "finished none false d41d8cd98f00b204e9800998ecf8427e -\n",
-                ),
-                ("1 3 file 1 0 0 4 4 y", "node 2\n"),
-            ],
-        ),
-        (
-            "unfinished, the first is abandoned",
-            64,
-            100_000,
-            1,
-            &[
-                CREATE,
-                ("1 2 file 1 0 0 4 4 x", "node 1\n"),
-                ("1 3 file 1 0 0 4 4 y", "refused 17 unfinished\n"),
-                ("1 4 abandon 1 1", "abandoned\n"),
-                ("1 3 file 1 0 0 4 4 y", "node 2\n"),
-            ],
-        ),
-    ];
-    for (name, profiles, nodes, unfinished, steps) in rows {
-        let limits = Limits {
-            profiles,
-            nodes,
-            unfinished,
-        };
-        let mut service = service(&rt, rt.alloc(), limits)?;
-        ask_all(&rt, rt.alloc(), &mut service, name, steps)?;
-    }
-    Ok(())
+fn limits(rt: HostRuntime) {
+    let alloc = rt.alloc();
+    ask(&rt, alloc, "one abandoned", ONE_NODE, ONE_ABANDONED);
+    ask(&rt, alloc, "another profile", ONE_PROFILE, ANOTHER_PROFILE);
+    ask(&rt, alloc, "no profile", NOTHING, NO_PROFILE);
+    ask(&rt, alloc, "finished", ONE_UNFINISHED, FINISHED);
+    ask(&rt, alloc, "abandoned", ONE_UNFINISHED, ABANDONED);
 }
 
-/// The limit of unfinished files is that of the whole service: as many as it says are taken, in two profiles
-/// by turns, and no more in either.
-#[test]
-fn unfinished_over_all_profiles(rt: HostRuntime) -> Result<(), Fail> {
-    let alloc = rt.alloc();
-    for limit in [0u32, 1, 2, 63, 64] {
-        let limits = Limits {
-            profiles: 2,
-            nodes: 100_000,
-            unfinished: limit,
-        };
-        let mut service = service(&rt, alloc, limits)?;
-        ask_all(
-            &rt,
-            alloc,
-            &mut service,
-            "profiles",
-            &[CREATE, ("2 1 create 1 0", "made 2\n")],
-        )?;
-        for count in 0..limit {
-            let profile = 1 + count % 2;
-            let line = format!(in alloc; "3 {count} file {profile} 0 0 4 4 f{count}")?;
-            let id = 1 + count / 2;
-            let wanted = format!(in alloc; "node {id}\n")?;
-            let printed = ask(&rt, alloc, &mut service, line.as_str())?;
-            assert!(rt;
-                printed.as_slice() == wanted.as_bytes(),
-                "{line}: {printed:?}"
-            );
-        }
-        ask_all(
-            &rt,
-            alloc,
-            &mut service,
-            "one too many",
-            &[
-                ("3 100 file 1 0 0 4 4 x", "refused 17 unfinished\n"),
-                ("3 100 file 2 0 0 0 1 x", "refused 17 unfinished\n"),
-            ],
-        )?;
+const PROFILES: &[Step] = &[CREATE, ("2 1 create 1 0", "made 2\n")];
+
+const ONE_TOO_MANY: &[Step] = &[
+    ("3 100 file 1 0 0 4 4 x", "refused 17 unfinished\n"),
+    ("3 100 file 2 0 0 0 1 x", "refused 17 unfinished\n"),
+];
+
+/// Whether the next file is taken, where `count` files were: the profiles take them in turn.
+fn is_taken(alloc: Global, service: &mut Service, count: u32) -> bool {
+    let profile = 1 + count % 2;
+    let id = 1 + count / 2;
+    let Ok(line) = format!(in alloc; "3 {count} file {profile} 0 0 4 4 f{count}") else {
+        return false;
+    };
+    let Ok(wanted) = format!(in alloc; "node {id}\n") else {
+        return false;
+    };
+    is_answered(alloc, service, &(line.as_str(), wanted.as_str()))
+}
+
+/// Whether as many unfinished files are taken as the limit says, in two profiles in turn, and no more in either.
+fn is_limit_of_both(alloc: Global, limit: u32) -> bool {
+    let limits = Limits {
+        profiles: 2,
+        nodes: 100_000,
+        unfinished: limit,
+    };
+    let Some(mut service) = service(alloc, limits, 256) else {
+        return false;
+    };
+    let mut right = true;
+    for step in PROFILES {
+        right &= is_answered(alloc, &mut service, step);
     }
-    Ok(())
+    for count in 0..limit {
+        right &= is_taken(alloc, &mut service, count);
+    }
+    for step in ONE_TOO_MANY {
+        right &= is_answered(alloc, &mut service, step);
+    }
+    right
+}
+
+/// The limit of unfinished files is that of the whole service.
+#[test]
+fn unfinished_over_all_profiles(rt: HostRuntime) {
+    for limit in [0u32, 1, 2, 63, 64] {
+        assert!(rt; is_limit_of_both(rt.alloc(), limit), "{limit}");
+    }
 }

@@ -1,20 +1,14 @@
-// Each test passes too where any one allocation is refused: tests/memory refuses each in turn.
-//! Want of memory: a refused request is answered so, and the same request again is answered as it would
-//! have been.
+// Each test passes too if any one allocation is refused: tests/memory refuses each in turn.
+//! Out of memory: a refused request is answered so, and the same request again is answered as it would have been.
 
-use crate::asking::Step;
-use crate::asking_again::{
-    ask_again, ask_all_again, frame_again, place_of, printed_again, service_again,
-};
-use crate::running::{STORED, STORED_IN_2};
+use crate::runs::{STORED, STORED_IN_2, frames_of};
+use crate::steps::{LARGEST, OUT_OF_MEMORY, Step, answer, is_answered, printed, service};
+use crate::worked_files::PIECES_OUT_OF_ORDER;
 use droid_core::Service;
-use droid_frame::{Frame, Reply};
-use std::alloc::{AllocError, Global};
-use std::io::Write;
-use std::process::Abort;
-use std::test::Fail;
+use droid_frame::Reply;
+use std::alloc::Global;
 
-/// The pieces of a file out of order, how far it is, its end, and its export.
+/// The pieces of a file out of order, how far it is, its end, what comes again, a file that is abandoned, and an export.
 const OUT_OF_ORDER: &[Step] = &[
     ("1 1 create 65536 0", "made 1\n"),
     ("1 2 file 1 0 0 14 4 m.msg", "node 1\n"),
@@ -37,93 +31,133 @@ const OUT_OF_ORDER: &[Step] = &[
     ("1 11 export 1 0 1", "part 9 530 1\n\""),
 ];
 
+/// Whether each step is answered as it should be, at once or when it comes again. `None` if the test itself had no memory.
+fn passes(alloc: Global, places: usize, steps: &[Step<'_>]) -> Option<bool> {
+    let mut service = service(alloc, LARGEST, places)?;
+    for step in steps {
+        if !is_answered_in_the_end(alloc, &mut service, step)? {
+            return Some(false);
+        }
+    }
+    Some(true)
+}
+
+fn is_answered_in_the_end(alloc: Global, service: &mut Service, step: &Step<'_>) -> Option<bool> {
+    let (line, wanted) = *step;
+    let first = answer(alloc, service, line)?;
+    if first.as_slice() == OUT_OF_MEMORY {
+        return Some(is_answered(alloc, service, step));
+    }
+    Some(first.as_slice() == wanted.as_bytes())
+}
+
+/// Begins anew if the test itself had no memory.
+fn passes_in_the_end(alloc: Global, places: usize, steps: &[Step<'_>]) -> bool {
+    match passes(alloc, places, steps) {
+        Some(right) => right,
+        None => passes(alloc, places, steps) == Some(true),
+    }
+}
+
 #[test]
-fn one_after_the_other(rt: HostRuntime) -> Result<(), Fail> {
-    let mut service = service_again(rt.alloc())?;
-    ask_all_again(&rt, rt.alloc(), &mut service, OUT_OF_ORDER)
+fn one_after_the_other(rt: HostRuntime) {
+    for places in [1usize, 256] {
+        assert!(rt;
+            passes_in_the_end(rt.alloc(), places, OUT_OF_ORDER),
+            "{places}"
+        );
+    }
+}
+
+#[test]
+fn worked_row(rt: HostRuntime) {
+    for places in [1usize, 256] {
+        assert!(rt;
+            passes_in_the_end(rt.alloc(), places, PIECES_OUT_OF_ORDER),
+            "{places}"
+        );
+    }
 }
 
 /// Asks for an export by its length and its first byte, which says how many requests were accepted.
 const SHOW: &str = "1 9 export 1 0 1";
 
-/// What is shown where nothing was accepted, and where the profile and a folder were.
-const NOTHING: &str = "refused 3\n";
-
+/// What is shown if the profile and a folder were accepted, and if nothing was.
 const FOLDER: &str = "part 2 296 1\n\"";
 
-/// What the stored run prints where no request is refused for memory, and where one is; and what is shown then.
-const RUNS: [(&str, &str); 5] = [
+const NOTHING: &str = "refused 3\n";
+
+/// What the stored run prints, and what is shown then: if no request is refused for memory, if one is, and if there is no
+/// memory for the list of replies, so that no request was handled.
+const RUNS: &[(&str, &str)] = &[
     ("made 1\nnode 1\nnode 1\nrefused 2\n", FOLDER),
     ("refused 18\nrefused 3\nrefused 3\nrefused 3\n", NOTHING),
     ("made 1\nrefused 18\nnode 1\nrefused 2\n", FOLDER),
     ("made 1\nnode 1\nrefused 18\nrefused 2\n", FOLDER),
     ("made 1\nnode 1\nnode 1\nrefused 18\n", FOLDER),
+    ("", NOTHING),
 ];
 
-fn requests(rt: &impl Abort, alloc: Global, steps: &[Step]) -> Result<Vec<Frame>, AllocError> {
-    let mut frames = Vec::new(alloc);
-    for (line, _) in steps {
-        frames.push(frame_again(rt, alloc, line)?)?;
-    }
-    Ok(frames)
-}
-
-/// Prints the replies into this buffer, so that gathering them takes no memory; how many bytes they have.
-fn print_all(alloc: Global, replies: Vec<Reply>, buffer: &mut [u8]) -> Result<usize, Fail> {
-    let room = buffer.len();
-    let mut left = buffer;
+/// What these replies print, one after the other.
+fn print_all(alloc: Global, replies: Vec<Reply>) -> Option<Vec<u8>> {
+    let mut text = Vec::new(alloc);
     for reply in replies {
-        let printed = printed_again(alloc, reply)?;
-        left.write_all(printed.as_slice())?;
+        let line = printed(alloc, reply)?;
+        text.extend_from_slice(line.as_slice()).ok()?;
     }
-    Ok(room.saturating_sub(left.len()))
+    Some(text)
 }
 
-/// Runs the requests once, and says whether memory was refused to none. Where it was refused for the list of replies,
-/// no request was handled.
-fn runs_whole(
-    rt: &impl Abort,
-    alloc: Global,
-    service: &mut Service,
-    steps: &[Step],
-) -> Result<bool, Fail> {
-    let mut buffer = [0; 64];
-    let frames = requests(rt, alloc, steps).or_else(|_| requests(rt, alloc, steps))?;
-    match service.run(frames) {
-        Ok(replies) => {
-            let count = print_all(alloc, replies, &mut buffer)?;
-            let printed = &buffer[..count.min(64)];
-            let shown = ask_again(rt, alloc, service, SHOW)?;
-            let place = place_of(&RUNS, printed, shown.as_slice());
-            assert!(rt; place.is_some(), "{printed:?} {shown:?}");
-            Ok(place == Some(0))
-        }
-        Err(_) => {
-            let shown = ask_again(rt, alloc, service, SHOW)?;
-            assert!(rt; shown.as_slice() == NOTHING.as_bytes(), "{shown:?}");
-            Ok(false)
-        }
+/// What is shown now.
+fn show(alloc: Global, service: &mut Service) -> Option<Vec<u8>> {
+    let shown = answer(alloc, service, SHOW)?;
+    if shown.as_slice() == OUT_OF_MEMORY {
+        return answer(alloc, service, SHOW);
     }
+    Some(shown)
 }
 
-/// Asserts what comes of these steps in one run, of an empty service.
-fn is_run(rt: &impl Abort, alloc: Global, steps: &[Step]) -> Result<(), Fail> {
-    let mut service = service_again(alloc)?;
-    if !runs_whole(rt, alloc, &mut service, steps)? {
-        assert!(rt;
-            runs_whole(rt, alloc, &mut service, steps)?,
-            "memory was refused twice"
-        );
+/// Runs the requests: at which place of `RUNS` stands what comes of it, or past its end.
+fn place_of_run(alloc: Global, service: &mut Service, steps: &[Step<'_>]) -> Option<usize> {
+    let text = match service.run(frames_of(alloc, steps)?) {
+        Ok(replies) => print_all(alloc, replies)?,
+        Err(_) => Vec::new(alloc),
+    };
+    let shown = show(alloc, service)?;
+    for (place, row) in RUNS.iter().enumerate() {
+        let (printed, state) = *row;
+        if text.as_slice() == printed.as_bytes() && shown.as_slice() == state.as_bytes() {
+            return Some(place);
+        }
     }
-    Ok(())
+    Some(RUNS.len())
+}
+
+/// Whether an empty service runs the requests, at once or when they come again.
+fn is_run(alloc: Global, steps: &[Step<'_>]) -> Option<bool> {
+    let mut service = service(alloc, LARGEST, 256)?;
+    let first = place_of_run(alloc, &mut service, steps)?;
+    if first == 0 {
+        return Some(true);
+    }
+    let again = place_of_run(alloc, &mut service, steps)?;
+    Some(first < RUNS.len() && again == 0)
+}
+
+/// Begins anew if the test itself had no memory.
+fn is_run_in_the_end(alloc: Global, steps: &[Step<'_>]) -> bool {
+    match is_run(alloc, steps) {
+        Some(right) => right,
+        None => is_run(alloc, steps) == Some(true),
+    }
 }
 
 #[test]
-fn in_one_run(rt: HostRuntime) -> Result<(), Fail> {
-    is_run(&rt, rt.alloc(), &STORED)
+fn in_one_run(rt: HostRuntime) {
+    assert!(rt; is_run_in_the_end(rt.alloc(), STORED));
 }
 
 #[test]
-fn in_one_run_of_version_2(rt: HostRuntime) -> Result<(), Fail> {
-    is_run(&rt, rt.alloc(), &STORED_IN_2)
+fn in_one_run_of_version_2(rt: HostRuntime) {
+    assert!(rt; is_run_in_the_end(rt.alloc(), STORED_IN_2));
 }

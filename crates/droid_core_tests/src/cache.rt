@@ -1,0 +1,142 @@
+//! Which replies are cached: those that were used last, as many as there are places.
+
+use crate::steps::{CREATE, LARGEST, Step, is_answered, service};
+use droid_core::Service;
+use droid_pronom::Registry;
+use droid_pronom_sample::SAMPLE;
+use std::alloc::Global;
+
+/// How many of the replies under these numbers are cached.
+fn count_cached(service: &Service, numbers: &[u64]) -> usize {
+    let mut count = 0usize;
+    for number in numbers {
+        if service.is_cached(1, *number) & !service.is_cached(2, *number) {
+            count = count.saturating_add(1);
+        }
+    }
+    count
+}
+
+/// Asks for the folder of this number, which is made the first time: its reply is then cached.
+fn is_made(alloc: Global, service: &mut Service, number: u64, id: u64) -> bool {
+    let Ok(line) = format!(in alloc; "1 {number} folder 1 0 0 f{number}") else {
+        return false;
+    };
+    let Ok(wanted) = format!(in alloc; "node {id}\n") else {
+        return false;
+    };
+    is_answered(alloc, service, &(line.as_str(), wanted.as_str()))
+}
+
+/// How many places there are, the numbers that are used in turn, which of them are cached then, and which are not. A number
+/// that is used first is that of the next folder.
+type Use<'a> = (usize, &'a [u64], &'a [u64], &'a [u64]);
+
+const USED: &[Use] = &[
+    (1, &[1], &[1], &[2]),
+    (1, &[1, 2], &[2], &[1]),
+    (1, &[1, 2, 1], &[1], &[2]),
+    (2, &[1, 2], &[1, 2], &[3]),
+    (2, &[1, 2, 3], &[2, 3], &[1]),
+    (2, &[1, 2, 1, 3], &[1, 3], &[2]),
+    (3, &[1, 2, 3, 1, 2, 4, 1, 5], &[1, 4, 5], &[2, 3]),
+];
+
+/// The profile is made under another number of another client, which leaves the cache as the folders come.
+const PROFILE: Step = ("9 9 create 65536 0", "made 1\n");
+
+fn are_used(alloc: Global, used: &Use<'_>) -> bool {
+    let (places, numbers, near, far) = *used;
+    let Some(mut service) = service(alloc, LARGEST, places) else {
+        return false;
+    };
+    let mut right = is_answered(alloc, &mut service, &PROFILE);
+    for number in numbers {
+        right &= is_made(alloc, &mut service, *number, *number);
+    }
+    let gone = count_cached(&service, far) == 0;
+    let there = count_cached(&service, near) == near.len();
+    right & gone & there & (service.cached() <= places)
+}
+
+#[test]
+fn used_last(rt: HostRuntime) {
+    for used in USED {
+        assert!(rt; are_used(rt.alloc(), used), "{used:?}");
+    }
+}
+
+/// A step, a number under which a reply is cached after it, and one under which none is.
+type Turn<'a> = (Step<'a>, u64, u64);
+
+// In a cache of one place: what is accepted, what is read from the store, and what is neither, one after the other.
+const TURNS: &[Turn] = &[
+    (CREATE, 1, 2),
+    (("1 2 folder 1 0 0 in", "node 1\n"), 2, 1),
+    (CREATE, 1, 2),
+    (("1 2 folder 1 0 0 out", "refused 2\n"), 2, 1),
+    (("1 3 folder 1 0 0 in", "refused 9\n"), 2, 3),
+    (("1 3 export 1 0 2", "part 2 296 2\n\"I"), 2, 3),
+];
+
+fn is_put(alloc: Global, service: &mut Service, turn: &Turn<'_>) -> bool {
+    let (step, near, far) = *turn;
+    let right = is_answered(alloc, service, &step);
+    let there = service.is_cached(1, near) & !service.is_cached(2, near);
+    let gone = !service.is_cached(1, far);
+    right & there & gone
+}
+
+/// A reply is cached if its request was accepted, and if it was read from the store.
+#[test]
+fn cached(rt: HostRuntime) {
+    let mut service = service(rt.alloc(), LARGEST, 1).expect(&rt, "a service");
+    for turn in TURNS {
+        assert!(rt; is_put(rt.alloc(), &mut service, turn));
+    }
+}
+
+/// What is asked after a profile and 256 folders: the first of all again, the last, the first folder, and another profile
+/// under the first number.
+const LATER: &[Step] = &[
+    CREATE,
+    ("1 257 folder 1 0 0 f257", "node 256\n"),
+    ("1 2 folder 1 0 0 f2", "node 1\n"),
+    ("1 1 create 65535 0", "refused 2\n"),
+];
+
+/// One more request is accepted than a service caches, so the first is not cached when it comes again.
+fn are_answered(alloc: Global, service: &mut Service) -> bool {
+    let mut right = is_answered(alloc, service, &CREATE);
+    for id in 1..257u64 {
+        right &= is_made(alloc, service, id.saturating_add(1), id);
+    }
+    for step in LATER {
+        right &= is_answered(alloc, service, step);
+    }
+    right
+}
+
+#[test]
+fn more_than_are_cached(rt: HostRuntime) {
+    for places in [1usize, 256] {
+        let mut service = service(rt.alloc(), LARGEST, places).expect(&rt, "a service");
+        assert!(rt; are_answered(rt.alloc(), &mut service));
+        assert!(rt; service.cached() == places);
+    }
+}
+
+/// A service that says nothing of its cache has 256 places.
+#[test]
+fn usual_size(rt: HostRuntime) {
+    let alloc = rt.alloc();
+    let registry = Registry::parse(alloc, SAMPLE.as_bytes())
+        .ok()
+        .expect(&rt, "a registry");
+    let mut service = Service::new(alloc, registry, LARGEST)
+        .ok()
+        .expect(&rt, "a service");
+    assert!(rt; service.cached() == 0);
+    assert!(rt; are_answered(alloc, &mut service));
+    assert!(rt; service.cached() == 256);
+}
