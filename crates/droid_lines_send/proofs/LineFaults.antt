@@ -1,5 +1,5 @@
 -- What a line's fault says of each stream: the line's item was done whole there, or less than it.
-use Rattle.std.proofs.Common.{◌≡◌, ℕ, List, [], Option, Some, None, Result, Err, IsErrOf, append-nil, sym, subst, arith, inl, inr}
+use Rattle.std.proofs.Common.{◌≡◌, ◌<◌, ◌+◌, ℕ, List, [], ◌∷◌, length, length-append, Option, Some, None, Result, Err, IsErrOf, append-nil, sym, subst, arith, inl, inr}
 use Rattle.std.specs.Prelude.{◌⊎◌}
 use Rattle.std.specs.Io.KnownBytes.{Appends, Consumes, Keeps}
 use Rattle.droid_frame.specs.InTurn.{Effect, ReportsFaultInOne}
@@ -9,7 +9,7 @@ use Rattle.droid_frame.specs.declared.stream.fault.FrameFault.TheVariants.{Read}
 use Rattle.droid_frame.specs.stream_types.seen.Seen.{Seen}
 use Rattle.droid_frame.specs.types.frame.Frame.{Frame}
 use Rattle.droid_frame.specs.types.reply.Reply.{Reply}
-use Rattle.droid_lines.specs.Printed.{answer_line}
+use Rattle.droid_lines.specs.Printed.{answer_line, answer_text, following_bytes}
 use Rattle.droid_lines.specs.declared.parser.VersionedRequest.{VersionedRequest}
 use Rattle.droid_lines.specs.Lines.{request_value}
 use Rattle.droid_wire_client.specs.Cores.{Core, next_frame}
@@ -22,15 +22,15 @@ use Rattle.droid_frame.specs.Frames.{frame_bytes}
 
 -- ---- of a line that was sent
 
-pub came_of : Option Exchange → Option Frame
+abbrev pub came_of : Option Exchange → Option Frame
 came_of None = None
 came_of (Some exchange) = Some exchange.came
 
-pub sent_of : Option Exchange → Option Frame
+abbrev pub sent_of : Option Exchange → Option Frame
 sent_of None = None
 sent_of (Some exchange) = Some exchange.sent
 
-pub reply_of : Option Exchange → Option Reply
+abbrev pub reply_of : Option Exchange → Option Reply
 reply_of None = None
 reply_of (Some exchange) = Some exchange.reply
 
@@ -142,8 +142,13 @@ frames_in_one {S} {T} seen contents from to fault core line input left old_text 
 
 -- ---- what lines print
 
+line_is_some : 0 < length (answer_line None)
+line_is_some =
+    let size : length (answer_line None) ≡ length (answer_text None) + length (10 ∷ following_bytes None) = length-append (answer_text None) (10 ∷ following_bytes None) in
+    omega (arith, size)
+
 keeps_front : (old new : Option (List ℕ)) → Keeps old new → WritesFront old new (answer_line None)
-keeps_front old new keeps = record { count = 0; some_left = omega arith; writes = keeps_nothing old new keeps }
+keeps_front old new keeps = record { count = 0; some_left = line_is_some; writes = keeps_nothing old new keeps }
 
 line_printed : {S T : Type 0} (contents : S → Option (List ℕ)) (from to : S) (fault : SendFault) (core : Core) (line : List ℕ) (input left old_frames new_frames : Option (List ℕ)) (after : Core)
     → LineStops fault core line input left old_frames new_frames (contents from) (contents to) after → Done (WritesPrinted contents) from to (Is T fault Text)

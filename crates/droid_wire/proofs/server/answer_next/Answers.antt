@@ -97,7 +97,7 @@ pub returns-clause-write_fault : goal.returns-clause-write_fault
 returns-clause-write_fault g c = λ sound endless. (
   inr (inr (
     ((c.in-Frame.frame, c.handle-reply.result), _, c.handle-reply.ensures.spelled, c.in-Err.ensures.err),
-    endless_write _ _ _ _ _ endless (c.in-Err.ensures.failed sound) refl (_, refl),
+    endless_write _ _ _ _ _ _ endless (c.in-Err.ensures.failed sound) refl (_, refl),
   )),
   room_stays _ _ (rw endless at c.in-Err.ensures.room_err),
 )
