@@ -3,7 +3,7 @@ use Rattle.std.proofs.Common.{◌≡◌, ◌≢◌, Bool, true, false, [], ◌�
 use Rattle.std.specs.Prelude.{MatchBool, IsSome, ⊤}
 use Rattle.droid_frame.specs.types.frame.Frame.{Frame}
 use Rattle.droid_frame.specs.types.refusal.Refusal.{Refusal}
-use Rattle.droid_frame.specs.types.refusal.Refusal.TheVariants.{Malformed, Memory, Store}
+use Rattle.droid_frame.specs.types.refusal.Refusal.TheVariants.{Malformed, Store}
 use Rattle.droid_frame.specs.types.reply.Reply.{Reply}
 use Rattle.droid_frame.specs.types.reply.Reply.TheVariants.{Refused}
 use Rattle.droid_frame.specs.types.request.Request.{Request}
@@ -77,9 +77,6 @@ out_of_memory false P Q is it = absurd cc
 pub handles_want : (setting : Setting) (service : Holdings) (history : History) (frame : Frame) (refusal : Refusal) → IsSome (command frame) → IsTrue (is_out_of_memory_of refusal) → Stand setting service history
     → Handles setting history frame (Refused refusal) (Stand setting service)
 handles_want setting service history frame refusal asked failure stands = out_of_memory (is_out_of_memory_of refusal) _ _ failure (asked, stands)
-
-pub handles_out_of_memory : (setting : Setting) (history : History) (frame : Frame) (request : Request) (reply : Reply) (Stands : History → Type 0) → reply ≡ Refused Memory → command frame ≡ Some request → Stands history → Handles setting history frame reply Stands
-handles_out_of_memory setting history frame request reply Stands is asked stands = rw is (some_is_some frame request asked, stands)
 
 -- that the database refused for another cause than memory is never the answer
 pub never_store : (setting : Setting) (history : History) (frame : Frame) (reply : Reply) (Stands : History → Type 0) → IsLegal setting history → Handles setting history frame reply Stands → reply ≢ Refused Store

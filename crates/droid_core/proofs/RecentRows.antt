@@ -1,5 +1,5 @@
 -- The cached rows stay the history's, whatever is looked up or cached.
-use Rattle.std.proofs.Common.{◌≡◌, ℕ, Bool, true, false, nat_eq, ◌⊎◌, IsTrue, IsSome, is_some, inl, inr, List, [], Contains, IfSome, Option, Some, None, option_map, refl, sym, ap, subst, arith}
+use Rattle.std.proofs.Common.{◌≡◌, ℕ, Bool, true, nat_eq, ◌⊎◌, IsTrue, IsSome, is_some, inl, inr, List, [], Contains, IfSome, Option, Some, None, option_map, refl, sym, ap, subst, arith}
 use Rattle.std.specs.Prelude.{Result, Ok, Err, OnOk, OnErr}
 use Rattle.std.specs.Map.{lookup}
 use Rattle.std.proofs.lemmas.Bool.{and_parts, eqb-true}

@@ -1,4 +1,4 @@
-use Rattle.std.proofs.Common.{◌≡◌, IsTrue, refl, sym, subst, ap, ◌∙◌}
+use Rattle.std.proofs.Common.{◌≡◌, IsTrue, sym, subst, ap, ◌∙◌}
 use Rattle.droid_frame.specs.Replies.{HasReplySpelling}
 use Rattle.droid_frame.specs.types.reply.Reply.{Reply}
 use Rattle.droid_core_spec.specs.Histories.{world_of}
@@ -6,7 +6,6 @@ use Rattle.droid_core_spec.specs.Judging.{judge}
 use Rattle.droid_core_requests.specs.Standing.{limits_given}
 use Rattle.droid_core_requests.specs.Changes.{Comes, answered}
 use Rattle.droid_core_requests.specs.KeptTexts.{is_followed}
-use Rattle.droid_core.specs.Cached.{KeepsText}
 use Rattle.droid_core.specs.declared.service.Service.{Service}
 use Rattle.droid_core.proofs.FollowedTexts.{is_query, still_for}
 use Rattle.droid_core.proofs.Handling.{answers_anew}
