@@ -16,6 +16,8 @@ EVERYDAY = os.path.join(TOP, "registries", "common.csv")
 MOST_CONNECTIONS = 1_000
 # this many requests are sent before their replies are read
 BATCH = 1_000
+# `run` and `serve` print this first on standard error where they have the sample registry
+SAMPLE_NOTE = b"registry: the sample of four invented formats, for trying: use --everyday or --registry FILE for real ones\n"
 
 
 def preloaded(library, **variables):
@@ -24,12 +26,18 @@ def preloaded(library, **variables):
     return os.environ | {"LD_PRELOAD": os.environ[f"PRELOAD_{library}"]} | found
 
 
+def without_note(err):
+    """Removes the note on the sample registry from the front of a standard error."""
+    return err.removeprefix(SAMPLE_NOTE)
+
+
 def run(arguments, given=b"", out=subprocess.PIPE, env=None):
-    """Runs the program over these bytes: its status, its standard output, and its standard error as text."""
+    """Runs the program over these bytes: its status, its standard output, and its standard error as text, without the note
+    on the sample registry."""
     done = subprocess.run(
         [PROGRAM, *map(str, arguments)], input=given, stdout=out, stderr=subprocess.PIPE, timeout=SECONDS, env=env
     )
-    return done.returncode, done.stdout, done.stderr.decode("ascii")
+    return done.returncode, done.stdout, without_note(done.stderr).decode("ascii")
 
 
 def send(port, client, lines, first=None, env=None):
@@ -73,6 +81,7 @@ class Serve:
             self.process.kill()
         out, err = self.process.communicate(timeout=SECONDS)
         if not is_killed:
+            err = without_note(err)
             assert (self.process.returncode, out, err) == (0, b"", b""), (self.process.returncode, out, err)
 
 

@@ -7,7 +7,7 @@ from typing import NamedTuple
 
 from lib.connections import SECONDS
 from lib.frames import HEADER
-from lib.program import PROGRAM
+from lib.program import PROGRAM, without_note
 
 REFUSING = os.environ["REFUSING"]
 COUNTS_FILE = os.path.join(os.path.dirname(REFUSING), "counts")
@@ -46,7 +46,7 @@ def run_over(frames, options=(), **variables):
         timeout=4 * SECONDS,
         env={"LD_PRELOAD": REFUSING, **{name: str(value) for name, value in variables.items()}},
     )
-    return done.returncode, done.stdout, done.stderr.decode("ascii")
+    return done.returncode, done.stdout, without_note(done.stderr).decode("ascii")
 
 
 def counted(frames, options=()):

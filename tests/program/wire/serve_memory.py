@@ -7,7 +7,7 @@ import unittest
 
 from lib.connections import SECONDS, exchange, free_port
 from lib.frames import LIMITS, in_version, refusal
-from lib.program import PROGRAM, preloaded
+from lib.program import PROGRAM, preloaded, without_note
 from run_command import REPLIES, SESSION, session_in
 
 CONNECTIONS = 3
@@ -34,7 +34,7 @@ def served(requests, **variables):
         is_there = service.stdout.readline() == b"listening %d\n" % port
         came = [exchange(port, requests, len(REPLIES) + 1) for _ in range(CONNECTIONS)] if is_there else []
         _, said = service.communicate(timeout=SECONDS)
-    return service.returncode, said, came
+    return service.returncode, without_note(said), came
 
 
 class ServeMemory(unittest.TestCase):
