@@ -16,6 +16,8 @@ EVERYDAY = os.path.join(TOP, "registries", "common.csv")
 MOST_CONNECTIONS = 1_000
 # this many requests are sent before their replies are read
 BATCH = 1_000
+# `run` and `serve` print this first on standard error where they have the sample registry
+SAMPLE_NOTE = b"registry: the sample of four invented formats, for trying: use --everyday or --registry FILE for real ones\n"
 
 
 def preloaded(library, **variables):

@@ -10,7 +10,7 @@ import unittest
 from lib import frames
 from lib.connections import SECONDS, free_port
 from lib.frames import HEADER, LIMITS, create, file, finish, folder, frame, in_version, refusal, reply
-from lib.program import PROGRAM, faults, run
+from lib.program import PROGRAM, SAMPLE, SAMPLE_NOTE, faults, run
 
 CREATE = create(1)
 FOLDER, OTHER_FOLDER = folder(2, b"in"), folder(2, b"out")
@@ -133,6 +133,12 @@ class Registries(unittest.TestCase):
                     with self.subTest(command=command, name=name):
                         ended = run([*command, "--registry", path], b"no frame")
                         self.assertEqual(ended, (3, b"", fault(name)))
+
+    def test_the_sample_is_noted(self):
+        """Only where no registry is named."""
+        for options, note in (([], SAMPLE_NOTE), (["--registry", SAMPLE], b"")):
+            done = subprocess.run([PROGRAM, "run", *options], stdin=subprocess.DEVNULL, capture_output=True, timeout=SECONDS)
+            self.assertEqual((done.returncode, done.stdout, done.stderr), (0, b"", note))
 
     def test_files_are_identified_by_it(self):
         requests = CREATE + file(2, b"e.txt", 0, 4) + finish(3, 1)
