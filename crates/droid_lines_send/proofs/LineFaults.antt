@@ -1,10 +1,9 @@
 -- What a line's fault says of each stream: the line's item was done whole there, or less than it.
-use Rattle.std.proofs.Common.{◌≡◌, ◌<◌, ◌+◌, ℕ, List, [], ◌∷◌, length, length-append, Option, Some, None, Result, Err, IsErrOf, append-nil, sym, subst, arith, inl, inr}
+use Rattle.std.proofs.Common.{◌≡◌, ◌<◌, ◌+◌, ℕ, List, [], ◌∷◌, length, length-append, Option, Some, None, Err, IsErrOf, append-nil, sym, subst, arith, inl, inr}
 use Rattle.std.specs.Prelude.{◌⊎◌}
 use Rattle.std.specs.Io.KnownBytes.{Appends, Consumes, Keeps}
 use Rattle.droid_frame.specs.InTurn.{Effect, ReportsFaultInOne}
 use Rattle.droid_frame.specs.Seen.{ReportsFault}
-use Rattle.droid_frame.specs.StreamReads.{ReadsNoFrame}
 use Rattle.droid_frame.specs.declared.stream.fault.FrameFault.TheVariants.{Read}
 use Rattle.droid_frame.specs.stream_types.seen.Seen.{Seen}
 use Rattle.droid_frame.specs.types.frame.Frame.{Frame}
@@ -15,10 +14,9 @@ use Rattle.droid_lines.specs.Lines.{request_value}
 use Rattle.droid_wire_client.specs.Cores.{Core, next_frame}
 use Rattle.droid_lines_send.specs.Along.{ReadsReply, WritesPrinted, WritesRequest, line_frame}
 use Rattle.droid_lines_send.specs.Exchanges.{Exchange, came_bytes, printed, sent_bytes}
-use Rattle.droid_lines_send.specs.Stopping.{LineStops, RequestStops, StopsAt, WritesFront}
+use Rattle.droid_lines_send.specs.Stopping.{LineStops, RequestStops, WritesFront}
 use Rattle.droid_lines_send.specs.declared.send_fault.SendFault.{SendFault}
 use Rattle.droid_lines_send.specs.declared.send_fault.SendFault.TheVariants.{Lines, Memory, NumbersUsedUp, Frames, Closed, Replies, Malformed, Stranger, Repeated, Text}
-use Rattle.droid_frame.specs.Frames.{frame_bytes}
 
 -- ---- of a line that was sent
 

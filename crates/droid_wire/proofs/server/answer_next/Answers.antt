@@ -3,7 +3,7 @@ use Rattle.std.specs.Prelude.{IsErrAnd, IsErrOf}
 use Rattle.droid_frame.proofs.Stopping.{room_stays}
 use Rattle.droid_frame.specs.InTurn.{ReportsFaultInOne}
 use Rattle.droid_frame.specs.declared.stream.fault.FrameFault.TheVariants.{Read}
-use Rattle.droid_wire.specs.Turns.{ReadsFrame, WritesReply}
+use Rattle.droid_wire.specs.Turns.{ReadsFrame}
 use Rattle.droid_wire.specs.declared.serve_fault.ServeFault.{ServeFault}
 use Rattle.droid_wire.specs.declared.serve_fault.ServeFault.TheVariants as faults
 use Rattle.droid_wire.proofs.Passing.{frame_fault, if_err_same, no_write_fault, serve_fault}
