@@ -17,9 +17,11 @@ use crate::watcher::Watcher;
 use droid_frame::{Request, Text};
 use std::alloc::Global;
 
-/// The folder that gets a file, and how the file is sent.
+/// The folder of a profile that gets entries, and how their files are sent.
 #[derive(Clone, Copy)]
-pub(crate) struct Into {
+pub(crate) struct Destination {
+    /// The allocator.
+    pub alloc: Global,
     /// The number of the profile.
     pub profile: u32,
     /// The number of the folder.
@@ -32,11 +34,10 @@ pub(crate) struct Into {
 
 /// Submits one file. Returns whether it is in the profile; if not, the watcher is told why.
 pub(crate) fn take_file<T: Tree, X: Exchange, W: Watcher>(
-    alloc: Global,
     tree: &mut T,
     exchange: &mut X,
     watcher: &mut W,
-    into: Into,
+    into: Destination,
     path: &str,
     name: &str,
     entry: &FolderEntry,
@@ -44,25 +45,26 @@ pub(crate) fn take_file<T: Tree, X: Exchange, W: Watcher>(
     ensures { IfOk result (λ taken. (folder : PendingFolder) (waiting : List PendingFolder) → path.now ≡ below folder.path entry.now.name → into.folder ≡ folder.number → name.now ≡ entry.now.name → entry.now.kind ≡ kinds.File →
         TakesKid T.observes X.asks W.hears into.goes_on into.profile into.piece_size folder entry.now taken tree.old tree.new exchange.old exchange.new watcher.old watcher.new waiting waiting) }
 {
-    let Some(file) = announce(alloc, exchange, watcher, into, path, name, entry)? else {
+    let Some(file) = announce(exchange, watcher, into, path, name, entry)? else {
         return Ok(false);
     };
-    let status = resume_file(alloc, exchange, watcher, into, path, file, entry.len)?;
+    let status = resume_file(exchange, watcher, into, path, file, entry.len)?;
     let to = Target {
+        alloc: into.alloc,
         profile: into.profile,
         file,
         piece_size: into.piece_size,
         size: entry.len,
         first: status.unwrap_or(0),
     };
-    match send_pieces(alloc, tree, exchange, watcher, to, path)? {
+    match send_pieces(tree, exchange, watcher, to, path)? {
         Ok(()) => {
-            let found = finish(alloc, exchange, into.profile, file)?;
+            let found = finish(into.alloc, exchange, into.profile, file)?;
             watcher.took_file(path, &found);
             Ok(true)
         }
         Err(why) => {
-            give_up(alloc, exchange, into.profile, file)?;
+            give_up(into.alloc, exchange, into.profile, file)?;
             watcher.skipped(path.as_bytes(), why);
             Ok(false)
         }
@@ -72,10 +74,9 @@ pub(crate) fn take_file<T: Tree, X: Exchange, W: Watcher>(
 /// Sends Status for a new file in a resumed walk, and returns the first missing piece. Skipped for empty files, and
 /// when the exchange does not ask for it.
 fn resume_file<X: Exchange, W: Watcher>(
-    alloc: Global,
     exchange: &mut X,
     watcher: &mut W,
-    into: Into,
+    into: Destination,
     path: &str,
     file: u32,
     size: u64,
@@ -91,7 +92,7 @@ fn resume_file<X: Exchange, W: Watcher>(
     if !exchange.wants_status() {
         return Ok(None);
     }
-    let first = ask_status(alloc, exchange, into.profile, file)?;
+    let first = ask_status(into.alloc, exchange, into.profile, file)?;
     let held = begin_of(into.piece_size, size, first);
     watcher.held(path, held);
     Ok(Some(first))
@@ -100,10 +101,9 @@ fn resume_file<X: Exchange, W: Watcher>(
 /// Sends AddFile and returns the file's number, or `None` if the service refuses it. A refusal is reported to the
 /// watcher.
 fn announce<X: Exchange, W: Watcher>(
-    alloc: Global,
     exchange: &mut X,
     watcher: &mut W,
-    into: Into,
+    into: Destination,
     path: &str,
     name: &str,
     entry: &FolderEntry,
@@ -117,8 +117,8 @@ fn announce<X: Exchange, W: Watcher>(
         modified: entry.modified,
         size: entry.len,
         piece_size: into.piece_size,
-        name: Text::copy_of(alloc, name)?,
+        name: Text::copy_of(into.alloc, name)?,
     };
-    let number = add_node(alloc, exchange, watcher, path, &request)?;
+    let number = add_node(into.alloc, exchange, watcher, path, &request)?;
     Ok(number)
 }

@@ -10,7 +10,7 @@ ghost use Rattle.droid_tree.specs.declared.pending_folder.PendingFolder.{Pending
 
 use crate::exchange::Exchange;
 use crate::fault::WalkFault;
-use crate::files::{Into, take_file};
+use crate::files::{Destination, take_file};
 use crate::folder_entry::{EntryKind, FolderEntry};
 use crate::listing::{name_of, read_folder};
 use crate::pending_folder::{PendingFolder, add_pending, path_below};
@@ -24,23 +24,20 @@ use std::collections::VecDeque;
 
 /// Submits the entries of a folder and appends its subfolders to `pending`. Returns whether no entry was skipped.
 pub(crate) fn take_folder<T: Tree, X: Exchange, W: Watcher>(
-    alloc: Global,
     tree: &mut T,
     exchange: &mut X,
     watcher: &mut W,
-    into: Into,
+    into: Destination,
     folder: &PendingFolder,
     pending: &mut VecDeque<PendingFolder>,
 ) -> Result<bool, WalkFault>
     ensures { IfOk result (λ whole. into.folder ≡ folder.now.number →
         TakesVisit T.observes X.asks W.hears into.goes_on into.profile into.piece_size folder.now whole tree.old tree.new exchange.old exchange.new watcher.old watcher.new pending.old.items pending.new.items) }
 {
-    match read_folder(alloc, tree, folder.path.as_str())? {
+    match read_folder(into.alloc, tree, folder.path.as_str())? {
         Ok(entries) => {
             let entries = entries.as_slice();
-            let whole = take_entries(
-                alloc, tree, exchange, watcher, into, folder, entries, pending,
-            )?;
+            let whole = take_entries(tree, exchange, watcher, into, folder, entries, pending)?;
             Ok(whole)
         }
         Err(why) => {
@@ -52,11 +49,10 @@ pub(crate) fn take_folder<T: Tree, X: Exchange, W: Watcher>(
 
 /// Submits these entries of a folder.
 fn take_entries<T: Tree, X: Exchange, W: Watcher>(
-    alloc: Global,
     tree: &mut T,
     exchange: &mut X,
     watcher: &mut W,
-    into: Into,
+    into: Destination,
     folder: &PendingFolder,
     entries: &[FolderEntry],
     pending: &mut VecDeque<PendingFolder>,
@@ -66,7 +62,7 @@ fn take_entries<T: Tree, X: Exchange, W: Watcher>(
 {
     let mut whole = true;
     for entry in entries {
-        let taken = take_entry(alloc, tree, exchange, watcher, into, folder, entry, pending)?;
+        let taken = take_entry(tree, exchange, watcher, into, folder, entry, pending)?;
         whole = both(whole, taken);
     }
     Ok(whole)
@@ -81,11 +77,10 @@ pub(crate) fn both(first: bool, second: bool) -> bool
 
 /// Submits one entry, or reports to the watcher why it is skipped.
 fn take_entry<T: Tree, X: Exchange, W: Watcher>(
-    alloc: Global,
     tree: &mut T,
     exchange: &mut X,
     watcher: &mut W,
-    into: Into,
+    into: Destination,
     folder: &PendingFolder,
     entry: &FolderEntry,
     pending: &mut VecDeque<PendingFolder>,
@@ -94,18 +89,18 @@ fn take_entry<T: Tree, X: Exchange, W: Watcher>(
         TakesKid T.observes X.asks W.hears into.goes_on into.profile into.piece_size folder.now entry.now taken tree.old tree.new exchange.old exchange.new watcher.old watcher.new pending.old.items pending.new.items) }
 {
     let Some(name) = name_of(entry) else {
-        report_below(alloc, watcher, folder, entry, Skipped::Name)?;
+        report_below(into.alloc, watcher, folder, entry, Skipped::Name)?;
         return Ok(false);
     };
-    let path = path_below(alloc, folder.path.as_str(), name)?;
+    let path = path_below(into.alloc, folder.path.as_str(), name)?;
     match entry.kind {
         EntryKind::Folder => {
-            let taken = add_folder(alloc, exchange, watcher, into, path, name, entry, pending)?;
+            let taken = add_folder(exchange, watcher, into, path, name, entry, pending)?;
             Ok(taken)
         }
         EntryKind::File => {
             let path = path.as_str();
-            let taken = take_file(alloc, tree, exchange, watcher, into, path, name, entry)?;
+            let taken = take_file(tree, exchange, watcher, into, path, name, entry)?;
             Ok(taken)
         }
         EntryKind::Other => {
@@ -134,10 +129,9 @@ fn report_below<W: Watcher>(
 
 /// Adds a folder to the profile and appends it to `pending`.
 fn add_folder<X: Exchange, W: Watcher>(
-    alloc: Global,
     exchange: &mut X,
     watcher: &mut W,
-    into: Into,
+    into: Destination,
     path: Text,
     name: &str,
     entry: &FolderEntry,
@@ -146,7 +140,7 @@ fn add_folder<X: Exchange, W: Watcher>(
     ensures { IfOk result (λ taken. (folder : PendingFolder) → path ≡ below folder.path entry.now.name → into.folder ≡ folder.number → name.now ≡ entry.now.name → entry.now.kind ≡ kinds.Folder →
         AddsFolder X.asks W.hears into.goes_on into.profile into.piece_size folder entry.now taken exchange.old exchange.new watcher.old watcher.new pending.old.items pending.new.items) }
 {
-    match announce(alloc, exchange, watcher, into, path.as_str(), name, entry)? {
+    match announce(exchange, watcher, into, path.as_str(), name, entry)? {
         Some(number) => {
             watcher.took_folder(path.as_str());
             add_pending(pending, path, number)?;
@@ -159,10 +153,9 @@ fn add_folder<X: Exchange, W: Watcher>(
 /// Sends AddFolder and returns the folder's number, or `None` if the service refuses it. A refusal is reported to the
 /// watcher.
 fn announce<X: Exchange, W: Watcher>(
-    alloc: Global,
     exchange: &mut X,
     watcher: &mut W,
-    into: Into,
+    into: Destination,
     path: &str,
     name: &str,
     entry: &FolderEntry,
@@ -174,8 +167,8 @@ fn announce<X: Exchange, W: Watcher>(
         profile: into.profile,
         parent: into.folder,
         modified: entry.modified,
-        name: Text::copy_of(alloc, name)?,
+        name: Text::copy_of(into.alloc, name)?,
     };
-    let number = add_node(alloc, exchange, watcher, path, &request)?;
+    let number = add_node(into.alloc, exchange, watcher, path, &request)?;
     Ok(number)
 }

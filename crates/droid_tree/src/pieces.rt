@@ -25,6 +25,8 @@ const PIECE: u8 = 4;
 /// A file of a profile, and how it is sent.
 #[derive(Clone, Copy)]
 pub(crate) struct Target {
+    /// The allocator.
+    pub alloc: Global,
     /// The number of the profile.
     pub profile: u32,
     /// The number of the file.
@@ -40,7 +42,6 @@ pub(crate) struct Target {
 /// Reads a file from its first piece to send and sends each piece before it reads the next. The inner error says that
 /// the file is unreadable or that its length changed; the remaining pieces are then not sent.
 pub(crate) fn send_pieces<T: Tree, X: Exchange, W: Watcher>(
-    alloc: Global,
     tree: &mut T,
     exchange: &mut X,
     watcher: &mut W,
@@ -55,10 +56,10 @@ pub(crate) fn send_pieces<T: Tree, X: Exchange, W: Watcher>(
     for index in to.first..u32::MAX {
         let wanted = next_len(to.size, from, to.piece_size);
         if wanted == 0 {
-            let ended = ends_here(alloc, tree, path, from, to.size)?;
+            let ended = ends_here(to.alloc, tree, path, from, to.size)?;
             return Ok(ended);
         }
-        match send_piece(alloc, tree, exchange, to, path, index, from, wanted)? {
+        match send_piece(tree, exchange, to, path, index, from, wanted)? {
             Ok(_held) => from += u64::from(wanted),
             Err(why) => return Ok(Err(why)),
         }
@@ -127,7 +128,6 @@ fn none_more(more: &[u8]) -> Result<(), Skipped>
 /// Reads one piece, sends it, and returns how many pieces the service then holds. The piece's bytes exist once in
 /// memory: in the body of the request.
 fn send_piece<T: Tree, X: Exchange>(
-    alloc: Global,
     tree: &mut T,
     exchange: &mut X,
     to: Target,
@@ -140,7 +140,7 @@ fn send_piece<T: Tree, X: Exchange>(
         (λ held. SendsPiece T.observes X.asks to.profile to.file index path.now from wanted held tree.old tree.new exchange.old exchange.new)
         (λ why. StopsAt T.observes (IsShort wanted) path.now from why tree.old tree.new × (exchange.new ≡ exchange.old))) }
 {
-    let mut body = begun_body(alloc, to.profile, to.file, index, wanted)?;
+    let mut body = begun_body(to.alloc, to.profile, to.file, index, wanted)?;
     match read_piece(tree, path, from, wanted, &mut body)? {
         Ok(()) => {
             let body = whole_body(body);

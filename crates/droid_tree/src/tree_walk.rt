@@ -5,7 +5,7 @@ ghost use Rattle.droid_tree.specs.Walks.{Walks, WalksOn, WalksWhole, top};
 
 use crate::exchange::Exchange;
 use crate::fault::WalkFault;
-use crate::files::Into;
+use crate::files::Destination;
 use crate::folders::{both, take_folder};
 use crate::pending_folder::{PendingFolder, add_pending};
 use crate::service_requests::make_profile;
@@ -104,13 +104,14 @@ fn walk_by<T: Tree, X: Exchange, W: Watcher>(
         let Some(folder) = pending.pop_front() else {
             return Ok(Walked { profile, whole });
         };
-        let into = Into {
+        let into = Destination {
+            alloc,
             profile,
             folder: folder.number,
             piece_size: options.piece_size,
             goes_on,
         };
-        let taken = take_folder(alloc, tree, exchange, watcher, into, &folder, &mut pending)?;
+        let taken = take_folder(tree, exchange, watcher, into, &folder, &mut pending)?;
         whole = both(whole, taken);
     }
     Err(WalkFault::Folders)

@@ -16,7 +16,7 @@ use std::collections::VecDeque;
 /// How many new connections in a row may fail before a reply comes.
 const TRIES: u32 = 10;
 
-/// How many frames may be in flight.
+/// How many frames may be in flight. A service refuses a piece that is sixteen or more ahead of the first missing one.
 const IN_FLIGHT_LIMIT: usize = 16;
 
 /// A connection, and the frames in flight, in order. After the connection broke, the next read makes a new one and
