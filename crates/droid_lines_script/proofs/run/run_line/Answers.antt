@@ -44,7 +44,7 @@ returns-clause-all g c = λ setting history stands.
     (c.in_ok-answer.ensures.ok setting history stands) (subst (Appends old new) text c.in_ok-write_all.ensures.ok)
 
 pub returns-in_err-answer-clause-reported : goal.returns-in_err-answer-clause-reported
-returns-in_err-answer-clause-reported g c = λ sound endless. (inr (inl (refl, of_memory _ c.from_residual-in_err-answer.ensures.1)), endless)
+returns-in_err-answer-clause-reported g c = λ sound endless. (inr (inl (refl, of_memory _ c.from_residual.ensures.1)), endless)
 
 pub returns-in_err-printed-clause-reported : goal.returns-in_err-printed-clause-reported
 returns-in_err-printed-clause-reported g c = λ sound endless. (inr (inl (refl, of_memory _ c.from_residual-in_err-printed.ensures.1)), endless)
