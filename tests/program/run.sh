@@ -58,6 +58,7 @@ part sh "$tests/model.sh"
 part sh "$tests/random.sh" "$program"
 part sh "$tests/sizes.sh" "$program"
 part sh "$tests/folders/run.sh" "$program"
+part python3 -S -B "$tests/identification.py" "$program"
 part python3 "$tests/install.py" "$program"
 # (0 unless it was ended)
 wait "$!" || echo failed >>"$work/ended"

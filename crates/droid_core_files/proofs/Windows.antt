@@ -4,7 +4,7 @@ use Rattle.std.proofs.lemmas.List.{length-take}
 use Rattle.droid_assembly.specs.Pieces.{first_window, last_window}
 use Rattle.droid_pronom.specs.Found.{IsFound}
 use Rattle.droid_pronom.specs.Registry.{Contents}
-use Rattle.droid_pronom.specs.types.found.Found.{Found}
+use Rattle.droid_pronom.specs.types.identification.Found.{Found}
 
 take_own : (n : ℕ) (bytes : List ℕ) → take (length (take n bytes)) bytes ≡ take n bytes
 take_own zero [] = refl

@@ -17,7 +17,7 @@ use Rattle.droid_core_spec.specs.Setting.{Setting}
 use Rattle.droid_core_spec.specs.MemoryFaults.{is_out_of_memory, is_out_of_memory_of}
 use Rattle.droid_core_spec.specs.World.{Content, File, Profile, World}
 use Rattle.droid_pronom.specs.Found.{Hits, IsFound}
-use Rattle.droid_pronom.specs.types.found.Found.{Found}
+use Rattle.droid_pronom.specs.types.identification.Found.{Found}
 use Rattle.droid_pronom.proofs.FoundOnce.{found_once}
 use Rattle.droid_core_state.specs.Rows.{with_finding, KeepsWorld}
 use Rattle.droid_core_state.proofs.Finished.{file_finished}

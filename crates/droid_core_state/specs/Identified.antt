@@ -4,7 +4,7 @@ use Rattle.droid_frame.specs.types.filter.Filter.{Filter}
 use Rattle.droid_frame.specs.types.hash_kind.HashKind.{HashKind}
 use Rattle.droid_frame.specs.types.record.Record.{Record}
 use Rattle.droid_export.specs.Text.{text}
-use Rattle.droid_pronom.specs.types.found.Found.{Found}
+use Rattle.droid_pronom.specs.types.identification.Found.{Found}
 use Rattle.droid_pronom.specs.Finding as answers
 use Rattle.droid_pronom.specs.Found.{IsFound}
 use Rattle.droid_pronom.specs.Registry.{Contents}
