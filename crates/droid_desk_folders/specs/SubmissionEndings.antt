@@ -1,10 +1,10 @@
 -- How the submission of a folder ends (this project's own).
 use Rattle.std.specs.Prelude.{ℕ, List, Option, Some, None, codes}
 use Rattle.droid_tree_disk.specs.declared.output.OutputFault.TheVariants as outputs
-use Rattle.droid_tree_remote.specs.declared.fault.ExportFault.TheVariants as exporting
-use Rattle.droid_tree_remote.specs.declared.fault.SendFault.{SendFault}
-use Rattle.droid_tree_remote.specs.declared.fault.SendFault.TheVariants as sending
-use Rattle.droid_tree_remote.specs.declared.fault.SubmitFault.TheVariants as submitting
+use Rattle.droid_tree_remote.specs.declared.fault.DownloadFault.TheVariants as exporting
+use Rattle.droid_tree_remote.specs.declared.fault.TransferFault.{TransferFault}
+use Rattle.droid_tree_remote.specs.declared.fault.TransferFault.TheVariants as sending
+use Rattle.droid_tree_remote.specs.declared.fault.SubmissionFault.TheVariants as submitting
 use Rattle.droid_desk_progress.specs.Faults.{walk_fault_text}
 use Rattle.droid_desk_folders.specs.declared.submission_ending.SubmissionEnding.{SubmissionEnding}
 use Rattle.droid_desk_folders.specs.declared.submission_ending.SubmissionEnding.TheVariants.{Whole, Partly, NoFolder, NoConnection, Fault, NoExport, Disturbed, NoOutput}
@@ -17,7 +17,7 @@ status_of (Fault (submitting.Sending sending.Changed)) = 5
 status_of _ = 4
 
 -- the name of a fault of sending
-abbrev pub send_fault_text : SendFault → List ℕ
+abbrev pub send_fault_text : TransferFault → List ℕ
 send_fault_text sending.Memory = codes "Memory"
 send_fault_text sending.Broken = codes "Broken"
 send_fault_text sending.Stranger = codes "Stranger"

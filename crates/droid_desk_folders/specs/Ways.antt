@@ -5,8 +5,8 @@ use Rattle.droid_tree_local.specs.Setting.{Setting}
 use Rattle.droid_tree.specs.Counts.{CountsTree}
 use Rattle.droid_tree.specs.Heard.{Heard}
 use Rattle.droid_tree.specs.Observation.{Observation}
-use Rattle.droid_tree.specs.declared.counting.Counted.{Counted}
-use Rattle.droid_tree.specs.declared.walking.Options.{Options}
+use Rattle.droid_tree.specs.declared.tree_size.Counted.{Counted}
+use Rattle.droid_tree.specs.declared.tree_walk.Options.{Options}
 
 -- the tree was counted, and has no more folders and files than the limit; then it was walked from there, nothing was
 -- skipped, and the export of what came was written

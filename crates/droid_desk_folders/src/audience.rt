@@ -1,6 +1,6 @@
 //! Watchers that hear how much there is before a walk begins.
 
-ghost use Rattle.droid_tree.specs.declared.counting.Counted.{Counted};
+ghost use Rattle.droid_tree.specs.declared.tree_size.Counted.{Counted};
 
 use droid_desk_progress::Reporter;
 use droid_tree::{Counted, Watcher};

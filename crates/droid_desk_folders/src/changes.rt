@@ -6,7 +6,7 @@ ghost use Rattle.droid_desk_folders.specs.Changed.{HearsOf, is_changed};
 use droid_desk_progress::{Reporter, Shown};
 use droid_frame::{Refusal, Reply, Text};
 use droid_tree::{Skipped, Watcher};
-use droid_tree_remote::{SendFault, SubmitFault};
+use droid_tree_remote::{SubmissionFault, TransferFault};
 use std::alloc::Global;
 use std::time::Clock;
 
@@ -43,7 +43,7 @@ impl<'a, R: Eprint + Clock> Changes<'a, R> {
     }
 
     /// Prints the summary, and what has changed if that is the fault.
-    pub fn end_early(self, fault: SubmitFault) {
+    pub fn end_early(self, fault: SubmissionFault) {
         let Changes {
             runtime,
             reporter,
@@ -53,7 +53,7 @@ impl<'a, R: Eprint + Clock> Changes<'a, R> {
             ..
         } = self;
         reporter.end();
-        let SubmitFault::Sending(SendFault::Changed) = fault else {
+        let SubmissionFault::Sending(TransferFault::Changed) = fault else {
             return;
         };
         if observed {

@@ -11,7 +11,9 @@ use droid_desk_progress::{Reporter, Verbosity};
 use droid_frame::Noted;
 use droid_tree::{NODE_LIMIT, Options, WalkFault, Walked, count};
 use droid_tree_disk::{Folder, Output, OutputFault, System, is_folder};
-use droid_tree_remote::{ExportFault, SendFault, Sender, Streams, SubmitFault, export, submit};
+use droid_tree_remote::{
+    DownloadFault, Sender, Streams, SubmissionFault, TransferFault, export, submit,
+};
 use std::fs::{File, Files};
 use std::io::ErrorKind;
 use std::net::{Net, TcpListener, TcpStream};
@@ -38,7 +40,7 @@ where
         first,
     } = options.to;
     if first >= 1 << 61 {
-        return SubmissionEnding::Fault(SubmitFault::Sending(SendFault::NumbersUsedUp));
+        return SubmissionEnding::Fault(SubmissionFault::Sending(TransferFault::NumbersUsedUp));
     }
     if let Some(path) = options.export
         && let Err(fault) = see_output(rt, path)
@@ -52,7 +54,7 @@ where
     let mut sender = Sender::new(rt.alloc(), streams, client, first);
     let verbosity = verbosity_of(options.quiet, on_terminal);
     let ending = submit_by(rt, &mut sender, options, verbosity);
-    match sender.window.connection.opener.failed() {
+    match sender.in_flight.connection.opener.failed() {
         Some(cause) => unconnected(ending, cause),
         None => ending,
     }
@@ -61,8 +63,8 @@ where
 /// Replaces `Broken`, if the last try to connect failed: then there was nothing that could break.
 fn unconnected(ending: SubmissionEnding, cause: ErrorKind) -> SubmissionEnding {
     match ending {
-        SubmissionEnding::Fault(SubmitFault::Sending(SendFault::Broken))
-        | SubmissionEnding::NoExport(ExportFault::Sending(SendFault::Broken)) => {
+        SubmissionEnding::Fault(SubmissionFault::Sending(TransferFault::Broken))
+        | SubmissionEnding::NoExport(DownloadFault::Sending(TransferFault::Broken)) => {
             SubmissionEnding::NoConnection(cause)
         }
         ending => ending,
@@ -89,12 +91,12 @@ where
 {
     let alloc = rt.alloc();
     let Ok(mut tree) = Folder::new(alloc, System::new(rt), options.folder) else {
-        return SubmissionEnding::Fault(SubmitFault::Walking(WalkFault::Memory));
+        return SubmissionEnding::Fault(SubmissionFault::Walking(WalkFault::Memory));
     };
     let mut reporter = Reporter::new(rt, alloc, verbosity);
     match count(alloc, &mut tree, NODE_LIMIT) {
         Ok(counted) => reporter.expect(counted),
-        Err(fault) => return SubmissionEnding::Fault(SubmitFault::Walking(fault)),
+        Err(fault) => return SubmissionEnding::Fault(SubmissionFault::Walking(fault)),
     }
     let mut changes = Changes::new(rt, alloc, reporter);
     let walked = submit(
@@ -165,7 +167,7 @@ where
             Ok(output) => output,
             Err(fault) => return Err(SubmissionEnding::NoOutput(fault)),
         };
-        match export(&mut sender.window, sender.client, profile, &mut output) {
+        match export(&mut sender.in_flight, sender.client, profile, &mut output) {
             Ok(true) => return completed(output),
             Ok(false) => output.give_up(),
             Err(fault) => {

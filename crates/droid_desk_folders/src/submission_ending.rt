@@ -8,7 +8,7 @@ use droid_desk_arguments::SubmitOptions;
 use droid_desk_progress::{Shown, walk_fault_name};
 use droid_tree::WalkFault;
 use droid_tree_disk::OutputFault;
-use droid_tree_remote::{ExportFault, SendFault, SubmitFault};
+use droid_tree_remote::{DownloadFault, SubmissionFault, TransferFault};
 use std::fs::Files;
 use std::io::{self, ErrorKind};
 
@@ -24,9 +24,9 @@ pub enum SubmissionEnding {
     /// Nobody listened on the port, or it could not be connected to for another reason.
     NoConnection(ErrorKind),
     /// The submission ended early.
-    Fault(SubmitFault),
+    Fault(SubmissionFault),
     /// The export could not be read or written.
-    NoExport(ExportFault),
+    NoExport(DownloadFault),
     /// Other requests came between the parts of the export, each time that it was begun.
     Disturbed,
     /// The file of the export could not be created or replaced.
@@ -41,7 +41,7 @@ impl SubmissionEnding {
         match self {
             SubmissionEnding::Whole => 0,
             SubmissionEnding::Partly
-            | SubmissionEnding::Fault(SubmitFault::Sending(SendFault::Changed)) => 5,
+            | SubmissionEnding::Fault(SubmissionFault::Sending(TransferFault::Changed)) => 5,
             SubmissionEnding::NoFolder
             | SubmissionEnding::NoConnection(_)
             | SubmissionEnding::Fault(_)
@@ -65,26 +65,26 @@ impl SubmissionEnding {
                 options.to.port,
                 cause,
             ),
-            SubmissionEnding::Fault(SubmitFault::Walking(WalkFault::Reply)) => {
+            SubmissionEnding::Fault(SubmissionFault::Walking(WalkFault::Reply)) => {
                 eprintln!(rt;
                     "port {}: the service refused a request, perhaps for its limit of 64 profiles: start another",
                     options.to.port
                 )
             }
-            SubmissionEnding::Fault(SubmitFault::Walking(fault)) => {
+            SubmissionEnding::Fault(SubmissionFault::Walking(fault)) => {
                 eprintln!(rt;
                     "{}: {}",
                     Shown(options.folder.as_bytes()),
                     walk_advice(fault)
                 )
             }
-            SubmissionEnding::Fault(SubmitFault::Sending(fault)) => {
+            SubmissionEnding::Fault(SubmissionFault::Sending(fault)) => {
                 eprintln!(rt; "port {}: {}", options.to.port, send_advice(fault))
             }
-            SubmissionEnding::NoExport(ExportFault::Sending(fault)) => {
+            SubmissionEnding::NoExport(DownloadFault::Sending(fault)) => {
                 eprintln!(rt; "port {}: {}", options.to.port, send_advice(fault))
             }
-            SubmissionEnding::NoExport(ExportFault::Writing(_)) => {
+            SubmissionEnding::NoExport(DownloadFault::Writing(_)) => {
                 eprintln!(rt;
                     "{}: could not be written: is the disk full?",
                     Shown(export_of(options).as_bytes())
@@ -112,10 +112,16 @@ impl SubmissionEnding {
             SubmissionEnding::Whole | SubmissionEnding::Partly => None,
             SubmissionEnding::NoFolder => Some("Folder"),
             SubmissionEnding::NoConnection(_) => Some("Socket"),
-            SubmissionEnding::Fault(SubmitFault::Sending(fault)) => Some(send_fault_name(fault)),
-            SubmissionEnding::Fault(SubmitFault::Walking(fault)) => Some(walk_fault_name(fault)),
-            SubmissionEnding::NoExport(ExportFault::Sending(fault)) => Some(send_fault_name(fault)),
-            SubmissionEnding::NoExport(ExportFault::Writing(_)) => Some("Write"),
+            SubmissionEnding::Fault(SubmissionFault::Sending(fault)) => Some(send_fault_name(
+                fault,
+            )),
+            SubmissionEnding::Fault(SubmissionFault::Walking(fault)) => Some(walk_fault_name(
+                fault,
+            )),
+            SubmissionEnding::NoExport(DownloadFault::Sending(fault)) => Some(send_fault_name(
+                fault,
+            )),
+            SubmissionEnding::NoExport(DownloadFault::Writing(_)) => Some("Write"),
             SubmissionEnding::Disturbed => Some("Disturbed"),
             SubmissionEnding::NoOutput(OutputFault::Memory) => Some("Memory"),
             SubmissionEnding::NoOutput(OutputFault::Refused) => Some("Output"),
@@ -144,29 +150,31 @@ fn print_no_connection<R: Eprint>(rt: &R, port: u16, cause: ErrorKind) -> io::Re
 }
 
 /// Says why sending ended early.
-fn send_advice(fault: SendFault) -> &'static str {
+fn send_advice(fault: TransferFault) -> &'static str {
     match fault {
-        SendFault::Memory =>
+        TransferFault::Memory =>
             "out of memory, here or in the service: run the same command again to resume",
-        SendFault::Broken => "the connection broke ten times: run the same command again to resume",
-        SendFault::Stranger => "what came is not the reply: is droid_desk serve listening there?",
-        SendFault::Changed => {
+        TransferFault::Broken =>
+            "the connection broke ten times: run the same command again to resume",
+        TransferFault::Stranger =>
+            "what came is not the reply: is droid_desk serve listening there?",
+        TransferFault::Changed => {
             "the folder or the options have changed since they were submitted: use another --client or --first"
         }
-        SendFault::NumbersUsedUp =>
+        TransferFault::NumbersUsedUp =>
             "no number below 2^61 is left: use another --client, or a smaller --first",
     }
 }
 
 /// Names a fault of sending.
-fn send_fault_name(fault: SendFault) -> &'static str
+fn send_fault_name(fault: TransferFault) -> &'static str
     ensures { result.now ≡ send_fault_text fault }
 {
     match fault {
-        SendFault::Memory => "Memory",
-        SendFault::Broken => "Broken",
-        SendFault::Stranger => "Stranger",
-        SendFault::Changed => "Changed",
-        SendFault::NumbersUsedUp => "NumbersUsedUp",
+        TransferFault::Memory => "Memory",
+        TransferFault::Broken => "Broken",
+        TransferFault::Stranger => "Stranger",
+        TransferFault::Changed => "Changed",
+        TransferFault::NumbersUsedUp => "NumbersUsedUp",
     }
 }
