@@ -15,12 +15,12 @@ CRATES = os.path.join(os.path.dirname(os.path.abspath(__file__)), "..", "..", "c
 TESTS = {
     "droid_core_tests": [
         "memory::one_after_the_other",
+        "memory::worked_row",
         "memory::in_one_run",
         "memory::in_one_run_of_version_2",
-        "scripts::each_growth_of_a_script",
-        "scripts::each_growth_of_version_2",
+        "script_memory::each_growth_of_a_script",
+        "script_memory::each_growth_of_version_2",
     ],
-    "droid_core": ["service::tests::memory::each_growth_of_both"],
     "droid_assembly_tests": ["memory::each_growth_refused"],
     "droid_pronom_tests": ["memory::each_growth_of_a_registry", "memory::each_growth_of_a_search"],
     "droid_frame_tests": ["memory::each_growth_of_a_request", "memory::each_growth_of_a_reply"],

@@ -1,7 +1,7 @@
 #!/usr/bin/env -S python3 -S -B
 """Writes a table of random requests with the model's replies: `recent_steps.py SEED COUNT`. With 43 and 240 it is the
-file crates/droid_core/src/service/tests/by_chance.rt, whose steps are put there to services with places for one recent
-reply and for 256 (`../model.sh` compares them).
+file crates/droid_core_tests/src/by_chance.rt, which puts them to services that cache one reply and 256 (`../model.sh`
+compares them).
 
 Three clients take part, each with numbers from 1, so that most numbers are used by all of them, in frames of both
 versions. Requests come again early and late, and kept numbers come with other requests and in the other version.
@@ -10,7 +10,6 @@ versions. Requests come again early and late, and kept numbers come with other r
 import os
 import sys
 from random import Random
-from struct import pack
 
 from lines import body_of
 from registry import Registry
@@ -24,27 +23,16 @@ WEIGHTS = {
 NAMES = ["in", "out", "a", "b", "a.txt", "m.msg", "m.txt", "x.abc", "y.let"]
 BAD_NAMES = ["", "..", "a/b"]
 CONTENTS = [b"", b"ab", b"abcxyz", b"abcd", b"message", b"message digest"]
-METHODS = {"none": 0, "Signature": 1, "Extension": 2}
-LIMITS = {"profiles": 1, "nodes": 2, "unfinished": 3}
-HASHES = {"none": "Nothing", "md5": "Md5", "sha256": "Sha256"}
-# how many bytes a digest has, by the number of its hash
-LENGTHS = [0, 16, 32]
+HASHES = ["none", "md5", "sha256"]
 # `rt fmt` puts a row on one line where what is between its parentheses has so many characters at most
 WIDTH = 60
-# and a constant on one line where that has at most so many
-LINE = 100
 
 HEAD = """\
 //! Requests by chance with the replies of the model, which `tests/program/model/recent_steps.py 43 240` writes. Three
 //! clients use the same numbers in both versions; requests come again, and kept numbers come with other requests.
 
-use crate::service::tests::steps::Ask::{
-    Abandon, Create, Export, File, Finish, Folder, Hashed, Piece, Status,
-};
-use crate::service::tests::steps::Due::{Made, Node, Part, Refused, Taken, Told};
-use crate::service::tests::steps::{ABANDONED, FINISHED, PROGRESS, REFUSED, Step};
-use crate::service::tests::{LARGEST, ask};
-use droid_frame::HashKind;
+use crate::steps::{LARGEST, Step, ask};
+
 """
 
 TEST = """\
@@ -179,92 +167,43 @@ class Story:
         return self.create() | {"number": 1 << 63}
 
 
-def whole(number):
-    return f"{number:_}" if abs(number) > 9_999 else str(number)
-
-
 def text(found):
     return found.decode("ascii").replace("\\", "\\\\").replace('"', '\\"').replace("\n", "\\n")
 
 
-def ask(request):
-    kind = request["kind"]
-    if kind == "create":
-        options = f"{whole(request['limit'])}, {str(request['match_all']).lower()}"
-        return f"Create({options})" if request["version"] == 1 else f"Hashed({options}, HashKind::{HASHES[request['hash']]})"
-    head = str(request["profile"])
-    if kind in ("folder", "file"):
-        head += f", {request['parent']}, {whole(request['modified'])}"
-        if kind == "file":
-            head += f", {request['size']}, {whole(request['piece_size'])}"
-        return f'{kind.capitalize()}({head}, "{text(request["name"])}")'
-    if kind == "export":
-        return f"Export({head}, {request['from']}, {request['max']})"
-    head += f", {request['file']}"
-    if kind == "piece":
-        return f'Piece({head}, {request["index"]}, b"{text(request["bytes"])}")'
-    return f"{kind.capitalize()}({head})"
+def line(request):
+    """The line of a script that asks for it."""
+    kind, head = request["kind"], b"v2 " if request["version"] == 2 else b""
+    names = {
+        "create": ["limit", "match_all"] + (["hash"] if request["version"] == 2 else []),
+        "folder": ["profile", "parent", "modified", "name"],
+        "file": ["profile", "parent", "modified", "size", "piece_size", "name"],
+        "piece": ["profile", "file", "index", "bytes"],
+        "export": ["profile", "from", "max"],
+    }.get(kind, ["profile", "file"])
+    words = [request["client"], request["number"], kind] + [request[name] for name in names]
+    return head + b" ".join(map(word, words))
 
 
-def spelled(body):
-    return "".join(f"\\x{byte:02x}" for byte in body)
+def word(value):
+    if isinstance(value, bool):
+        return b"1" if value else b"0"
+    return value if isinstance(value, bytes) else str(value).encode("ascii")
 
 
-def found_body(version, method, mismatch, digest, puids):
-    found = [] if puids == "-" else puids.split(",")
-    digest = b"" if digest == "-" else bytes.fromhex(digest)
-    hash = bytes([LENGTHS.index(len(digest))]) if version == 2 else b""
-    head = bytes([METHODS[method], mismatch == "true"]) + hash + digest + pack(">H", len(found))
-    return spelled(head) + "".join(spelled([len(puid)]) + puid for puid in found)
-
-
-def refusal(number, told):
-    body = bytes([int(number)]) + (bytes([LIMITS[told]]) if told in LIMITS else pack(">I", int(told)))
-    return f'Told(REFUSED, b"{spelled(body)}")'
-
-
-def constant(name, body):
-    head, value = f"const {name}: &[u8] =", f'b"{body}";'
-    on_one = f"{head} {value}"
-    return f"{on_one}\n" if len(on_one) <= LINE else f"{head}\n    {value}\n"
-
-
-class Table:
-    """The rows, and what each Finished found under a name of its own."""
-
-    def __init__(self):
-        self.found = {}
-
-    def due(self, version, reply):
-        line, _, rest = reply.partition(b"\n")
-        word, *told = line.decode("ascii").split(" ")
-        if word == "finished":
-            return f"Told(FINISHED, {self.found.setdefault(found_body(version, *told), f'FOUND_{len(self.found) + 1}')})"
-        if word == "abandoned":
-            return 'Told(ABANDONED, b"")'
-        if word == "progress":
-            return f'Told(PROGRESS, b"{spelled(pack(">II", *map(int, told)))}")'
-        if word == "part":
-            return f'Part({told[0]}, {told[1]}, &["{text(rest)}"])'
-        return refusal(*told) if len(told) == 2 else f"{word.capitalize()}({told[0]})"
-
-    def row(self, request, reply):
-        version = request["version"]
-        parts = [str(version), str(request["client"]), whole(request["number"]), ask(request), self.due(version, reply)]
-        row = ", ".join(parts)
-        return f"    ({row}),\n" if len(row) <= WIDTH else "    (\n" + "".join(f"        {it},\n" for it in parts) + "    ),\n"
-
-    def written(self, steps):
-        rows = [self.row(*step) for step in steps]
-        names = [constant(name, body) for body, name in self.found.items()]
-        return "\n".join([HEAD, *names, "const BY_CHANCE: &[Step] = &[\n" + "".join(rows) + "];\n"]) + TEST
+def row(request, reply):
+    request = request | ({"bytes": request["bytes"].hex().encode("ascii") or b"-"} if request["kind"] == "piece" else {})
+    parts = [f'"{text(line(request))}"', f'"{text(reply)}"']
+    joined = ", ".join(parts)
+    return f"    ({joined}),\n" if len(joined) <= WIDTH else "    (\n" + "".join(f"        {it},\n" for it in parts) + "    ),\n"
 
 
 def main(seed, count):
     story = Story(int(seed))
     for _ in range(int(count)):
         story.add()
-    sys.stdout.write(Table().written(story.steps))
+    rows = "".join(row(*step) for step in story.steps)
+    sys.stdout.write(f"{HEAD}const BY_CHANCE: &[Step] = &[\n{rows}];\n{TEST}")
 
 
 main(*sys.argv[1:])
