@@ -15,6 +15,7 @@ CRATES = os.path.join(os.path.dirname(os.path.abspath(__file__)), "..", "..", "c
 TESTS = {
     "droid_core_tests": [
         "memory::one_after_the_other",
+        "memory::worked_row",
         "memory::in_one_run",
         "memory::in_one_run_of_version_2",
         "script_memory::each_growth_of_a_script",
