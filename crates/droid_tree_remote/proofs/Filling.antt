@@ -139,7 +139,7 @@ module _ (client profile piece_size : ℕ) where
   visits_stand (one ∷ more) [] numbers are = absurd are
   visits_stand (one ∷ more) (visit ∷ visits) numbers are =
       stands_append client numbers _ _ _ _
-      (subst (λ (folder : PendingFolder). StandsIn client numbers (asked_of_visit profile piece_size one) (flat_map (asked_of_kid profile piece_size folder.number) visit.kids)) (sym are.0.place)
+      (subst (λ (folder : PendingFolder). StandsIn client numbers (asked_of_visit profile piece_size one) (flat_map (asked_of_kid profile piece_size folder.number) visit.kids)) (sym are.0.folder)
       (kids_stand one.folder.number one.kids visit.kids numbers are.0.kids))
       (visits_stand more visits (behind numbers (asked_of_visit profile piece_size one)) are.1)
 
