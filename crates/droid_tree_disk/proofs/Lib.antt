@@ -1,5 +1,5 @@
 pub mod Bytes
-pub mod Entries
+pub mod FilteredParts
 pub mod Looks
 pub mod Paths
 pub mod Tops

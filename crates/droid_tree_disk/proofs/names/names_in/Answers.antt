@@ -3,7 +3,7 @@ use Rattle.std.proofs.lemmas.Iterator.Splits.{YieldsList-from_slice_split}
 use Rattle.std.proofs.lemmas.Iterator.Consumers.{YieldsList-end}
 use Rattle.std.specs.Slice.Iter.{split_rest, split_done, split_callee}
 use Rattle.droid_tree_disk.specs.Names.{is_entry}
-use Rattle.droid_tree_disk.proofs.Entries.{filtered_more}
+use Rattle.droid_tree_disk.proofs.FilteredParts.{filtered_more}
 use Rattle.droid_tree_disk.proofs.names.names_in.Goals as goal
 
 pub loop-name-preserved : goal.loop-name-preserved
