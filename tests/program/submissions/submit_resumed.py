@@ -62,7 +62,7 @@ class Resumed(WithTree):
             self.assertIn(b"changed: /a.txt\n", err)
 
     def test_other_options(self):
-        with Service() as service:
+        with Serve.lasting() as service:
             self.assertEqual(submit(self.top, service.port, 7)[0], 0)
             status, err = submit(self.top, service.port, 7, "--hash", "sha256")
         self.assertEqual(status, 5)

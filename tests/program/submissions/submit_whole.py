@@ -62,7 +62,7 @@ class Whole(WithTree):
         self.assertFalse(os.path.exists(self.export))
 
     def test_no_more_profiles(self):
-        with Service() as service:
+        with Serve.lasting() as service:
             for client in range(100, 164):
                 self.assertEqual(send(service.port, client, b"create 65536 0\n")[0], 0)
             status, err = submit(self.top, service.port, 7)
