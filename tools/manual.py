@@ -10,8 +10,8 @@ COMMANDS, ARGUMENTS, OPTIONS = "Commands:", "Arguments:", "Options:"
 ROW = re.compile(r" {2,}((?:-\w, )?\S+(?: <\w+>)?|<\w+>|\[\w+\])(?: {2,}(.*))?$")
 # an option in such a name
 OPTION = re.compile(r"--?[\w-]+")
-# values that an option's text lists: `md5, sha256 or none`
-VALUES = re.compile(r": ((?:\w+, )*\w+ or \w+)\b")
+# values that an option's text lists: `md5 (default), sha256 or none`
+VALUES = re.compile(r": ((?:\w+(?: \(default\))?, )*\w+ or \w+)\b")
 
 
 def said(program, *words):
@@ -131,7 +131,7 @@ def value_cases(commands):
         for spellings, value, text in help.options():
             listed = VALUES.search(text)
             if value:
-                words = listed[1].replace(",", "").replace(" or ", " ") if listed and value not in ("FILE", "DIR") else ""
+                words = listed[1].replace(" (default)", "").replace(",", "").replace(" or ", " ") if listed and value not in ("FILE", "DIR") else ""
                 seen.update((spelling, (value, words)) for spelling in spellings)
     for spelling, (value, words) in seen.items():
         if words:
