@@ -38,7 +38,7 @@ fn names_in(alloc: Global, bytes: &[u8]) -> Result<Vec<Blob>, AllocError>
 }
 
 /// Appends a name if it is that of an entry.
-#[tactic(auto, using(crate::proofs::Entries::none_more, crate::proofs::Entries::one_more))]
+#[tactic(auto, using(crate::proofs::FilteredParts::none_more, crate::proofs::FilteredParts::one_more))]
 fn add_entry(alloc: Global, names: &mut Vec<Blob>, name: &[u8]) -> Result<(), AllocError>
     ensures { OnOk result (names.new.items ≡ names.old.items ++ filter is_entry (name.now ∷ [])) }
 {

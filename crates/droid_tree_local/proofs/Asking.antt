@@ -12,7 +12,7 @@ use Rattle.droid_frame.specs.types.frame.Frame.{Frame}
 use Rattle.droid_frame.specs.types.reply.Reply.{Reply}
 use Rattle.droid_frame.specs.types.request.Request.{Request}
 use Rattle.droid_frame.proofs.RequestLaws.{spelled_is_value}
-use Rattle.droid_core.specs.Histories.{FolderEntry, History, command, is_under, kept, world_of, world_asked, world_after, verdict_reply, entry_of, history_with, Handles, New}
+use Rattle.droid_core.specs.Histories.{Entry, History, command, is_under, kept, world_of, world_asked, world_after, verdict_reply, entry_of, history_with, Handles, New}
 use Rattle.droid_core.specs.Judging.{Verdict, Accepted, Answered, Refuses, judge}
 use Rattle.droid_core.specs.Setting.{Setting}
 use Rattle.droid_core.specs.Standing.{StandsFor}
@@ -30,7 +30,7 @@ asked frame request small spelled = rw (lt-ltb frame.number (2 ^ 63) small) (spe
 
 -- ---- the world after it
 
-world_push : (setting : Setting) (history : History) (entry : FolderEntry) → world_of setting (history ++ entry ∷ []) ≡ world_asked setting (world_of setting history) entry.frame.version (command entry.frame)
+world_push : (setting : Setting) (history : History) (entry : Entry) → world_of setting (history ++ entry ∷ []) ≡ world_asked setting (world_of setting history) entry.frame.version (command entry.frame)
 unfolding world_of
 world_push setting history entry = fold-append (λ (world : World) entry. world_asked setting world entry.frame.version (command entry.frame)) _ history (entry ∷ [])
 
@@ -47,16 +47,16 @@ and_false : (b : Bool) → (b && false) ≡ false
 and_false true = refl
 and_false false = refl
 
-not_under : (client number : ℕ) (entry : FolderEntry) → entry.frame.number ≢ number → is_under client number entry ≡ false
+not_under : (client number : ℕ) (entry : Entry) → entry.frame.number ≢ number → is_under client number entry ≡ false
 not_under client number entry other = elim (eqb_tells entry.frame.number number) [
   | inl t ↦ absurd (other t.1)
   | inr t ↦ rw t.0 (and_false (entry.frame.client == client))
 ]
 
-still_new : (history : History) (entry : FolderEntry) (number : ℕ) → kept history 1 number ≡ None → entry.frame.number ≢ number → kept (history ++ entry ∷ []) 1 number ≡ None
+still_new : (history : History) (entry : Entry) (number : ℕ) → kept history 1 number ≡ None → entry.frame.number ≢ number → kept (history ++ entry ∷ []) 1 number ≡ None
 still_new history entry number new other =
     find-append (is_under 1 number) history (entry ∷ [])
-    ∙ (ap (λ (o : Option FolderEntry). option_or o (find (is_under 1 number) (entry ∷ []))) new
+    ∙ (ap (λ (o : Option Entry). option_or o (find (is_under 1 number) (entry ∷ []))) new
     ∙ ap (λ (b : Bool). cond b (Some entry) None) (not_under 1 number entry other))
 
 still_new_with : (history : History) (frame : Frame) (verdict : Verdict) (number : ℕ) → kept history 1 number ≡ None → frame.number ≢ number → kept (history_with history frame (New verdict)) 1 number ≡ None
