@@ -22,7 +22,7 @@ sh "$tests/registry.sh" "$model" &
 registries=$!
 wait "$cases" || failed=1
 wait "$registries" || failed=1
-# the table of random requests in droid_core_tests has to be what the model writes
+# the tables of random requests in droid_core_tests have to be what the model writes
 table=$tests/../../crates/droid_core_tests/src/by_chance.rt
-"$tests/model/recent_steps.py" 43 240 | cmp - "$table" || failed=1
+"$tests/model/recent_steps.py" 60 43 44 45 46 | cmp - "$table" || failed=1
 [ "$failed" -eq 0 ]

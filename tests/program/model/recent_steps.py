@@ -1,6 +1,6 @@
 #!/usr/bin/env -S python3 -S -B
-"""Writes a table of random requests with the model's replies: `recent_steps.py SEED COUNT`. With 43 and 240 it is the
-file crates/droid_core_tests/src/by_chance.rt (`../model.sh` compares them).
+"""Writes tables of random requests with the model's replies: `recent_steps.py COUNT SEED ..`. With 60 and the seeds 43,
+44, 45 and 46 it is the file crates/droid_core_tests/src/by_chance.rt (`../model.sh` compares them).
 
 Three clients use numbers from 1, so that all of them use most numbers, in both versions. Requests come again early and
 late, and kept numbers come with other requests and in the other version.
@@ -27,21 +27,20 @@ HASHES = ["none", "md5", "sha256"]
 WIDTH = 60
 
 HEAD = """\
-//! Requests by chance with the replies of the model, which `tests/program/model/recent_steps.py 43 240` writes. Three
-//! clients use the same numbers in both versions; requests come again, and kept numbers come with other requests.
+//! Requests by chance with the replies of the model, which `tests/program/model/recent_steps.py` writes. Three clients use
+//! the same numbers in both versions; requests come again, and kept numbers come with other requests.
 
 use crate::steps::{LARGEST, Step, ask};
-
-const BY_CHANCE: &[Step] = &[
 """
 
-TEST = """\
-];
+TEST = """
+const BY_CHANCE_{seed}: &[Step] = &[
+{rows}];
 
 #[test]
-fn requests_by_chance(rt: HostRuntime) {
-    ask(&rt, rt.alloc(), "by chance", LARGEST, BY_CHANCE);
-}
+fn requests_by_chance_{seed}(rt: HostRuntime) {{
+    ask(&rt, rt.alloc(), "by chance, {seed}", LARGEST, BY_CHANCE_{seed});
+}}
 """
 
 
@@ -202,11 +201,16 @@ def row(request, reply):
     return "    (\n" + "".join(f"        {part},\n" for part in parts) + "    ),\n"
 
 
-def main(seed, count):
-    story = Story(int(seed))
-    for _ in range(int(count)):
+def test(seed, count):
+    """Returns a table of this many requests, and the test that asks them."""
+    story = Story(seed)
+    for _ in range(count):
         story.add()
-    sys.stdout.write(HEAD + "".join(row(*step) for step in story.steps) + TEST)
+    return TEST.format(seed=seed, rows="".join(row(*step) for step in story.steps))
+
+
+def main(count, *seeds):
+    sys.stdout.write(HEAD + "".join(test(int(seed), int(count)) for seed in seeds))
 
 
 main(*sys.argv[1:])
