@@ -111,6 +111,8 @@ def outcome(registry):
 
 def is_read_as_by_the_model(registry):
     out, err = run(registry, b"1 1 create 65536 0\n")
+    # the note on a registry without formats has its stored case
+    err = err if err.startswith(b"fault: ") else b""
     wanted_out, wanted_err = outcome(registry)
     return out == wanted_out and err.startswith(wanted_err) and bool(err) == bool(wanted_err)
 
