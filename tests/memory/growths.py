@@ -25,7 +25,7 @@ TESTS = {
     "droid_pronom_tests": ["memory::each_growth_of_a_registry", "memory::each_growth_of_a_search"],
     "droid_frame_tests": ["memory::each_growth_of_a_request", "memory::each_growth_of_a_reply"],
     "droid_frame_stream_tests": ["streams::growths_refused"],
-    "droid_wire_client_tests": ["memory::wanting_and_again"],
+    "droid_wire_client_tests": ["memory::short_and_again"],
     "droid_lines_send_tests": ["memory::each_growth_of_a_sending"],
     "droid_wire_tests": ["memory::each_growth_of_serving"],
     "droid_export_tests": ["memory::each_growth_of_small_texts", "memory::each_growth_of_an_export"],
