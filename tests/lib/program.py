@@ -14,6 +14,8 @@ SAMPLE = os.path.join(TOP, "tests", "program", "sample_registry.csv")
 EVERYDAY = os.path.join(TOP, "registries", "common.csv")
 # the service takes at most this many connections
 MOST_CONNECTIONS = 1_000
+# on this many free ports a service is tried
+TRIES = 5
 # this many requests are sent before their replies are read
 BATCH = 1_000
 # `run` and `serve` print this first on standard error where they have the sample registry
@@ -63,29 +65,37 @@ class Serve:
     ended with status 0 and without a word; or, where it is `killed`, it is ended then, whatever it does."""
 
     def __init__(self, connections=None, options=(), port=None, env=None, killed=False):
-        self.port = port or free_port()
+        self.port = port
         self.env = env
         self.killed = killed
-        self.arguments = ["serve", "--port", str(self.port), *options]
+        self.options = list(options)
         if connections is not None:
-            self.arguments += ["--connections", str(connections)]
+            self.options += ["--connections", str(connections)]
 
     @classmethod
     def lasting(cls, options=()):
         """A service for as many connections as it takes."""
         return cls(MOST_CONNECTIONS, options, killed=True)
 
-    def __enter__(self):
+    def begin(self, port):
+        """Starts it on this port, and returns whether it listens."""
         self.process = subprocess.Popen(
-            [PROGRAM, *self.arguments],
+            [PROGRAM, "serve", "--port", str(port), *self.options],
             stdin=subprocess.DEVNULL,
             stdout=subprocess.PIPE,
             stderr=subprocess.PIPE,
             env=self.env,
         )
-        said = self.process.stdout.readline()
-        assert said == f"listening {self.port}\n".encode("ascii"), said
-        return self
+        return self.process.stdout.readline() == f"listening {port}\n".encode("ascii")
+
+    def __enter__(self):
+        # another program may take a free port before the service does
+        ports = [self.port] if self.port else (free_port() for _ in range(TRIES))
+        for self.port in ports:
+            if self.begin(self.port):
+                return self
+            said = self.process.communicate(timeout=SECONDS)
+        raise AssertionError(said)
 
     def __exit__(self, kind, value, trace):
         is_killed = self.killed or kind is not None
