@@ -14,7 +14,7 @@ pub enum IdentifyFault {
     #[error("piece {missing} is missing")]
     Incomplete { missing: u32 },
     /// There is no memory for the finding.
-    #[error("memory was refused")]
+    #[error("out of memory")]
     Memory,
 }
 

@@ -20,6 +20,6 @@ fn texts(rt: HostRuntime) -> Result<(), Fail> {
     assert!(rt; says(alloc, &ScriptFault::Write, "Write")?);
     let incomplete = IdentifyFault::Incomplete { missing: 7 };
     assert!(rt; says(alloc, &incomplete, "piece 7 is missing")?);
-    assert!(rt; says(alloc, &IdentifyFault::Memory, "memory was refused")?);
+    assert!(rt; says(alloc, &IdentifyFault::Memory, "out of memory")?);
     Ok(())
 }

@@ -10,7 +10,7 @@ use thiserror::Error;
 #[derive(Clone, Copy, Debug, PartialEq, Eq, Error)]
 pub enum ExportFault {
     /// Out of memory. Nothing was written.
-    #[error("memory was refused")]
+    #[error("out of memory")]
     Memory,
     /// The writer failed, was interrupted more than 64 times, or took no more bytes.
     #[error("the export could not be written past its first {written} bytes")]

@@ -106,7 +106,7 @@ fn small_steps_and_interruptions(rt: HostRuntime) -> Result<(), Fail> {
 #[test]
 fn texts_of_faults(rt: HostRuntime) -> Result<(), Fail> {
     for (fault, expected) in &[
-        (ExportFault::Memory, "memory was refused"),
+        (ExportFault::Memory, "out of memory"),
         (
             ExportFault::Write { written: 7 },
             "the export could not be written past its first 7 bytes",

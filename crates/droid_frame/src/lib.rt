@@ -12,8 +12,8 @@ mod text_writer;
 
 pub use droid_frame_bodies::{BodyFault, reply_of, request_of};
 pub use droid_frame_stream::{
-    Condition, InputFault, Noted, Progress, ReadFault, Retries, Seen, SteadyRead, SteadyWrite,
-    WriteFault, read_some, read_to_end, write_all,
+    Condition, InputFault, Noted, ReadFault, Retries, Seen, SteadyRead, SteadyWrite, WriteFault,
+    WriteState, read_some, read_to_end, write_all,
 };
 pub use droid_frame_values::{
     Blob, Criteria, Criterion, Filter, Frame, HashKind, HashValue, Limit, Method, NUMBER_LIMIT,

@@ -17,7 +17,7 @@ pub enum InputFault {
     #[error("the input is too long")]
     TooLong,
     /// Out of memory.
-    #[error("memory was refused")]
+    #[error("out of memory")]
     Memory,
     /// The reader failed, or was interrupted more than 64 times.
     #[error("the input could not be read")]

@@ -17,7 +17,7 @@ pub use buffer::{fill, read_some};
 pub use fault::{InputFault, ReadFault, WriteFault};
 pub use input::read_to_end;
 pub use noted::Noted;
-pub use output::{Progress, write_all};
+pub use output::{WriteState, write_all};
 pub use retries::Retries;
 pub use seen::{Condition, Seen};
 pub use steady::{SteadyRead, SteadyWrite};

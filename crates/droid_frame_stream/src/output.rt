@@ -11,20 +11,20 @@ use crate::steady::SteadyWrite;
 
 /// How much of a frame or a text has been written, over all calls for it.
 #[derive(Drop)]
-pub struct Progress {
+pub struct WriteState {
     /// The number of bytes written.
     pub written: usize,
     /// The interrupted writes that were tried again.
     pub retries: Retries,
 }
 
-impl Progress {
+impl WriteState {
     /// Starts with nothing written.
-    pub fn new() -> Progress
+    pub fn new() -> WriteState
         ensures written { result.written ≡ 0 }
         ensures retries { result.retries ≡ 0 }
     {
-        Progress {
+        WriteState {
             written: 0,
             retries: Retries::new(),
         }
@@ -70,7 +70,7 @@ fn write_some<W: SteadyWrite>(writer: &mut W, bytes: &[u8], retries: &mut Retrie
 pub fn write_all<W: SteadyWrite>(
     writer: &mut W,
     bytes: &[u8],
-    progress: &mut Progress,
+    progress: &mut WriteState,
 ) -> Result<(), WriteFault>
     requires { progress.old.written + length bytes.now < 2 ^ 64 }
     ensures ok { OnOk result (Appends (W.contents writer.old) (W.contents writer.new) bytes.now) }

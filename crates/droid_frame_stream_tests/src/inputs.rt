@@ -3,7 +3,7 @@
 use crate::interruptions::{is_seen, with_places};
 use crate::writers::ended;
 use droid_frame::{
-    Condition, InputFault, Noted, Progress, ReadFault, Retries, Seen, SteadyRead, WriteFault,
+    Condition, InputFault, Noted, ReadFault, Retries, Seen, SteadyRead, WriteFault, WriteState,
     read_some, read_to_end, write_all,
 };
 use droid_frame_shaky::{
@@ -210,7 +210,7 @@ fn each_writing(rt: &impl Abort, alloc: Global, rows: &[Writing]) -> Result<(), 
 
 /// Writes `abcd`, and then `efghi`.
 fn two_parts(writer: &mut Noted<ShakyWriter>) -> Result<(), WriteFault> {
-    let mut progress = Progress::new();
+    let mut progress = WriteState::new();
     write_all(writer, b"abcd", &mut progress)?;
     if progress.written == 4 {
         write_all(writer, b"efghi", &mut progress)?;
@@ -223,15 +223,15 @@ fn two_parts(writer: &mut Noted<ShakyWriter>) -> Result<(), WriteFault> {
 fn streams_over_memory(rt: HostRuntime) {
     let mut room = [0u8; 3];
     let mut rest = room.as_mut_slice();
-    let given = write_all(&mut rest, b"abcd", &mut Progress::new());
+    let given = write_all(&mut rest, b"abcd", &mut WriteState::new());
     assert!(rt; given == Err(WriteFault { written: 3 }) && room == *b"abc");
-    let given = write_all(&mut sink(), b"abcd", &mut Progress::new());
+    let given = write_all(&mut sink(), b"abcd", &mut WriteState::new());
     assert!(rt; given == Ok(()));
     assert!(rt; takes_all(rt.alloc()));
 }
 
 fn takes_all(alloc: Global) -> bool {
     let mut taken = Noted::new(Vec::new(alloc));
-    write_all(&mut taken, b"abcd", &mut Progress::new()) == Ok(())
+    write_all(&mut taken, b"abcd", &mut WriteState::new()) == Ok(())
         && taken.stream.as_slice() == b"abcd".as_slice()
 }

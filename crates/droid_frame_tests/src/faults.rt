@@ -26,7 +26,7 @@ const FRAME_FAULTS: [(FrameFault, &str); 5] = [
         FrameFault::TooLong,
         "the body of a frame is longer than its version allows",
     ),
-    (FrameFault::Memory, "memory was refused"),
+    (FrameFault::Memory, "out of memory"),
     (FrameFault::Read, "the stream could not be read"),
 ];
 
@@ -37,7 +37,7 @@ fn texts(rt: HostRuntime) -> Result<(), Fail> {
 
 const INPUT_FAULTS: [(InputFault, &str); 3] = [
     (InputFault::TooLong, "the input is too long"),
-    (InputFault::Memory, "memory was refused"),
+    (InputFault::Memory, "out of memory"),
     (InputFault::Read, "the input could not be read"),
 ];
 

@@ -13,7 +13,7 @@ pub enum PatternFault {
     #[error("the text is no pattern")]
     BadPattern,
     /// Out of memory.
-    #[error("memory was refused")]
+    #[error("out of memory")]
     Memory,
 }
 

@@ -145,7 +145,7 @@ fn matches_at_other_places(rt: HostRuntime) -> Result<(), Fail> {
 fn texts_of_faults(rt: HostRuntime) -> Result<(), Fail> {
     for (fault, expected) in &[
         (PatternFault::BadPattern, "the text is no pattern"),
-        (PatternFault::Memory, "memory was refused"),
+        (PatternFault::Memory, "out of memory"),
     ] {
         let text = format!(in rt.alloc(); "{fault}")?;
         assert_eq!(rt; text.as_str(), *expected);

@@ -11,7 +11,7 @@ use thiserror::Error;
 #[derive(Clone, Copy, Debug, PartialEq, Eq, Error)]
 pub enum StoreFault {
     /// Memory ran out, or no number was left for a new row. There are more numbers than any memory has room for rows.
-    #[error("memory was refused")]
+    #[error("out of memory")]
     Memory,
     /// The database refused for another reason.
     #[error("the database refused")]

@@ -7,7 +7,7 @@ use std::test::Fail;
 fn texts(rt: HostRuntime) -> Result<(), Fail> {
     let alloc = rt.alloc();
     for (fault, text) in [
-        (StoreFault::Memory, "memory was refused"),
+        (StoreFault::Memory, "out of memory"),
         (StoreFault::Refused, "the database refused"),
     ] {
         let printed = format!(in alloc; "{fault}")?;

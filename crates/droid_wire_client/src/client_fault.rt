@@ -12,7 +12,7 @@ pub enum SubmitFault {
     #[error("all numbers are used up")]
     NumbersUsedUp,
     /// Out of memory.
-    #[error("memory was refused")]
+    #[error("out of memory")]
     Memory,
 }
 
@@ -33,6 +33,6 @@ pub enum HearFault {
     #[error("the frame holds no reply")]
     Malformed,
     /// Out of memory.
-    #[error("memory was refused")]
+    #[error("out of memory")]
     Memory,
 }

@@ -13,7 +13,7 @@ const SERVING: [(ServeFault, &str); 3] = [
         ServeFault::Frame(FrameFault::Truncated),
         "the stream ends within a frame",
     ),
-    (ServeFault::Frame(FrameFault::Memory), "memory was refused"),
+    (ServeFault::Frame(FrameFault::Memory), "out of memory"),
     (
         ServeFault::Write { written: 7 },
         "a reply could not be written, after 7 bytes",
@@ -22,12 +22,12 @@ const SERVING: [(ServeFault, &str); 3] = [
 
 const SUBMITTING: [(SubmitFault, &str); 2] = [
     (SubmitFault::NumbersUsedUp, "all numbers are used up"),
-    (SubmitFault::Memory, "memory was refused"),
+    (SubmitFault::Memory, "out of memory"),
 ];
 
 const HEARING: [(HearFault, &str); 2] = [
     (HearFault::Malformed, "the frame holds no reply"),
-    (HearFault::Memory, "memory was refused"),
+    (HearFault::Memory, "out of memory"),
 ];
 
 #[test]

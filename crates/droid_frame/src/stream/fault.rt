@@ -19,7 +19,7 @@ pub enum FrameFault {
     #[error("the body of a frame is longer than its version allows")]
     TooLong,
     /// Out of memory for the body.
-    #[error("memory was refused")]
+    #[error("out of memory")]
     Memory,
     /// The reader failed, or was interrupted for the 65th time in this frame.
     #[error("the stream could not be read")]

@@ -9,7 +9,7 @@ ghost use Rattle.droid_frame_stream.specs.Writes.{Takes, ReportsWrite};
 ghost use Rattle.droid_frame.specs.StreamWrites.{Stops};
 
 use super::header::Header;
-use droid_frame_stream::{Progress, SteadyWrite, WriteFault, write_all};
+use droid_frame_stream::{SteadyWrite, WriteFault, WriteState, write_all};
 use droid_frame_values::Frame;
 
 /// Writes a frame. It allocates nothing, and retries interrupted writes, up to 64 in one frame.
@@ -35,7 +35,7 @@ pub fn write_frame<W: SteadyWrite>(frame: &Frame, writer: &mut W) -> Result<(), 
         number: frame.number,
         length: frame.body.len() as u32,
     };
-    let mut progress = Progress::new();
+    let mut progress = WriteState::new();
     write_all(writer, &header.to_bytes(), &mut progress)?;
     write_all(writer, frame.body.as_slice(), &mut progress)
 }

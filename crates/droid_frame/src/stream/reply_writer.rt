@@ -15,7 +15,7 @@ ghost use Rattle.droid_frame_values.specs.Versions.{IsVersion};
 use super::header::Header;
 use crate::replies::fronts::{front_of, sized_puid};
 use crate::replies::reply_body_len;
-use droid_frame_stream::{Progress, SteadyWrite, WriteFault, write_all};
+use droid_frame_stream::{SteadyWrite, WriteFault, WriteState, write_all};
 use droid_frame_values::{Reply, Texts};
 
 /// Writes the frame of a reply. The version, client and number are those of the request. It allocates nothing, and
@@ -50,7 +50,7 @@ pub fn write_reply<W: SteadyWrite>(
         number,
         length: reply_body_len(version, reply) as u32,
     };
-    let mut progress = Progress::new();
+    let mut progress = WriteState::new();
     write_all(writer, &header.to_bytes(), &mut progress)?;
     write_all(writer, front_of(version, reply).as_slice(), &mut progress)?;
     write_rest(writer, reply, &mut progress)
@@ -60,7 +60,7 @@ pub fn write_reply<W: SteadyWrite>(
 fn write_rest<W: SteadyWrite>(
     writer: &mut W,
     reply: &Reply,
-    progress: &mut Progress,
+    progress: &mut WriteState,
 ) -> Result<(), WriteFault>
     requires spelling { HasRestSpelling reply.now }
     requires room { progress.old.written + length (reply_rest reply.now) < 2 ^ 64 }
@@ -81,7 +81,7 @@ fn write_rest<W: SteadyWrite>(
 fn write_puids<W: SteadyWrite>(
     writer: &mut W,
     puids: &Texts,
-    progress: &mut Progress,
+    progress: &mut WriteState,
 ) -> Result<(), WriteFault>
     requires each { AllByRecursion IsPuidText puids.now }
     requires room { progress.old.written + length (texts_bytes puids.now) < 2 ^ 64 }
