@@ -74,9 +74,9 @@ out_of_memory true P Q is it = it
 out_of_memory false P Q is it = absurd cc
 
 -- memory was refused, and nothing is changed
-pub handles_want : (setting : Setting) (service : Holdings) (history : History) (frame : Frame) (refusal : Refusal) → IsSome (command frame) → IsTrue (is_out_of_memory_of refusal) → Stand setting service history
+pub handles_memory_fault : (setting : Setting) (service : Holdings) (history : History) (frame : Frame) (refusal : Refusal) → IsSome (command frame) → IsTrue (is_out_of_memory_of refusal) → Stand setting service history
     → Handles setting history frame (Refused refusal) (Stand setting service)
-handles_want setting service history frame refusal asked failure stands = out_of_memory (is_out_of_memory_of refusal) _ _ failure (asked, stands)
+handles_memory_fault setting service history frame refusal asked failure stands = out_of_memory (is_out_of_memory_of refusal) _ _ failure (asked, stands)
 
 -- that the database refused for another cause than memory is never the answer
 pub never_store : (setting : Setting) (history : History) (frame : Frame) (reply : Reply) (Stands : History → Type 0) → IsLegal setting history → Handles setting history frame reply Stands → reply ≢ Refused Store
@@ -85,9 +85,9 @@ never_store setting history frame reply Stands legal handled same =
     answer_no_store setting history frame legal (sym answered.0)
 
 -- want of memory, or else what follows from an answer
-unless_wanting : (b : Bool) {P Q R : Type 0} → MatchBool b ⊤ P → Q → (P → R) → MatchBool b Q R
-unless_wanting true is out_of_memory answered = out_of_memory
-unless_wanting false is out_of_memory answered = answered is
+unless_out_of_memory : (b : Bool) {P Q R : Type 0} → MatchBool b ⊤ P → Q → (P → R) → MatchBool b Q R
+unless_out_of_memory true is out_of_memory answered = out_of_memory
+unless_out_of_memory false is out_of_memory answered = answered is
 
 -- what a kept row answers is the answer, and the history stays
 pub handles_again : (setting : Setting) (service : Holdings) (history : History) (frame : Frame) (request : Request) (row : rows.Entry) (reply : Reply) → command frame ≡ Some request
@@ -99,12 +99,12 @@ handles_again setting service history frame request row reply asked found answer
     let is = answers there.0.reply (subst (λ (r : rows.Entry). SpellsReply r.version r.kind r.body there.0.reply) there.2 (record { version_is = spelled.version; kind_is = refl; body_is = refl; has_spelling = spelled.reply })) in
     let answer_is = answer_kept setting history frame request asked there.0 there.1 in
     let next_is = next_kept setting history frame request asked there.0 there.1 in
-    unless_wanting (is_out_of_memory reply) is (some_is_some frame request asked, stands)
+    unless_out_of_memory (is_out_of_memory reply) is (some_is_some frame request asked, stands)
     (λ same. (same ∙ (ap (λ (r : rows.Entry). again r (stamp_of frame) there.0.reply) (sym there.2) ∙ sym answer_is), subst (Stand setting service) (sym next_is) stands))
 
-by_wanting : (b : Bool) {P Q R S T U : Type 0} → MatchBool b P (Q × R) → (P → S) → (Q → T) → (Q → R → U) → MatchBool b S (T × U)
-by_wanting true came out_of_memory answered left = out_of_memory came
-by_wanting false came out_of_memory answered left = (answered came.0, left came.0 came.1)
+by_memory_fault : (b : Bool) {P Q R S T U : Type 0} → MatchBool b P (Q × R) → (P → S) → (Q → T) → (Q → R → U) → MatchBool b S (T × U)
+by_memory_fault true came out_of_memory answered left = out_of_memory came
+by_memory_fault false came out_of_memory answered left = (answered came.0, left came.0 came.1)
 
 -- what its verdict says, under a new number
 pub handles_anew : (setting : Setting) (old new : Holdings) (history : History) (frame : Frame) (request : Request) (reply : Reply) → command frame ≡ Some request → Stand setting old history
@@ -115,7 +115,7 @@ handles_anew setting old new history frame request reply asked stands absent spe
     let verdict = judge setting (world_of setting history) frame.version request in
     let answer_is = answer_new setting history frame request asked is_new in
     let next_is = next_new setting history frame request asked is_new in
-    by_wanting (is_out_of_memory reply) comes
+    by_memory_fault (is_out_of_memory reply) comes
     (λ same. (some_is_some frame request asked, same_stands setting old new history same stands))
     (λ is. is ∙ sym answer_is)
     (λ is leaves. subst (Stand setting new) (sym next_is) (leaves_next setting old new history frame request verdict asked is_new refl (subst (HasReplySpelling frame.version) is spelled) leaves stands))

@@ -100,9 +100,9 @@ answered_row setting history frame request reply asked is_new is commands unrefu
     subst (λ (r : Reply). IsKeptRow (next setting history frame) (frame.client, frame.number) (stamped (stamp_of frame) r)) its
     (accepted_row setting history frame request verdict is_new (judged setting (world_of setting history) frame.version request) (next_new setting history frame request asked is_new) commands (ap is_refused its ∙ unrefused))
 
-no_want : (reply : Reply) → is_refused reply ≡ false → is_out_of_memory reply ≡ false
-no_want (Refused refusal) is = absurd cc
-no_want _ is = refl
+no_memory_fault : (reply : Reply) → is_refused reply ≡ false → is_out_of_memory reply ≡ false
+no_memory_fault (Refused refusal) is = absurd cc
+no_memory_fault _ is = refl
 
 -- caching a reply leaves the cached rows those of any history that has this reply
 abbrev Keeps : List (Whose × rows.Entry) → List (Whose × rows.Entry) → Bool → Stamp → Reply → Type 0
@@ -134,7 +134,7 @@ kept_by : (b : Bool) (setting : Setting) (history : History) (frame : Frame) (re
     → (P : Type 0) → MatchBool b (P × Stand setting service.holdings history) ((reply ≡ answer setting history frame) × Stand setting service.holdings (next setting history frame))
     → MatchBool b (P × StandsFor setting service history) ((reply ≡ answer setting history frame) × StandsFor setting service (next setting history frame))
 kept_by true setting history frame request reply old service failure asked is_new all keeps forgets P handled =
-    (handled.0, record { holdings = handled.1; recent = keeps history all (λ commands unrefused. absurd (let wants_not = no_want reply unrefused in cc)); last = forgets.0 })
+    (handled.0, record { holdings = handled.1; recent = keeps history all (λ commands unrefused. absurd (let stays_unless = no_memory_fault reply unrefused in cc)); last = forgets.0 })
 kept_by false setting history frame request reply old service failure asked is_new all keeps forgets P handled = (
   handled.0,
   record {

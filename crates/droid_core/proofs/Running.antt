@@ -73,9 +73,9 @@ spelled-push (f ∷ frames) (r ∷ replies) frame reply all last e = (all.0, spe
 
 -- ---- the step
 
-last_want : (b : Bool) (P Q S T : Type 0) → MatchBool b (P × S) (Q × T) → MatchBool b P ⊤
-last_want true P Q S T handled = handled.0
-last_want false P Q S T handled = tt
+last_memory_fault : (b : Bool) (P Q S T : Type 0) → MatchBool b (P × S) (Q × T) → MatchBool b P ⊤
+last_memory_fault true P Q S T handled = handled.0
+last_memory_fault false P Q S T handled = tt
 
 goes_on : (b : Bool) (setting : Setting) (history : History) (frames : List Frame) (replies : List Reply) (frame : Frame) (reply : Reply) (after : Service)
     → other_replies replies ≡ answers setting history frames
@@ -94,7 +94,7 @@ Runs-push setting history frames replies before after frame reply runs handled s
     record {
       count = omega (arith, runs.count, length-append replies (reply ∷ []), length-append frames (frame ∷ []));
       spelled = spelled-push frames replies frame reply runs.spelled spelled runs.count;
-      memory_faults = memory_faults-push frames replies frame reply runs.memory_faults (last_want (is_out_of_memory reply) _ _ _ _ handled) runs.count;
+      memory_faults = memory_faults-push frames replies frame reply runs.memory_faults (last_memory_fault (is_out_of_memory reply) _ _ _ _ handled) runs.count;
       answered = other_replies-push replies reply ∙ (more.0 ∙ ap (answers setting history) (sym kept));
       stands = rw kept more.1;
     }

@@ -36,7 +36,7 @@ use Rattle.droid_core_state.specs.declared.stamps.Stamp.{Stamp}
 use Rattle.droid_core_requests.specs.LookUps.{HasFile, for_file}
 use Rattle.droid_core_state.specs.Standing.{IsIn}
 use Rattle.droid_core_requests.proofs.Assembled.{assembly_of, assemblies_finished}
-use Rattle.droid_core_requests.proofs.FinishJudged.{hash_untold}
+use Rattle.droid_core_requests.proofs.FinishJudged.{hash_unreported}
 use Rattle.droid_core_requests.proofs.Hashes.{kind_of_hash}
 use Rattle.droid_core_requests.proofs.FileVerdicts.{judged_there, unfinished_there, finished_there}
 use Rattle.droid_core_state.proofs.Staying.{comes_refused, of_any}
@@ -67,9 +67,9 @@ only_looked setting world old place store files same alike unchanged is_in = rw 
   replies = refl;
 })
 
-wanting_or : (out_of_memory : Bool) (P Q R : Type 0) → MatchBool out_of_memory ⊤ P → Q → (P → MatchBool out_of_memory Q R) → MatchBool out_of_memory Q R
-wanting_or true P Q R it memory_faults turn = memory_faults
-wanting_or false P Q R it memory_faults turn = turn it
+out_of_memory_or : (out_of_memory : Bool) (P Q R : Type 0) → MatchBool out_of_memory ⊤ P → Q → (P → MatchBool out_of_memory Q R) → MatchBool out_of_memory Q R
+out_of_memory_or true P Q R it memory_faults turn = memory_faults
+out_of_memory_or false P Q R it memory_faults turn = turn it
 
 unwanted : (out_of_memory : Bool) (P Q : Type 0) → out_of_memory ≡ false → Q → MatchBool out_of_memory P Q
 unwanted true P Q is it = absurd cc
@@ -97,13 +97,13 @@ module _ (setting : Setting) (world : World) (version number id : ℕ) (row : Fi
   reply_and_world = Accepted (finished_reply (finding_of setting has.profile has.name has.content)) (world_set world number (node_set has.profile id (File has.parent has.modified has.name (as_finished has.content))))
 
   -- of a hash that no reply of its version can tell
-  pub refused_untold : is_unfinished row.node.state ≡ true → is_carried version row.profile.hash ≡ false → judge_finish setting world version number id ≡ Refuses BadOption
-  refused_untold is unreported =
+  pub refused_unreported : is_unfinished row.node.state ≡ true → is_carried version row.profile.hash ≡ false → judge_finish setting world version number id ≡ Refuses BadOption
+  refused_unreported is unreported =
       let of_profile = ap (λ (p : ProfileRow). is_carried version p.hash) (sym has.profile_is) ∙ unreported in
-      judged ∙ ap (λ found. unless_refused found reply_and_world) (hash_untold version has.profile.hash has.content (unfinished_there world number id row has is) of_profile)
+      judged ∙ ap (λ found. unless_refused found reply_and_world) (hash_unreported version has.profile.hash has.content (unfinished_there world number id row has is) of_profile)
 
-  pub told_there : is_carried version row.profile.hash ≡ true → is_carried version has.profile.hash ≡ true
-  told_there reported = ap (λ (p : ProfileRow). is_carried version p.hash) (sym has.profile_is) ∙ reported
+  pub reported_there : is_carried version row.profile.hash ≡ true → is_carried version has.profile.hash ≡ true
+  reported_there reported = ap (λ (p : ProfileRow). is_carried version p.hash) (sym has.profile_is) ∙ reported
 
   refused : (refusal : Refusal) → refusal_of (finish_checks version has.profile.hash has.content) ≡ Some refusal → judge_finish setting world version number id ≡ Refuses refusal
   refused refusal is = judged ∙ ap (λ found. unless_refused found reply_and_world) is
@@ -124,7 +124,7 @@ module _ (setting : Setting) (world : World) (version number id : ℕ) (row : Fi
         → At old.files place (λ file. (version : ℕ) (profile : Profile) (content : Content) → IsAssemblyOf profile content file → content.finished ≡ false → is_carried version profile.hash ≡ true → MatchBool (is_out_of_memory_of refusal) ⊤ (refusal_of (finish_checks version profile.hash content) ≡ Some refusal))
         → Comes setting world old new stamp (judge_finish setting world version number id) (replies.Refused refusal)
     comes_unfinished stamp new refusal stays said =
-        wanting_or (is_out_of_memory_of refusal) _ _ _ (said its.file (at_place ∙ its.there) version has.profile has.content its.assembled unfinished reported) stays
+        out_of_memory_or (is_out_of_memory_of refusal) _ _ _ (said its.file (at_place ∙ its.there) version has.profile has.content its.assembled unfinished reported) stays
         (λ refuses. comes_refused setting world old new stamp (judge_finish setting world version number id) refusal (of_any _ (refused refusal refuses)) stays)
 
     -- the finding is one of the file at the place

@@ -22,9 +22,9 @@ use Rattle.droid_core_requests.specs.LookUps.{HasFile, for_file}
 use Rattle.droid_core_requests.proofs.FileVerdicts.{judged_there, unfinished_there, finished_there}
 
 -- a call that tells nothing only where something is so that isn't
-pub told_at_all : {P : Type 0} (reported : Result Reply Refusal) → OnErr reported P → (P → ⊥) → IsOk reported
-told_at_all (Ok reply) none isnt = refl
-told_at_all (Err refusal) none isnt = absurd (isnt none)
+pub reported_at_all : {P : Type 0} (reported : Result Reply Refusal) → OnErr reported P → (P → ⊥) → IsOk reported
+reported_at_all (Ok reply) none isnt = refl
+reported_at_all (Err refusal) none isnt = absurd (isnt none)
 
 -- what comes of asking for this file
 abbrev pub status_there : Profile → ℕ → ℤ → List ℕ → Content → Verdict
@@ -40,13 +40,13 @@ module _ (setting : Setting) (world : World) (old new : Holdings) (stamp : Stamp
   one_of false P Q p q = q
 
   -- the verdict's answer, where there is one
-  comes_told : (reported : Result Reply Refusal) → IfOk reported (λ reply. verdict ≡ Answered reply) → IsOk reported → Comes setting world old new stamp verdict (answered reported)
-  comes_told (Ok reply) is reported = one_of (is_out_of_memory reply) _ _ stays (rw is (refl, stays))
-  comes_told (Err refusal) is reported = absurd cc
+  comes_reported : (reported : Result Reply Refusal) → IfOk reported (λ reply. verdict ≡ Answered reply) → IsOk reported → Comes setting world old new stamp verdict (answered reported)
+  comes_reported (Ok reply) is reported = one_of (is_out_of_memory reply) _ _ stays (rw is (refl, stays))
+  comes_reported (Err refusal) is reported = absurd cc
 
 module _ (setting : Setting) (world : World) (number id : ℕ) (row : FileRow) (has : HasFile world number id row) where
-  told_there : judge_status world number id ≡ Answered (progress_of has.content)
-  told_there = status_for_file world number id ∙ judged_there world number id row has status_there
+  reported_there : judge_status world number id ≡ Answered (progress_of has.content)
+  reported_there = status_for_file world number id ∙ judged_there world number id row has status_there
 
   abbrev TellsProgress : OpenFiles → Reply → Type 0
   TellsProgress files reply = (world : World) (profile : Profile) (parent : ℕ) (modified : ℤ) (name : List ℕ) (content : Content) → HasAssemblies world files
@@ -56,22 +56,22 @@ module _ (setting : Setting) (world : World) (number id : ℕ) (row : FileRow) (
   of_progress : (files : OpenFiles) → HasAssemblies world files → is_unfinished row.node.state ≡ true → (reported : Result Reply Refusal) → IfOk reported (TellsProgress files)
       → IfOk reported (λ reply. judge_status world number id ≡ Answered reply)
   of_progress files assembled is (Ok reply) reports =
-      told_there ∙ ap Answered (sym (reports world has.profile has.parent has.modified has.name has.content assembled has.there has.at (unfinished_there world number id row has is)))
+      reported_there ∙ ap Answered (sym (reports world has.profile has.parent has.modified has.name has.content assembled has.there has.at (unfinished_there world number id row has is)))
   of_progress files assembled is (Err refusal) reports = tt
 
   -- of an unfinished file its assembly tells
-  pub unfinished_told : (old new : Holdings) (stamp : Stamp) → Stays setting world old new → HasAssemblies world old.files → is_unfinished row.node.state ≡ true
+  pub unfinished_reported : (old new : Holdings) (stamp : Stamp) → Stays setting world old new → HasAssemblies world old.files → is_unfinished row.node.state ≡ true
       → (reported : Result Reply Refusal) → IfOk reported (TellsProgress old.files) → IsOk reported
       → Comes setting world old new stamp (judge_status world number id) (answered reported)
-  unfinished_told old new stamp stays assembled is reported reports tells_it = comes_told setting world old new stamp _ stays reported (of_progress old.files assembled is reported reports) tells_it
+  unfinished_reported old new stamp stays assembled is reported reports reports_it = comes_reported setting world old new stamp _ stays reported (of_progress old.files assembled is reported reports) reports_it
 
   finished_progress : (content : Content) → content.finished ≡ true → progress_of content ≡ Progress (piece_count content.size content.piece_size) (piece_count content.size content.piece_size)
   finished_progress content finished = rw finished refl
 
   -- of a finished file its row does
-  pub finished_told : (old new : Holdings) (stamp : Stamp) (count : ℕ) → Stays setting world old new → is_unfinished row.node.state ≡ false → count ≡ piece_count row.node.item.size row.node.piece_size
+  pub finished_reported : (old new : Holdings) (stamp : Stamp) (count : ℕ) → Stays setting world old new → is_unfinished row.node.state ≡ false → count ≡ piece_count row.node.item.size row.node.piece_size
       → (Progress count count ≡ verdict_reply (judge_status world number id)) × Leaves setting world old new stamp (judge_status world number id)
-  finished_told old new stamp count stays isnt counted =
+  finished_reported old new stamp count stays isnt counted =
       let finished = finished_progress has.content (finished_there world number id row has isnt) in
       let counts : count ≡ piece_count has.content.size has.content.piece_size = rw (counted, has.size_is, has.piece_size_is) refl in
-      rw told_there (ap (λ n. Progress n n) counts ∙ sym finished, stays)
+      rw reported_there (ap (λ n. Progress n n) counts ∙ sym finished, stays)

@@ -15,8 +15,8 @@ use Rattle.droid_core_spec.specs.Judging.{refusal_of, finish_checks}
 use Rattle.droid_core_spec.specs.MemoryFaults.{is_out_of_memory_of}
 use Rattle.droid_core_spec.specs.World.{Content}
 
-pub hash_untold : (version : ℕ) (hash : HashKind) (content : Content) → content.finished ≡ false → is_carried version hash ≡ false → refusal_of (finish_checks version hash content) ≡ Some BadOption
-hash_untold version hash content unfinished unreported = rw (unfinished, unreported) refl
+pub hash_unreported : (version : ℕ) (hash : HashKind) (content : Content) → content.finished ≡ false → is_carried version hash ≡ false → refusal_of (finish_checks version hash content) ≡ Some BadOption
+hash_unreported version hash content unfinished unreported = rw (unfinished, unreported) refl
 
 pub some_missing : (version : ℕ) (hash : HashKind) (content : Content) (missing : ℕ) → content.finished ≡ false → is_carried version hash ≡ true → (missing ≡ missing_of content) × (missing < count_of content) → refusal_of (finish_checks version hash content) ≡ Some (Incomplete missing)
 some_missing version hash content missing unfinished reported is =
@@ -27,8 +27,8 @@ pub none_missing : (version : ℕ) (hash : HashKind) (content : Content) → con
 none_missing version hash content unfinished reported is = rw (unfinished, reported, le-ltb (missing_of content) (count_of content) (omega (arith, is))) refl
 
 -- what the fault of who identifies it is told as is the file's refusal, or a want
-pub told_of_fault : (version : ℕ) (hash : HashKind) (content : Content) (fault : IdentifyFault) (refusal : Refusal) → content.finished ≡ false → is_carried version hash ≡ true
+pub reported_of_fault : (version : ℕ) (hash : HashKind) (content : Content) (fault : IdentifyFault) (refusal : Refusal) → content.finished ≡ false → is_carried version hash ≡ true
     → ((first : ℕ) → fault ≡ faults.Incomplete first → (first ≡ missing_of content) × (first < count_of content))
     → refusal ≡ reported_as fault → MatchBool (is_out_of_memory_of refusal) ⊤ (refusal_of (finish_checks version hash content) ≡ Some refusal)
-told_of_fault version hash content (faults.Incomplete first) refusal unfinished reported missing is = rw is (some_missing version hash content first unfinished reported (missing first refl))
-told_of_fault version hash content faults.Memory refusal unfinished reported missing is = rw is tt
+reported_of_fault version hash content (faults.Incomplete first) refusal unfinished reported missing is = rw is (some_missing version hash content first unfinished reported (missing first refl))
+reported_of_fault version hash content faults.Memory refusal unfinished reported missing is = rw is tt

@@ -16,14 +16,14 @@ kind_of_hash kinds.Md5 bytes = refl
 kind_of_hash kinds.Sha256 bytes = refl
 
 -- a kind that the version's Finished can tell is one that the version tells of
-told_as_md5 : (first : Bool) (kind : HashKind) → cond first (is_md5 kind) true ≡ true → MatchBool first (kind ≡ kinds.Md5) (Unit {0})
-told_as_md5 true kinds.Nothing reported = absurd cc
-told_as_md5 true kinds.Md5 reported = refl
-told_as_md5 true kinds.Sha256 reported = absurd cc
-told_as_md5 false kind reported = tt
+reported_as_md5 : (first : Bool) (kind : HashKind) → cond first (is_md5 kind) true ≡ true → MatchBool first (kind ≡ kinds.Md5) (Unit {0})
+reported_as_md5 true kinds.Nothing reported = absurd cc
+reported_as_md5 true kinds.Md5 reported = refl
+reported_as_md5 true kinds.Sha256 reported = absurd cc
+reported_as_md5 false kind reported = tt
 
 pub spelled_hash : (version : ℕ) (value : HashValue) → IsHashValue value → is_carried version (hash_value_kind value) ≡ true → IsSpelledHash version value
-spelled_hash version value is reported = (told_as_md5 (version == 1) (hash_value_kind value) reported, is)
+spelled_hash version value is reported = (reported_as_md5 (version == 1) (hash_value_kind value) reported, is)
 
 pub of_spelled : (version : ℕ) (value : HashValue) → IsSpelledHash version value → IsHashValue value
 of_spelled version value is = is.1

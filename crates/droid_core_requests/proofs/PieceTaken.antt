@@ -44,9 +44,9 @@ pub stays_as : (setting : Setting) (world : World) (old : Holdings) (store : Row
 stays_as setting world old store files same_store same_files is_in = rw (same_store, same_files) (record { world_is = is_in; replies = refl })
 
 -- a want, and nothing changed
-pub comes_wanting : (setting : Setting) (world : World) (old new : Holdings) (stamp : Stamp) (verdict : Verdict) (refusal : Refusal) → refusal ≡ Memory → Stays setting world old new
+pub comes_out_of_memory : (setting : Setting) (world : World) (old new : Holdings) (stamp : Stamp) (verdict : Verdict) (refusal : Refusal) → refusal ≡ Memory → Stays setting world old new
     → Comes setting world old new stamp verdict (replies.Refused refusal)
-comes_wanting setting world old new stamp verdict refusal memory stays = rw memory stays
+comes_out_of_memory setting world old new stamp verdict refusal memory stays = rw memory stays
 
 pub same_files : (old new : OpenFiles) → new.limit ≡ old.limit → new.files ≡ old.files → new ≡ old
 same_files old new limit files =

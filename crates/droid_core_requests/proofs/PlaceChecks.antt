@@ -18,9 +18,9 @@ of_child : (node : Option Node) → is_some (option_map (λ (n : Node). n.id) no
 of_child None = refl
 of_child (Some node) = refl
 
-pub child_told : (found : Result (Option ℕ) StoreFault) (node : Option Node) (there : Bool) → IfOk found (λ id. id ≡ option_map (λ (n : Node). n.id) node) → Ok there ≡ taken_in found → there ≡ is_some node
-child_told (Ok id) node there is reported = (let same : there ≡ is_some id = cc in same) ∙ ap is_some is ∙ of_child node
-child_told (Err fault) node there is reported = absurd cc
+pub child_reported : (found : Result (Option ℕ) StoreFault) (node : Option Node) (there : Bool) → IfOk found (λ id. id ≡ option_map (λ (n : Node). n.id) node) → Ok there ≡ taken_in found → there ≡ is_some node
+child_reported (Ok id) node there is reported = (let same : there ≡ is_some id = cc in same) ∙ ap is_some is ∙ of_child node
+child_reported (Err fault) node there is reported = absurd cc
 
 pub no_child : (node : Option Node) → is_some node ≡ false → node ≡ None
 no_child None isnt = refl

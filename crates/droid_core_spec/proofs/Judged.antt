@@ -20,8 +20,8 @@ AreOfJudging (check ∷ checks) = (is_of_judging check.1 ≡ true) × AreOfJudgi
 
 -- of two replies that are no refusals either is none
 reported : (first : Bool) (one two : Reply) → is_refused one ≡ false → is_refused two ≡ false → is_refused (cond first one two) ≡ false
-reported true one two is_carried other_told = is_carried
-reported false one two is_carried other_told = other_told
+reported true one two is_carried other_reported = is_carried
+reported false one two is_carried other_reported = other_reported
 
 module _ (world : World) (request : Request) where
   refused_by : (b : Bool) (refusal : Refusal) (rest : Option Refusal) (verdict : Verdict) → is_of_judging refusal ≡ true → MayCome world request (unless_refused rest verdict) → MayCome world request (unless_refused (cond b (Some refusal) rest) verdict)

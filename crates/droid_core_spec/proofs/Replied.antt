@@ -24,19 +24,19 @@ use Rattle.droid_core_spec.proofs.Meetings.{answer_kept, next_kept, answer_new, 
 
 -- ---- no want
 
-no_want_of : (refusal : Refusal) → is_of_judging refusal ≡ true → is_out_of_memory_of refusal ≡ false
-no_want_of Memory is = absurd cc
-no_want_of Store is = absurd cc
-no_want_of _ is = refl
+no_memory_fault_of : (refusal : Refusal) → is_of_judging refusal ≡ true → is_out_of_memory_of refusal ≡ false
+no_memory_fault_of Memory is = absurd cc
+no_memory_fault_of Store is = absurd cc
+no_memory_fault_of _ is = refl
 
-no_want : (reply : Reply) → is_refused reply ≡ false → is_out_of_memory reply ≡ false
-no_want (Refused refusal) is = absurd cc
-no_want _ is = refl
+no_memory_fault : (reply : Reply) → is_refused reply ≡ false → is_out_of_memory reply ≡ false
+no_memory_fault (Refused refusal) is = absurd cc
+no_memory_fault _ is = refl
 
-no_verdict_wants : (world : World) (request : Request) (verdict : Verdict) → MayCome world request verdict → is_out_of_memory (verdict_reply verdict) ≡ false
-no_verdict_wants world request (Accepted reply after) may = no_want reply may.no_refusal
-no_verdict_wants world request (Answered reply) may = no_want reply may.no_refusal
-no_verdict_wants world request (Refuses refusal) may = no_want_of refusal may
+no_verdict_runs_out : (world : World) (request : Request) (verdict : Verdict) → MayCome world request verdict → is_out_of_memory (verdict_reply verdict) ≡ false
+no_verdict_runs_out world request (Accepted reply after) may = no_memory_fault reply may.no_refusal
+no_verdict_runs_out world request (Answered reply) may = no_memory_fault reply may.no_refusal
+no_verdict_runs_out world request (Refuses refusal) may = no_memory_fault_of refusal may
 
 -- ---- no database that refused
 
@@ -61,12 +61,12 @@ kept_unrefused setting history client number entry legal there =
     let came = kept_came setting history client number entry legal there in
     (judged_as setting (world_of setting came.past) entry.frame.version came.may.request (Accepted entry.reply came.may.after) came.may.accepted).no_refusal
 
-pub answer_no_want : (setting : Setting) (history : History) (frame : Frame) → IsLegal setting history → is_out_of_memory (answer setting history frame) ≡ false
+pub answer_no_memory_fault : (setting : Setting) (history : History) (frame : Frame) → IsLegal setting history → is_out_of_memory (answer setting history frame) ≡ false
 unfolding answer
-answer_no_want setting history frame legal =
+answer_no_memory_fault setting history frame legal =
     whatever_meets setting history frame (λ (met : Meeting). is_out_of_memory (reply_to met) ≡ false) refl
-    (λ entry there. no_want entry.reply (kept_unrefused setting history frame.client frame.number entry legal there)) refl
-    (λ request asked is_new. no_verdict_wants (world_of setting history) request (judge setting (world_of setting history) frame.version request) (judged setting (world_of setting history) frame.version request))
+    (λ entry there. no_memory_fault entry.reply (kept_unrefused setting history frame.client frame.number entry legal there)) refl
+    (λ request asked is_new. no_verdict_runs_out (world_of setting history) request (judge setting (world_of setting history) frame.version request) (judged setting (world_of setting history) frame.version request))
 
 pub answer_no_store : (setting : Setting) (history : History) (frame : Frame) → IsLegal setting history → answer setting history frame ≢ Refused Store
 unfolding answer
@@ -227,14 +227,14 @@ module _ (setting : Setting) (history : History) (frame : Frame) (request : Requ
 -- ---- a query changes nothing
 
 module _ (setting : Setting) (history : History) (frame : Frame) (request : Request) (asked : command frame ≡ Some request) (queries : is_command request ≡ false) where
-  told_only : (verdict : Verdict) → MayCome (world_of setting history) request verdict → history_with history frame (New verdict) ≡ history
-  told_only (Accepted reply after) may = absurd (let commands = may.command in cc)
-  told_only (Answered reply) may = refl
-  told_only (Refuses refusal) may = refl
+  reported_only : (verdict : Verdict) → MayCome (world_of setting history) request verdict → history_with history frame (New verdict) ≡ history
+  reported_only (Accepted reply after) may = absurd (let commands = may.command in cc)
+  reported_only (Answered reply) may = refl
+  reported_only (Refuses refusal) may = refl
 
   asked_kept : (o : Option Entry) → kept history frame.client frame.number ≡ o → next setting history frame ≡ history
   asked_kept (Some entry) there = next_kept setting history frame request asked entry there
-  asked_kept None is_new = next_new setting history frame request asked is_new ∙ told_only (judge setting (world_of setting history) frame.version request) (judged setting (world_of setting history) frame.version request)
+  asked_kept None is_new = next_new setting history frame request asked is_new ∙ reported_only (judge setting (world_of setting history) frame.version request) (judged setting (world_of setting history) frame.version request)
 
   pub query_stays : next setting history frame ≡ history
   query_stays = asked_kept (kept history frame.client frame.number) refl

@@ -47,12 +47,12 @@ pub of_any : (b : Bool) {P : Type 0} → P → MatchBool b ⊤ P
 of_any true p = tt
 of_any false p = p
 
-refused_or_wanting : (b : Bool) (setting : Setting) (world : World) (old new : Holdings) (stamp : Stamp) (verdict : Verdict) (refusal : Refusal) → MatchBool b ⊤ (verdict ≡ Refuses refusal) → Stays setting world old new
+refused_or_out_of_memory : (b : Bool) (setting : Setting) (world : World) (old new : Holdings) (stamp : Stamp) (verdict : Verdict) (refusal : Refusal) → MatchBool b ⊤ (verdict ≡ Refuses refusal) → Stays setting world old new
     → MatchBool b (Stays setting world old new) ((Refused refusal ≡ verdict_reply verdict) × Leaves setting world old new stamp verdict)
-refused_or_wanting true setting world old new stamp verdict refusal is same = same
-refused_or_wanting false setting world old new stamp verdict refusal is same = rw is (refl, same)
+refused_or_out_of_memory true setting world old new stamp verdict refusal is same = same
+refused_or_out_of_memory false setting world old new stamp verdict refusal is same = rw is (refl, same)
 
 -- the refusal is the verdict's, or memory was refused
 pub comes_refused : (setting : Setting) (world : World) (old new : Holdings) (stamp : Stamp) (verdict : Verdict) (refusal : Refusal) → MatchBool (is_out_of_memory_of refusal) ⊤ (verdict ≡ Refuses refusal) → Stays setting world old new
     → Comes setting world old new stamp verdict (Refused refusal)
-comes_refused setting world old new stamp verdict refusal is same = refused_or_wanting (is_out_of_memory_of refusal) setting world old new stamp verdict refusal is same
+comes_refused setting world old new stamp verdict refusal is same = refused_or_out_of_memory (is_out_of_memory_of refusal) setting world old new stamp verdict refusal is same

@@ -33,9 +33,9 @@ not_made_of file registry (Ok service) read none = tt
 not_made_of file registry (Err ending) read none = unmade_of file registry ending read none
 
 -- neither of two faults came
-pub told_neither : (start : ℕ) (seen : Seen) (P Q : Type 0) → (P → ⊥) → (Q → ⊥) → ReportsFault start seen P → ReportsFault start seen Q
-told_neither start seen P Q not_p not_q reported = record { fault = λ q. absurd (not_q q); otherwise = λ _. reported.otherwise not_p }
+pub reported_neither : (start : ℕ) (seen : Seen) (P Q : Type 0) → (P → ⊥) → (Q → ⊥) → ReportsFault start seen P → ReportsFault start seen Q
+reported_neither start seen P Q not_p not_q reported = record { fault = λ q. absurd (not_q q); otherwise = λ _. reported.otherwise not_p }
 
 -- one fault came exactly where another did
-pub told_alike : (start : ℕ) (seen : Seen) (P Q : Type 0) → (P → Q) → (Q → P) → ReportsFault start seen P → ReportsFault start seen Q
-told_alike start seen P Q to of reported = record { fault = λ q. reported.fault (of q); otherwise = λ not. reported.otherwise (λ p. not (to p)) }
+pub reported_alike : (start : ℕ) (seen : Seen) (P Q : Type 0) → (P → Q) → (Q → P) → ReportsFault start seen P → ReportsFault start seen Q
+reported_alike start seen P Q to of reported = record { fault = λ q. reported.fault (of q); otherwise = λ not. reported.otherwise (λ p. not (to p)) }

@@ -20,8 +20,8 @@ use Rattle.droid_pronom.specs.declared.registry.fault.RegistryFault.{RegistryFau
 use Rattle.droid_frame.specs.Seen.{IsSound, ReportsFault}
 use Rattle.droid_frame.specs.stream_types.seen.Seen.{Seen}
 use Rattle.droid_frame.specs.InTurn.{AtMost, ReportsFaultInTurn}
-use Rattle.droid_frame.proofs.InTurn.{over_none, told_idle}
-use Rattle.droid_frame.proofs.Scopes.{counts_none, told_none}
+use Rattle.droid_frame.proofs.InTurn.{over_none, reported_idle}
+use Rattle.droid_frame.proofs.Scopes.{counts_none, reported_none}
 
 pub keeps_same : (old new : Option (List ℕ)) → new ≡ old → Keeps old new
 keeps_same old new e = subst (Keeps old) (sym e) (Keeps-refl old)
@@ -76,7 +76,7 @@ none_yet (Some script) = omega arith
 pub unwritten : {S : Type 0} (seen : S → Seen) (contents : S → Option (List ℕ)) (known : Option (List ℕ)) (writer : S) (P : Type 0) → IsSound (seen writer) → (P → ⊥)
     → ReportsFaultInTurn seen (WritesAnswer contents) (AtMost known (λ script. length (lines_of script))) writer writer P
 unwritten {S} seen contents known writer P sound not =
-    told_idle seen (WritesAnswer contents) (AtMost known (λ script. length (lines_of script))) writer writer 0 P (over_none seen (WritesAnswer contents) writer 0 refl sound) (none_yet known) not
+    reported_idle seen (WritesAnswer contents) (AtMost known (λ script. length (lines_of script))) writer writer 0 P (over_none seen (WritesAnswer contents) writer 0 refl sound) (none_yet known) not
 
 -- ---- a script over a registry file
 
@@ -112,4 +112,4 @@ unmade_by_no_script file ending fault not is = (subst (λ (e : Ending). IsNotMad
 
 -- nothing was asked of the reader
 pub unread : (seen : Seen) (P : Type 0) → IsSound seen → (P → ⊥) → ReportsFault seen.interruptions seen P
-unread seen P sound not = told_none seen.interruptions seen 0 P not (counts_none seen sound)
+unread seen P sound not = reported_none seen.interruptions seen 0 P not (counts_none seen sound)

@@ -42,5 +42,5 @@ pub to_end : (r : Result Tally SendFault) (fault : SendFault) → IsErrOf r faul
 to_end (Ok tally) fault is = absurd cc
 to_end (Err other) fault is = let same : other ≡ fault = cc in ap (λ (e : SendFault). Send e) same
 
-pub told_end : (start : ℕ) (seen : Seen) (r : Result Tally SendFault) (fault : SendFault) → ReportsFault start seen (IsErrOf r fault) → ReportsFault start seen (sending_end_of r ≡ Send fault)
-told_end start seen r fault reported = record { fault = λ is. reported.fault (of_end r fault is); otherwise = λ not. reported.otherwise (λ is. not (to_end r fault is)) }
+pub reported_end : (start : ℕ) (seen : Seen) (r : Result Tally SendFault) (fault : SendFault) → ReportsFault start seen (IsErrOf r fault) → ReportsFault start seen (sending_end_of r ≡ Send fault)
+reported_end start seen r fault reported = record { fault = λ is. reported.fault (of_end r fault is); otherwise = λ not. reported.otherwise (λ is. not (to_end r fault is)) }

@@ -17,7 +17,7 @@ use Rattle.droid_frame_values.specs.Versions.{is_version}
 use Rattle.droid_frame.specs.Headers.{header_bytes}
 use Rattle.droid_frame.specs.Streams.{IsReadable, BeginsNoFrame, header_size, why}
 use Rattle.droid_frame.specs.StreamReads.{IsGoodHeader, NamesSomeBody, ReadsNoFrame, Brings, EndsBy, Tells, UnlessRefused, IsHeader, HeaderCame, BodyCame, judged, Arrives}
-use Rattle.droid_frame.proofs.FrameLaws.{told_frame}
+use Rattle.droid_frame.proofs.FrameLaws.{reported_frame}
 use Rattle.droid_frame.proofs.StreamFrames.{Judged, other_version, too_long, good, judged_is, length_in-header, why_nothing, why_short, why_whole, no_frame_in_short, no_frame_of_version, no_frame_too_long, no_frame_cut}
 
 -- ---- known bytes
@@ -43,12 +43,12 @@ nothing_was_there (Some input) (Some left) read end = read ∙ end
 
 -- ---- where no header came
 
-short_told : (bytes : List ℕ) → 0 < length bytes → length bytes < header_size → EndsBy bytes (Err Truncated)
-short_told bytes some short = record { no_frame = no_frame_in_short bytes short; reason = why_short bytes some short }
+short_reported : (bytes : List ℕ) → 0 < length bytes → length bytes < header_size → EndsBy bytes (Err Truncated)
+short_reported bytes some short = record { no_frame = no_frame_in_short bytes short; reason = why_short bytes some short }
 
 pub header_fault : (old new : Option (List ℕ)) (fault : FrameFault) → HeaderCame old new (Err fault) → Arrives old new (Err fault)
 header_fault old new Truncated came = (
-  at_end_all old new came.bytes (Tells Truncated) came.consumed came.at_end (short_told came.bytes (omega (arith, came.some)) came.short),
+  at_end_all old new came.bytes (Tells Truncated) came.consumed came.at_end (short_reported came.bytes (omega (arith, came.some)) came.short),
   record { bytes = came.bytes; consumed = came.consumed; no_frame = no_frame_in_short came.bytes came.short; within = inl (omega (arith, came.short)) },
 )
 header_fault old new Read came = (begun_all old new came.bytes (Tells Read) came.consumed (λ left. tt), record { bytes = came.bytes; consumed = came.consumed; no_frame = no_frame_in_short came.bytes came.fewer; within = inl (omega (arith, came.fewer)) })
@@ -58,27 +58,27 @@ header_fault old new Memory came = absurd came
 
 -- ---- where the header was refused
 
-refused_told : (h : Header) (fault : FrameFault) (left : List ℕ) → IsHeader h → Judged h (Err fault) → Tells fault (header_bytes h ++ left)
-refused_told h BadVersion left is (other_version o) = record {
+refused_reported : (h : Header) (fault : FrameFault) (left : List ℕ) → IsHeader h → Judged h (Err fault) → Tells fault (header_bytes h ++ left)
+refused_reported h BadVersion left is (other_version o) = record {
   no_frame = no_frame_of_version h left is o;
   reason = why_whole h left false (ltb (body_limit h.version) h.length) is o refl;
 }
-refused_told h TooLong left is (too_long o l) = record {
+refused_reported h TooLong left is (too_long o l) = record {
   no_frame = no_frame_too_long h left is (ltb-true (body_limit h.version) h.length l);
   reason = why_whole h left true true is o l;
 }
-refused_told h Truncated left is j = elim j [ ]
-refused_told h Memory left is j = elim j [ ]
-refused_told h Read left is j = elim j [ ]
+refused_reported h Truncated left is j = elim j [ ]
+refused_reported h Memory left is j = elim j [ ]
+refused_reported h Read left is j = elim j [ ]
 
 -- a header that is refused is all that was read
 refused_by : (old new : Option (List ℕ)) (h : Header) (fault : FrameFault) → IsHeader h → Consumes old new (header_bytes h) → Judged h (Err fault) → Arrives old new (Err fault)
 refused_by old new h BadVersion is read (other_version o) = (
-  begun_all old new (header_bytes h) (Tells BadVersion) read (λ left. refused_told h BadVersion left is (other_version o)),
+  begun_all old new (header_bytes h) (Tells BadVersion) read (λ left. refused_reported h BadVersion left is (other_version o)),
   record { bytes = header_bytes h; consumed = read; no_frame = no_frame_of_version h [] is o; within = inl (omega arith) },
 )
 refused_by old new h TooLong is read (too_long o l) = (
-  begun_all old new (header_bytes h) (Tells TooLong) read (λ left. refused_told h TooLong left is (too_long o l)),
+  begun_all old new (header_bytes h) (Tells TooLong) read (λ left. refused_reported h TooLong left is (too_long o l)),
   record { bytes = header_bytes h; consumed = read; no_frame = no_frame_too_long h [] is (ltb-true (body_limit h.version) h.length l); within = inl (omega arith) },
 )
 refused_by old new h Truncated is read j = elim j [ ]
@@ -175,7 +175,7 @@ accepted None new r frame rest arrives readable e = absurd cc
 accepted (Some input) None (Ok (arrivals.Frame other)) frame rest arrives readable e = absurd arrives.1
 accepted (Some input) (Some left) (Ok (arrivals.Frame other)) frame rest arrives readable e =
     let at_front : input ≡ frame_bytes frame ++ rest = cc in
-    let reported = told_frame frame other rest left readable.is_frame arrives.0.is_frame (sym at_front ∙ arrives.1) in
+    let reported = reported_frame frame other rest left readable.is_frame arrives.0.is_frame (sym at_front ∙ arrives.1) in
     (ap (λ (f : Frame). Ok (arrivals.Frame f)) (sym reported.0), ap (λ (l : List ℕ). Some l) (sym reported.1))
 accepted (Some input) new (Ok arrivals.End) frame rest arrives readable e =
     let at_front : input ≡ frame_bytes frame ++ rest = cc in

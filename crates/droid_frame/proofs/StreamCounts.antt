@@ -6,7 +6,7 @@ use Rattle.droid_frame.specs.declared.stream.fault.FrameFault.{FrameFault}
 use Rattle.droid_frame.specs.declared.stream.fault.FrameFault.TheVariants.{Truncated, BadVersion, TooLong, Memory, Read}
 use Rattle.droid_frame_stream.specs.declared.seen.Seen.{Seen}
 use Rattle.droid_frame_stream.specs.Seen.{Counts, ReportsFault}
-use Rattle.droid_frame_stream.proofs.Scopes.{told_fault, told_none}
+use Rattle.droid_frame_stream.proofs.Scopes.{reported_fault, reported_none}
 use Rattle.droid_frame.specs.StreamReads.{FaultCounts, ReadsOn}
 
 -- what `?` passes on
@@ -24,10 +24,10 @@ counts_judged start seen count Memory other counts = counts
 counts_judged start seen count Read other counts = absurd (other refl)
 
 -- what a whole frame tells of its reader
-pub told_read : (start : ℕ) (seen : Seen) (count : ℕ) (r : Result Arrival FrameFault) → ReadsOn start seen count r → ReportsFault start seen (IsErrOf r Read)
-told_read start seen count (Ok arrival) counts = told_none start seen count _ (λ e. absurd cc) counts
-told_read start seen count (Err Truncated) counts = told_none start seen count _ (λ e. absurd cc) counts
-told_read start seen count (Err BadVersion) counts = told_none start seen count _ (λ e. absurd cc) counts
-told_read start seen count (Err TooLong) counts = told_none start seen count _ (λ e. absurd cc) counts
-told_read start seen count (Err Memory) counts = told_none start seen count _ (λ e. absurd cc) counts
-told_read start seen count (Err Read) up = told_fault start seen _ refl up
+pub reported_read : (start : ℕ) (seen : Seen) (count : ℕ) (r : Result Arrival FrameFault) → ReadsOn start seen count r → ReportsFault start seen (IsErrOf r Read)
+reported_read start seen count (Ok arrival) counts = reported_none start seen count _ (λ e. absurd cc) counts
+reported_read start seen count (Err Truncated) counts = reported_none start seen count _ (λ e. absurd cc) counts
+reported_read start seen count (Err BadVersion) counts = reported_none start seen count _ (λ e. absurd cc) counts
+reported_read start seen count (Err TooLong) counts = reported_none start seen count _ (λ e. absurd cc) counts
+reported_read start seen count (Err Memory) counts = reported_none start seen count _ (λ e. absurd cc) counts
+reported_read start seen count (Err Read) up = reported_fault start seen _ refl up

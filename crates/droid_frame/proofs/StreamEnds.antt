@@ -4,7 +4,7 @@ use Rattle.std.specs.Prelude.{IsErrAnd}
 use Rattle.droid_frame_stream.specs.declared.fault.WriteFault.{WriteFault}
 use Rattle.droid_frame_stream.specs.declared.seen.Seen.{Seen}
 use Rattle.droid_frame_stream.specs.Writes.{StopsWithin, Takes, ReportsWrite, WriterStops, WritesOn}
-use Rattle.droid_frame_stream.proofs.Stopping.{takes_more, told_all, told_stop}
+use Rattle.droid_frame_stream.proofs.Stopping.{takes_more, reported_all, reported_stop}
 
 -- some bytes went out before a fault
 pub takes_before : (before mid after : Option ℕ) (sent written : ℕ) → Takes before mid sent → Takes mid after (written - sent) → sent ≤ written → Takes before after written
@@ -13,13 +13,13 @@ takes_before before mid after sent written first next within =
     subst (λ (n : ℕ). Takes before after n) whole (takes_more before mid after sent (written - sent) first next)
 
 -- the last part of a frame: all went out, or the writer stopped within it
-pub told_last : {T : Type 0} (start : ℕ) (seen : Seen) (before mid after : Option ℕ) (sent part size count : ℕ) (r : Result T WriteFault)
+pub reported_last : {T : Type 0} (start : ℕ) (seen : Seen) (before mid after : Option ℕ) (sent part size count : ℕ) (r : Result T WriteFault)
     → Takes before mid sent → size ≡ sent + part → OnOk r (Takes mid after part) → IfErr r (λ f. Takes mid after (f.written - sent)) → IfErr r (λ f. (sent ≤ f.written) × (f.written < size))
     → WritesOn start seen after count r → ReportsWrite start seen before size (IsErr r)
-told_last start seen before mid after sent part size count (Ok value) first whole all some within on =
-    told_all start seen before after size count _ (λ e. absurd cc) (subst (λ (n : ℕ). Takes before after n) (sym whole) (takes_more before mid after sent part first all)) on
-told_last start seen before mid after sent part size count (Err fault) first whole all some within on =
-    told_stop start seen before after fault.written size _ refl (takes_before before mid after sent fault.written first some within.0) within.1 on
+reported_last start seen before mid after sent part size count (Ok value) first whole all some within on =
+    reported_all start seen before after size count _ (λ e. absurd cc) (subst (λ (n : ℕ). Takes before after n) (sym whole) (takes_more before mid after sent part first all)) on
+reported_last start seen before mid after sent part size count (Err fault) first whole all some within on =
+    reported_stop start seen before after fault.written size _ refl (takes_before before mid after sent fault.written first some within.0) within.1 on
 
 pub room_all : {T : Type 0} (before mid after : Option ℕ) (sent part size : ℕ) (r : Result T WriteFault) → Takes before mid sent → size ≡ sent + part → OnOk r (Takes mid after part) → OnOk r (Takes before after size)
 room_all before mid after sent part size (Ok value) first whole all = subst (λ (n : ℕ). Takes before after n) (sym whole) (takes_more before mid after sent part first all)

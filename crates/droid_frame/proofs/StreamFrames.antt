@@ -15,7 +15,7 @@ use Rattle.droid_frame.specs.Streams.{IsFrame, BeginsNoFrame, header_size, versi
 use Rattle.droid_frame.specs.StreamReads.{IsHeader, judged}
 use Rattle.droid_frame_values.specs.Versions.{is_version}
 use Rattle.droid_frame.proofs.BodyLimits.{version_not}
-use Rattle.droid_frame.proofs.FrameLaws.{told_header, header_of, header_of-is}
+use Rattle.droid_frame.proofs.FrameLaws.{reported_header, header_of, header_of-is}
 
 -- ---- what stands in bytes that begin with a header
 
@@ -52,7 +52,7 @@ no_frame_in_short input short = λ frame rest readable e. let size : length inpu
 
 -- a frame's header is the one that stands there
 header_there : (h : Header) (r : List ℕ) (frame : Frame) (rest : List ℕ) → IsHeader h → IsFrame frame → header_bytes h ++ r ≡ frame_bytes frame ++ rest → (h ≡ header_of frame) × (r ≡ frame.body ++ rest)
-header_there h r frame rest is is_frame e = told_header h (header_of frame) r (frame.body ++ rest) is (header_of-is frame is_frame) e
+header_there h r frame rest is is_frame e = reported_header h (header_of frame) r (frame.body ++ rest) is (header_of-is frame is_frame) e
 
 pub no_frame_of_version : (h : Header) (r : List ℕ) → IsHeader h → is_version h.version ≡ false → BeginsNoFrame (header_bytes h ++ r)
 no_frame_of_version h r is other = λ frame rest readable e.

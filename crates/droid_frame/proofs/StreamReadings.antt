@@ -16,7 +16,7 @@ use Rattle.droid_frame.specs.Streams.{IsReadable, BeginsNoFrame, Frames, header_
 use Rattle.droid_frame.specs.StreamReads.{IsHeader, judged}
 use Rattle.droid_frame.specs.StreamLaws.{HasFrames}
 use Rattle.droid_frame_bodies.proofs.FieldLaws.{IsFront, u32_field, u64_field, IsBytes-take, IsBytes-drop, IsBytes-rest}
-use Rattle.droid_frame.proofs.FrameLaws.{told_frame}
+use Rattle.droid_frame.proofs.FrameLaws.{reported_frame}
 use Rattle.droid_frame.proofs.StreamFrames.{Judged, other_version, too_long, good, judged_is, no_frame_in_short, no_frame_of_version, no_frame_too_long, no_frame_cut}
 use Rattle.droid_frame.proofs.StreamArrivals.{made}
 
@@ -33,7 +33,7 @@ one_way stream (frame ∷ frames) [] rest more reads other =
 one_way stream (frame ∷ frames) (frame' ∷ frames') rest more reads other =
     let same : frame_bytes frame ++ (flat_map frame_bytes frames ++ rest) ≡ frame_bytes frame' ++ (flat_map frame_bytes frames' ++ more) =
     sym (append_assoc (frame_bytes frame) (flat_map frame_bytes frames) rest) ∙ (sym reads.joined ∙ (other.joined ∙ append_assoc (frame_bytes frame') (flat_map frame_bytes frames') more)) in
-    let reported = told_frame frame frame' _ _ reads.readable.0.is_frame other.readable.0.is_frame same in
+    let reported = reported_frame frame frame' _ _ reads.readable.0.is_frame other.readable.0.is_frame same in
     let behind = one_way (flat_map frame_bytes frames ++ rest) frames frames' rest more
     (record { readable = reads.readable.1; joined = refl; none_more = reads.none_more })
     (record { readable = other.readable.1; joined = reported.1; none_more = other.none_more }) in

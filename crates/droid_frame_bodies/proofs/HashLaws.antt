@@ -45,31 +45,31 @@ at_where first bytes = cond first (Some (kinds.Md5, bytes)) (hash_kind_at bytes)
 abbrev bytes_where : Bool → HashKind → List ℕ
 bytes_where first kind = cond first [] (hash_kind_bytes kind)
 
-abbrev tells_where : Bool → HashKind → Type 0
-tells_where first kind = MatchBool first (kind ≡ kinds.Md5) (Unit {0})
+abbrev reports_where : Bool → HashKind → Type 0
+reports_where first kind = MatchBool first (kind ≡ kinds.Md5) (Unit {0})
 
-abbrev LeavesTold : Bool → List ℕ → HashKind × List ℕ → Type 0
-LeavesTold first bytes x = IsFront bytes (bytes_where first x.0) x.1 × tells_where first x.0
+abbrev LeavesReported : Bool → List ℕ → HashKind × List ℕ → Type 0
+LeavesReported first bytes x = IsFront bytes (bytes_where first x.0) x.1 × reports_where first x.0
 
-reads_where : (first : Bool) (bytes : List ℕ) (x : HashKind × List ℕ) → IsBytes bytes → at_where first bytes ≡ Some x → LeavesTold first bytes x
+reads_where : (first : Bool) (bytes : List ℕ) (x : HashKind × List ℕ) → IsBytes bytes → at_where first bytes ≡ Some x → LeavesReported first bytes x
 reads_where true bytes x are e =
-    subst (LeavesTold true bytes) (some_is (kinds.Md5, bytes) x e) (record { parts = refl; bytes_follow = are }, refl)
+    subst (LeavesReported true bytes) (some_is (kinds.Md5, bytes) x e) (record { parts = refl; bytes_follow = are }, refl)
 reads_where false bytes x are e = (kind_reads bytes x are e, tt)
 
-again_where : (first : Bool) (kind : HashKind) (rest : List ℕ) → tells_where first kind → at_where first (bytes_where first kind ++ rest) ≡ Some (kind, rest)
+again_where : (first : Bool) (kind : HashKind) (rest : List ℕ) → reports_where first kind → at_where first (bytes_where first kind ++ rest) ≡ Some (kind, rest)
 again_where true kind rest reports = ap (λ (k : HashKind). Some (k, rest)) (sym reports)
 again_where false kind rest reports = kind_again kind rest
 
-told_reads : (version : ℕ) (bytes : List ℕ) (x : HashKind × List ℕ) → IsBytes bytes → carried_kind_at version bytes ≡ Some x → IsFront bytes (hash_field version x.0) x.1 × CarriesHash version x.0
+reported_reads : (version : ℕ) (bytes : List ℕ) (x : HashKind × List ℕ) → IsBytes bytes → carried_kind_at version bytes ≡ Some x → IsFront bytes (hash_field version x.0) x.1 × CarriesHash version x.0
 unfolding carried_kind_at
-told_reads version bytes x are e = reads_where (eqb version 1) bytes x are e
+reported_reads version bytes x are e = reads_where (eqb version 1) bytes x are e
 
-told_again : (version : ℕ) (kind : HashKind) (rest : List ℕ) → CarriesHash version kind → carried_kind_at version (hash_field version kind ++ rest) ≡ Some (kind, rest)
+reported_again : (version : ℕ) (kind : HashKind) (rest : List ℕ) → CarriesHash version kind → carried_kind_at version (hash_field version kind ++ rest) ≡ Some (kind, rest)
 unfolding carried_kind_at
-told_again version kind rest reports = again_where (eqb version 1) kind rest reports
+reported_again version kind rest reports = again_where (eqb version 1) kind rest reports
 
-pub told_kind_field : (version : ℕ) → IsField (carried_kind_at version) (hash_field version) (CarriesHash version)
-told_kind_field version = record { reads = told_reads version; again = told_again version }
+pub reported_kind_field : (version : ℕ) → IsField (carried_kind_at version) (hash_field version) (CarriesHash version)
+reported_kind_field version = record { reads = reported_reads version; again = reported_again version }
 
 -- ---- a run of bytes
 
@@ -130,7 +130,7 @@ unfolding digest_at
 digest_reads version bytes x are e =
     let kind = bind_some (carried_kind_at version bytes) (λ k. hash_value_at k.0 k.1) x e in
     let k = kind.0 in
-    let reported = told_reads version bytes k are kind.1 in
+    let reported = reported_reads version bytes k are kind.1 in
     let value = value_reads k.0 k.1 x reported.0.bytes_follow kind.2 in
     let of_kind : k.0 ≡ hash_value_kind x.0 = sym value.of_kind in
     let front : IsFront bytes (hash_field version (hash_value_kind x.0)) k.1 = subst (λ (one : HashKind). IsFront bytes (hash_field version one) k.1) of_kind reported.0 in
@@ -141,7 +141,7 @@ unfolding digest_at
 digest_again version value rest is =
     let field = hash_field version (hash_value_kind value) in
     let reported : carried_kind_at version ((field ++ hash_bytes value) ++ rest) ≡ Some (hash_value_kind value, hash_bytes value ++ rest) =
-    ap (carried_kind_at version) (append_assoc field (hash_bytes value) rest) ∙ told_again version (hash_value_kind value) (hash_bytes value ++ rest) is.0 in
+    ap (carried_kind_at version) (append_assoc field (hash_bytes value) rest) ∙ reported_again version (hash_value_kind value) (hash_bytes value ++ rest) is.0 in
     ap (λ (o : Option (HashKind × List ℕ)). o >>= λ k. hash_value_at k.0 k.1) reported ∙ value_again value rest is.1
 
 pub digest_field : (version : ℕ) → IsField (digest_at version) (digest_bytes version) (IsSpelledHash version)

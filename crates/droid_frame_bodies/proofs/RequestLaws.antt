@@ -18,7 +18,7 @@ use Rattle.droid_frame_bodies.specs.fields.Reading.{◌>>=◌, number_at, truth_
 use Rattle.droid_frame_bodies.specs.requests.Values.{create_profile_value, add_folder_value, add_file_value, piece_value, file_value, finish_value, abandon_value, status_value, export_value, plain_value, any_value, request_value}
 use Rattle.droid_frame_bodies.proofs.FieldLaws.{bind_some, some_is, by_number, where_true, u32_field, u64_field, truth_field, text_reads, whole_reads, whole_again}
 use Rattle.droid_frame_bodies.proofs.FilterLaws.{filter_value_reads, filter_value_again}
-use Rattle.droid_frame_bodies.proofs.HashLaws.{told_kind_field}
+use Rattle.droid_frame_bodies.proofs.HashLaws.{reported_kind_field}
 use Rattle.droid_frame_bodies.proofs.NodeHeadLaws.{node_head_bytes, node_head_field}
 use Rattle.droid_frame_bodies.proofs.Utf8.{text_at-utf8}
 
@@ -33,7 +33,7 @@ create_profile_reads version body request is are e =
     let end = whole_reads hash.0.1 (CreateProfile limit.0.0 all.0.0 hash.0.0) request hash.2 in
     let limit_front = u32_field.reads body limit.0 are limit.1 in
     let all_front = truth_field.reads limit.0.1 all.0 limit_front.0.bytes_follow all.1 in
-    let hash_front = (told_kind_field version).reads all.0.1 hash.0 all_front.0.bytes_follow hash.1 in
+    let hash_front = (reported_kind_field version).reads all.0.1 hash.0 all_front.0.bytes_follow hash.1 in
     let last : all.0.1 ≡ hash_field version hash.0.0 = hash_front.0.parts ∙ (ap (λ (r : List ℕ). hash_field version hash.0.0 ++ r) end.0 ∙ append-nil (hash_field version hash.0.0)) in
     subst (SpellsRequest version 1 body) end.1 (record {
       version_is = is;
@@ -207,7 +207,7 @@ again : (version : ℕ) (request : Request) → HasSpelling version request → 
 unfolding any_value plain_value create_profile_value add_folder_value add_file_value piece_value finish_value abandon_value status_value export_value
 again version (CreateProfile limit all hash) fits =
     let field = hash_field version hash in
-    rw (u32_field.again limit (truth_bytes all ++ field) fits.0, truth_field.again all field tt, ap (carried_kind_at version) (sym (append-nil field)) ∙ (told_kind_field version).again hash [] fits.1, whole_again (CreateProfile limit all hash)) refl
+    rw (u32_field.again limit (truth_bytes all ++ field) fits.0, truth_field.again all field tt, ap (carried_kind_at version) (sym (append-nil field)) ∙ (reported_kind_field version).again hash [] fits.1, whole_again (CreateProfile limit all hash)) refl
 again version (AddFolder profile parent modified name) fits =
     rw (node_head_field.again (head_of (AddFolder profile parent modified name)) name (fits.0, fits.1, fits.2), text_at-utf8 name fits.3) refl
 again version (AddFile profile parent modified size piece_size name) fits =

@@ -52,20 +52,20 @@ one_reported_as {S} {A} seen effect old new P Q (inr (inr part)) to from =
     inr (inr (part.0, record { fault = λ p. part.1.fault (to p); otherwise = λ not. part.1.otherwise (λ q. not (from q)) }))
 
 -- after so many items the stream wasn't used
-pub told_idle : {S A : Type 0} (seen : S → Seen) (effect : Effect S A) (MayBe : ℕ → Type 0) (first now : S) (count : ℕ) (P : Type 0)
+pub reported_idle : {S A : Type 0} (seen : S → Seen) (effect : Effect S A) (MayBe : ℕ → Type 0) (first now : S) (count : ℕ) (P : Type 0)
     → OverSoMany seen effect first now count → MayBe count → (P → ⊥) → ReportsFaultInTurn seen effect MayBe first now P
-told_idle {S} {A} seen effect MayBe first now count P so_far may not =
+reported_idle {S} {A} seen effect MayBe first now count P so_far may not =
     record { items = so_far.items; middle = now; over = so_far.over; ends = inl (subst MayBe (sym so_far.counted) may, refl, not) }
 
 -- after so many items, at most one more
-pub told_next : {S A : Type 0} (seen : S → Seen) (effect : Effect S A) (MayBe : ℕ → Type 0) (first now last : S) (count : ℕ) (P Q : Type 0)
+pub reported_next : {S A : Type 0} (seen : S → Seen) (effect : Effect S A) (MayBe : ℕ → Type 0) (first now last : S) (count : ℕ) (P Q : Type 0)
     → OverSoMany seen effect first now count → MayBe count → MayBe (count + 1) → ReportsFaultInOne seen effect now last Q → (P → Q) → (Q → P)
     → ReportsFaultInTurn seen effect MayBe first last P
-told_next {S} {A} seen effect MayBe first now last count P Q so_far none may (inl whole) to from =
-    told_idle seen effect MayBe first last (count + 1) P (over_next seen effect first now last count (count + 1) whole.0 refl so_far whole.1 whole.2) may (λ p. whole.3 (to p))
-told_next {S} {A} seen effect MayBe first now last count P Q so_far none may (inr (inl unused)) to from =
-    subst (λ (s : S). ReportsFaultInTurn seen effect MayBe first s P) (sym unused.0) (told_idle seen effect MayBe first now count P so_far none (λ p. unused.1 (to p)))
-told_next {S} {A} seen effect MayBe first now last count P Q so_far none may (inr (inr part)) to from = record {
+reported_next {S} {A} seen effect MayBe first now last count P Q so_far none may (inl whole) to from =
+    reported_idle seen effect MayBe first last (count + 1) P (over_next seen effect first now last count (count + 1) whole.0 refl so_far whole.1 whole.2) may (λ p. whole.3 (to p))
+reported_next {S} {A} seen effect MayBe first now last count P Q so_far none may (inr (inl unused)) to from =
+    subst (λ (s : S). ReportsFaultInTurn seen effect MayBe first s P) (sym unused.0) (reported_idle seen effect MayBe first now count P so_far none (λ p. unused.1 (to p)))
+reported_next {S} {A} seen effect MayBe first now last count P Q so_far none may (inr (inr part)) to from = record {
   items = so_far.items;
   middle = now;
   over = so_far.over;
@@ -93,9 +93,9 @@ reported_as {S} {A} seen effect MayBe first last P Q reported to from = record {
 }
 
 -- of as many by another name
-pub told_within : {S A : Type 0} (seen : S → Seen) (effect : Effect S A) (MayBe CanBe : ℕ → Type 0) (first last : S) (P : Type 0)
+pub reported_within : {S A : Type 0} (seen : S → Seen) (effect : Effect S A) (MayBe CanBe : ℕ → Type 0) (first last : S) (P : Type 0)
     → ReportsFaultInTurn seen effect MayBe first last P → ((count : ℕ) → MayBe count → CanBe count) → ReportsFaultInTurn seen effect CanBe first last P
-told_within {S} {A} seen effect MayBe CanBe first last P reported can = record {
+reported_within {S} {A} seen effect MayBe CanBe first last P reported can = record {
   items = reported.items;
   middle = reported.middle;
   over = reported.over;

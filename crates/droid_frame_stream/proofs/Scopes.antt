@@ -23,11 +23,11 @@ given_up start seen count (Ok value) P is up = absurd is
 given_up start seen count (Err fault) P is up = up
 
 -- the fault of the stream is told where it is given up, and no other answer is that fault
-pub told_fault : (start : ℕ) (seen : Seen) (is_fault : Type 0) → is_fault → GivesUp start seen → ReportsFault start seen is_fault
-told_fault start seen is_fault is up = record { fault = λ _. up; otherwise = λ not. absurd (not is) }
+pub reported_fault : (start : ℕ) (seen : Seen) (is_fault : Type 0) → is_fault → GivesUp start seen → ReportsFault start seen is_fault
+reported_fault start seen is_fault is up = record { fault = λ _. up; otherwise = λ not. absurd (not is) }
 
-pub told_none : (start : ℕ) (seen : Seen) (count : ℕ) (is_fault : Type 0) → (is_fault → ⊥) → Counts start seen count → ReportsFault start seen is_fault
-told_none start seen count is_fault not counts = record { fault = λ is. absurd (not is); otherwise = λ _. lasts start seen count counts }
+pub reported_none : (start : ℕ) (seen : Seen) (count : ℕ) (is_fault : Type 0) → (is_fault → ⊥) → Counts start seen count → ReportsFault start seen is_fault
+reported_none start seen count is_fault not counts = record { fault = λ is. absurd (not is); otherwise = λ _. lasts start seen count counts }
 
 -- the error that `?` passes on
 pub is_error : {T E : Type 0} (r : Result T E) (e : E) → IsErrAnd r (λ x. x ≡ e) → IsErrOf r e

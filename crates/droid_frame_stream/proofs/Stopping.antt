@@ -45,13 +45,13 @@ given_up_only start seen room (inr full) none = absurd (let same = sym none ∙ 
 -- ---- what a whole frame or text tells
 
 -- some bytes were left where the writer stopped
-pub told_stop : (start : ℕ) (seen : Seen) (before after : Option ℕ) (written size : ℕ) (is_fault : Type 0)
+pub reported_stop : (start : ℕ) (seen : Seen) (before after : Option ℕ) (written size : ℕ) (is_fault : Type 0)
     → is_fault → Takes before after written → written < size → WriterStops start seen after → ReportsWrite start seen before size is_fault
-told_stop start seen before after written size is_fault is takes less (inl up) = record { fault = λ _. inl up; otherwise = λ not. absurd (not is) }
-told_stop start seen None after written size is_fault is takes less (inr full) =
+reported_stop start seen before after written size is_fault is takes less (inl up) = record { fault = λ _. inl up; otherwise = λ not. absurd (not is) }
+reported_stop start seen None after written size is_fault is takes less (inr full) =
     absurd (let none = room_stays after written takes in let same = sym none ∙ full.full in cc)
-told_stop start seen (Some room) None written size is_fault is takes less (inr full) = absurd takes
-told_stop start seen (Some room) (Some left) written size is_fault is takes less (inr full) =
+reported_stop start seen (Some room) None written size is_fault is takes less (inr full) = absurd takes
+reported_stop start seen (Some room) (Some left) written size is_fault is takes less (inr full) =
     let none : left ≡ 0 = let same = full.full in cc in
     record { fault = λ _. inr (full.lasts, omega (arith, takes, none)); otherwise = λ not. absurd (not is) }
 
@@ -61,7 +61,7 @@ has_room (Some room) None size takes = absurd takes
 has_room (Some room) (Some left) size takes = omega (arith, takes)
 
 -- all went out
-pub told_all : (start : ℕ) (seen : Seen) (before after : Option ℕ) (size count : ℕ) (is_fault : Type 0)
+pub reported_all : (start : ℕ) (seen : Seen) (before after : Option ℕ) (size count : ℕ) (is_fault : Type 0)
     → (is_fault → ⊥) → Takes before after size → Counts start seen count → ReportsWrite start seen before size is_fault
-told_all start seen before after size count is_fault not takes counts =
+reported_all start seen before after size count is_fault not takes counts =
     record { fault = λ is. absurd (not is); otherwise = λ _. (lasts start seen count counts, has_room before after size takes) }

@@ -121,16 +121,16 @@ md5_is kinds.Nothing e = absurd cc
 md5_is kinds.Md5 e = refl
 md5_is kinds.Sha256 e = absurd cc
 
-tells_passes : (first : Bool) (hash : HashKind) → MatchBool first (hash ≡ kinds.Md5) (Unit {0}) → cond first (is_md5 hash) true ≡ true
-tells_passes true hash reports = md5_passes hash reports
-tells_passes false hash reports = refl
+reports_passes : (first : Bool) (hash : HashKind) → MatchBool first (hash ≡ kinds.Md5) (Unit {0}) → cond first (is_md5 hash) true ≡ true
+reports_passes true hash reports = md5_passes hash reports
+reports_passes false hash reports = refl
 
-tells_is : (first : Bool) (hash : HashKind) → cond first (is_md5 hash) true ≡ true → MatchBool first (hash ≡ kinds.Md5) (Unit {0})
-tells_is true hash e = md5_is hash e
-tells_is false hash e = tt
+reports_is : (first : Bool) (hash : HashKind) → cond first (is_md5 hash) true ≡ true → MatchBool first (hash ≡ kinds.Md5) (Unit {0})
+reports_is true hash e = md5_is hash e
+reports_is false hash e = tt
 
 hash_passes : (version : ℕ) (request : Request) → HashFits version request → hash_fits version request ≡ true
-hash_passes version (CreateProfile scan_limit match_all hash) fit = tells_passes (eqb version 1) hash fit
+hash_passes version (CreateProfile scan_limit match_all hash) fit = reports_passes (eqb version 1) hash fit
 hash_passes version (AddFolder profile parent modified name) fit = refl
 hash_passes version (AddFile profile parent modified size piece_size name) fit = refl
 hash_passes version (Piece profile file index bytes) fit = refl
@@ -140,7 +140,7 @@ hash_passes version (Status profile file) fit = refl
 hash_passes version (Export profile from max filter) fit = refl
 
 hash_is : (version : ℕ) (request : Request) → hash_fits version request ≡ true → HashFits version request
-hash_is version (CreateProfile scan_limit match_all hash) e = tells_is (eqb version 1) hash e
+hash_is version (CreateProfile scan_limit match_all hash) e = reports_is (eqb version 1) hash e
 hash_is version (AddFolder profile parent modified name) e = tt
 hash_is version (AddFile profile parent modified size piece_size name) e = tt
 hash_is version (Piece profile file index bytes) e = tt

@@ -45,8 +45,8 @@ pub unless_given_up : (start : ℕ) (seen : Seen) (count : ℕ) (P : Type 0) →
 unless_given_up start seen count P is up = record { fault = λ _. up; otherwise = λ not. absurd (not is) }
 
 -- the count ends with this answer
-pub told_unless : (start : ℕ) (seen : Seen) (count : ℕ) (P Q : Type 0) → CountsUnless start seen count Q → (P → Q) → (Q → P) → ReportsFault start seen P
-told_unless start seen count P Q unless to from = record {
+pub reported_unless : (start : ℕ) (seen : Seen) (count : ℕ) (P Q : Type 0) → CountsUnless start seen count Q → (P → Q) → (Q → P) → ReportsFault start seen P
+reported_unless start seen count P Q unless to from = record {
   fault = λ p. unless.fault (to p);
   otherwise = λ not. lasts start seen count (unless.otherwise (λ q. not (from q)));
 }

@@ -38,10 +38,10 @@ without_length [] beaten e = refl
 without_length (h ∷ hs) [] e = absurd (omega arith)
 without_length (h ∷ hs) (b ∷ bs) e = ap suc (without_length hs bs (omega arith))
 
-pub tell_left : (H : ByteSequence → Type 0) (registry : Contents) (hit beaten : List Bool) → length hit ≡ length beaten
+pub report_left : (H : ByteSequence → Type 0) (registry : Contents) (hit beaten : List Bool) → length hit ≡ length beaten
     → AreFlagsOf hit (IsHit H registry) → AreFlagsOf beaten (λ k. AnyOf (λ row. Stands hit row.place × (row.over ≡ k)) registry.priorities)
     → AreFlagsOf (without hit beaten) (IsLeft H registry)
-tell_left H registry hit beaten e hits beats k = (
+report_left H registry hit beaten e hits beats k = (
   λ s.
       let parts = without_to hit beaten k s in
       ((hits k).0 parts.0, λ b. parts.1 ((beats k).1 (any_more (λ (row : Priority). IsHit H registry row.place × (row.over ≡ k)) (λ (row : Priority). Stands hit row.place × (row.over ≡ k)) (λ row p. ((hits row.place).1 p.0, p.1)) registry.priorities b))),
@@ -70,9 +70,9 @@ named_parts extension signed match_all k (row ∷ rows) a = elim a [
   | inr rest ↦ let parts = named_parts extension signed match_all k rows rest in (parts.0, inr parts.1, parts.2)
 ]
 
-pub tell_named : (registry : Contents) (extension wanted : List ℕ) (signed named : List Bool) (match_all : Bool) → wanted ≡ str_to_ascii_lowercase extension
+pub report_named : (registry : Contents) (extension wanted : List ℕ) (signed named : List Bool) (match_all : Bool) → wanted ≡ str_to_ascii_lowercase extension
     → AreFlagsOf signed (IsSigned registry) → AreFlagsOf named (λ k. AnyOf (SaysNamed wanted signed match_all k) registry.extensions) → AreFlagsOf named (IsNamed registry extension match_all)
-tell_named registry extension wanted signed named match_all e signs names k = (
+report_named registry extension wanted signed named match_all e signs names k = (
   λ s.
       let parts = named_parts extension signed match_all k registry.extensions (rw e at ((names k).0 s)) in
       record { some = parts.0; lists = parts.1; unsigned = elim parts.2 [ inl m ↦ inl m | inr n ↦ inr (λ i. n ((signs k).1 i)) ] },
@@ -82,11 +82,11 @@ tell_named registry extension wanted signed named match_all e signs names k = (
 
 -- ---- the mismatch
 
-pub tell_mismatch : (H : ByteSequence → Type 0) (registry : Contents) (extension wanted : List ℕ) (left : List Bool) (mismatch : Bool) → wanted ≡ str_to_ascii_lowercase extension
+pub report_mismatch : (H : ByteSequence → Type 0) (registry : Contents) (extension wanted : List ℕ) (left : List Bool) (mismatch : Bool) → wanted ≡ str_to_ascii_lowercase extension
     → AreFlagsOf left (IsLeft H registry)
     → (IsTrue mismatch ↔ ((wanted ≢ []) × AnyOf (λ row. Stands left row.place) registry.extensions × (AnyOf (λ row. Stands left row.place × (row.extension ≡ wanted)) registry.extensions → ⊥)))
     → (IsTrue mismatch ↔ IsMismatch H registry extension)
-tell_mismatch H registry extension wanted left mismatch e reports says = (
+report_mismatch H registry extension wanted left mismatch e reports says = (
   λ t.
       let parts = rw e at (says.0 t) in
       record {
@@ -132,7 +132,7 @@ module _ (H : ByteSequence → Type 0) (registry : Contents) (name : List ℕ) (
     left = chosen_same (Stands left) (IsLeft H registry) 0 registry.formats puids reports are;
     some = some;
     method = refl;
-    mismatch = tell_mismatch H registry (extension_of name) wanted left mismatch e reports says;
+    mismatch = report_mismatch H registry (extension_of name) wanted left mismatch e reports says;
   })
 
   pub found_extension : (left named : List Bool) (puids : List (List ℕ)) → AreFlagsOf left (IsLeft H registry) → Chosen (Stands left) 0 registry.formats []

@@ -11,18 +11,18 @@ use Rattle.droid_pronom.specs.declared.registry.fault.Refusal.{Refusal}
 use Rattle.droid_pronom.specs.declared.registry.fault.Refusal.TheVariants as refusals
 
 -- the pattern was read, and the rest was done
-pub tells_added : {X H : Type 0} (head : Result H RecordFault) (h : H) (text : List ℕ) (elements : List Element) (added : H → Option (List Element) → Result Draft RecordFault) (result : Result X Refusal) (new : Draft)
+pub reports_added : {X H : Type 0} (head : Result H RecordFault) (h : H) (text : List ℕ) (elements : List Element) (added : H → Option (List Element) → Result Draft RecordFault) (result : Result X Refusal) (new : Draft)
     → head ≡ Ok h → Spells text elements → Gives (λ _. new) result (added h (Some elements)) → HasOutcome result new (WithPattern head text added)
-tells_added head h text elements added (Ok x) new is spelled gives = rw is (Some elements, spelled, sym gives)
-tells_added head h text elements added (Err refusals.Memory) new is spelled gives = tt
-tells_added head h text elements added (Err (refusals.Fault fault)) new is spelled gives = rw is (Some elements, spelled, sym gives)
+reports_added head h text elements added (Ok x) new is spelled gives = rw is (Some elements, spelled, sym gives)
+reports_added head h text elements added (Err refusals.Memory) new is spelled gives = tt
+reports_added head h text elements added (Err (refusals.Fault fault)) new is spelled gives = rw is (Some elements, spelled, sym gives)
 
 -- six texts were judged
-pub tells_step : {X : Type 0} (result : Result X Refusal) (new draft : Draft) (fields : List (List ℕ)) (kind a b c d e : List ℕ)
+pub reports_step : {X : Type 0} (result : Result X Refusal) (new draft : Draft) (fields : List (List ℕ)) (kind a b c d e : List ℕ)
     → fields ≡ kind ∷ a ∷ b ∷ c ∷ d ∷ e ∷ [] → AllText fields → HasOutcome result new (Judged draft (kind_of kind) a b c d e) → HasOutcome result new (Step draft fields)
-tells_step (Ok x) new draft fields kind a b c d e is text judges = rw is (judged (rw is at text) judges)
-tells_step (Err refusals.Memory) new draft fields kind a b c d e is text judges = tt
-tells_step (Err (refusals.Fault fault)) new draft fields kind a b c d e is text judges = rw is (judged (rw is at text) judges)
+reports_step (Ok x) new draft fields kind a b c d e is text judges = rw is (judged (rw is at text) judges)
+reports_step (Err refusals.Memory) new draft fields kind a b c d e is text judges = tt
+reports_step (Err (refusals.Fault fault)) new draft fields kind a b c d e is text judges = rw is (judged (rw is at text) judges)
 
 -- a record with a field that is no text
 pub unreported : {A E : Type 0} (draft : Draft) (fields : List (List ℕ)) (r : Result A E) (x : E) → length fields ≡ 6 → (AllText fields → IsOk r) → r ≡ Err x → Step draft fields (Err faults.NotUtf8)

@@ -35,18 +35,18 @@ class_at class bytes p b says q = (
 )
 
 -- an element fails
-pub told_not : {B : Type 0} (e : Element) (es : List Element) (bytes : List ℕ) (p : ℕ) (passes : Bool) → passes ≡ false
+pub reported_not : {B : Type 0} (e : Element) (es : List Element) (bytes : List ℕ) (p : ℕ) (passes : Bool) → passes ≡ false
     → ((q : ℕ) → Leads e bytes p q ↔ (IsTrue passes × (q ≡ p + 1))) → (B ↔ ((q : ℕ) × Path (e ∷ es) bytes p q)) → IsTrue false ↔ B
-told_not e es bytes p passes not says so_far = (
+reported_not e es bytes p passes not says so_far = (
   λ h. absurd (false≢true h),
   λ b. let (q, (r, leads, path)) = so_far.0 b in absurd (false≢true (sym not ∙ ((says r).0 leads).0)),
 )
 
 -- an element passes
-pub told_more : {B : Type 0} (e : Element) (es : List Element) (bytes : List ℕ) (p : ℕ) (passes : Bool) → passes ≡ true
+pub reported_more : {B : Type 0} (e : Element) (es : List Element) (bytes : List ℕ) (p : ℕ) (passes : Bool) → passes ≡ true
     → ((q : ℕ) → Leads e bytes p q ↔ (IsTrue passes × (q ≡ p + 1))) → (B ↔ ((q : ℕ) × Path (e ∷ es) bytes p q))
     → (p + 1 ≤ length bytes) × (B ↔ ((q : ℕ) × Path es bytes (p + 1) q))
-told_more e es bytes p passes is says so_far =
+reported_more e es bytes p passes is says so_far =
     let leads = (says (p + 1)).1 (is, refl) in (
       leads.inside,
       (
@@ -56,8 +56,8 @@ told_more e es bytes p passes is says so_far =
     )
 
 -- all have passed
-pub told_all : {B : Type 0} (bytes : List ℕ) (p : ℕ) → (B ↔ ((q : ℕ) × Path [] bytes p q)) → IsTrue true ↔ B
-told_all bytes p so_far = (λ _. so_far.1 (p, refl), λ _. refl)
+pub reported_all : {B : Type 0} (bytes : List ℕ) (p : ℕ) → (B ↔ ((q : ℕ) × Path [] bytes p q)) → IsTrue true ↔ B
+reported_all bytes p so_far = (λ _. so_far.1 (p, refl), λ _. refl)
 
 -- a match at one offset
 begins_at : (es fs : List Element) (bytes : List ℕ) (at : ℕ) → es ≡ fs → at ≤ length bytes
@@ -69,15 +69,15 @@ begins_at es fs bytes at e inside =
       λ more. first.1 (at, refl, more),
     )
 
-pub told_within : (r : Option Bool) (es fs : List Element) (bytes : List ℕ) (at : ℕ) → es ≡ fs → at ≤ length bytes
+pub reported_within : (r : Option Bool) (es fs : List Element) (bytes : List ℕ) (at : ℕ) → es ≡ fs → at ≤ length bytes
     → IfSome r (λ found. IsTrue found ↔ ((q : ℕ) × Path fs bytes at q)) → IfSome r (λ found. IsTrue found ↔ BeginsWithin es bytes at at)
-told_within None es fs bytes at e inside h = h
-told_within (Some found) es fs bytes at e inside h =
+reported_within None es fs bytes at e inside h = h
+reported_within (Some found) es fs bytes at e inside h =
     let both = begins_at es fs bytes at e inside in (λ t. both.1 (h.0 t), λ b. h.1 (both.0 b))
 
 -- no match begins past the end
-pub told_past : (es : List Element) (bytes : List ℕ) (at : ℕ) → length bytes < at → IsTrue false ↔ BeginsWithin es bytes at at
-told_past es bytes at past = (
+pub reported_past : (es : List Element) (bytes : List ℕ) (at : ℕ) → length bytes < at → IsTrue false ↔ BeginsWithin es bytes at at
+reported_past es bytes at past = (
   λ h. absurd (false≢true h),
   λ (b : BeginsWithin es bytes at at). absurd (let from = b.from_low in let inside = b.inside in omega arith),
 )

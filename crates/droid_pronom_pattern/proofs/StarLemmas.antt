@@ -77,10 +77,10 @@ cell_path pool (cells.Gap at) es bytes p q = (λ h. h, λ h. h)
 cell_path pool (cells.Choice at) es bytes p q = (λ h. h, λ h. h)
 
 -- the first cell of what is left, at one position
-pub told_cell : {B : Type 0} (pool : List ℕ) (left : List Cell) (here : Cell) (rest : List Cell) (bytes : List ℕ) (p : ℕ) → left ≡ here ∷ rest
+pub reported_cell : {B : Type 0} (pool : List ℕ) (left : List Cell) (here : Cell) (rest : List Cell) (bytes : List ℕ) (p : ℕ) → left ≡ here ∷ rest
     → (B ↔ ((q : ℕ) × Path (flat_map (elements_at pool) left) bytes p q))
     → B ↔ ((q : ℕ) × Path (element_at pool here ∷ flat_map (elements_at pool) rest) bytes p q)
-told_cell {B} pool left here rest bytes p first so_far =
+reported_cell {B} pool left here rest bytes p first so_far =
     let es = flat_map (elements_at pool) rest in
     let open_up : B ↔ ((q : ℕ) × Path (elements_at pool here ++ es) bytes p q) = rw first at so_far in (
       λ b. let (q, path) = open_up.0 b in (q, (cell_path pool here es bytes p q).0 path),

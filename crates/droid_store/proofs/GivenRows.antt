@@ -28,7 +28,7 @@ use Rattle.droid_store.proofs.Closed.{kept_is, kept_still}
 use Rattle.droid_store.proofs.ListsRecords.{lists_records}
 use Rattle.droid_store.proofs.Meanings.{records_is, records_plain}
 use Rattle.droid_store.proofs.ReadableAfter.{all_readable}
-use Rattle.droid_store.proofs.MemoryFaultsOfLookUps.{records_wants}
+use Rattle.droid_store.proofs.MemoryFaultsOfLookUps.{records_runs_out}
 
 -- the connection is in the listing and has changed nothing, and each row that it gave was read
 pub record HaveRead (old new : Held TreeStore) (profile : ℕ) (records : List Record) : Type 0 where
@@ -105,7 +105,7 @@ module _ (old : Held TreeStore) (profile : ℕ) (has : Settled (state over_trees
       → Settled (state over_trees new) (Holds (kept old)) × IsOutOfMemory e
   gave_up new e none fails = (
     query_failed LIST_RECORDS.now (number profile ∷ []) (state over_trees old) (state over_trees new) e (Holds (kept old)) refl plain has fails,
-    records_wants (state over_trees old) (state over_trees new) profile (kept old) e (in_memory old new none) has.holds fails,
+    records_runs_out (state over_trees old) (state over_trees new) profile (kept old) e (in_memory old new none) has.holds fails,
   )
 
   module _ (apart : AreApart (kept old)) where
@@ -162,5 +162,5 @@ module _ (old : Held TreeStore) (profile : ℕ) (has : Settled (state over_trees
           let failed = fails LIST_RECORDS.now (number profile ∷ []) so_far.given so_far.gives in
           let bare = subst (λ s. IsPlain (understood s LIST_RECORDS.now)) (sym there.holds.schema) records_plain in (
             query_failed LIST_RECORDS.now (number profile ∷ []) (state over_trees mid) (state over_trees new) e (Holds (kept old)) refl bare there failed,
-            records_wants (state over_trees mid) (state over_trees new) profile (kept old) e (in_memory mid new none) there.holds failed,
+            records_runs_out (state over_trees mid) (state over_trees new) profile (kept old) e (in_memory mid new none) there.holds failed,
           )

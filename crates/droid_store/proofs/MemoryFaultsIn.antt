@@ -27,7 +27,7 @@ use Rattle.droid_store_sql.proofs.RowEdits.{added_next}
 use Rattle.droid_store_sql.proofs.RowOrder.{below_next}
 use Rattle.droid_store_sql.proofs.SureEdits.{edit_sure, insert_sure}
 use Rattle.droid_store_sql.proofs.Values.{cast_null, cast_int}
-use Rattle.droid_store_sql.proofs.MemoryFaults.{inside_wants, insert_is_edit}
+use Rattle.droid_store_sql.proofs.MemoryFaults.{inside_runs_out, insert_is_edit}
 use Rattle.droid_frame.specs.Hashes.{hash_kind_number}
 use Rattle.droid_frame.specs.types.hash_kind.HashKind.{HashKind}
 use Rattle.droid_store.specs.declared.rows.Entry.{Entry}
@@ -46,10 +46,10 @@ use Rattle.droid_store.proofs.NodeEffects.{map_last, node_tail, with_last_node}
 use Rattle.droid_store.proofs.Unique.{node_table, reply_table, keeps_unique, store_refers}
 
 -- a statement in a transaction
-pub wants_by : (sql : List ℕ) (params : Row) (old new : State) (r : Result ℕ Error) (before : Rows) → (IsTrue old.in_transaction → ExecutesInside 0 sql params old new r)
+pub runs_out_by : (sql : List ℕ) (params : Row) (old new : State) (r : Result ℕ Error) (before : Rows) → (IsTrue old.in_transaction → ExecutesInside 0 sql params old new r)
     → ((e : Error) → old.step_limit ≡ None → Holds before old.now → ExecutesInside 0 sql params old new (Err e) → IsOutOfMemory e) → FailsForMemory old new r before
-wants_by sql params old new (Ok count) before ran does saved has none = tt
-wants_by sql params old new (Err e) before ran does saved has none = does e none has.seen (ran has.within)
+runs_out_by sql params old new (Ok count) before ran does saved has none = tt
+runs_out_by sql params old new (Err e) before ran does saved has none = does e none has.seen (ran has.within)
 
 -- ---- a reply
 
@@ -85,10 +85,10 @@ reply_edits e rows db has keys small =
     let fresh = fresh_last (λ x. x.0) reply_tail db.trees reply_table xs has.replies x (numbered_below 1 (1 + length rows.replies) rows.replies (omega arith)) in
     edit_sure store_schema db.trees edit refl (free_by store_schema db.trees edit (reply_row x ∷ []) news refl refl refl fresh refl refl unique) (small_one store_schema edit (reply_row x) news (reply_fits x small))
 
-pub reply_wants : (old new : State) (e : Entry) (rows : Rows) (err : Error) → InMemory old new → Holds rows old.now → HasKeys (with_reply e rows) → FitsARow (entry_size e)
+pub reply_runs_out : (old new : State) (e : Entry) (rows : Rows) (err : Error) → InMemory old new → Holds rows old.now → HasKeys (with_reply e rows) → FitsARow (entry_size e)
     → ExecutesInside 0 ADD_REPLY.now (reply_params e) old new (Err err) → IsOutOfMemory err
-reply_wants old new e rows err mem has keys small h =
-    inside_wants ADD_REPLY.now (reply_params e) old new store_schema mem has.schema add_reply_plain add_reply_whole (Insert 2 (Values reply_terms 8)) add_reply_is (insert_is_edit 2 (Values reply_terms 8))
+reply_runs_out old new e rows err mem has keys small h =
+    inside_runs_out ADD_REPLY.now (reply_params e) old new store_schema mem has.schema add_reply_plain add_reply_whole (Insert 2 (Values reply_terms 8)) add_reply_is (insert_is_edit 2 (Values reply_terms 8))
     (insert_sure store_schema 2 store_refers (reply_params e) old.now.trees (statement_of ADD_REPLY.now (understood store_schema ADD_REPLY.now)) reply_table refl reply_terms 8 (reply_typed e (record { schema = store_schema; trees = old.now.trees })) (reply_edits e rows old.now has keys small)) err h
 
 -- ---- a profile
@@ -122,11 +122,11 @@ profile_edits profile limit all hash rows db next has keys =
     let fresh = fresh_last (λ p. p.0) profile_tail db.trees profiles xs has.profiles x (numbered_below 1 profile rows.profiles (omega arith)) in
     edit_sure store_schema db.trees edit refl (free_by store_schema db.trees edit (profile_row x ∷ []) news refl refl refl fresh refl refl unique) (small_one store_schema edit (profile_row x) news (profile_fits x))
 
-pub profile_wants : (old new : State) (profile limit : ℕ) (all : Bool) (hash : HashKind) (rows : Rows) (err : Error) → InMemory old new → profile ≡ length rows.profiles + 1 → Holds rows old.now → HasKeys rows
+pub profile_runs_out : (old new : State) (profile limit : ℕ) (all : Bool) (hash : HashKind) (rows : Rows) (err : Error) → InMemory old new → profile ≡ length rows.profiles + 1 → Holds rows old.now → HasKeys rows
     → ExecutesInside 0 ADD_PROFILE.now (profile_params profile limit all hash) old new (Err err) → IsOutOfMemory err
-profile_wants old new profile limit all hash rows err mem next has keys h =
+profile_runs_out old new profile limit all hash rows err mem next has keys h =
     let params = profile_params profile limit all hash in
-    inside_wants ADD_PROFILE.now params old new store_schema mem has.schema add_profile_plain add_profile_whole (Insert 0 (Values profile_terms 6)) add_profile_is (insert_is_edit 0 (Values profile_terms 6))
+    inside_runs_out ADD_PROFILE.now params old new store_schema mem has.schema add_profile_plain add_profile_whole (Insert 0 (Values profile_terms 6)) add_profile_is (insert_is_edit 0 (Values profile_terms 6))
     (insert_sure store_schema 0 store_refers params old.now.trees (statement_of ADD_PROFILE.now (understood store_schema ADD_PROFILE.now)) profiles refl profile_terms 6 (profile_typed profile limit all hash (record { schema = store_schema; trees = old.now.trees })) (profile_edits profile limit all hash rows old.now next has keys)) err h
 
 -- ---- a node
@@ -171,8 +171,8 @@ module _ (profile id parent : ℕ) (modified : ℤ) (state : NodeState) (size pi
       let fresh = fresh_last (λ n. n.0) node_tail db.trees node_table has.nodes has.node_rows x (below_next (λ n. n.0) node_tail has.nodes has.rising) in
       edit_sure store_schema db.trees edit refl (free_by store_schema db.trees edit (node_row x ∷ []) news refl refl refl fresh refl refl unique) (small_one store_schema edit (node_row x) news (node_fits x small))
 
-  pub node_wants : (old new : State) (rows : Rows) (err : Error) → InMemory old new → Holds rows old.now → HasKeys (with_last_node made rows) → FitsARow (node_size made)
+  pub node_runs_out : (old new : State) (rows : Rows) (err : Error) → InMemory old new → Holds rows old.now → HasKeys (with_last_node made rows) → FitsARow (node_size made)
       → ExecutesInside 0 ADD_NODE.now node_params old new (Err err) → IsOutOfMemory err
-  node_wants old new rows err mem has keys small h =
-      inside_wants ADD_NODE.now node_params old new store_schema mem has.schema add_node_plain add_node_whole (Insert 1 (Values node_terms 14)) add_node_is (insert_is_edit 1 (Values node_terms 14))
+  node_runs_out old new rows err mem has keys small h =
+      inside_runs_out ADD_NODE.now node_params old new store_schema mem has.schema add_node_plain add_node_whole (Insert 1 (Values node_terms 14)) add_node_is (insert_is_edit 1 (Values node_terms 14))
       (insert_sure store_schema 1 store_refers node_params old.now.trees (statement_of ADD_NODE.now (understood store_schema ADD_NODE.now)) node_table refl node_terms 14 (node_typed (record { schema = store_schema; trees = old.now.trees })) (node_edits rows old.now has keys small)) err h

@@ -32,7 +32,7 @@ use Rattle.droid_store_sql.proofs.SeenRows.{few_seen}
 use Rattle.droid_store_sql.proofs.Selects.{selects, filter_few}
 use Rattle.droid_store_sql.proofs.SureEdits.{update_sure, delete_sure}
 use Rattle.droid_store_sql.proofs.Values.{cast_null, cast_int}
-use Rattle.droid_store_sql.proofs.MemoryFaults.{inside_wants, update_is_edit, delete_is_edit}
+use Rattle.droid_store_sql.proofs.MemoryFaults.{inside_runs_out, update_is_edit, delete_is_edit}
 use Rattle.droid_store.specs.declared.rows.ProfileRow.{ProfileRow}
 use Rattle.droid_store.specs.declared.statements.TheConstants.{COUNT_NODES, FINISH_NODE, REMOVE_NODE}
 use Rattle.droid_store.specs.Changes.{finished, with_finished, without_node}
@@ -86,9 +86,9 @@ count_edits profile count rows db has keys found answers =
     rewrite_sure store_schema db.trees profiles (λ trees edit. refl) profiles_refer (λ p. p.0) profile_tail xs (has_number profile) few (counting count) (λ p. refl) stored_profile (λ p. refl) (λ p. refl) (λ p. refl)
     (λ p only. profile_fits (counting count p)) found are unique
 
-pub count_wants : (old new : State) (profile count : ℕ) (rows : Rows) (err : Error) → InMemory old new → Holds rows old.now → HasKeys rows → ExecutesInside 0 COUNT_NODES.now (count_params profile count) old new (Err err) → IsOutOfMemory err
-count_wants old new profile count rows err mem has keys h =
-    inside_wants COUNT_NODES.now (count_params profile count) old new store_schema mem has.schema count_plain count_whole (Update 0 (record { lets = []; body = count_query })) count_is (update_is_edit 0 (record { lets = []; body = count_query }))
+pub count_runs_out : (old new : State) (profile count : ℕ) (rows : Rows) (err : Error) → InMemory old new → Holds rows old.now → HasKeys rows → ExecutesInside 0 COUNT_NODES.now (count_params profile count) old new (Err err) → IsOutOfMemory err
+count_runs_out old new profile count rows err mem has keys h =
+    inside_runs_out COUNT_NODES.now (count_params profile count) old new store_schema mem has.schema count_plain count_whole (Update 0 (record { lets = []; body = count_query })) count_is (update_is_edit 0 (record { lets = []; body = count_query }))
     (update_sure store_schema 0 store_refers (count_params profile count) old.now.trees (statement_of COUNT_NODES.now (understood store_schema COUNT_NODES.now)) profiles refl (record { lets = []; body = count_query })
     (count_typed profile count old.now.trees) (count_edits profile count rows old.now has keys)) err h
 
@@ -131,10 +131,10 @@ module _ (profile file : ℕ) (method : Method) (mismatch : Bool) (hash : HashVa
       rewrite_sure store_schema db.trees node_table (λ trees edit. refl) nodes_refer (λ x. x.0) node_tail has.nodes test few change (λ x. refl) stored (λ x. refl) (λ x. refl) (λ x. refl)
       (λ x one. node_fits (change x) (small x.1 (found_node profile file has.nodes rows x has.nodes_are lone one))) found are unique
 
-  pub finish_wants : (old new : State) (rows : Rows) (err : Error) → InMemory old new → Holds rows old.now → HasKeys rows → HasKeys (with_finished profile file method mismatch hash puids rows)
+  pub finish_runs_out : (old new : State) (rows : Rows) (err : Error) → InMemory old new → Holds rows old.now → HasKeys rows → HasKeys (with_finished profile file method mismatch hash puids rows)
       → ((n : Node) → node_at profile file rows ≡ Some n → FitsARow (node_size (finished method mismatch hash puids n))) → ExecutesInside 0 FINISH_NODE.now finish_params old new (Err err) → IsOutOfMemory err
-  finish_wants old new rows err mem has keys later small h =
-      inside_wants FINISH_NODE.now finish_params old new store_schema mem has.schema finish_plain finish_whole (Update 1 (record { lets = []; body = finish_query })) finish_is (update_is_edit 1 (record { lets = []; body = finish_query }))
+  finish_runs_out old new rows err mem has keys later small h =
+      inside_runs_out FINISH_NODE.now finish_params old new store_schema mem has.schema finish_plain finish_whole (Update 1 (record { lets = []; body = finish_query })) finish_is (update_is_edit 1 (record { lets = []; body = finish_query }))
       (update_sure store_schema 1 store_refers finish_params old.now.trees (statement_of FINISH_NODE.now (understood store_schema FINISH_NODE.now)) node_table refl (record { lets = []; body = finish_query })
       (finish_typed old.now.trees) (finish_edits rows old.now has keys later small)) err h
 
@@ -160,9 +160,9 @@ remove_edits profile file rows db has keys later found answers =
     remove_sure store_schema db.trees node_table (λ trees edit. refl) nodes_refer found
     (keeps_unique (without_node profile file rows) (filter (λ x. not (test x)) has.nodes) (with_tree db.trees 1 (edited db.trees (edit_of db.trees node_table (ids_of found) Given 0 []))) seen later gone has.replies)
 
-pub remove_wants : (old new : State) (profile file : ℕ) (rows : Rows) (err : Error) → InMemory old new → Holds rows old.now → HasKeys rows → HasKeys (without_node profile file rows)
+pub remove_runs_out : (old new : State) (profile file : ℕ) (rows : Rows) (err : Error) → InMemory old new → Holds rows old.now → HasKeys rows → HasKeys (without_node profile file rows)
     → ExecutesInside 0 REMOVE_NODE.now (remove_params profile file) old new (Err err) → IsOutOfMemory err
-remove_wants old new profile file rows err mem has keys later h =
-    inside_wants REMOVE_NODE.now (remove_params profile file) old new store_schema mem has.schema remove_plain remove_whole (Delete 1 (record { lets = []; body = remove_query })) remove_is (delete_is_edit 1 (record { lets = []; body = remove_query }))
+remove_runs_out old new profile file rows err mem has keys later h =
+    inside_runs_out REMOVE_NODE.now (remove_params profile file) old new store_schema mem has.schema remove_plain remove_whole (Delete 1 (record { lets = []; body = remove_query })) remove_is (delete_is_edit 1 (record { lets = []; body = remove_query }))
     (delete_sure store_schema 1 store_refers (remove_params profile file) old.now.trees (statement_of REMOVE_NODE.now (understood store_schema REMOVE_NODE.now)) node_table refl (record { lets = []; body = remove_query })
     (remove_typed profile file old.now.trees) (remove_edits profile file rows old.now has keys later)) err h

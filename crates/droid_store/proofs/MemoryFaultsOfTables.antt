@@ -15,7 +15,7 @@ use Rattle.sqlite_schema.specs.Names.{same_name}
 use Rattle.droid_store_sql.specs.NewTables.{IsNewTable}
 use Rattle.droid_store_sql.specs.MemoryFaults.{IsOutOfMemory, InMemory, IsSure}
 use Rattle.droid_store_sql.proofs.SureTables.{create_sure}
-use Rattle.droid_store_sql.proofs.MemoryFaults.{executes_wants, create_is_edit}
+use Rattle.droid_store_sql.proofs.MemoryFaults.{executes_runs_out, create_is_edit}
 use Rattle.droid_store.specs.declared.statements.TheConstants.{MAKE_PROFILES, MAKE_NODES, MAKE_REPLIES}
 use Rattle.droid_store.specs.Tables.{profiles, nodes, replies, no_schema, first_schema, second_schema}
 use Rattle.droid_store.proofs.Meanings.{profiles_is, profiles_plain, profiles_whole, nodes_is, nodes_plain, nodes_whole, replies_is, replies_plain, replies_whole}
@@ -68,20 +68,20 @@ new_replies = record {
   short = omega arith;
 }
 
-pub profiles_want : (old new : State) (r : Result ℕ Error) → InMemory old new → old.now.schema ≡ no_schema → Executes MAKE_PROFILES.now [] old new r → IfErr r IsOutOfMemory
-profiles_want old new (Ok count) mem has h = tt
-profiles_want old new (Err e) mem has h =
-    executes_wants MAKE_PROFILES.now [] old new no_schema mem has profiles_plain profiles_whole CreateTable profiles_is.0 create_is_edit
+pub profiles_runs_out : (old new : State) (r : Result ℕ Error) → InMemory old new → old.now.schema ≡ no_schema → Executes MAKE_PROFILES.now [] old new r → IfErr r IsOutOfMemory
+profiles_runs_out old new (Ok count) mem has h = tt
+profiles_runs_out old new (Err e) mem has h =
+    executes_runs_out MAKE_PROFILES.now [] old new no_schema mem has profiles_plain profiles_whole CreateTable profiles_is.0 create_is_edit
     (subst (λ t. IsSure (Does None (mode_of old) [] (record { schema = no_schema; trees = old.now.trees }) t None CreateTable)) (sym profiles_is.1) (create_sure no_schema MAKE_PROFILES.now profiles profiles_is.2 new_profiles [] old.now.trees refl)) e h
 
-pub nodes_want : (old new : State) (r : Result ℕ Error) → InMemory old new → old.now.schema ≡ first_schema → Executes MAKE_NODES.now [] old new r → IfErr r IsOutOfMemory
-nodes_want old new (Ok count) mem has h = tt
-nodes_want old new (Err e) mem has h =
-    executes_wants MAKE_NODES.now [] old new first_schema mem has nodes_plain nodes_whole CreateTable nodes_is.0 create_is_edit
+pub nodes_runs_out : (old new : State) (r : Result ℕ Error) → InMemory old new → old.now.schema ≡ first_schema → Executes MAKE_NODES.now [] old new r → IfErr r IsOutOfMemory
+nodes_runs_out old new (Ok count) mem has h = tt
+nodes_runs_out old new (Err e) mem has h =
+    executes_runs_out MAKE_NODES.now [] old new first_schema mem has nodes_plain nodes_whole CreateTable nodes_is.0 create_is_edit
     (subst (λ t. IsSure (Does None (mode_of old) [] (record { schema = first_schema; trees = old.now.trees }) t None CreateTable)) (sym nodes_is.1) (create_sure first_schema MAKE_NODES.now nodes nodes_is.2 new_nodes [] old.now.trees refl)) e h
 
-pub replies_want : (old new : State) (r : Result ℕ Error) → InMemory old new → old.now.schema ≡ second_schema → Executes MAKE_REPLIES.now [] old new r → IfErr r IsOutOfMemory
-replies_want old new (Ok count) mem has h = tt
-replies_want old new (Err e) mem has h =
-    executes_wants MAKE_REPLIES.now [] old new second_schema mem has replies_plain replies_whole CreateTable replies_is.0 create_is_edit
+pub replies_runs_out : (old new : State) (r : Result ℕ Error) → InMemory old new → old.now.schema ≡ second_schema → Executes MAKE_REPLIES.now [] old new r → IfErr r IsOutOfMemory
+replies_runs_out old new (Ok count) mem has h = tt
+replies_runs_out old new (Err e) mem has h =
+    executes_runs_out MAKE_REPLIES.now [] old new second_schema mem has replies_plain replies_whole CreateTable replies_is.0 create_is_edit
     (subst (λ t. IsSure (Does None (mode_of old) [] (record { schema = second_schema; trees = old.now.trees }) t None CreateTable)) (sym replies_is.1) (create_sure second_schema MAKE_REPLIES.now replies replies_is.2 new_replies [] old.now.trees refl)) e h

@@ -39,6 +39,6 @@ excused Full h = absurd (omega arith)
 excused Broken h = absurd h
 excused Unstorable h = absurd h
 
-pub opening_wants : (db : Trees) (e : Error) → db catalog_tree ≡ [] → FailsToOpen db (MoreFaults 0 0) e → IsOutOfMemory e
-opening_wants db e none (inl refused) = absurd (refused.1 no_schema (empty_is_sound db none))
-opening_wants db e none (inr failed) = inl (failed.1 ∙ excused failed.0 failed.2)
+pub opening_runs_out : (db : Trees) (e : Error) → db catalog_tree ≡ [] → FailsToOpen db (MoreFaults 0 0) e → IsOutOfMemory e
+opening_runs_out db e none (inl refused) = absurd (refused.1 no_schema (empty_is_sound db none))
+opening_runs_out db e none (inr failed) = inl (failed.1 ∙ excused failed.0 failed.2)

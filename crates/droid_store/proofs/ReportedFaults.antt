@@ -13,22 +13,22 @@ use Rattle.droid_store.specs.declared.fault.StoreFault.TheVariants.{Memory}
 use Rattle.droid_store.specs.Faults.{fault_of}
 
 -- running out of memory is the fault Memory
-pub want_is_memory : (e : Error) → IsOutOfMemory e → fault_of e ≡ Memory
-want_is_memory e (inl is) = ap fault_of is
-want_is_memory e (inr is) = ap fault_of is
+pub out_of_memory_is_memory : (e : Error) → IsOutOfMemory e → fault_of e ≡ Memory
+out_of_memory_is_memory e (inl is) = ap fault_of is
+out_of_memory_is_memory e (inr is) = ap fault_of is
 
 -- where `?` hands it on
-pub told_memory : {T : Type 0} (r : Result T StoreFault) (e : Error) → IsErrAnd r (λ f. f ≡ fault_of e) → IsOutOfMemory e → IfErr r (λ f. f ≡ Memory)
-told_memory (Ok done) e reported failure = tt
-told_memory (Err fault) e reported failure = reported ∙ want_is_memory e failure
+pub reported_memory : {T : Type 0} (r : Result T StoreFault) (e : Error) → IsErrAnd r (λ f. f ≡ fault_of e) → IsOutOfMemory e → IfErr r (λ f. f ≡ Memory)
+reported_memory (Ok done) e reported failure = tt
+reported_memory (Err fault) e reported failure = reported ∙ out_of_memory_is_memory e failure
 
 -- reading a column of the right type fails only if memory runs out
-pub reads_or_wants : (row : Row) (at : ℕ) (e : Error) (Readable : Type 0) → IsReadError at (column row at) e → (e ≢ SqliteFailure OutOfMemory → at < length row → ¬ Readable) → at < length row → Readable → fault_of e ≡ Memory
-reads_or_wants row at e Readable (inl is) bad within fine = absurd (bad (λ same. let both = sym is ∙ same in cc) within fine)
-reads_or_wants row at e Readable (inr (inl is)) bad within fine = absurd (bad (λ same. let both = sym is ∙ same in cc) within fine)
-reads_or_wants row at e Readable (inr (inr (inl is))) bad within fine = absurd (bad (λ same. let both = sym is ∙ same in cc) within fine)
-reads_or_wants row at e Readable (inr (inr (inr (inl is)))) bad within fine = absurd (bad (λ same. let both = sym is ∙ same in cc) within fine)
-reads_or_wants row at e Readable (inr (inr (inr (inr is)))) bad within fine = ap fault_of is
+pub reads_or_runs_out : (row : Row) (at : ℕ) (e : Error) (Readable : Type 0) → IsReadError at (column row at) e → (e ≢ SqliteFailure OutOfMemory → at < length row → ¬ Readable) → at < length row → Readable → fault_of e ≡ Memory
+reads_or_runs_out row at e Readable (inl is) bad within fine = absurd (bad (λ same. let both = sym is ∙ same in cc) within fine)
+reads_or_runs_out row at e Readable (inr (inl is)) bad within fine = absurd (bad (λ same. let both = sym is ∙ same in cc) within fine)
+reads_or_runs_out row at e Readable (inr (inr (inl is))) bad within fine = absurd (bad (λ same. let both = sym is ∙ same in cc) within fine)
+reads_or_runs_out row at e Readable (inr (inr (inr (inl is)))) bad within fine = absurd (bad (λ same. let both = sym is ∙ same in cc) within fine)
+reads_or_runs_out row at e Readable (inr (inr (inr (inr is)))) bad within fine = ap fault_of is
 
 -- what 32 bits hold, what 64 bits hold, a number of either sign, a text that is UTF-8, and bytes
 abbrev pub IsShort : Value → Type 0
@@ -47,4 +47,4 @@ IsBytes v = (b : List ℕ) × (v ≡ Blob b)
 pub unread : {T : Type 0} (r : Result T StoreFault) (row : Row) (at : ℕ) (e : Error) (Readable : Value → Type 0) (v : Value) → IsErrAnd r (λ f. f ≡ fault_of e) → IsReadError at (column row at) e
     → (e ≢ SqliteFailure OutOfMemory → at < length row → ¬ Readable (column row at)) → at < length row → column row at ≡ v → Readable v → IfErr r (λ f. f ≡ Memory)
 unread (Ok done) row at e Readable v reported named bad within is fine = tt
-unread (Err fault) row at e Readable v reported named bad within is fine = reported ∙ reads_or_wants row at e (Readable (column row at)) named bad within (subst Readable (sym is) fine)
+unread (Err fault) row at e Readable v reported named bad within is fine = reported ∙ reads_or_runs_out row at e (Readable (column row at)) named bad within (subst Readable (sym is) fine)

@@ -46,9 +46,9 @@ failed : (old new : State) (too_big : Type 0) (e : Error) → InMemory old new �
 failed old new too_big e mem small fails = inl (fails.1 ∙ by_cause old new too_big fails.0 mem small fails.2)
 
 -- the end of a transaction
-pub commit_wants : (old new : State) (e : Error) → InMemory old new → old.in_transaction ≡ true → FailsToCommit old new e → IsOutOfMemory e
-commit_wants old new e mem within (inl fails) = failed old new ⊥ e mem (λ no. no) fails
-commit_wants old new e mem within (inr ended) = absurd (let both = sym within ∙ ended.1 in cc)
+pub commit_runs_out : (old new : State) (e : Error) → InMemory old new → old.in_transaction ≡ true → FailsToCommit old new e → IsOutOfMemory e
+commit_runs_out old new e mem within (inl fails) = failed old new ⊥ e mem (λ no. no) fails
+commit_runs_out old new e mem within (inr ended) = absurd (let both = sym within ∙ ended.1 in cc)
 
 -- ---- commands that change rows or tables
 
@@ -105,10 +105,10 @@ module _ (sql : List ℕ) (params : Row) (old new : State) (schema : Schema) (me
   -- a query that no listing of the schema answers, and that can't be refused
   module _ (q : Program) (names : List (List ℕ)) (is : command_of (understood schema sql) ≡ Select q names) (unlisted : reads_listing schema sql ≡ false)
       (fine : (e : Error) → ¬ RefusesQuery None (record { schema = schema; trees = old.now.trees }) q params e) where
-    pub query_wants : (e : Error) → FailsToQuery sql params old new e → IsOutOfMemory e
+    pub query_runs_out : (e : Error) → FailsToQuery sql params old new e → IsOutOfMemory e
     unfolding FailsToQuery
-    query_wants e (inl none) = not_run e none
-    query_wants e (inr (c, it, why)) =
+    query_runs_out e (inl none) = not_run e none
+    query_runs_out e (inr (c, it, why)) =
         let found = known (Ok c) it.is in
         let bare = subst IsPlain found plain in
         let shown = subst (FailsToShow old new sql c (timed params c.formats it.now) e) bare.0 why in
@@ -118,10 +118,10 @@ module _ (sql : List ℕ) (params : Row) (old new : State) (schema : Schema) (me
         let bound = rw (db, bare.1, append-nil params, mem.unlimited) at reported in
         absurd (fine e (subst (λ s. RefusesQuery None (record old.now { schema = s }) q params e) has bound))
 
-    pub row_wants : (e : Error) → e ≢ QueryReturnedNoRows → QueriesRow sql params old new (Err e) → IsOutOfMemory e
+    pub row_runs_out : (e : Error) → e ≢ QueryReturnedNoRows → QueriesRow sql params old new (Err e) → IsOutOfMemory e
     unfolding QueriesRow
-    row_wants e other (inl fails) = query_wants e fails
-    row_wants e other (inr h) = absurd (other h.0)
+    row_runs_out e other (inl fails) = query_runs_out e fails
+    row_runs_out e other (inr h) = absurd (other h.0)
 
   -- a change that stops only where no number is left for a row
   module _ (command : Command) (is : command_of (understood schema sql) ≡ command) (edit : IsEdit command)
@@ -139,19 +139,19 @@ module _ (sql : List ℕ) (params : Row) (old new : State) (schema : Schema) (me
     ran c at e found (inl (inr (may, does), same)) = inr (same_some (stops c at found (Some e) does))
     ran c at e found (inr fails) = failed old new _ e mem (λ does. let no = stops c at found None does in cc) fails
 
-    pub executes_wants : (e : Error) → Executes sql params old new (Err e) → IsOutOfMemory e
+    pub executes_runs_out : (e : Error) → Executes sql params old new (Err e) → IsOutOfMemory e
     unfolding ExecutesIn
-    executes_wants e (inl none) = not_run e none
-    executes_wants e (inr h) =
+    executes_runs_out e (inl none) = not_run e none
+    executes_runs_out e (inr h) =
         let found = sym (known (Ok h.0) h.1.is) in
         let bare = subst IsPlain (sym found) plain in
         let silent : shows_rows false h.0 ≡ false = subst₂ (λ k r. (is_query k || (is_pragma k || is_some r)) ≡ false) (sym (ap command_of found ∙ is)) (sym bare.0) edit.silent in
         ran h.0 h.1.now e found (rw silent at h.2)
 
     -- the same in a transaction
-    pub inside_wants : (e : Error) → ExecutesInside 0 sql params old new (Err e) → IsOutOfMemory e
+    pub inside_runs_out : (e : Error) → ExecutesInside 0 sql params old new (Err e) → IsOutOfMemory e
     unfolding EndsScope
-    inside_wants e (inl h) = executes_wants e h.0
-    inside_wants e (inr h) =
+    inside_runs_out e (inl h) = executes_runs_out e h.0
+    inside_runs_out e (inr h) =
         let scope = h.0 in
         absurd (edit.stays old (subst (Escapes 0 old) (ap command_of (sym (known (Ok scope.0) scope.1.is)) ∙ is) scope.2))

@@ -94,18 +94,18 @@ module _ {X : Type 0} (key : X → ℕ) where
   abbrev IsReported : List X → X → Type 0
   IsReported all z = (x : X) → Has all x → key x ≡ key z → x ≡ z
 
-  told_more : (z : X) (zs ws : List X) → AllByRecursion (λ w. key z < key w) ws → AllByRecursion (IsReported zs) ws → AllByRecursion (IsReported (z ∷ zs)) ws
-  told_more z zs [] above reported = tt
-  told_more z zs (w ∷ ws) above reported = (λ x here same. elim here [ inl is ↦ absurd (omega (arith, above.0, same, ap key is)) | inr more ↦ reported.0 x more same ], told_more z zs ws above.1 reported.1)
+  reported_more : (z : X) (zs ws : List X) → AllByRecursion (λ w. key z < key w) ws → AllByRecursion (IsReported zs) ws → AllByRecursion (IsReported (z ∷ zs)) ws
+  reported_more z zs [] above reported = tt
+  reported_more z zs (w ∷ ws) above reported = (λ x here same. elim here [ inl is ↦ absurd (omega (arith, above.0, same, ap key is)) | inr more ↦ reported.0 x more same ], reported_more z zs ws above.1 reported.1)
 
   no_higher : (z x : X) (zs : List X) → AllByRecursion (λ w. key z < key w) zs → Has zs x → key x ≡ key z → ⊥
   no_higher z x [] above here same = here
   no_higher z x (w ∷ ws) above (inl is) same = omega (arith, above.0, same, ap key is)
   no_higher z x (w ∷ ws) above (inr more) same = no_higher z x ws above.1 more same
 
-  are_told : (zs : List X) → AreRising key zs → AllByRecursion (IsReported zs) zs
-  are_told [] rise = tt
-  are_told (z ∷ zs) rise = (λ x here same. elim here [ inl is ↦ is | inr more ↦ absurd (no_higher z x zs rise.0 more same) ], told_more z zs zs rise.0 (are_told zs rise.1))
+  are_reported : (zs : List X) → AreRising key zs → AllByRecursion (IsReported zs) zs
+  are_reported [] rise = tt
+  are_reported (z ∷ zs) rise = (λ x here same. elim here [ inl is ↦ is | inr more ↦ absurd (no_higher z x zs rise.0 more same) ], reported_more z zs zs rise.0 (are_reported zs rise.1))
 
   has_more : (z : X) (zs xs : List X) → AllByRecursion (Has zs) xs → AllByRecursion (Has (z ∷ zs)) xs
   has_more z zs [] all = tt
@@ -131,4 +131,4 @@ module _ {X : Type 0} (key : X → ℕ) where
   pub sorted_once : (xs ys : List X) → AreRising key xs → IsSortedByKey key nat_cmp ys → IsPermutation xs ys → ys ≡ xs
   sorted_once xs ys rise sorted same =
       let keys = same_keys xs ys rise (in_order ys (IsNonDecreasingBy-from_sort key ys sorted)) (length_permutation xs ys same) (λ t. sum_by-IsPermutation (one t) xs ys same) in
-      matched xs xs ys (has_itself xs) (recursion_from_All (IsReported xs) ys (All-permutation (IsReported xs) xs ys same (All-from_recursion (IsReported xs) xs (are_told xs rise)))) keys
+      matched xs xs ys (has_itself xs) (recursion_from_All (IsReported xs) ys (All-permutation (IsReported xs) xs ys same (All-from_recursion (IsReported xs) xs (are_reported xs rise)))) keys

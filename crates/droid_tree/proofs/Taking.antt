@@ -26,8 +26,8 @@ module _ {X W : Type 0} (asks : X → Asked → X → Type 0) (hears : W → Hea
     file_asked : AddFile profile folder_number entry.modified entry.len piece_size name ≡ AddFile profile folder.number entry.modified entry.len piece_size entry.name
     file_asked = ap (λ n. AddFile profile n entry.modified entry.len piece_size name) in_folder ∙ ap (λ (l : List ℕ). AddFile profile folder.number entry.modified entry.len piece_size l) named
 
-    told_here : (watcher watcher_after : W) (heard : List ℕ → Heard) → hears watcher (heard path) watcher_after → hears watcher (heard (below folder.path entry.name)) watcher_after
-    told_here watcher watcher_after heard does = subst (λ (p : List ℕ). hears watcher (heard p) watcher_after) here does
+    reported_here : (watcher watcher_after : W) (heard : List ℕ → Heard) → hears watcher (heard path) watcher_after → hears watcher (heard (below folder.path entry.name)) watcher_after
+    reported_here watcher watcher_after heard does = subst (λ (p : List ℕ). hears watcher (heard p) watcher_after) here does
 
     module _ (exchange exchange_after : X) (watcher watcher_now watcher_after : W) (waiting : List PendingFolder) (is_folder : entry.kind ≡ kinds.Folder) where
       pub folder_refused : AddsNode asks hears path (AddFolder profile folder_number entry.modified name) None exchange exchange_after watcher watcher_after
@@ -39,7 +39,7 @@ module _ {X W : Type 0} (asks : X → Asked → X → Type 0) (hears : W → Hea
         taken_is = refl;
         unreported = refl;
         asked = over_one asks exchange exchange_after _ (subst (λ (r : Request). asks exchange (r, replies.Refused refused.0) exchange_after) folder_asked refused.2);
-        heard = over_one hears watcher watcher_after _ (told_here watcher watcher_after (λ p. Left p (reasons.Refused refused.0)) refused.3);
+        heard = over_one hears watcher watcher_after _ (reported_here watcher watcher_after (λ p. Left p (reasons.Refused refused.0)) refused.3);
         pending = sym (append-nil waiting);
       }
 
@@ -55,7 +55,7 @@ module _ {X W : Type 0} (asks : X → Asked → X → Type 0) (hears : W → Hea
             taken_is = refl;
             unreported = refl;
             asked = over_one asks exchange exchange_after _ (subst (λ (r : Request). asks exchange (r, replies.Node number) exchange_after) folder_asked added.0);
-            heard = over_one hears watcher watcher_after _ (told_here watcher watcher_after TookFolder (subst (λ (w : W). hears w (TookFolder path) watcher_after) added.1 took));
+            heard = over_one hears watcher watcher_after _ (reported_here watcher watcher_after TookFolder (subst (λ (w : W). hears w (TookFolder path) watcher_after) added.1 took));
             pending = pushed ∙ ap place_at here;
           }
 
@@ -69,7 +69,7 @@ module _ {X W : Type 0} (asks : X → Asked → X → Type 0) (hears : W → Hea
         taken_is = refl;
         observed = refl;
         asked = over_one asks exchange exchange_after _ (subst (λ (r : Request). asks exchange (r, replies.Refused refused.0) exchange_after) file_asked refused.2);
-        heard = over_one hears watcher watcher_after _ (told_here watcher watcher_after (λ p. Left p (reasons.Refused refused.0)) refused.3);
+        heard = over_one hears watcher watcher_after _ (reported_here watcher watcher_after (λ p. Left p (reasons.Refused refused.0)) refused.3);
         pending = sym (append-nil waiting);
       }
 
@@ -101,7 +101,7 @@ module _ {X W : Type 0} (asks : X → Asked → X → Type 0) (hears : W → Hea
               observed = subst (λ (p : List ℕ). GoesOver observes tree (whole_read p 0 all.sent) tree_after) here all.observed;
               asked = (announced, first, over_more asks announced sent done (pieces_from profile number 0 all.sent) ((Finish profile number, found) ∷ []) all.asked (over_one asks sent done _ finished.asked));
               heard = over_more hears watcher watcher_sent watcher_after (pieces_heard (below folder.path entry.name) all.sent) (TookFile (below folder.path entry.name) found ∷ []) heard
-                  (over_one hears watcher_sent watcher_after _ (told_here watcher_sent watcher_after (λ p. TookFile p found) took));
+                  (over_one hears watcher_sent watcher_after _ (reported_here watcher_sent watcher_after (λ p. TookFile p found) took));
               pending = sym (append-nil waiting);
             }
 
@@ -110,7 +110,7 @@ module _ {X W : Type 0} (asks : X → Asked → X → Type 0) (hears : W → Hea
             → TakesKid observes asks hears goes_on profile piece_size folder entry false tree tree_after exchange done watcher watcher_after waiting waiting
         file_dropped why part given_up left =
             let heard = pieces_first part.sent watcher_sent part.heard in
-            let told_why : hears watcher_sent (Left path (reason_of part.stop)) watcher_after = subst (λ (r : Skipped). hears watcher_sent (Left path r) watcher_after) part.reason left in
+            let reported_why : hears watcher_sent (Left path (reason_of part.stop)) watcher_after = subst (λ (r : Skipped). hears watcher_sent (Left path r) watcher_after) part.reason left in
             record {
               kid = DroppedFile entry number part.sent part.stop;
               its = refl;
@@ -119,7 +119,7 @@ module _ {X W : Type 0} (asks : X → Asked → X → Type 0) (hears : W → Hea
               observed = subst (λ (p : List ℕ). GoesOver observes tree (part_read p 0 part.sent part.stop) tree_after) here part.observed;
               asked = (announced, first, over_more asks announced sent done (pieces_from profile number 0 part.sent) ((Abandon profile number, replies.Abandoned) ∷ []) part.asked (over_one asks sent done _ given_up));
               heard = over_more hears watcher watcher_sent watcher_after (pieces_heard (below folder.path entry.name) part.sent) (Left (below folder.path entry.name) (reason_of part.stop) ∷ []) heard
-                  (over_one hears watcher_sent watcher_after _ (told_here watcher_sent watcher_after (λ p. Left p (reason_of part.stop)) told_why));
+                  (over_one hears watcher_sent watcher_after _ (reported_here watcher_sent watcher_after (λ p. Left p (reason_of part.stop)) reported_why));
               pending = sym (append-nil waiting);
             }
 
@@ -139,7 +139,7 @@ module _ {X W : Type 0} (asks : X → Asked → X → Type 0) (hears : W → Hea
           asked_here pieces over = subst (λ k. GoesOver asks looked (pieces_from profile number k pieces) sent) looks.asks_status.first_is over
 
           held_here : hears watcher (Held (below folder.path entry.name) from) watcher_looked
-          held_here = told_here watcher watcher_looked (λ p. Held p from) (subst (λ (v : W). hears v (Held path from) watcher_looked) added.1 looks.heard)
+          held_here = reported_here watcher watcher_looked (λ p. Held p from) (subst (λ (v : W). hears v (Held path from) watcher_looked) added.1 looks.heard)
 
           rest_whole : SendsAll observes asks hears profile number piece_size entry.len index from path tree tree_after looked sent watcher_looked watcher_sent → (found : Reply) → Finishes asks profile number found sent done
               → hears watcher_sent (TookFile path found) watcher_after
@@ -165,7 +165,7 @@ module _ {X W : Type 0} (asks : X → Asked → X → Type 0) (hears : W → Hea
                   watcher_looked,
                   held_here,
                   over_more hears watcher_looked watcher_sent watcher_after (pieces_heard (below folder.path entry.name) all.sent) (TookFile (below folder.path entry.name) found ∷ []) heard
-                      (over_one hears watcher_sent watcher_after _ (told_here watcher_sent watcher_after (λ p. TookFile p found) took)),
+                      (over_one hears watcher_sent watcher_after _ (reported_here watcher_sent watcher_after (λ p. TookFile p found) took)),
                 );
                 pending = sym (append-nil waiting);
               }
@@ -175,7 +175,7 @@ module _ {X W : Type 0} (asks : X → Asked → X → Type 0) (hears : W → Hea
               → TakesKid observes asks hears goes_on profile piece_size folder entry false tree tree_after exchange done watcher watcher_after waiting waiting
           rest_dropped why part given_up left =
               let heard = pieces_here part.sent watcher_looked watcher_sent part.heard in
-              let told_why : hears watcher_sent (Left path (reason_of part.stop)) watcher_after = subst (λ (r : Skipped). hears watcher_sent (Left path r) watcher_after) part.reason left in
+              let reported_why : hears watcher_sent (Left path (reason_of part.stop)) watcher_after = subst (λ (r : Skipped). hears watcher_sent (Left path r) watcher_after) part.reason left in
               record {
                 kid = DroppedRest entry number status from part.sent part.stop;
                 its = refl;
@@ -195,7 +195,7 @@ module _ {X W : Type 0} (asks : X → Asked → X → Type 0) (hears : W → Hea
                   watcher_looked,
                   held_here,
                   over_more hears watcher_looked watcher_sent watcher_after (pieces_heard (below folder.path entry.name) part.sent) (Left (below folder.path entry.name) (reason_of part.stop) ∷ []) heard
-                      (over_one hears watcher_sent watcher_after _ (told_here watcher_sent watcher_after (λ p. Left p (reason_of part.stop)) told_why)),
+                      (over_one hears watcher_sent watcher_after _ (reported_here watcher_sent watcher_after (λ p. Left p (reason_of part.stop)) reported_why)),
                 );
                 pending = sym (append-nil waiting);
               }

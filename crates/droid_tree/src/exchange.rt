@@ -25,7 +25,7 @@ pub trait Exchange {
 
     /// Whether a resumed walk sends Status for each new file. An exchange returns `false` once it knows that the
     /// service holds no pieces of the files to come.
-    fn wants_status(&self) -> bool {
+    fn sends_status(&self) -> bool {
         false
     }
 }

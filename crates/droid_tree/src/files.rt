@@ -89,7 +89,7 @@ fn resume_file<X: Exchange, W: Watcher>(
     if size == 0 {
         return Ok(None);
     }
-    if !exchange.wants_status() {
+    if !exchange.sends_status() {
         return Ok(None);
     }
     let first = ask_status(into.alloc, exchange, into.profile, file)?;

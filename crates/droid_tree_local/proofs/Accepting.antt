@@ -80,9 +80,9 @@ accepted None reply made world after unrefused is = (refl, is, refl)
 accepted (Some refusal) reply made world after unrefused is = let e : is_refused reply ≡ true = ap is_refused is in absurd cc
 
 -- a refusal other than out of memory came from `judge` and changed nothing
-no_want : (refusal : Refusal) → refusal ≢ Memory → is_out_of_memory_of refusal ≡ false
-no_want Memory isnt = absurd (isnt refl)
-no_want _ isnt = refl
+no_memory_fault : (refusal : Refusal) → refusal ≢ Memory → is_out_of_memory_of refusal ≡ false
+no_memory_fault Memory isnt = absurd (isnt refl)
+no_memory_fault _ isnt = refl
 
 refused : (o : Option Refusal) (refusal : Refusal) (made : Reply) (world after : World) → is_refused made ≡ false → replies.Refused refusal ≡ verdict_reply (unless_refused o (Accepted made after))
     → (o ≡ Some refusal) × (world_after world (unless_refused o (Accepted made after)) ≡ world)
@@ -128,8 +128,8 @@ module _ (setting : Setting) (options : Options) where
       → judge setting holds.world 2 request ≡ unless_refused o (Accepted made (world_set holds.world 1 after)) → after ≡ profile_with options nodes_after
       → is_out_of_memory reply ≡ false → is_refused reply ≡ false → Answers own (request, reply) own_after
       → (o ≡ None) × (reply ≡ made) × Holds setting options nodes_after own_after
-  changed nodes nodes_after own own_after request reply made o after holds judged its unwanting unrefused answers =
-      let came = unwanted (is_out_of_memory reply) _ _ unwanting (answers setting holds.world holds.place) in
+  changed nodes nodes_after own own_after request reply made o after holds judged its not_out_of_memory unrefused answers =
+      let came = unwanted (is_out_of_memory reply) _ _ not_out_of_memory (answers setting holds.world holds.place) in
       let split = accepted o reply made holds.world (world_set holds.world 1 after) unrefused (came.0 ∙ ap verdict_reply judged) in (
         split.0,
         split.1,
@@ -150,8 +150,8 @@ module _ (setting : Setting) (options : Options) where
   unchanged : (nodes : List Node) (own own_after : Own) (request : Request) (refusal : Refusal) (made : Reply) (o : Option Refusal) (after : World) (holds : Holds setting options nodes own)
       → judge setting holds.world 2 request ≡ unless_refused o (Accepted made after) → is_refused made ≡ false → refusal ≢ Memory → Answers own (request, replies.Refused refusal) own_after
       → (o ≡ Some refusal) × Holds setting options nodes own_after
-  unchanged nodes own own_after request refusal made o after holds judged unrefused unwanting answers =
-      let came = unwanted (is_out_of_memory_of refusal) _ _ (no_want refusal unwanting) (answers setting holds.world holds.place) in
+  unchanged nodes own own_after request refusal made o after holds judged unrefused not_out_of_memory answers =
+      let came = unwanted (is_out_of_memory_of refusal) _ _ (no_memory_fault refusal not_out_of_memory) (answers setting holds.world holds.place) in
       let split = refused o refusal made holds.world after unrefused (came.0 ∙ ap verdict_reply judged) in (
         split.0,
         record {
@@ -164,10 +164,10 @@ module _ (setting : Setting) (options : Options) where
   pub folder_refused : (nodes : List Node) (own own_after : Own) (folder : ℕ) (modified : ℤ) (name : List ℕ) (refusal : Refusal) → Holds setting options nodes own → refusal ≢ Memory
       → Answers own (AddFolder 1 folder modified name, replies.Refused refusal) own_after
       → IsRefusedAt setting options nodes (AddFolder 1 folder modified name) refusal × Holds setting options nodes own_after
-  folder_refused nodes own own_after folder modified name refusal holds unwanting answers =
+  folder_refused nodes own own_after folder modified name refusal holds not_out_of_memory answers =
       let profile = profile_with options nodes in
       let came = unchanged nodes own own_after (AddFolder 1 folder modified name) refusal (replies.Node (length nodes + 1)) _ _ holds
-      (judged_folder setting holds.world profile (its_profile nodes own holds) folder modified name) refl unwanting answers in (
+      (judged_folder setting holds.world profile (its_profile nodes own holds) folder modified name) refl not_out_of_memory answers in (
         λ world same. judged_folder setting world profile (ap (λ (profiles : List Profile). numbered profiles 1) same) folder modified name
             ∙ ap (λ (o : Option Refusal). unless_refused o (Accepted (replies.Node (length nodes + 1)) (world_set world 1 (with_node profile (Folder folder modified name))))) came.0,
         came.1,
@@ -176,11 +176,11 @@ module _ (setting : Setting) (options : Options) where
   pub file_refused : (nodes : List Node) (own own_after : Own) (folder : ℕ) (modified : ℤ) (size piece_size : ℕ) (name : List ℕ) (refusal : Refusal) → Holds setting options nodes own → refusal ≢ Memory
       → Answers own (AddFile 1 folder modified size piece_size name, replies.Refused refusal) own_after
       → IsRefusedAt setting options nodes (AddFile 1 folder modified size piece_size name) refusal × Holds setting options nodes own_after
-  file_refused nodes own own_after folder modified size piece_size name refusal holds unwanting answers =
+  file_refused nodes own own_after folder modified size piece_size name refusal holds not_out_of_memory answers =
       let profile = profile_with options nodes in
       let checked : List Profile → Option Refusal = λ profiles. refusal_of (file_checks setting.limits (record { accepted = 0; profiles = profiles }) 2 nodes folder modified size piece_size name) in
       let came = unchanged nodes own own_after (AddFile 1 folder modified size piece_size name) refusal (replies.Node (length nodes + 1)) _ _ holds
-      (judged_file setting holds.world profile (its_profile nodes own holds) folder modified size piece_size name) refl unwanting answers in (
+      (judged_file setting holds.world profile (its_profile nodes own holds) folder modified size piece_size name) refl not_out_of_memory answers in (
         λ world same. judged_file setting world profile (ap (λ (profiles : List Profile). numbered profiles 1) same) folder modified size piece_size name
             ∙ ap (λ (o : Option Refusal). unless_refused o (Accepted (replies.Node (length nodes + 1)) (world_set world 1 (with_node profile (File folder modified name (record { size = size; piece_size = piece_size; pieces = []; finished = false }))))))
             (ap checked (same ∙ sym holds.profiles) ∙ came.0),
@@ -224,10 +224,10 @@ module _ (setting : Setting) (options : Options) where
 
     pub file_finished : (own own_after : Own) (content : Content) (found : Reply) → is_out_of_memory found ≡ false → is_refused found ≡ false → Holds setting options (behind content) own → Answers own (Finish 1 file, found) own_after
         → Holds setting options (behind (as_finished content)) own_after
-    file_finished own own_after content found unwanting unrefused holds answers =
+    file_finished own own_after content found not_out_of_memory unrefused holds answers =
         (changed (behind content) (behind (as_finished content)) own own_after (Finish 1 file) found _ _ _ holds
         (judged_finish setting holds.world (profile_with options (behind content)) (its_profile (behind content) own holds) file folder modified name content (there content))
-        (replaced content (as_finished content)) unwanting unrefused answers).2
+        (replaced content (as_finished content)) not_out_of_memory unrefused answers).2
 
     pub file_abandoned : (own own_after : Own) (content : Content) → Holds setting options (behind content) own → Answers own (Abandon 1 file, replies.Abandoned) own_after
         → Holds setting options (nodes ++ Abandoned ∷ []) own_after
@@ -236,9 +236,9 @@ module _ (setting : Setting) (options : Options) where
         (judged_abandon setting holds.world (profile_with options (behind content)) (its_profile (behind content) own holds) file folder modified name content (there content))
         (ap (profile_with options) (set_last nodes (File folder modified name content) Abandoned file last)) refl refl answers).2
 
-  pub part_told : (nodes : List Node) (own own_after : Own) (from max as_of total : ℕ) (bytes : List ℕ) → Holds setting options nodes own → Answers own (Export 1 from max everything, replies.Part as_of total bytes) own_after
+  pub part_reported : (nodes : List Node) (own own_after : Own) (from max as_of total : ℕ) (bytes : List ℕ) → Holds setting options nodes own → Answers own (Export 1 from max everything, replies.Part as_of total bytes) own_after
       → (total ≡ length (text_of setting options nodes)) × (bytes ≡ take max (drop from (text_of setting options nodes))) × Holds setting options nodes own_after
-  part_told nodes own own_after from max as_of total bytes holds answers =
+  part_reported nodes own own_after from max as_of total bytes holds answers =
       let came = answers setting holds.world holds.place in
       let judged = judged_export setting holds.world (profile_with options nodes) (its_profile nodes own holds) from max everything in
       let split = observed (refusal_of (export_checks max)) (replies.Part as_of total bytes) (part_of setting holds.world.accepted (profile_with options nodes) from max everything) holds.world refl (came.0 ∙ ap verdict_reply judged) in

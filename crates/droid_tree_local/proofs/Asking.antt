@@ -66,9 +66,9 @@ still_new_with history frame (Refuses refusal) number new other = new
 
 -- ---- what comes of it
 
-by_wanting : (b : Bool) (P Q R S T U : Type 0) → MatchBool b (P × Q) (R × S) → (Q → T) → (R → S → U) → MatchBool b T U
-by_wanting true P Q R S T U came out_of_memory answered = out_of_memory came.1
-by_wanting false P Q R S T U came out_of_memory answered = answered came.0 came.1
+by_memory_fault : (b : Bool) (P Q R S T U : Type 0) → MatchBool b (P × Q) (R × S) → (Q → T) → (R → S → U) → MatchBool b T U
+by_memory_fault true P Q R S T U came out_of_memory answered = out_of_memory came.1
+by_memory_fault false P Q R S T U came out_of_memory answered = answered came.0 came.1
 
 pub request_answered : (old new : Own) (frame : Frame) (request : Request) (reply : Reply)
     → frame.version ≡ 2 → frame.client ≡ 1 → frame.number ≡ old.number → old.number < 2 ^ 63 → new.number ≡ old.number + 1 → SpellsRequest frame.version frame.kind frame.body request
@@ -80,7 +80,7 @@ request_answered old new frame request reply version client number small next_nu
     ap (λ c. kept here.history c frame.number) client ∙ here.are_new frame.number (omega (arith, number)) in
     let verdict = judge setting (world_of setting here.history) frame.version request in
     let came = handles setting here.history here.stands in
-    by_wanting (is_out_of_memory reply) _ _ _ _ _ _ came
+    by_memory_fault (is_out_of_memory reply) _ _ _ _ _ _ came
     (λ stands. record { history = here.history; stands = stands; world_is = here.world_is; are_new = λ n above. here.are_new n (omega (arith, above, next_number)) })
     (λ answered stands. (
       answered ∙ (answer_new setting here.history frame request is is_new

@@ -10,7 +10,7 @@ use Rattle.droid_core.specs.World.{Node}
 use Rattle.droid_tree.specs.declared.tree_walk.Options.{Options}
 use Rattle.droid_tree_local.specs.Answering.{Answers, Holds, everything, text_of}
 use Rattle.droid_tree_local.specs.declared.own_service.Own.{Own}
-use Rattle.droid_tree_local.proofs.Accepting.{part_told}
+use Rattle.droid_tree_local.proofs.Accepting.{part_reported}
 
 drop_front : (xs ys : List ℕ) → drop (length xs) (xs ++ ys) ≡ ys
 drop_front [] ys = refl
@@ -38,7 +38,7 @@ module _ (setting : Setting) (options : Options) (nodes : List Node) where
       → Appends now new bytes → after ≡ from + length bytes → Writing setting options nodes own_after after old new × (total ≡ length (text_of setting options nodes))
   wrote_more own own_after profile from max after as_of total bytes old now new writing one answers adds place =
       let asked = subst (λ n. Answers own (Export n from max everything, replies.Part as_of total bytes) own_after) one answers in
-      let observed = part_told setting options nodes own own_after from max as_of total bytes writing.holds asked in
+      let observed = part_reported setting options nodes own own_after from max as_of total bytes writing.holds asked in
       let left : drop from (text_of setting options nodes) ≡ writing.rest =
       ap (λ (l : List ℕ). drop from l) writing.cut ∙ (ap (λ n. drop n (writing.written ++ writing.rest)) (sym writing.counted) ∙ drop_front writing.written writing.rest) in
       let bytes_are : bytes ≡ take max writing.rest = observed.1 ∙ ap (λ (l : List ℕ). take max l) left in

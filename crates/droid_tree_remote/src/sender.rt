@@ -26,7 +26,7 @@ pub struct Sender<C> {
     /// The numbers of its requests.
     pub numbers: Numbers,
     /// Whether to send Status for each new file: until the first file of which the service holds no piece.
-    pub wants_status: bool,
+    pub sends_status: bool,
     /// Why no more requests are sent.
     pub stopped: Option<TransferFault>,
 }
@@ -46,7 +46,7 @@ impl<C: Connection> Sender<C> {
                 next: first,
                 last: 0,
             },
-            wants_status: true,
+            sends_status: true,
             stopped: None,
         }
     }
@@ -81,7 +81,7 @@ impl<C: Connection> Sender<C> {
         };
         let reply = ask_frame(&mut self.in_flight, frame)?;
         self.numbers = numbers_after(self.numbers, kind, &reply);
-        self.wants_status = wants_more_status(self.wants_status, &reply);
+        self.sends_status = sends_more_status(self.sends_status, &reply);
         Ok(reply)
     }
 }
@@ -104,7 +104,7 @@ fn ask_frame<C: Connection>(
 
 /// Returns whether to send Status for the next file: no longer after a file of which the service holds no piece.
 /// Requests have one order, so the earlier submission ended before that file.
-fn wants_more_status(looks: bool, reply: &Reply) -> bool {
+fn sends_more_status(looks: bool, reply: &Reply) -> bool {
     match reply {
         Reply::Progress {
             held: _,
@@ -144,8 +144,8 @@ impl<C: Connection> Exchange for Sender<C> {
         }
     }
 
-    fn wants_status(&self) -> bool {
-        self.wants_status
+    fn sends_status(&self) -> bool {
+        self.sends_status
     }
 }
 

@@ -11,7 +11,7 @@ use Rattle.droid_frame.specs.types.request.Request.{Request}
 use Rattle.droid_wire_client.specs.declared.slot.Slot.{Slot}
 use Rattle.droid_wire_client.specs.Cores.{Core, core_hearing, core_submitting, new_core, new_slot, next_frame, next_number, slot_at, slot_hearing, slots_hearing}
 use Rattle.droid_wire.specs.Desks.{Desk}
-use Rattle.droid_wire.specs.Schedules.{AreApart, AreOnes, Event, Submits, Arrives, FailsForMemory, Replies, Drops, Moment, Sent, Want, arrived, happens, replied, run, start, submitted, wanted}
+use Rattle.droid_wire.specs.Schedules.{AreApart, AreOnes, Event, Submits, Arrives, FailsForMemory, Replies, Drops, Moment, Sent, Failure, arrived, happens, replied, run, start, submitted, wanted}
 use Rattle.droid_wire_client.proofs.Elements.{set_cases, set_here, set_stays}
 
 -- a core of the frame's client has passed its number
@@ -168,7 +168,7 @@ by_arrived : (clients : List (ℕ × ℕ)) (desk : Desk) (moment : Moment) (o : 
 by_arrived clients desk moment None is = is
 by_arrived clients desk moment (Some frame) is = same_distinct clients moment _ refl refl is
 
-by_wanted : (clients : List (ℕ × ℕ)) (desk : Desk) (moment : Moment) (failure : Want) (o : Option Frame) → Distinct clients moment → Distinct clients (wanted desk moment failure o)
+by_wanted : (clients : List (ℕ × ℕ)) (desk : Desk) (moment : Moment) (failure : Failure) (o : Option Frame) → Distinct clients moment → Distinct clients (wanted desk moment failure o)
 by_wanted clients desk moment failure None is = is
 by_wanted clients desk moment failure (Some frame) is = if_distinct (desk.is_spelled frame) clients moment _ is (same_distinct clients moment _ refl refl is)
 

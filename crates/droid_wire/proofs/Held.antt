@@ -15,7 +15,7 @@ use Rattle.droid_wire_client.specs.declared.slot.State.{State}
 use Rattle.droid_wire_client.specs.declared.slot.State.TheVariants.{Pending, Answered}
 use Rattle.droid_wire_client.specs.Cores.{Core, answer_in, new_core, next_frame, next_number, slot_answer, slot_at}
 use Rattle.droid_wire.specs.Desks.{Desk, IsDesk, is_command, is_refused}
-use Rattle.droid_wire.specs.Schedules.{AreHeld, AreOnce, AreOnes, Event, Submits, Arrives, FailsForMemory, Replies, Drops, IsOnlyEntry, Moment, NoneReused, Sent, Want, WasAnswer, arrived, happens, replied, run, start, submitted, wanted}
+use Rattle.droid_wire.specs.Schedules.{AreHeld, AreOnce, AreOnes, Event, Submits, Arrives, FailsForMemory, Replies, Drops, IsOnlyEntry, Moment, NoneReused, Sent, Failure, WasAnswer, arrived, happens, replied, run, start, submitted, wanted}
 use Rattle.droid_wire_client.proofs.Elements.{counted}
 use Rattle.droid_wire_client.proofs.Numbers.{slot_found}
 use Rattle.droid_wire.proofs.Invariant.{Within, Says, Refusing, Kept, Reported, IsSlot, IsState, Holds, same_within}
@@ -35,7 +35,7 @@ within_arrived : (desk : Desk) (moment : Moment) (o : Option Frame) → Within m
 within_arrived desk moment None = same_within moment.frames
 within_arrived desk moment (Some frame) = same_within moment.frames
 
-within_wanted : (desk : Desk) (moment : Moment) (failure : Want) (o : Option Frame) → Within moment.frames (wanted desk moment failure o).frames
+within_wanted : (desk : Desk) (moment : Moment) (failure : Failure) (o : Option Frame) → Within moment.frames (wanted desk moment failure o).frames
 within_wanted desk moment failure None = same_within moment.frames
 within_wanted desk moment failure (Some frame) = within_if (desk.is_spelled frame) moment _ (same_within moment.frames)
 

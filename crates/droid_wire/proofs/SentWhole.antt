@@ -2,7 +2,7 @@
 use Rattle.std.proofs.Common.{◌≡◌, ℕ, ◌-◌, List, length, take, Option, Result, Ok, Err, OnOk, IfErr, IsErr, sym, ap, subst, arith}
 use Rattle.std.specs.Io.KnownBytes.{Appends}
 use Rattle.droid_frame.specs.StreamWrites.{Stops}
-use Rattle.droid_frame.proofs.StreamEnds.{first_room, told_last, within_part}
+use Rattle.droid_frame.proofs.StreamEnds.{first_room, reported_last, within_part}
 use Rattle.droid_frame.specs.stream_types.fault.WriteFault.{WriteFault}
 use Rattle.droid_frame.specs.stream_types.seen.Seen.{Seen}
 use Rattle.droid_frame.specs.Writes.{StopsWithin, Takes, ReportsWrite, WritesOn}
@@ -27,10 +27,10 @@ pub whole_room : {T : Type 0} (before after : Option ℕ) (none : ℕ) (r : Resu
 whole_room before after none (Ok value) first room = tt
 whole_room before after none (Err fault) first room = first_room before after none fault.written first room
 
-pub whole_told : {T : Type 0} (start : ℕ) (seen : Seen) (before after : Option ℕ) (known later : Option (List ℕ)) (bytes frame : List ℕ) (none count : ℕ) (r : Result T WriteFault)
+pub whole_reported : {T : Type 0} (start : ℕ) (seen : Seen) (before after : Option ℕ) (known later : Option (List ℕ)) (bytes frame : List ℕ) (none count : ℕ) (r : Result T WriteFault)
     → bytes ≡ frame → none ≡ 0 → OnOk r (Takes before after (length bytes)) → IfErr r (λ f. Takes before after (f.written - none))
     → IfErr r (λ f. StopsWithin known later bytes none f.written) → WritesOn start seen after count r → ReportsWrite start seen before (length frame) (IsErr r)
-whole_told start seen before after known later bytes frame none count r is first all some stops on =
-    told_last start seen before before after none (length bytes) (length frame) count r
+whole_reported start seen before after known later bytes frame none count r is first all some stops on =
+    reported_last start seen before before after none (length bytes) (length frame) count r
     (subst (λ (n : ℕ). Takes before before n) (sym first) (takes_none before)) (omega (arith, first, ap length is)) all some
     (within_part known later bytes none (length frame) r (omega (arith, first, ap length is)) stops) on

@@ -14,7 +14,7 @@ use Rattle.droid_wire_client.specs.declared.slot.State.{State}
 use Rattle.droid_wire_client.specs.declared.slot.State.TheVariants.{Answered}
 use Rattle.droid_wire_client.specs.Cores.{Core, answer_in, answer_of, core_hearing, core_submitting, heard_at, new_slot, next_frame, next_number, pending_in, slot_after, slot_answer, slot_at, slot_hearing, slots_hearing}
 use Rattle.droid_wire.specs.Desks.{Desk}
-use Rattle.droid_wire.specs.Schedules.{Event, Submits, Arrives, FailsForMemory, Replies, Drops, Moment, Sent, Want, answer_at, arrived, core_answer, happens, replied, run, submitted, wanted}
+use Rattle.droid_wire.specs.Schedules.{Event, Submits, Arrives, FailsForMemory, Replies, Drops, Moment, Sent, Failure, answer_at, arrived, core_answer, happens, replied, run, submitted, wanted}
 use Rattle.droid_wire_client.proofs.Elements.{push_stays, set_here, set_stays}
 use Rattle.droid_wire_client.proofs.Hearing.{was_pending}
 use Rattle.droid_wire_client.proofs.Numbers.{slot_found}
@@ -124,7 +124,7 @@ stays_arrived : (desk : Desk) (moment : Moment) (o : Option Frame) (which number
 stays_arrived desk moment None which number reply is = is
 stays_arrived desk moment (Some frame) which number reply is = is
 
-stays_wanted : (desk : Desk) (moment : Moment) (failure : Want) (o : Option Frame) (which number : ℕ) (reply : Reply) → answer_at moment which number ≡ Some reply → answer_at (wanted desk moment failure o) which number ≡ Some reply
+stays_wanted : (desk : Desk) (moment : Moment) (failure : Failure) (o : Option Frame) (which number : ℕ) (reply : Reply) → answer_at moment which number ≡ Some reply → answer_at (wanted desk moment failure o) which number ≡ Some reply
 stays_wanted desk moment failure None which number reply is = is
 stays_wanted desk moment failure (Some frame) which number reply is = stays_if (desk.is_spelled frame) moment _ which number reply is is
 

@@ -18,7 +18,7 @@ use Rattle.droid_wire_client.specs.declared.slot.State.{State}
 use Rattle.droid_wire_client.specs.declared.slot.State.TheVariants.{Pending, Answered}
 use Rattle.droid_wire_client.specs.Cores.{Core, belongs_at, core_hearing, core_submitting, heard_at, heard_in, new_slot, next_frame, next_number, slot_after, slot_at, slot_hearing, slots_hearing}
 use Rattle.droid_wire.specs.Desks.{Desk, Answering, Again, Accepts, Refuses, Tells, IsDesk, IsItsOwn, entry_at, is_command, is_refused}
-use Rattle.droid_wire.specs.Schedules.{AreOnes, Event, Submits, Arrives, FailsForMemory, Replies, Drops, Moment, Sent, Want, OfMemory, OfStore, arrived, happens, refusal_for, replied, reply_to, submitted, wanted}
+use Rattle.droid_wire.specs.Schedules.{AreOnes, Event, Submits, Arrives, FailsForMemory, Replies, Drops, Moment, Sent, Failure, OfMemory, OfStore, arrived, happens, refusal_for, replied, reply_to, submitted, wanted}
 use Rattle.droid_wire_client.proofs.Elements.{contains_got, count_push, found_in, none_there, push_cases, set_cases}
 use Rattle.droid_wire_client.proofs.Numbers.{slot_found}
 use Rattle.droid_wire.proofs.Invariant.{Within, IsEntry, Says, Refusing, Kept, Reported, IsRequest, IsReply, IsSlot, IsCore, Holds, same_within, reply_more, slot_more, core_more, entry_more}
@@ -157,15 +157,15 @@ keeps_arrived Was desk moment which (Some frame) is can holds ones was =
     let own = its_own Was desk moment frame holds ones there in
     arrives Was desk moment frame holds own there (was frame is) (can.comes moment.history frame own)
 
-wants_other : (failure : Want) → refusal_for failure ≢ refusals.NumberReused
-wants_other OfMemory same = cc
-wants_other OfStore same = cc
+failure_is_other : (failure : Failure) → refusal_for failure ≢ refusals.NumberReused
+failure_is_other OfMemory same = cc
+failure_is_other OfStore same = cc
 
-keeps_wanted : (Was : History → Frame → Type 0) (desk : Desk) (moment : Moment) (which : ℕ) (failure : Want) (o : Option Frame) → slice_get moment.frames which ≡ o → Holds Was desk moment → Holds Was desk (wanted desk moment failure o)
+keeps_wanted : (Was : History → Frame → Type 0) (desk : Desk) (moment : Moment) (which : ℕ) (failure : Failure) (o : Option Frame) → slice_get moment.frames which ≡ o → Holds Was desk moment → Holds Was desk (wanted desk moment failure o)
 keeps_wanted Was desk moment which failure None is holds = holds
 keeps_wanted Was desk moment which failure (Some frame) is holds =
     submits_if (desk.is_spelled frame) Was desk moment _ holds
-    (says Was desk moment frame (Refused (refusal_for failure)) holds (contains_got moment.frames which frame is) (Refusing (refusal_for failure) (wants_other failure) refl))
+    (says Was desk moment frame (Refused (refusal_for failure)) holds (contains_got moment.frames which frame is) (Refusing (refusal_for failure) (failure_is_other failure) refl))
 
 -- ---- a core hears a reply
 

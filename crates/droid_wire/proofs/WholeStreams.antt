@@ -11,7 +11,7 @@ use Rattle.droid_frame.specs.declared.stream.arrival.Arrival.TheVariants.{End}
 use Rattle.droid_frame.specs.declared.stream.fault.FrameFault.{FrameFault}
 use Rattle.droid_frame.specs.declared.stream.fault.FrameFault.TheVariants.{Truncated, BadVersion, TooLong, Memory, Read}
 use Rattle.droid_frame.specs.types.frame.Frame.{Frame}
-use Rattle.droid_frame.proofs.FrameLaws.{told_frame}
+use Rattle.droid_frame.proofs.FrameLaws.{reported_frame}
 use Rattle.droid_frame.proofs.StreamFrames.{no_frame_in_short, why_nothing}
 use Rattle.droid_core.specs.Running.{Runs}
 use Rattle.droid_core.specs.declared.service.Service.{Service}
@@ -41,7 +41,7 @@ begins [] (f ∷ front) rest left all some none same =
 begins (g ∷ frames) (f ∷ front) rest left all some none same =
     let whole : frame_bytes g ++ (flat_map frame_bytes frames ++ rest) ≡ frame_bytes f ++ (flat_map frame_bytes front ++ left) =
     sym (append_assoc (frame_bytes g) (flat_map frame_bytes frames) rest) ∙ (same ∙ append_assoc (frame_bytes f) (flat_map frame_bytes front) left) in
-    let reported = told_frame g f (flat_map frame_bytes frames ++ rest) (flat_map frame_bytes front ++ left) all.0.is_frame some.0.is_frame whole in
+    let reported = reported_frame g f (flat_map frame_bytes frames ++ rest) (flat_map frame_bytes front ++ left) all.0.is_frame some.0.is_frame whole in
     let after = begins frames front rest left all.1 some.1 none reported.1 in
     record {
       others = after.others;

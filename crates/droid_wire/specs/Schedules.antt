@@ -27,9 +27,9 @@ pub record Moment : Type 0 where
   pub replies : List Sent
 
 -- what the service was out of, and refused a request for
-pub data Want : Type 0 where
-  OfMemory : Want
-  OfStore : Want
+pub data Failure : Type 0 where
+  OfMemory : Failure
+  OfStore : Failure
 
 -- what may happen next; a loss is a delivery that never comes
 pub data Event : Type 0 where
@@ -38,7 +38,7 @@ pub data Event : Type 0 where
   -- a frame that was submitted arrives at the service, which answers it
   Arrives : (frame : ℕ) → Event
   -- the same, and the service refuses it for lack of storage or memory
-  FailsForMemory : (frame : ℕ) (failure : Want) → Event
+  FailsForMemory : (frame : ℕ) (failure : Failure) → Event
   -- a reply that was sent arrives at a core, which takes it
   Replies : (core : ℕ) (reply : ℕ) → Event
   -- the same, and the core is out of memory for it
@@ -75,12 +75,12 @@ arrived desk moment (Some frame) =
       replies = moment.replies ++ reply_to frame (desk.answer moment.history frame) ∷ [];
     }
 
-abbrev pub refusal_for : Want → Refusal
+abbrev pub refusal_for : Failure → Refusal
 refusal_for OfMemory = Memory
 refusal_for OfStore = Store
 
 -- a request that isn't spelled never gets this reply
-abbrev pub wanted : Desk → Moment → Want → Option Frame → Moment
+abbrev pub wanted : Desk → Moment → Failure → Option Frame → Moment
 wanted desk moment failure None = moment
 wanted desk moment failure (Some frame) =
     if desk.is_spelled frame

@@ -3,7 +3,7 @@ use Rattle.droid_lines_script.specs.declared.script_fault.ScriptFault.{ScriptFau
 use Rattle.droid_lines.specs.Lines.{lines_of}
 use Rattle.droid_lines_script.specs.Scripts.{RunsFront, IsOfHandling, WritesAnswer}
 use Rattle.droid_frame.specs.InTurn.{AtMost}
-use Rattle.droid_frame.proofs.InTurn.{over_none, told_idle, told_within}
+use Rattle.droid_frame.proofs.InTurn.{over_none, reported_idle, reported_within}
 use Rattle.droid_lines_script.proofs.Runs.{goes_nowhere, goes_on, runs_nothing}
 use Rattle.droid_lines_script.proofs.Writes.{if_err, if_some, lines_known, no_write}
 use Rattle.droid_lines_script.proofs.script.Goals as goal
@@ -30,7 +30,7 @@ returns-clause-goes_on g c = λ setting history stands.
 pub returns-in_err-input-clause-write_fault : goal.returns-in_err-input-clause-write_fault
 returns-in_err-input-clause-write_fault g c = λ sound endless.
     let known = g.R.Read.remaining c.args.reader.now in
-    told_idle g.W.SteadyWrite.seen (WritesAnswer g.W.Write.contents) (AtMost known (λ input. length (lines_of input))) c.args.writer.now c.args.writer.now 0 _
+    reported_idle g.W.SteadyWrite.seen (WritesAnswer g.W.Write.contents) (AtMost known (λ input. length (lines_of input))) c.args.writer.now c.args.writer.now 0 _
     (over_none g.W.SteadyWrite.seen (WritesAnswer g.W.Write.contents) c.args.writer.now 0 refl sound) (if_some known (λ text. 0 ≤ length (lines_of text)) (λ text. omega arith))
     (no_write c.from_residual.result c.in_err-input.field-0.0 c.from_residual.ensures.1)
 
@@ -38,5 +38,5 @@ pub returns-clause-write_fault : goal.returns-clause-write_fault
 returns-clause-write_fault g c = λ sound endless.
     let known = g.R.Read.remaining c.args.reader.now in
     let same : IfSome known (λ bytes. c.as_slice.result.now ≡ bytes) = rw c.as_slice.ensures.value c.in_ok-input.ensures.whole in
-    told_within g.W.SteadyWrite.seen (WritesAnswer g.W.Write.contents) (λ (count : ℕ). count ≤ length (lines_of c.as_slice.result.now)) (AtMost known (λ input. length (lines_of input))) c.args.writer.now c.run_lines.new.writer _
+    reported_within g.W.SteadyWrite.seen (WritesAnswer g.W.Write.contents) (λ (count : ℕ). count ≤ length (lines_of c.as_slice.result.now)) (AtMost known (λ input. length (lines_of input))) c.args.writer.now c.run_lines.new.writer _
     (c.run_lines.ensures.reported sound endless) (λ count few. lines_known known c.as_slice.result.now count same few)

@@ -70,7 +70,7 @@ impl Exchange for NotingService {
         })
     }
 
-    fn wants_status(&self) -> bool {
+    fn sends_status(&self) -> bool {
         self.missing.is_some()
     }
 }

@@ -11,7 +11,7 @@ use Rattle.droid_core_requests.proofs.ExportedParts.{export_nowhere, export_refu
 use Rattle.droid_core_requests.proofs.KeptParts.{last_shown, kept_or_none}
 use Rattle.droid_core_state.proofs.Staying.{read_only, if_refused, of_any, comes_refused}
 use Rattle.droid_core_requests.proofs.CannotBe.{moments_written}
-use Rattle.droid_core_requests.proofs.PieceTaken.{comes_wanting}
+use Rattle.droid_core_requests.proofs.PieceTaken.{comes_out_of_memory}
 use Rattle.droid_core_requests.proofs.exporting.export.Goals as goal
 
 pub returns-in_err-row-clause-answers : goal.returns-in_err-row-clause-answers
@@ -104,7 +104,7 @@ returns-in_err-records-clause-answers c = λ stamp. record {
       let counted : c.accepted_by-accepted.new.store ≡ service.store = c.accepted_by-accepted.ensures.same ∙ c.profile.ensures.same in
       let fault = err_from_is_err_and c.from_residual-in_err-records.result c.from_residual-in_err-records.ensures.1 in
       let memory = c.in_err-records.ensures.memory (moments_written setting world service c.accepted_by-accepted.new.store c.args.profile found.profile stands.0 counted found.there) in
-      rw (fault.1, fault.2) (comes_wanting setting world service _ stamp (judge_export setting world c.args.profile c.args.from c.args.max c.args.filter) _ memory
+      rw (fault.1, fault.2) (comes_out_of_memory setting world service _ stamp (judge_export setting world c.args.profile c.args.from c.args.max c.args.filter) _ memory
       (read_only setting world service c.records_in.new.store (c.records_in.ensures.same ∙ counted) stands.0));
   spelled = search rules;
   limits = refl;

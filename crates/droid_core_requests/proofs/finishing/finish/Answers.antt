@@ -3,10 +3,10 @@ use Rattle.std.proofs.lemmas.Result.{err_from_is_err_and}
 use Rattle.droid_core_spec.specs.Conditions.{is_carried}
 use Rattle.droid_core_spec.specs.Judging.{judge_finish}
 use Rattle.droid_core_requests.specs.Findings.{finding_in}
-use Rattle.droid_core_requests.proofs.FileFinished.{finish_there, finish_for_file, only_looked, refused_finished, refused_untold, told_there, kind_is, comes_unfinished, finds, digest_is, seen_is, allowed_there, finished}
+use Rattle.droid_core_requests.proofs.FileFinished.{finish_there, finish_for_file, only_looked, refused_finished, refused_unreported, reported_there, kind_is, comes_unfinished, finds, digest_is, seen_is, allowed_there, finished}
 use Rattle.droid_core_requests.proofs.Hashes.{spelled_hash}
 use Rattle.droid_core_requests.proofs.FileVerdicts.{comes_nowhere}
-use Rattle.droid_core_requests.proofs.PieceTaken.{comes_wanting}
+use Rattle.droid_core_requests.proofs.PieceTaken.{comes_out_of_memory}
 use Rattle.droid_core_state.proofs.Staying.{read_only}
 use Rattle.droid_core_requests.proofs.CannotBe.{no_assembly, one_pending}
 use Rattle.droid_core_requests.proofs.finishing.finish.Goals as goal
@@ -43,7 +43,7 @@ returns-in_err-finding c = record {
     comes = λ setting world is_in.
         let fault = err_from_is_err_and c.from_residual-in_err-finding.result c.from_residual-in_err-finding.ensures.1 in
         let has = c.in_ok-row.ensures.found setting world is_in.rows in
-        let there = told_there setting world c.args.stamp.version c.args.profile c.args.file c.in_ok-row.row has (sym c.if-not-is_carried.ensures) in
+        let there = reported_there setting world c.args.stamp.version c.args.profile c.args.file c.in_ok-row.row has (sym c.if-not-is_carried.ensures) in
         rw (fault.1, fault.2)
         (comes_unfinished setting world c.args.stamp.version c.args.profile c.args.file c.in_ok-row.row has c.args.holdings.now c.in_ok-place.place is_in (sym c.if-not-is_unfinished.ensures) c.in_ok-place.ensures.place there c.args.stamp _ _
         (only_looked setting world c.args.holdings.now c.in_ok-place.place c.file_of.new.store c.identify_file.new.files c.file_of.ensures.same c.identify_file.ensures.others c.identify_file.ensures.unchanged is_in)
@@ -61,7 +61,7 @@ returns-in_err-reply c = record {
         let fault = err_from_is_err_and c.from_residual-in_err-reply.result c.from_residual-in_err-reply.ensures.1 in
         let memory = c.in_err-reply.ensures.memory (rw c.file_of.ensures.same is_in.rows.short) in
         rw (fault.1, fault.2)
-        (comes_wanting setting world c.args.holdings.now _ c.args.stamp (judge_finish setting world c.args.stamp.version c.args.profile c.args.file) _ memory
+        (comes_out_of_memory setting world c.args.holdings.now _ c.args.stamp (judge_finish setting world c.args.stamp.version c.args.profile c.args.file) _ memory
         (rw c.in_err-reply.ensures.same (only_looked setting world c.args.holdings.now c.in_ok-place.place c.keep_finding.new.store c.identify_file.new.files (c.in_err-reply.ensures.not_kept ∙ c.file_of.ensures.same) c.identify_file.ensures.others c.identify_file.ensures.unchanged is_in)));
     spelled = search rules;
     limits = refl;
@@ -76,7 +76,7 @@ returns c = record {
         let has = c.in_ok-row.ensures.found setting world is_in.rows in
         let is = sym c.if-not-is_unfinished.ensures in
         let at_place = c.in_ok-place.ensures.place in
-        let there = told_there setting world c.args.stamp.version c.args.profile c.args.file c.in_ok-row.row has (sym c.if-not-is_carried.ensures) in
+        let there = reported_there setting world c.args.stamp.version c.args.profile c.args.file c.in_ok-row.row has (sym c.if-not-is_carried.ensures) in
         let found = finds setting world c.args.stamp.version c.args.profile c.args.file c.in_ok-row.row has c.args.holdings.now c.in_ok-place.place is_in is at_place there c.in_ok-finding.finding c.in_ok-finding.ensures.finding in
         let digest = digest_is setting world c.args.stamp.version c.args.profile c.args.file c.in_ok-row.row has c.args.holdings.now c.in_ok-place.place is_in is at_place there c.in_ok-finding.finding c.in_ok-finding.ensures.finding in
         let allowed = allowed_there setting world c.args.stamp.version c.args.profile c.args.file c.in_ok-row.row has c.args.holdings.now c.in_ok-place.place is_in is at_place there c.in_ok-finding.ensures.allowed in
@@ -121,7 +121,7 @@ returns-then-not-is_carried c = record {
   answers = record {
     comes = λ setting world is_in.
         let has = c.in_ok-row.ensures.found setting world is_in.rows in
-        let refused = refused_untold setting world c.args.stamp.version c.args.profile c.args.file c.in_ok-row.row has (sym c.if-not-is_unfinished.ensures) (sym c.if-not-is_carried.ensures) in
+        let refused = refused_unreported setting world c.args.stamp.version c.args.profile c.args.file c.in_ok-row.row has (sym c.if-not-is_unfinished.ensures) (sym c.if-not-is_carried.ensures) in
         rw refused (refl, read_only setting world c.args.holdings.now c.file_of.new.store c.file_of.ensures.same is_in);
     spelled = search rules;
     limits = refl;
@@ -134,7 +134,7 @@ returns-in_err-is_of_kind c = record {
   answers = record {
     comes = λ setting world is_in.
         let has = c.in_ok-row.ensures.found setting world is_in.rows in
-        let there = told_there setting world c.args.stamp.version c.args.profile c.args.file c.in_ok-row.row has (sym c.if-not-is_carried.ensures) in
+        let there = reported_there setting world c.args.stamp.version c.args.profile c.args.file c.in_ok-row.row has (sym c.if-not-is_carried.ensures) in
         let kind = kind_is setting world c.args.stamp.version c.args.profile c.args.file c.in_ok-row.row has c.args.holdings.now c.in_ok-place.place is_in (sym c.if-not-is_unfinished.ensures) c.in_ok-place.ensures.place there c.in_ok-finding.finding c.in_ok-finding.ensures.finding in
         absurd (let reported = c.in_err-is_of_kind.ensures.its kind in cc);
     spelled = search rules;

@@ -1,5 +1,5 @@
 use Rattle.std.proofs.Common.{Err, ap, sym, ◌∙◌}
-use Rattle.droid_core_requests.proofs.FinishJudged.{told_of_fault, none_missing}
+use Rattle.droid_core_requests.proofs.FinishJudged.{reported_of_fault, none_missing}
 use Rattle.droid_core_requests.proofs.finishing.identify_file.Goals as goal
 
 pub returns-in-Ok-clause-allowed : goal.returns-in-Ok-clause-allowed
@@ -12,6 +12,6 @@ returns-in-Ok-clause-finding c = λ file here pieces stands.
 
 pub returns-in-Err-clause-refused : goal.returns-in-Err-clause-refused
 returns-in-Err-clause-refused c = λ file here version profile content is unfinished reported.
-    told_of_fault version profile.hash content c.in-Err.fault c.from.result unfinished reported
+    reported_of_fault version profile.hash content c.in-Err.fault c.from.result unfinished reported
     (λ first is_first. (rw (is.size, is.piece_size) at ((c.identify.ensures.identifies file here).incomplete content.pieces first is.pieces)).0 (c.in-Err.is ∙ ap Err is_first))
     c.from.ensures

@@ -8,7 +8,7 @@ use Rattle.droid_store.specs.declared.rows.ProfileRow.{ProfileRow}
 use Rattle.droid_core_requests.proofs.AddedFiles.{file_nowhere, file_misplaced, file_refused, comes_file}
 use Rattle.droid_core_state.proofs.Staying.{of_any, stays, comes_refused}
 use Rattle.droid_core_requests.proofs.CannotBe.{no_file_yet, scan_limit_within}
-use Rattle.droid_core_requests.proofs.PieceTaken.{comes_wanting}
+use Rattle.droid_core_requests.proofs.PieceTaken.{comes_out_of_memory}
 use Rattle.droid_core_requests.proofs.new_files.add_file.Goals as goal
 
 pub returns-in_err-row : goal.returns-in_err-row
@@ -93,7 +93,7 @@ returns-in_err-assembly c = record {
         let within = scan_limit_within world c.args.profile has.profile is.sound has.there in
         let memory = c.in_err-assembly.ensures.memory (rw (ap (λ (row : ProfileRow). row.scan_limit) has.row_is) within) in
         let failed = err_from_is_err_and c.from_residual-in_err-assembly.result c.from_residual-in_err-assembly.ensures.1 in
-        rw (failed.1, failed.2) (comes_wanting setting world _ _ c.args.stamp (judge_file setting world c.args.stamp.version c.args.profile c.args.parent c.args.modified c.args.size c.args.piece_size c.args.name) _ memory (stays setting world _ _ refl refl store refl is));
+        rw (failed.1, failed.2) (comes_out_of_memory setting world _ _ c.args.stamp (judge_file setting world c.args.stamp.version c.args.profile c.args.parent c.args.modified c.args.size c.args.piece_size c.args.name) _ memory (stays setting world _ _ refl refl store refl is));
     spelled = search rules;
     limits = refl;
     registry = refl;

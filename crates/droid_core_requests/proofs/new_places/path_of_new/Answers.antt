@@ -3,7 +3,7 @@ use Rattle.std.proofs.lemmas.Result.{err_from_is_err_and}
 use Rattle.droid_core_state.proofs.LookUps.{child_found}
 use Rattle.droid_core_state.proofs.ShortRows.{place_is_short}
 use Rattle.droid_store.specs.Rows.{child_at}
-use Rattle.droid_core_requests.proofs.PlaceChecks.{child_told, no_child, folder_refused, bad_name, too_deep, taken, allowed}
+use Rattle.droid_core_requests.proofs.PlaceChecks.{child_reported, no_child, folder_refused, bad_name, too_deep, taken, allowed}
 use Rattle.droid_core_requests.proofs.new_places.path_of_new.Goals as goal
 
 pub returns-in_err-folder-clause-found : goal.returns-in_err-folder-clause-found
@@ -27,13 +27,13 @@ pub returns-then-branch-clause-found : goal.returns-then-branch-clause-found
 returns-then-branch-clause-found c = λ setting world profile keeps sound found.
     let folder = c.in_ok-folder.ensures.found setting world profile keeps found in
     let short = rw c.as_str.ensures.value at c.if-is_too_deep_below.ensures in
-    let there = rw c.folder_path.ensures.same at (child_told c.child.result (child_at c.args.profile c.args.parent c.args.name.now c.folder_path.new.store) _ c.child.ensures.found c.in_ok-is_taken.ensures.reported) in
+    let there = rw c.folder_path.ensures.same at (child_reported c.child.result (child_at c.args.profile c.args.parent c.args.name.now c.folder_path.new.store) _ c.child.ensures.found c.in_ok-is_taken.ensures.reported) in
     taken profile c.args.parent c.args.name.now c.in_ok-folder.folder folder (sym c.if-is_bad_name.ensures) (sym short)
     (sym (child_found setting world c.args.store.now c.args.profile c.args.parent c.args.name.now profile keeps.nodes found) ∙ sym there ∙ c.if-branch.true)
 
 pub returns-clause-free : goal.returns-clause-free
 returns-clause-free c =
-    let there = rw c.folder_path.ensures.same at (child_told c.child.result (child_at c.args.profile c.args.parent c.args.name.now c.folder_path.new.store) _ c.child.ensures.found c.in_ok-is_taken.ensures.reported) in
+    let there = rw c.folder_path.ensures.same at (child_reported c.child.result (child_at c.args.profile c.args.parent c.args.name.now c.folder_path.new.store) _ c.child.ensures.found c.in_ok-is_taken.ensures.reported) in
     no_child (child_at c.args.profile c.args.parent c.args.name.now c.args.store.now) (sym there ∙ c.if-branch.false)
 
 pub returns-clause-short : goal.returns-clause-short
@@ -45,7 +45,7 @@ pub returns-clause-found : goal.returns-clause-found
 returns-clause-found c = λ setting world profile keeps sound found.
     let folder = c.in_ok-folder.ensures.found setting world profile keeps found in
     let short = rw c.as_str.ensures.value at c.if-is_too_deep_below.ensures in
-    let there = rw c.folder_path.ensures.same at (child_told c.child.result (child_at c.args.profile c.args.parent c.args.name.now c.folder_path.new.store) _ c.child.ensures.found c.in_ok-is_taken.ensures.reported) in
+    let there = rw c.folder_path.ensures.same at (child_reported c.child.result (child_at c.args.profile c.args.parent c.args.name.now c.folder_path.new.store) _ c.child.ensures.found c.in_ok-is_taken.ensures.reported) in
     let way = rw c.as_str-2.ensures.value at c.in_ok-new_path.ensures in (
       allowed profile c.args.parent c.args.name.now c.in_ok-folder.folder folder (sym c.if-is_bad_name.ensures) (sym short)
           (sym (child_found setting world c.args.store.now c.args.profile c.args.parent c.args.name.now profile keeps.nodes found) ∙ sym there ∙ c.if-branch.false),

@@ -1,6 +1,6 @@
 use Rattle.std.proofs.Common.{refl, sym, ◌∙◌, rules}
 use Rattle.std.proofs.lemmas.Result.{err_from_is_err_and}
-use Rattle.droid_core_requests.proofs.PieceTaken.{piece_there, piece_for_file, refused_finished, refused, judged_by_put, held_is, not_kept, taken, stays_as, comes_wanting}
+use Rattle.droid_core_requests.proofs.PieceTaken.{piece_there, piece_for_file, refused_finished, refused, judged_by_put, held_is, not_kept, taken, stays_as, comes_out_of_memory}
 use Rattle.droid_core_spec.specs.Judging.{judge_piece}
 use Rattle.droid_core_requests.proofs.FileVerdicts.{comes_nowhere}
 use Rattle.droid_core_state.proofs.Staying.{read_only, comes_refused, of_any}
@@ -62,7 +62,7 @@ returns-in_err-keep_piece c = record {
         let has = c.in_ok-row.ensures.found setting world is_in.rows in
         let stays = not_kept setting world c.args.profile c.args.file c.in_ok-row.row has c.args.index c.args.bytes c.args.holdings.now c.in_ok-place.place is_in (sym c.if-not-is_unfinished.ensures) c.in_ok-place.ensures.place
         c.keep_piece.new.store c.put_piece.new.files c.keep_piece.new.files c.put_piece.ensures.others c.keep_piece.ensures.others c.in_ok-put_piece.ensures.pending (c.in_err-keep_piece.ensures.not_kept ∙ c.file_of.ensures.same) c.in_err-keep_piece.ensures.taken_back in
-        rw (fault.1, fault.2) (comes_wanting setting world c.args.holdings.now _ c.args.stamp (judge_piece world c.args.profile c.args.file c.args.index c.args.bytes) _ c.in_err-keep_piece.ensures.memory stays);
+        rw (fault.1, fault.2) (comes_out_of_memory setting world c.args.holdings.now _ c.args.stamp (judge_piece world c.args.profile c.args.file c.args.index c.args.bytes) _ c.in_err-keep_piece.ensures.memory stays);
     spelled = search rules;
     limits = refl;
     registry = refl;

@@ -1,6 +1,6 @@
 use Rattle.std.proofs.Common.{sym, refl, rules}
 use Rattle.std.proofs.lemmas.Result.{err_from_is_err_and}
-use Rattle.droid_core_requests.proofs.FileProgress.{status_there, status_for_file, told_at_all, unfinished_told, finished_told}
+use Rattle.droid_core_requests.proofs.FileProgress.{status_there, status_for_file, reported_at_all, unfinished_reported, finished_reported}
 use Rattle.droid_core_requests.proofs.FileVerdicts.{comes_nowhere}
 use Rattle.droid_core_state.proofs.Staying.{read_only}
 use Rattle.droid_core_requests.proofs.CannotBe.{no_assembly, no_count}
@@ -24,9 +24,9 @@ returns-then-is_unfinished c = record {
   answers = λ stamp. record {
     comes = λ setting world is_in.
         let has = c.in_ok-row.ensures.found setting world is_in.rows in
-        unfinished_told setting world c.args.profile c.args.file c.in_ok-row.row has c.args.holdings.now _ stamp (read_only setting world c.args.holdings.now c.file_of.new.store c.file_of.ensures.same is_in)
+        unfinished_reported setting world c.args.profile c.args.file c.in_ok-row.row has c.args.holdings.now _ stamp (read_only setting world c.args.holdings.now c.file_of.new.store c.file_of.ensures.same is_in)
         is_in.files (sym c.if-is_unfinished.ensures) c.progress_of.result c.progress_of.ensures.progress
-        (told_at_all c.progress_of.result c.progress_of.ensures.none (no_assembly setting world c.args.profile c.args.file c.in_ok-row.row has c.args.holdings.now is_in (sym c.if-is_unfinished.ensures)));
+        (reported_at_all c.progress_of.result c.progress_of.ensures.none (no_assembly setting world c.args.profile c.args.file c.in_ok-row.row has c.args.holdings.now is_in (sym c.if-is_unfinished.ensures)));
     spelled = c.progress_of.ensures.spelled stamp.version;
     limits = refl;
     registry = refl;
@@ -38,7 +38,7 @@ returns c = record {
   answers = λ stamp. record {
     comes = λ setting world is_in.
         let has = c.in_ok-row.ensures.found setting world is_in.rows in
-        finished_told setting world c.args.profile c.args.file c.in_ok-row.row has c.args.holdings.now _ stamp c.in_ok-pieces.pieces (read_only setting world c.args.holdings.now c.file_of.new.store c.file_of.ensures.same is_in)
+        finished_reported setting world c.args.profile c.args.file c.in_ok-row.row has c.args.holdings.now _ stamp c.in_ok-pieces.pieces (read_only setting world c.args.holdings.now c.file_of.new.store c.file_of.ensures.same is_in)
         (sym c.if-is_unfinished.ensures) c.in_ok-pieces.ensures.count;
     spelled = search rules;
     limits = refl;

@@ -1,4 +1,4 @@
-use Rattle.droid_desk_service.proofs.SendEndings.{of_end, send_ends, told_end, to_end}
+use Rattle.droid_desk_service.proofs.SendEndings.{of_end, send_ends, reported_end, to_end}
 use Rattle.droid_frame.specs.InTurn.{AtMost}
 use Rattle.droid_frame.proofs.InTurn.{reported_as}
 use Rattle.droid_lines.specs.Lines.{lines_of}
@@ -11,7 +11,7 @@ returns-clause-ends g c =
     rw c.end_of.ensures (rw c.new-core.ensures at (send_ends _ c.send-outcome.new.client c.send-outcome.result _ _ _ _ _ _ _ c.send-outcome.ensures.all c.send-outcome.ensures.front))
 
 pub returns-clause-lines_fault : goal.returns-clause-lines_fault
-returns-clause-lines_fault g c = λ sound. rw c.end_of.ensures (told_end _ _ c.send-outcome.result _ (c.send-outcome.ensures.lines_fault sound))
+returns-clause-lines_fault g c = λ sound. rw c.end_of.ensures (reported_end _ _ c.send-outcome.result _ (c.send-outcome.ensures.lines_fault sound))
 
 pub returns-clause-replies_fault : goal.returns-clause-replies_fault
 returns-clause-replies_fault g c = λ sound.

@@ -1,4 +1,4 @@
-use Rattle.droid_desk_service.proofs.FreshServices.{made_of, not_made_of, read_is, told_neither}
+use Rattle.droid_desk_service.proofs.FreshServices.{made_of, not_made_of, read_is, reported_neither}
 use Rattle.droid_desk_service.proofs.fresh.fresh_service.Goals as goal
 
 pub returns-in-Ok-clause-made : goal.returns-in-Ok-clause-made
@@ -13,4 +13,4 @@ returns-in-Ok-clause-not_made g c =
 
 pub returns-in-Ok-clause-registry_fault : goal.returns-in-Ok-clause-registry_fault
 returns-in-Ok-clause-registry_fault g c = λ sound.
-    told_neither _ _ _ _ (λ e. absurd cc) (λ e. c.service_with.ensures.registry_read _ e) (c.in-Ok.ensures.fault sound)
+    reported_neither _ _ _ _ (λ e. absurd cc) (λ e. c.service_with.ensures.registry_read _ e) (c.in-Ok.ensures.fault sound)

@@ -4,20 +4,20 @@ use Rattle.std.proofs.KnownBytes.{Consumes-trans}
 use Rattle.std.specs.Io.KnownBytes.{Consumes}
 use Rattle.droid_frame_stream.specs.declared.fault.InputFault.TheVariants.{Memory}
 use Rattle.droid_frame_stream.proofs.Inputs.{passed_fault}
-use Rattle.droid_frame_stream.proofs.Scopes.{counts_none, is_error, told_fault, told_none}
+use Rattle.droid_frame_stream.proofs.Scopes.{counts_none, is_error, reported_fault, reported_none}
 use Rattle.droid_frame_stream.proofs.input.read_to_end.Goals as goal
 
 pub returns-in_err-count-clause-fault : goal.returns-in_err-count-clause-fault
 returns-in_err-count-clause-fault g c = λ sound.
     let start = (g.R.SteadyRead.seen c.args.reader.now).interruptions in
     let now = c.loop-input.invariant.counts start (counts_none _ sound) in
-    told_fault start _ _ (is_error c.from_residual.result _ c.from_residual.ensures.1) (c.in_err-count.ensures.counts start now)
+    reported_fault start _ _ (is_error c.from_residual.result _ c.from_residual.ensures.1) (c.in_err-count.ensures.counts start now)
 
 pub returns-then-count-eq0-clause-fault : goal.returns-then-count-eq0-clause-fault
 returns-then-count-eq0-clause-fault g c = λ sound.
     let start = (g.R.SteadyRead.seen c.args.reader.now).interruptions in
     let now = c.loop-input.invariant.counts start (counts_none _ sound) in
-    told_none start _ c.read_some.new.retries _ (λ e. absurd cc) (c.in_ok-count.ensures.counts start now)
+    reported_none start _ c.read_some.new.retries _ (λ e. absurd cc) (c.in_ok-count.ensures.counts start now)
 
 pub returns-then-count-room-clause-err : goal.returns-then-count-room-clause-err
 returns-then-count-room-clause-err g c =
@@ -32,7 +32,7 @@ pub returns-then-count-room-clause-fault : goal.returns-then-count-room-clause-f
 returns-then-count-room-clause-fault g c = λ sound.
     let start = (g.R.SteadyRead.seen c.args.reader.now).interruptions in
     let now = c.loop-input.invariant.counts start (counts_none _ sound) in
-    told_none start _ c.read_some.new.retries _ (λ e. absurd cc) (c.in_ok-count.ensures.counts start now)
+    reported_none start _ c.read_some.new.retries _ (λ e. absurd cc) (c.in_ok-count.ensures.counts start now)
 
 pub loop-input-preserved : goal.loop-input-preserved
 loop-input-preserved g c =
@@ -63,4 +63,4 @@ returns-in_err-extend_from_slice-clause-fault g c = λ sound.
     let start = (g.R.SteadyRead.seen c.args.reader.now).interruptions in
     let now = c.loop-input.invariant.counts start (counts_none _ sound) in
     let is = is_error c.from_residual-in_err-extend_from_slice.result _ c.from_residual-in_err-extend_from_slice.ensures.1 in
-    told_none start _ c.read_some.new.retries _ (λ e. absurd cc) (c.in_ok-count.ensures.counts start now)
+    reported_none start _ c.read_some.new.retries _ (λ e. absurd cc) (c.in_ok-count.ensures.counts start now)

@@ -7,7 +7,7 @@ use Rattle.droid_lines_script.proofs.Runs.{line_runs, line_runs_front, writes_no
 use Rattle.droid_lines_script.proofs.Writes.{front_written, of_memory, on_err, part_written}
 use Rattle.std.proofs.Common.{rules}
 use Rattle.droid_frame.specs.Seen.{Counts}
-use Rattle.droid_frame.proofs.Scopes.{counts_none, is_error, lasts, told_fault}
+use Rattle.droid_frame.proofs.Scopes.{counts_none, is_error, lasts, reported_fault}
 use Rattle.droid_frame.proofs.Stopping.{given_up_only, room_stays}
 use Rattle.droid_lines_script.specs.declared.script_fault.ScriptFault.TheVariants.{Write}
 use Rattle.droid_lines_script.proofs.run.run_line.Goals as goal
@@ -60,7 +60,7 @@ returns-in_err-write_all-clause-reported g c = λ sound endless.
     let text : c.as_slice.result.now ≡ answer_line answer = c.as_slice.ensures.value ∙ c.in_ok-printed.ensures in (
       inr (inr (
         (answer, _, part_written _ _ _ _ _ _ text c.in_err-write_all.ensures.err),
-        told_fault old.interruptions new _ (is_error _ Write (search rules)) (given_up_only old.interruptions new _ stops none),
+        reported_fault old.interruptions new _ (is_error _ Write (search rules)) (given_up_only old.interruptions new _ stops none),
       )),
       none,
     )

@@ -3,7 +3,7 @@ use Rattle.droid_lines_script.specs.Scripts.{WritesAnswer, is_bad}
 use Rattle.droid_lines.specs.Lines.{lines_of}
 use Rattle.droid_lines.specs.Tallies.{with_one_more}
 use Rattle.droid_lines.specs.declared.tally.Tally.{Tally}
-use Rattle.droid_frame.proofs.InTurn.{lasts_in_one, over_next, over_none, told_idle, told_next}
+use Rattle.droid_frame.proofs.InTurn.{lasts_in_one, over_next, over_none, reported_idle, reported_next}
 use Rattle.droid_lines_script.proofs.Runs.{Progress, start, step, stop, line_is_left, lines_are_within}
 use Rattle.droid_lines_script.proofs.Writes.{on_err}
 use Rattle.droid_lines_script.proofs.run.run_lines.Goals as goal
@@ -44,7 +44,7 @@ returns-in_err-is_bad-clause-reported g c = λ sound endless.
     let now = c.loop-line.invariant.lasts sound endless in
     let reported = (c.in_err-is_bad.ensures.reported now.0.sound now.1).0 in
     let MayBe = λ (count : ℕ). count ≤ length (lines_of c.args.input.now) in
-    told_next g.W.SteadyWrite.seen (WritesAnswer g.W.Write.contents) MayBe c.args.writer.now c.loop-line.writer c.run_line.new.writer c.loop-line.tally.lines _ _
+    reported_next g.W.SteadyWrite.seen (WritesAnswer g.W.Write.contents) MayBe c.args.writer.now c.loop-line.writer c.run_line.new.writer c.loop-line.tally.lines _ _
     now.0 (lines_are_within _ _ _ _ _ _ _ c.loop-line.invariant.progress) (line_is_left c.args.service.now c.loop-line.service c.args.input.now c.loop-line.rest.now c.in-Some.line.now c.in-Some.after.now c.loop-line.tally
     (g.W.Write.contents c.args.writer.now) (g.W.Write.contents c.loop-line.writer) c.loop-line.invariant.progress c.in-Some.ensures.line) reported (λ e. search rules) (λ e. search rules)
 
@@ -52,5 +52,5 @@ pub returns-clause-reported : goal.returns-clause-reported
 returns-clause-reported g c = λ sound endless.
     let now = c.loop-line.invariant.lasts sound endless in
     let MayBe = λ (count : ℕ). count ≤ length (lines_of c.args.input.now) in
-    told_idle g.W.SteadyWrite.seen (WritesAnswer g.W.Write.contents) MayBe c.args.writer.now c.loop-line.writer c.loop-line.tally.lines _ now.0
+    reported_idle g.W.SteadyWrite.seen (WritesAnswer g.W.Write.contents) MayBe c.args.writer.now c.loop-line.writer c.loop-line.tally.lines _ now.0
     (lines_are_within _ _ _ _ _ _ _ c.loop-line.invariant.progress) (λ e. absurd cc)

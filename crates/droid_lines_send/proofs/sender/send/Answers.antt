@@ -3,10 +3,10 @@ use Rattle.std.specs.Io.KnownBytes.{prepend_known}
 use Rattle.std.proofs.KnownBytes.{prepend_known-nil}
 use Rattle.droid_lines_send.specs.Sending.{SendsFront}
 use Rattle.droid_lines_send.specs.declared.send_fault.SendFault.TheVariants.{Memory}
-use Rattle.droid_lines_send.proofs.PassingOn.{came_from, of_reading, passed_on, stops_not_reading, told_unless}
-use Rattle.droid_frame.proofs.Scopes.{counts_begin, told_none}
+use Rattle.droid_lines_send.proofs.PassingOn.{came_from, of_reading, passed_on, stops_not_reading, reported_unless}
+use Rattle.droid_frame.proofs.Scopes.{counts_begin, reported_none}
 use Rattle.droid_frame.specs.InTurn.{AtMost}
-use Rattle.droid_frame.proofs.InTurn.{over_next, over_none, told_idle, told_next}
+use Rattle.droid_frame.proofs.InTurn.{over_next, over_none, reported_idle, reported_next}
 use Rattle.droid_lines.specs.Lines.{lines_of}
 use Rattle.droid_lines.specs.declared.tally.Tally.{Tally}
 use Rattle.droid_lines.proofs.Tallies.{bad_within}
@@ -42,14 +42,14 @@ pub returns-in_err-line-clause-lines_fault : goal.returns-in_err-line-clause-lin
 returns-in_err-line-clause-lines_fault g c = λ sound.
     let passed = c.from_residual.ensures.1 in
     let fault = c.in_err-line.field-0.0 in
-    told_unless _ _ c.next_line.new.retries _ _ (c.in_err-line.ensures.counts _ (c.loop.invariant.reads sound)) (λ e. passed_on _ fault _ passed e) (λ e. came_from _ fault _ passed e)
+    reported_unless _ _ c.next_line.new.retries _ _ (c.in_err-line.ensures.counts _ (c.loop.invariant.reads sound)) (λ e. passed_on _ fault _ passed e) (λ e. came_from _ fault _ passed e)
 
 pub returns-in_default-clause-lines_fault : goal.returns-in_default-clause-lines_fault
 returns-in_default-clause-lines_fault g c = λ sound.
-    told_unless _ _ c.next_line.new.retries _ _ (c.in_ok-line.ensures.counts _ (c.loop.invariant.reads sound)) (λ e. absurd cc) (λ e. absurd cc)
+    reported_unless _ _ c.next_line.new.retries _ _ (c.in_ok-line.ensures.counts _ (c.loop.invariant.reads sound)) (λ e. absurd cc) (λ e. absurd cc)
 
 pub returns-clause-lines_fault : goal.returns-clause-lines_fault
-returns-clause-lines_fault g c = λ sound. told_none _ _ c.loop.retries _ (λ e. absurd cc) (c.loop.invariant.reads sound)
+returns-clause-lines_fault g c = λ sound. reported_none _ _ c.loop.retries _ (λ e. absurd cc) (c.loop.invariant.reads sound)
 
 pub returns-in_err-is_bad-clause-front : goal.returns-in_err-is_bad-clause-front
 returns-in_err-is_bad-clause-front g c =
@@ -67,7 +67,7 @@ returns-in_err-is_bad-clause-front g c =
 pub returns-in_err-is_bad-clause-lines_fault : goal.returns-in_err-is_bad-clause-lines_fault
 returns-in_err-is_bad-clause-lines_fault g c = λ sound.
     let fault = c.in_err-is_bad.field-0.0 in
-    told_none _ _ c.next_line.new.retries _ (λ e. stops_not_reading _ fault _ _ _ _ _ _ _ _ _ c.from_residual-in_err-is_bad.ensures.1 c.in_err-is_bad.ensures.stops e)
+    reported_none _ _ c.next_line.new.retries _ (λ e. stops_not_reading _ fault _ _ _ _ _ _ _ _ _ c.from_residual-in_err-is_bad.ensures.1 c.in_err-is_bad.ensures.stops e)
     ((c.in_ok-line.ensures.counts _ (c.loop.invariant.reads sound)).otherwise (λ e. absurd cc))
 
 pub returns-in_err-is_bad-clause-replies_fault : goal.returns-in_err-is_bad-clause-replies_fault
@@ -79,7 +79,7 @@ returns-in_err-is_bad-clause-replies_fault g c = λ sound.
     let rest = prepend_known c.loop.reader (g.L.Read.remaining c.loop.lines) in
     let more = prepend_known c.next_line.new.self (g.L.Read.remaining c.next_line.new.reader) in
     let gives = gives_found (λ line. line.items) rest more c.in_ok-line.field-0 c.in-Some.line line c.in-Some.is c.as_slice.ensures.value c.in_ok-line.ensures.line in
-    told_next g.R.SteadyRead.seen (ReadsReply g.R.Read.remaining) (AtMost (g.L.Read.remaining c.args.lines.now) (λ script. length (lines_of script))) c.args.replies.now c.loop.replies c.send_line.new.replies c.loop.tally.lines _ _ now
+    reported_next g.R.SteadyRead.seen (ReadsReply g.R.Read.remaining) (AtMost (g.L.Read.remaining c.args.lines.now) (λ script. length (lines_of script))) c.args.replies.now c.loop.replies c.send_line.new.replies c.loop.tally.lines _ _ now
     (lines_within c.args.client.now c.loop.client _ _ _ _ _ _ _ _ c.loop.tally c.loop.invariant.so_far)
     (line_found c.args.client.now c.loop.client _ rest more _ _ _ _ _ _ line c.loop.tally c.loop.invariant.so_far gives)
     (replies_in_one g.R.SteadyRead.seen g.R.Read.remaining c.loop.replies c.send_line.new.replies fault c.loop.client line _ _ _ _ c.send_line.new.client c.in_err-is_bad.ensures.stops
@@ -88,20 +88,20 @@ returns-in_err-is_bad-clause-replies_fault g c = λ sound.
 pub returns-in_err-line-clause-replies_fault : goal.returns-in_err-line-clause-replies_fault
 returns-in_err-line-clause-replies_fault g c = λ sound.
     let now = c.loop.invariant.hears sound in
-    told_idle g.R.SteadyRead.seen (ReadsReply g.R.Read.remaining) (AtMost (g.L.Read.remaining c.args.lines.now) (λ script. length (lines_of script))) c.args.replies.now c.loop.replies c.loop.tally.lines _ now
+    reported_idle g.R.SteadyRead.seen (ReadsReply g.R.Read.remaining) (AtMost (g.L.Read.remaining c.args.lines.now) (λ script. length (lines_of script))) c.args.replies.now c.loop.replies c.loop.tally.lines _ now
     (lines_within c.args.client.now c.loop.client _ _ _ _ _ _ _ _ c.loop.tally c.loop.invariant.so_far)
     (λ e. of_reading _ c.in_err-line.field-0.0 _ c.from_residual.ensures.1 c.in_err-line.ensures.faults e)
 
 pub returns-in_default-clause-replies_fault : goal.returns-in_default-clause-replies_fault
 returns-in_default-clause-replies_fault g c = λ sound.
     let now = c.loop.invariant.hears sound in
-    told_idle g.R.SteadyRead.seen (ReadsReply g.R.Read.remaining) (AtMost (g.L.Read.remaining c.args.lines.now) (λ script. length (lines_of script))) c.args.replies.now c.loop.replies c.loop.tally.lines _ now
+    reported_idle g.R.SteadyRead.seen (ReadsReply g.R.Read.remaining) (AtMost (g.L.Read.remaining c.args.lines.now) (λ script. length (lines_of script))) c.args.replies.now c.loop.replies c.loop.tally.lines _ now
     (lines_within c.args.client.now c.loop.client _ _ _ _ _ _ _ _ c.loop.tally c.loop.invariant.so_far) (λ e. absurd cc)
 
 pub returns-clause-replies_fault : goal.returns-clause-replies_fault
 returns-clause-replies_fault g c = λ sound.
     let now = c.loop.invariant.hears sound in
-    told_idle g.R.SteadyRead.seen (ReadsReply g.R.Read.remaining) (AtMost (g.L.Read.remaining c.args.lines.now) (λ script. length (lines_of script))) c.args.replies.now c.loop.replies c.loop.tally.lines _ now
+    reported_idle g.R.SteadyRead.seen (ReadsReply g.R.Read.remaining) (AtMost (g.L.Read.remaining c.args.lines.now) (λ script. length (lines_of script))) c.args.replies.now c.loop.replies c.loop.tally.lines _ now
     (lines_within c.args.client.now c.loop.client _ _ _ _ _ _ _ _ c.loop.tally c.loop.invariant.so_far) (λ e. absurd cc)
 
 pub returns-in_err-is_bad-clause-frames_fault : goal.returns-in_err-is_bad-clause-frames_fault
@@ -113,7 +113,7 @@ returns-in_err-is_bad-clause-frames_fault g c = λ sound endless.
     let rest = prepend_known c.loop.reader (g.L.Read.remaining c.loop.lines) in
     let more = prepend_known c.next_line.new.self (g.L.Read.remaining c.next_line.new.reader) in
     let gives = gives_found (λ line. line.items) rest more c.in_ok-line.field-0 c.in-Some.line line c.in-Some.is c.as_slice.ensures.value c.in_ok-line.ensures.line in
-    told_next g.F.SteadyWrite.seen (WritesRequest g.F.Write.contents) (AtMost (g.L.Read.remaining c.args.lines.now) (λ script. length (lines_of script))) c.args.frames.now c.loop.frames c.send_line.new.frames c.loop.tally.lines _ _ now.0
+    reported_next g.F.SteadyWrite.seen (WritesRequest g.F.Write.contents) (AtMost (g.L.Read.remaining c.args.lines.now) (λ script. length (lines_of script))) c.args.frames.now c.loop.frames c.send_line.new.frames c.loop.tally.lines _ _ now.0
     (lines_within c.args.client.now c.loop.client _ _ _ _ _ _ _ _ c.loop.tally c.loop.invariant.so_far)
     (line_found c.args.client.now c.loop.client _ rest more _ _ _ _ _ _ line c.loop.tally c.loop.invariant.so_far gives)
     (frames_in_one g.F.SteadyWrite.seen g.F.Write.contents c.loop.frames c.send_line.new.frames fault c.loop.client line _ _ _ _ c.send_line.new.client c.in_err-is_bad.ensures.stops
@@ -122,20 +122,20 @@ returns-in_err-is_bad-clause-frames_fault g c = λ sound endless.
 pub returns-in_err-line-clause-frames_fault : goal.returns-in_err-line-clause-frames_fault
 returns-in_err-line-clause-frames_fault g c = λ sound endless.
     let now = c.loop.invariant.sends sound endless in
-    told_idle g.F.SteadyWrite.seen (WritesRequest g.F.Write.contents) (AtMost (g.L.Read.remaining c.args.lines.now) (λ script. length (lines_of script))) c.args.frames.now c.loop.frames c.loop.tally.lines _ now.0
+    reported_idle g.F.SteadyWrite.seen (WritesRequest g.F.Write.contents) (AtMost (g.L.Read.remaining c.args.lines.now) (λ script. length (lines_of script))) c.args.frames.now c.loop.frames c.loop.tally.lines _ now.0
     (lines_within c.args.client.now c.loop.client _ _ _ _ _ _ _ _ c.loop.tally c.loop.invariant.so_far)
     (λ e. of_reading _ c.in_err-line.field-0.0 _ c.from_residual.ensures.1 c.in_err-line.ensures.faults e)
 
 pub returns-in_default-clause-frames_fault : goal.returns-in_default-clause-frames_fault
 returns-in_default-clause-frames_fault g c = λ sound endless.
     let now = c.loop.invariant.sends sound endless in
-    told_idle g.F.SteadyWrite.seen (WritesRequest g.F.Write.contents) (AtMost (g.L.Read.remaining c.args.lines.now) (λ script. length (lines_of script))) c.args.frames.now c.loop.frames c.loop.tally.lines _ now.0
+    reported_idle g.F.SteadyWrite.seen (WritesRequest g.F.Write.contents) (AtMost (g.L.Read.remaining c.args.lines.now) (λ script. length (lines_of script))) c.args.frames.now c.loop.frames c.loop.tally.lines _ now.0
     (lines_within c.args.client.now c.loop.client _ _ _ _ _ _ _ _ c.loop.tally c.loop.invariant.so_far) (λ e. absurd cc)
 
 pub returns-clause-frames_fault : goal.returns-clause-frames_fault
 returns-clause-frames_fault g c = λ sound endless.
     let now = c.loop.invariant.sends sound endless in
-    told_idle g.F.SteadyWrite.seen (WritesRequest g.F.Write.contents) (AtMost (g.L.Read.remaining c.args.lines.now) (λ script. length (lines_of script))) c.args.frames.now c.loop.frames c.loop.tally.lines _ now.0
+    reported_idle g.F.SteadyWrite.seen (WritesRequest g.F.Write.contents) (AtMost (g.L.Read.remaining c.args.lines.now) (λ script. length (lines_of script))) c.args.frames.now c.loop.frames c.loop.tally.lines _ now.0
     (lines_within c.args.client.now c.loop.client _ _ _ _ _ _ _ _ c.loop.tally c.loop.invariant.so_far) (λ e. absurd cc)
 
 pub returns-in_err-is_bad-clause-text_fault : goal.returns-in_err-is_bad-clause-text_fault
@@ -147,7 +147,7 @@ returns-in_err-is_bad-clause-text_fault g c = λ sound endless.
     let rest = prepend_known c.loop.reader (g.L.Read.remaining c.loop.lines) in
     let more = prepend_known c.next_line.new.self (g.L.Read.remaining c.next_line.new.reader) in
     let gives = gives_found (λ line. line.items) rest more c.in_ok-line.field-0 c.in-Some.line line c.in-Some.is c.as_slice.ensures.value c.in_ok-line.ensures.line in
-    told_next g.T.SteadyWrite.seen (WritesPrinted g.T.Write.contents) (AtMost (g.L.Read.remaining c.args.lines.now) (λ script. length (lines_of script))) c.args.text.now c.loop.text c.send_line.new.text c.loop.tally.lines _ _ now.0
+    reported_next g.T.SteadyWrite.seen (WritesPrinted g.T.Write.contents) (AtMost (g.L.Read.remaining c.args.lines.now) (λ script. length (lines_of script))) c.args.text.now c.loop.text c.send_line.new.text c.loop.tally.lines _ _ now.0
     (lines_within c.args.client.now c.loop.client _ _ _ _ _ _ _ _ c.loop.tally c.loop.invariant.so_far)
     (line_found c.args.client.now c.loop.client _ rest more _ _ _ _ _ _ line c.loop.tally c.loop.invariant.so_far gives)
     (text_in_one g.T.SteadyWrite.seen g.T.Write.contents c.loop.text c.send_line.new.text fault c.loop.client line _ _ _ _ c.send_line.new.client c.in_err-is_bad.ensures.stops
@@ -156,20 +156,20 @@ returns-in_err-is_bad-clause-text_fault g c = λ sound endless.
 pub returns-in_err-line-clause-text_fault : goal.returns-in_err-line-clause-text_fault
 returns-in_err-line-clause-text_fault g c = λ sound endless.
     let now = c.loop.invariant.prints sound endless in
-    told_idle g.T.SteadyWrite.seen (WritesPrinted g.T.Write.contents) (AtMost (g.L.Read.remaining c.args.lines.now) (λ script. length (lines_of script))) c.args.text.now c.loop.text c.loop.tally.lines _ now.0
+    reported_idle g.T.SteadyWrite.seen (WritesPrinted g.T.Write.contents) (AtMost (g.L.Read.remaining c.args.lines.now) (λ script. length (lines_of script))) c.args.text.now c.loop.text c.loop.tally.lines _ now.0
     (lines_within c.args.client.now c.loop.client _ _ _ _ _ _ _ _ c.loop.tally c.loop.invariant.so_far)
     (λ e. of_reading _ c.in_err-line.field-0.0 _ c.from_residual.ensures.1 c.in_err-line.ensures.faults e)
 
 pub returns-in_default-clause-text_fault : goal.returns-in_default-clause-text_fault
 returns-in_default-clause-text_fault g c = λ sound endless.
     let now = c.loop.invariant.prints sound endless in
-    told_idle g.T.SteadyWrite.seen (WritesPrinted g.T.Write.contents) (AtMost (g.L.Read.remaining c.args.lines.now) (λ script. length (lines_of script))) c.args.text.now c.loop.text c.loop.tally.lines _ now.0
+    reported_idle g.T.SteadyWrite.seen (WritesPrinted g.T.Write.contents) (AtMost (g.L.Read.remaining c.args.lines.now) (λ script. length (lines_of script))) c.args.text.now c.loop.text c.loop.tally.lines _ now.0
     (lines_within c.args.client.now c.loop.client _ _ _ _ _ _ _ _ c.loop.tally c.loop.invariant.so_far) (λ e. absurd cc)
 
 pub returns-clause-text_fault : goal.returns-clause-text_fault
 returns-clause-text_fault g c = λ sound endless.
     let now = c.loop.invariant.prints sound endless in
-    told_idle g.T.SteadyWrite.seen (WritesPrinted g.T.Write.contents) (AtMost (g.L.Read.remaining c.args.lines.now) (λ script. length (lines_of script))) c.args.text.now c.loop.text c.loop.tally.lines _ now.0
+    reported_idle g.T.SteadyWrite.seen (WritesPrinted g.T.Write.contents) (AtMost (g.L.Read.remaining c.args.lines.now) (λ script. length (lines_of script))) c.args.text.now c.loop.text c.loop.tally.lines _ now.0
     (lines_within c.args.client.now c.loop.client _ _ _ _ _ _ _ _ c.loop.tally c.loop.invariant.so_far) (λ e. absurd cc)
 
 pub loop-preserved : goal.loop-preserved

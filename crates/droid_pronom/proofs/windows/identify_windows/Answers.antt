@@ -2,7 +2,7 @@ use Rattle.std.proofs.Common.{◌≡◌, ◌∙◌, [], ap}
 use Rattle.std.specs.Str.{str_to_ascii_lowercase}
 use Rattle.droid_pronom_formats.specs.Found.{extension_of}
 use Rattle.droid_pronom_formats.specs.FoundWindows.{HitsWindows}
-use Rattle.droid_pronom.proofs.FoundSteps.{found_signature, found_extension, found_nothing, tell_named}
+use Rattle.droid_pronom.proofs.FoundSteps.{found_signature, found_extension, found_nothing, report_named}
 use Rattle.droid_pronom.proofs.windows.identify_windows.Goals as goal
 use Rattle.droid_pronom.proofs.windows.identify_windows.Goals.{then-is_empty, else-is_empty}
 
@@ -21,7 +21,7 @@ returns c =
     let wanted : c.as_str-2.result.now ≡ str_to_ascii_lowercase (extension_of c.args.name.now) = c.as_str-2.ensures.value ∙ c.in_ok-wanted.ensures ∙ ap str_to_ascii_lowercase c.extension.ensures in
     let none : c.in_ok-puids.puids ≡ [] = c.is_empty-by_signature.ensures.0 c.if-by_signature.false in
     let left = rw (c.as_slice.ensures.value, c.formats.ensures, none) at c.in_ok-puids.ensures in
-    let names = tell_named c.args.registry.now (extension_of c.args.name.now) c.as_str-2.result.now c.signed-signed.result.now c.in_ok-named.named.items c.args.match_all wanted c.signed-signed.ensures.each
+    let names = report_named c.args.registry.now (extension_of c.args.name.now) c.as_str-2.result.now c.signed-signed.result.now c.in_ok-named.named.items c.args.match_all wanted c.signed-signed.ensures.each
     (rw c.extensions-2.ensures.value at c.in_ok-named.ensures.each) in
     let are = rw (c.as_slice-2.ensures.value, c.formats-2.ensures) at c.in_ok-puids-2.ensures in
     elim c.if-is_empty.branch [

@@ -6,8 +6,8 @@ use Rattle.droid_store.specs.declared.statements.TheConstants.{COUNT_NODES}
 use Rattle.droid_store.proofs.Effects.{stepped, kept_safe}
 use Rattle.droid_store.proofs.NodeEffects.{counts_nodes, with_counted}
 use Rattle.droid_store_sql.proofs.MemoryFaults.{in_memory}
-use Rattle.droid_store.proofs.MemoryFaultsIn.{wants_by}
-use Rattle.droid_store.proofs.MemoryFaultsOfChanges.{count_params, count_wants}
+use Rattle.droid_store.proofs.MemoryFaultsIn.{runs_out_by}
+use Rattle.droid_store.proofs.MemoryFaultsOfChanges.{count_params, count_runs_out}
 use Rattle.droid_store.proofs.changes.count_nodes.Goals as goal
 
 pub returns-clause-ok : goal.returns-clause-ok
@@ -30,6 +30,6 @@ pub returns-clause-failure : goal.returns-clause-failure
 returns-clause-failure c rows keys =
     let old = state over_trees c.args.tx.now.conn.now in
     let new = state over_trees c.execute.new.self.conn.now in
-    wants_by COUNT_NODES.now (count_params c.args.profile c.args.nodes) old new c.execute.result rows
+    runs_out_by COUNT_NODES.now (count_params c.args.profile c.args.nodes) old new c.execute.result rows
     (rw (c.params-to_sql.ensures, c.params-to_sql-2.ensures) at (c.execute.ensures.runs (trees_are_clean c.execute.new.self.conn.now)))
-    (λ err none has h. count_wants old new c.args.profile c.args.nodes rows err (in_memory c.args.tx.now.conn.now c.execute.new.self.conn.now none) has keys h)
+    (λ err none has h. count_runs_out old new c.args.profile c.args.nodes rows err (in_memory c.args.tx.now.conn.now c.execute.new.self.conn.now none) has keys h)

@@ -8,8 +8,8 @@ use Rattle.droid_store.specs.Encoded.{number}
 use Rattle.droid_store.proofs.ChangesNodes.{removes_node}
 use Rattle.droid_store.proofs.Effects.{stepped, kept_safe}
 use Rattle.droid_store_sql.proofs.MemoryFaults.{in_memory}
-use Rattle.droid_store.proofs.MemoryFaultsIn.{wants_by}
-use Rattle.droid_store.proofs.MemoryFaultsOfChanges.{remove_params, remove_wants}
+use Rattle.droid_store.proofs.MemoryFaultsIn.{runs_out_by}
+use Rattle.droid_store.proofs.MemoryFaultsOfChanges.{remove_params, remove_runs_out}
 use Rattle.droid_store.proofs.changes.delete_node.Goals as goal
 
 pub returns-clause-ok : goal.returns-clause-ok
@@ -33,6 +33,6 @@ pub returns-clause-failure : goal.returns-clause-failure
 returns-clause-failure c rows keys later =
     let old = state over_trees c.args.tx.now.conn.now in
     let new = state over_trees c.execute.new.self.conn.now in
-    wants_by REMOVE_NODE.now (remove_params c.args.profile c.args.file) old new c.execute.result rows
+    runs_out_by REMOVE_NODE.now (remove_params c.args.profile c.args.file) old new c.execute.result rows
     (rw (c.params-to_sql.ensures, c.params-to_sql-2.ensures) at (c.execute.ensures.runs (trees_are_clean c.execute.new.self.conn.now)))
-    (λ err none has h. remove_wants old new c.args.profile c.args.file rows err (in_memory c.args.tx.now.conn.now c.execute.new.self.conn.now none) has keys later h)
+    (λ err none has h. remove_runs_out old new c.args.profile c.args.file rows err (in_memory c.args.tx.now.conn.now c.execute.new.self.conn.now none) has keys later h)

@@ -11,8 +11,8 @@ use Rattle.droid_store.specs.Encoded.{number, flag, joined}
 use Rattle.droid_store.proofs.ChangesNodes.{finishes_node}
 use Rattle.droid_store.proofs.Effects.{stepped, kept_safe}
 use Rattle.droid_store_sql.proofs.MemoryFaults.{in_memory}
-use Rattle.droid_store.proofs.MemoryFaultsIn.{wants_by}
-use Rattle.droid_store.proofs.MemoryFaultsOfChanges.{finish_params, finish_wants}
+use Rattle.droid_store.proofs.MemoryFaultsIn.{runs_out_by}
+use Rattle.droid_store.proofs.MemoryFaultsOfChanges.{finish_params, finish_runs_out}
 use Rattle.droid_store.proofs.changes.finish_node.Goals as goal
 
 pub returns-clause-ok : goal.returns-clause-ok
@@ -39,6 +39,6 @@ returns-clause-failure c rows keys puids is later small =
     let old = state over_trees c.args.tx.now.conn.now in
     let new = state over_trees c.execute.new.self.conn.now in
     let f = c.args.findings.now in
-    wants_by FINISH_NODE.now (finish_params c.args.profile c.args.file f.method f.mismatch f.hash puids) old new c.execute.result rows
+    runs_out_by FINISH_NODE.now (finish_params c.args.profile c.args.file f.method f.mismatch f.hash puids) old new c.execute.result rows
     (rw (c.params-to_sql.ensures, c.params-to_sql-2.ensures, c.params-to_sql-3.ensures, c.params-to_sql-4.ensures, c.params-to_sql-5.ensures, c.params-to_sql-6.ensures, c.number_of.ensures, c.as_slice.ensures, is) at (c.execute.ensures.runs (trees_are_clean c.execute.new.self.conn.now)))
-    (λ err none has h. finish_wants c.args.profile c.args.file f.method f.mismatch f.hash puids old new rows err (in_memory c.args.tx.now.conn.now c.execute.new.self.conn.now none) has keys later small h)
+    (λ err none has h. finish_runs_out c.args.profile c.args.file f.method f.mismatch f.hash puids old new rows err (in_memory c.args.tx.now.conn.now c.execute.new.self.conn.now none) has keys later small h)

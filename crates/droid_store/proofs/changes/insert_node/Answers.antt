@@ -11,7 +11,7 @@ use Rattle.std.specs.Int.{w64}
 use Rattle.droid_store.specs.Nodes.{node_of}
 use Rattle.droid_store.proofs.NodeEffects.{adds_node, with_last_node}
 use Rattle.droid_store_sql.proofs.MemoryFaults.{in_memory}
-use Rattle.droid_store.proofs.MemoryFaultsIn.{wants_by, node_params, node_wants}
+use Rattle.droid_store.proofs.MemoryFaultsIn.{runs_out_by, node_params, node_runs_out}
 use Rattle.droid_store.proofs.changes.insert_node.Goals as goal
 
 pub returns-clause-ok : goal.returns-clause-ok
@@ -40,6 +40,6 @@ returns-clause-failure c rows keys small =
     let new = state over_trees c.execute.new.self.conn.now in
     let n = c.args.node.now in
     let fits : FitsSigned w64 (pos n.size) = search rules in
-    wants_by ADD_NODE.now (node_params n.profile n.id n.parent c.args.modified n.state n.size n.piece_size n.name.now n.path.now) old new c.execute.result rows
+    runs_out_by ADD_NODE.now (node_params n.profile n.id n.parent c.args.modified n.state n.size n.piece_size n.name.now n.path.now) old new c.execute.result rows
     (rw (c.params-to_sql.ensures, c.params-to_sql-2.ensures, c.params-to_sql-3.ensures, c.params-to_sql-4.ensures, c.params-to_sql-5.ensures, c.params-to_sql-6.ensures, c.params-to_sql-7.ensures, c.params-to_sql-8.ensures, c.params-to_sql-9.ensures, c.signed.ensures, to_z-of_z w64 (pos n.size) fits, c.number.ensures, to_z-of_z w64 c.args.modified c.ranges.modified) at (c.execute.ensures.runs (trees_are_clean c.execute.new.self.conn.now)))
-    (λ err none has h. node_wants n.profile n.id n.parent c.args.modified n.state n.size n.piece_size n.name.now n.path.now old new rows err (in_memory c.args.tx.now.conn.now c.execute.new.self.conn.now none) has keys small h)
+    (λ err none has h. node_runs_out n.profile n.id n.parent c.args.modified n.state n.size n.piece_size n.name.now n.path.now old new rows err (in_memory c.args.tx.now.conn.now c.execute.new.self.conn.now none) has keys small h)

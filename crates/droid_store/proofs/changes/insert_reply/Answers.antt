@@ -11,7 +11,7 @@ use Rattle.droid_store.proofs.Effects.{stepped, kept_safe}
 use Rattle.droid_store.specs.Changes.{with_reply}
 use Rattle.droid_store.proofs.Effects.{adds_reply}
 use Rattle.droid_store_sql.proofs.MemoryFaults.{in_memory}
-use Rattle.droid_store.proofs.MemoryFaultsIn.{wants_by, reply_params, reply_wants}
+use Rattle.droid_store.proofs.MemoryFaultsIn.{runs_out_by, reply_params, reply_runs_out}
 use Rattle.droid_store.proofs.changes.insert_reply.Goals as goal
 
 pub returns-clause-ok : goal.returns-clause-ok
@@ -38,6 +38,6 @@ returns-clause-failure c rows keys small =
     let new = state over_trees c.execute.new.self.conn.now in
     let e = c.args.entry.now in
     let fits : FitsSigned w64 (pos e.number) = search rules in
-    wants_by ADD_REPLY.now (reply_params c.args.entry.now) old new c.execute.result rows
+    runs_out_by ADD_REPLY.now (reply_params c.args.entry.now) old new c.execute.result rows
     (rw (c.params-to_sql.ensures, c.params-to_sql-2.ensures, c.params-to_sql-3.ensures, c.params-to_sql-4.ensures, c.params-to_sql-5.ensures, c.params-to_sql-6.ensures, c.signed.ensures, to_z-of_z w64 (pos e.number) fits, c.from.ensures, c.from-2.ensures, c.as_slice-mark.ensures, c.as_slice-body.ensures.value) at (c.execute.ensures.runs (trees_are_clean c.execute.new.self.conn.now)))
-    (λ err none has h. reply_wants old new c.args.entry.now rows err (in_memory c.args.tx.now.conn.now c.execute.new.self.conn.now none) has keys small h)
+    (λ err none has h. reply_runs_out old new c.args.entry.now rows err (in_memory c.args.tx.now.conn.now c.execute.new.self.conn.now none) has keys small h)

@@ -5,7 +5,7 @@ use Rattle.droid_store.proofs.Clean.{trees_are_clean}
 use Rattle.droid_store_sql.specs.Transactions.{Settled}
 use Rattle.droid_store_trees.specs.declared.store.TreeStore.{TreeStore}
 use Rattle.droid_store_sql.proofs.Transactions.{on_err, rolled_back, ends_ok, ends_err}
-use Rattle.droid_store_sql.proofs.MemoryFaults.{in_memory, commit_wants}
+use Rattle.droid_store_sql.proofs.MemoryFaults.{in_memory, commit_runs_out}
 use Rattle.droid_store.proofs.MemoryFaultsOfLookUps.{failed_for, handed_on}
 use Rattle.droid_store.specs.Changes.{with_reply, with_finished}
 use Rattle.droid_store.specs.Kept.{kept, Holds}
@@ -105,7 +105,7 @@ returns-clause-failure c puids words is keys later small size none =
     let end = c.commit.new.self.0 in
     let stays = c.in_ok-insert_reply.ensures.ok changed rows first in
     failed_for c.commit.result _ (c.commit.ensures.err (trees_are_clean end))
-    (λ e h. commit_wants last (state over_trees end) e (in_memory c.insert_reply.new.tx.conn.now end (c.in_ok-insert_reply.ensures.limit ∙ c.in_ok-finish_node.ensures.limit ∙ limit)) stays.within h)
+    (λ e h. commit_runs_out last (state over_trees end) e (in_memory c.insert_reply.new.tx.conn.now end (c.in_ok-insert_reply.ensures.limit ∙ c.in_ok-finish_node.ensures.limit ∙ limit)) stays.within h)
 
 pub returns-clause-fits : goal.returns-clause-fits
 returns-clause-fits c = on_ok c.commit.result _ c.insert_reply.ensures.fits

@@ -3,7 +3,7 @@ use Rattle.std.proofs.lemmas.Grind.{common_steps}
 use Rattle.droid_store.specs.Kept.{kept}
 use Rattle.droid_store.proofs.Clean.{trees_are_clean}
 use Rattle.droid_store.proofs.FaultsOfReading.{still_memory}
-use Rattle.droid_store.proofs.ReportedFaults.{told_memory}
+use Rattle.droid_store.proofs.ReportedFaults.{reported_memory}
 use Rattle.droid_store.proofs.GivenRows.{HaveRead, left, begun, settled_there, settled_on, gave_up, read_on, given_fits, read_all, read_no_more}
 use Rattle.droid_store.proofs.listing.list_records.Goals as goal
 
@@ -23,7 +23,7 @@ pub returns-in_err-rows-clause-memory : goal.returns-in_err-rows-clause-memory
 returns-in_err-rows-clause-memory c =
     let new = c.query.follows.lender-at-none in
     let failed = rw c.params-to_sql.ensures at ((rw c.in_err-rows.was at c.query.follows.holds-at-none).err (trees_are_clean new)) in
-    told_memory c.from_residual.result _ c.from_residual.ensures.1 (gave_up c.args.conn.now c.args.profile c.requires.holds new _ c.requires.unlimited failed).1
+    reported_memory c.from_residual.result _ c.from_residual.ensures.1 (gave_up c.args.conn.now c.args.profile c.requires.holds new _ c.requires.unlimited failed).1
 
 pub rows-init : goal.rows-init
 rows-init c =
@@ -48,7 +48,7 @@ pub returns-in_err-row-clause-memory : goal.returns-in_err-row-clause-memory
 returns-in_err-row-clause-memory c =
     let new = c.next.follows.lender-at-none.conn.now in
     let failed = rw c.in_err-row.was at (c.next.follows.holds-at-none.err (trees_are_clean new)) in
-    told_memory c.from_residual-in_err-row.result _ c.from_residual-in_err-row.ensures.1 (read_no_more c.args.conn.now c.args.profile c.requires.holds c.requires.apart _ new _ c.rows.invariant.1 _ (c.rows.invariant.1.limit ∙ c.requires.unlimited) failed).1
+    reported_memory c.from_residual-in_err-row.result _ c.from_residual-in_err-row.ensures.1 (read_no_more c.args.conn.now c.args.profile c.requires.holds c.requires.apart _ new _ c.rows.invariant.1 _ (c.rows.invariant.1.limit ∙ c.requires.unlimited) failed).1
 
 pub returns-in_default-clause-same : goal.returns-in_default-clause-same
 returns-in_default-clause-same c =

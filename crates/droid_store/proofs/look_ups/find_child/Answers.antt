@@ -12,7 +12,7 @@ use Rattle.droid_store.proofs.FindsNodes.{finds_child}
 use Rattle.sqlite.specs.State.{QueriesRow}
 use Rattle.droid_store_sql.proofs.MemoryFaults.{in_memory}
 use Rattle.droid_store.specs.declared.statements.TheConstants.{FIND_CHILD}
-use Rattle.droid_store.proofs.MemoryFaultsOfLookUps.{row_or_none, child_wants}
+use Rattle.droid_store.proofs.MemoryFaultsOfLookUps.{row_or_none, child_runs_out}
 use Rattle.droid_store.specs.Encoded.{number}
 use Rattle.droid_store.proofs.look_ups.find_child.Goals as goal
 
@@ -53,4 +53,4 @@ returns-clause-failure c none =
     let new = state over_trees c.query_row-answer.new.self in
     let ran = rw (c.params-to_sql.ensures, c.params-to_sql-2.ensures, c.params-to_sql-3.ensures) at (c.query_row-answer.ensures.row (trees_are_clean c.query_row-answer.new.self)) in
     row_or_none c.query_row-answer.result c.or_none.result c.or_none.ensures.err
-    (λ e other is. child_wants old new c.args.profile c.args.parent c.args.name.now rows e (in_memory c.args.conn.now c.query_row-answer.new.self none) c.requires.holds.holds other (subst (QueriesRow FIND_CHILD.now (number c.args.profile ∷ number c.args.parent ∷ Text c.args.name.now ∷ []) old new) is ran))
+    (λ e other is. child_runs_out old new c.args.profile c.args.parent c.args.name.now rows e (in_memory c.args.conn.now c.query_row-answer.new.self none) c.requires.holds.holds other (subst (QueriesRow FIND_CHILD.now (number c.args.profile ∷ number c.args.parent ∷ Text c.args.name.now ∷ []) old new) is ran))

@@ -11,7 +11,7 @@ use Rattle.droid_store.proofs.FindsProfiles.{finds_profile}
 use Rattle.sqlite.specs.State.{QueriesRow}
 use Rattle.droid_store_sql.proofs.MemoryFaults.{in_memory}
 use Rattle.droid_store.specs.declared.statements.TheConstants.{FIND_PROFILE}
-use Rattle.droid_store.proofs.MemoryFaultsOfLookUps.{row_or_none, profile_wants}
+use Rattle.droid_store.proofs.MemoryFaultsOfLookUps.{row_or_none, profile_runs_out}
 use Rattle.droid_store.specs.Encoded.{number}
 use Rattle.droid_store.proofs.look_ups.find_profile.Goals as goal
 
@@ -52,4 +52,4 @@ returns-clause-failure c none =
     let new = state over_trees c.query_row-answer.new.self in
     let ran = rw (c.params-to_sql.ensures) at (c.query_row-answer.ensures.row (trees_are_clean c.query_row-answer.new.self)) in
     row_or_none c.query_row-answer.result c.or_none.result c.or_none.ensures.err
-    (λ e other is. profile_wants old new c.args.profile rows e (in_memory c.args.conn.now c.query_row-answer.new.self none) c.requires.holds.holds other (subst (QueriesRow FIND_PROFILE.now (number c.args.profile ∷ []) old new) is ran))
+    (λ e other is. profile_runs_out old new c.args.profile rows e (in_memory c.args.conn.now c.query_row-answer.new.self none) c.requires.holds.holds other (subst (QueriesRow FIND_PROFILE.now (number c.args.profile ∷ []) old new) is ran))

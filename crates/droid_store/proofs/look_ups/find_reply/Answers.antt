@@ -13,7 +13,7 @@ use Rattle.droid_store.proofs.FindsReplies.{finds_reply}
 use Rattle.sqlite.specs.State.{QueriesRow}
 use Rattle.droid_store_sql.proofs.MemoryFaults.{in_memory}
 use Rattle.droid_store.specs.declared.statements.TheConstants.{FIND_REPLY}
-use Rattle.droid_store.proofs.MemoryFaultsOfLookUps.{row_or_none, reply_wants}
+use Rattle.droid_store.proofs.MemoryFaultsOfLookUps.{row_or_none, reply_runs_out}
 use Rattle.droid_store.specs.Encoded.{number}
 use Rattle.droid_store.proofs.look_ups.find_reply.Goals as goal
 
@@ -58,4 +58,4 @@ returns-clause-failure c none =
     let fits : FitsSigned w64 (pos c.args.number) = search rules in
     let ran = rw (c.params-to_sql.ensures, c.params-to_sql-2.ensures, c.signed.ensures, to_z-of_z w64 (pos c.args.number) fits) at (c.query_row-answer.ensures.row (trees_are_clean c.query_row-answer.new.self)) in
     row_or_none c.query_row-answer.result c.or_none.result c.or_none.ensures.err
-    (λ e other is. reply_wants old new c.args.client c.args.number rows e (in_memory c.args.conn.now c.query_row-answer.new.self none) c.requires.holds.holds other (subst (QueriesRow FIND_REPLY.now (number c.args.client ∷ number c.args.number ∷ []) old new) is ran))
+    (λ e other is. reply_runs_out old new c.args.client c.args.number rows e (in_memory c.args.conn.now c.query_row-answer.new.self none) c.requires.holds.holds other (subst (QueriesRow FIND_REPLY.now (number c.args.client ∷ number c.args.number ∷ []) old new) is ran))

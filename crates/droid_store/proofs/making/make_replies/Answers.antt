@@ -3,7 +3,7 @@ use Rattle.droid_store_trees.specs.Over.{over_trees}
 use Rattle.droid_store.proofs.Clean.{trees_are_clean}
 use Rattle.droid_store.proofs.Makes.{makes_replies}
 use Rattle.droid_store_sql.proofs.MemoryFaults.{in_memory}
-use Rattle.droid_store.proofs.MemoryFaultsOfTables.{replies_want}
+use Rattle.droid_store.proofs.MemoryFaultsOfTables.{replies_runs_out}
 use Rattle.droid_store.proofs.making.make_replies.Goals as goal
 
 pub returns : goal.returns
@@ -13,5 +13,5 @@ returns c =
     record {
       made = makes_replies old new c.execute.result c.requires (c.execute.ensures.runs (trees_are_clean c.execute.new.self));
       limit = c.execute.ensures.survives.limit;
-      failure = λ none. replies_want old new c.execute.result (in_memory c.args.conn.now c.execute.new.self none) c.requires.holds.schema (c.execute.ensures.runs (trees_are_clean c.execute.new.self));
+      failure = λ none. replies_runs_out old new c.execute.result (in_memory c.args.conn.now c.execute.new.self none) c.requires.holds.schema (c.execute.ensures.runs (trees_are_clean c.execute.new.self));
     }

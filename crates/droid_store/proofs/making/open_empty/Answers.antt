@@ -3,7 +3,7 @@ use Rattle.sqlite_trees.specs.Objects.{catalog_tree}
 use Rattle.sqlite_trees.specs.Tree.{Trees}
 use Rattle.sqlite_trees.proofs.Doubt.{no_doubt}
 use Rattle.droid_store_trees.specs.Shown.{view}
-use Rattle.droid_store.proofs.Opened.{opened_empty, opening_wants}
+use Rattle.droid_store.proofs.Opened.{opened_empty, opening_runs_out}
 use Rattle.droid_store.proofs.making.open_empty.Goals as goal
 
 pub over-requires : goal.over-requires
@@ -17,4 +17,4 @@ returns-in-Ok-clause-empty c =
 pub returns-in-Err-clause-failure : goal.returns-in-Err-clause-failure
 returns-in-Err-clause-failure c =
     let none : (view c.new.result).trees catalog_tree ≡ [] = c.new.ensures.trees catalog_tree (λ same. omega arith) in
-    opening_wants (view c.new.result).trees c.in-Err.error none (c.in-Err.ensures.err (no_doubt true refl))
+    opening_runs_out (view c.new.result).trees c.in-Err.error none (c.in-Err.ensures.err (no_doubt true refl))

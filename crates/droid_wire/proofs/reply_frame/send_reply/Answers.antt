@@ -3,7 +3,7 @@ use Rattle.std.specs.Io.KnownBytes.{Appends}
 use Rattle.droid_frame.specs.ReplyFrames.{reply_frame}
 use Rattle.droid_frame.specs.Writes.{Takes}
 use Rattle.droid_frame.proofs.Scopes.{counts_begin}
-use Rattle.droid_wire.proofs.SentWhole.{whole_room, whole_stops, whole_told}
+use Rattle.droid_wire.proofs.SentWhole.{whole_room, whole_stops, whole_reported}
 use Rattle.droid_wire.proofs.reply_frame.send_reply.Goals as goal
 
 pub returns-in-Some-clause-ok : goal.returns-in-Some-clause-ok
@@ -23,7 +23,7 @@ returns-in-Some-clause-failed g c = λ sound.
     let frame = reply_frame c.args.version c.args.client c.args.number c.args.reply.now in
     let is : c.as_slice.result.now ≡ frame = c.as_slice.ensures.value ∙ c.in-Some.ensures in
     let start = (g.W.SteadyWrite.seen c.args.writer.now).interruptions in
-    whole_told start _ _ _ _ _ c.as_slice.result.now frame c.new.result.written _ c.write_all.result is c.new.ensures.written c.write_all.ensures.room_ok c.write_all.ensures.room_err c.write_all.ensures.err
+    whole_reported start _ _ _ _ _ c.as_slice.result.now frame c.new.result.written _ c.write_all.result is c.new.ensures.written c.write_all.ensures.room_ok c.write_all.ensures.room_err c.write_all.ensures.err
     (c.write_all.ensures.counts start (counts_begin _ _ c.new.ensures.retries sound))
 
 pub returns-in-Some-clause-room_ok : goal.returns-in-Some-clause-room_ok

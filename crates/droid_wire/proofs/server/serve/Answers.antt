@@ -11,7 +11,7 @@ use Rattle.droid_wire.specs.declared.serve_fault.ServeFault.{ServeFault}
 use Rattle.droid_wire.specs.Serving.{Outcome}
 use Rattle.droid_wire.proofs.Ends.{stopped, stream_closed, turns_done}
 use Rattle.droid_wire.proofs.GoingOn.{goes_further, goes_nowhere, goes_within}
-use Rattle.droid_frame.proofs.InTurn.{lasts_in_one, over_next, over_none, told_idle, told_next}
+use Rattle.droid_frame.proofs.InTurn.{lasts_in_one, over_next, over_none, reported_idle, reported_next}
 use Rattle.droid_wire.proofs.Passing.{if_err_same, same_fault}
 use Rattle.droid_wire.proofs.SoFar.{so_far_more, so_far_none}
 use Rattle.droid_wire.proofs.server.serve.Goals as goal
@@ -92,7 +92,7 @@ returns-in_err-size-clause-read_fault g c = λ sound.
     let Does = ReadsFrame g.R.Read.remaining in
     if_err_same c.from_residual.result fault
     (λ (r : Result Ended ServeFault). ReportsFaultInTurn g.R.SteadyRead.seen Does (λ count. count ≤ c.args.turns) c.args.reader.now c.answer_next.new.reader (IsErrOf r (faults.Frame Read))) c.from_residual.ensures.1
-    (told_next g.R.SteadyRead.seen Does (λ count. count ≤ c.args.turns) c.args.reader.now c.loop.reader c.answer_next.new.reader c.loop.counter _ _ now c.loop.invariant.within (omega (arith, c.loop-test.true))
+    (reported_next g.R.SteadyRead.seen Does (λ count. count ≤ c.args.turns) c.args.reader.now c.loop.reader c.answer_next.new.reader c.loop.counter _ _ now c.loop.invariant.within (omega (arith, c.loop-test.true))
     (c.in_err-size.ensures.read_fault now.sound) (λ e. same_fault fault (faults.Frame Read) e) (λ e. same_fault fault (faults.Frame Read) e))
 
 pub returns-in_err-size-clause-write_fault : goal.returns-in_err-size-clause-write_fault
@@ -103,19 +103,19 @@ returns-in_err-size-clause-write_fault g c = λ sound endless.
     if_err_same c.from_residual.result fault
     (λ (r : Result Ended ServeFault). ReportsFaultInTurn g.W.SteadyWrite.seen Does (λ count. count ≤ c.args.turns) c.args.writer.now c.answer_next.new.writer
     (IsErrAnd r (λ fault. (written : ℕ) × (fault ≡ faults.Write written)))) c.from_residual.ensures.1
-    (told_next g.W.SteadyWrite.seen Does (λ count. count ≤ c.args.turns) c.args.writer.now c.loop.writer c.answer_next.new.writer c.loop.counter _ _ now.0 c.loop.invariant.within (omega (arith, c.loop-test.true))
+    (reported_next g.W.SteadyWrite.seen Does (λ count. count ≤ c.args.turns) c.args.writer.now c.loop.writer c.answer_next.new.writer c.loop.counter _ _ now.0 c.loop.invariant.within (omega (arith, c.loop-test.true))
     (c.in_err-size.ensures.write_fault now.0.sound now.1).0 (λ e. e) (λ e. e))
 
 pub returns-in-None-clause-read_fault : goal.returns-in-None-clause-read_fault
 returns-in-None-clause-read_fault g c = λ sound.
     let now = c.loop.invariant.reads sound in
-    told_next g.R.SteadyRead.seen (ReadsFrame g.R.Read.remaining) (λ count. count ≤ c.args.turns) c.args.reader.now c.loop.reader c.answer_next.new.reader c.loop.counter _ _ now c.loop.invariant.within (omega (arith, c.loop-test.true))
+    reported_next g.R.SteadyRead.seen (ReadsFrame g.R.Read.remaining) (λ count. count ≤ c.args.turns) c.args.reader.now c.loop.reader c.answer_next.new.reader c.loop.counter _ _ now c.loop.invariant.within (omega (arith, c.loop-test.true))
     (c.in_ok-size.ensures.read_fault now.sound) (λ e. absurd cc) (λ e. absurd cc)
 
 pub returns-in-None-clause-write_fault : goal.returns-in-None-clause-write_fault
 returns-in-None-clause-write_fault g c = λ sound endless.
     let now = c.loop.invariant.writes sound endless in
-    told_next g.W.SteadyWrite.seen (WritesReply g.W.Write.contents) (λ count. count ≤ c.args.turns) c.args.writer.now c.loop.writer c.answer_next.new.writer c.loop.counter _ _ now.0 c.loop.invariant.within (omega (arith, c.loop-test.true))
+    reported_next g.W.SteadyWrite.seen (WritesReply g.W.Write.contents) (λ count. count ≤ c.args.turns) c.args.writer.now c.loop.writer c.answer_next.new.writer c.loop.counter _ _ now.0 c.loop.invariant.within (omega (arith, c.loop-test.true))
     (c.in_ok-size.ensures.write_fault now.0.sound now.1).0 (λ e. absurd e) (λ e. absurd e)
 
 pub returns-clause-outcome : goal.returns-clause-outcome
@@ -125,11 +125,11 @@ returns-clause-outcome g c = λ setting history stands.
 
 pub returns-clause-read_fault : goal.returns-clause-read_fault
 returns-clause-read_fault g c = λ sound.
-    told_idle g.R.SteadyRead.seen (ReadsFrame g.R.Read.remaining) (λ count. count ≤ c.args.turns) c.args.reader.now c.loop.reader c.loop.counter _ (c.loop.invariant.reads sound) c.loop.invariant.within (λ e. absurd cc)
+    reported_idle g.R.SteadyRead.seen (ReadsFrame g.R.Read.remaining) (λ count. count ≤ c.args.turns) c.args.reader.now c.loop.reader c.loop.counter _ (c.loop.invariant.reads sound) c.loop.invariant.within (λ e. absurd cc)
 
 pub returns-clause-write_fault : goal.returns-clause-write_fault
 returns-clause-write_fault g c = λ sound endless.
-    told_idle g.W.SteadyWrite.seen (WritesReply g.W.Write.contents) (λ count. count ≤ c.args.turns) c.args.writer.now c.loop.writer c.loop.counter _ (c.loop.invariant.writes sound endless).0 c.loop.invariant.within (λ e. absurd e)
+    reported_idle g.W.SteadyWrite.seen (WritesReply g.W.Write.contents) (λ count. count ≤ c.args.turns) c.args.writer.now c.loop.writer c.loop.counter _ (c.loop.invariant.writes sound endless).0 c.loop.invariant.within (λ e. absurd e)
 
 pub returns-clause-goes_on : goal.returns-clause-goes_on
 returns-clause-goes_on g c = λ setting history stands.

@@ -1,5 +1,5 @@
 use Rattle.droid_frame_stream.proofs.Scopes.{counts_begin}
-use Rattle.droid_frame.proofs.StreamCounts.{told_read}
+use Rattle.droid_frame.proofs.StreamCounts.{reported_read}
 use Rattle.droid_frame.proofs.StreamArrivals.{accepted, ended}
 use Rattle.droid_frame.proofs.stream.frame_reader.read_frame.Goals as goal
 
@@ -12,4 +12,4 @@ returns-clause-ended g c = λ input e none. ended _ _ c.next_arrival.result inpu
 pub returns-clause-failed : goal.returns-clause-failed
 returns-clause-failed g c = λ sound.
     let start = (g.R.SteadyRead.seen c.args.reader.now).interruptions in
-    told_read start _ _ c.next_arrival.result (c.next_arrival.ensures.counts start (counts_begin _ _ c.new-retries.ensures sound))
+    reported_read start _ _ c.next_arrival.result (c.next_arrival.ensures.counts start (counts_begin _ _ c.new-retries.ensures sound))

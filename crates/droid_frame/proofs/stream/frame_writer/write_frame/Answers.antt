@@ -5,10 +5,10 @@ use Rattle.std.proofs.KnownBytes.{Appends-trans}
 use Rattle.droid_frame_stream.specs.declared.fault.WriteFault.{WriteFault}
 use Rattle.droid_frame_stream.specs.Writes.{StopsWithin, Takes}
 use Rattle.droid_frame_stream.proofs.Scopes.{counts_begin}
-use Rattle.droid_frame_stream.proofs.Stopping.{told_stop}
+use Rattle.droid_frame_stream.proofs.Stopping.{reported_stop}
 use Rattle.droid_frame_values.specs.Frames.{frame_bytes}
 use Rattle.droid_frame.specs.StreamWrites.{Stops}
-use Rattle.droid_frame.proofs.StreamEnds.{first_room, told_last, within_part}
+use Rattle.droid_frame.proofs.StreamEnds.{first_room, reported_last, within_part}
 use Rattle.droid_frame.proofs.StreamWrites.{Sent, sent_nothing, sent_more, stops_after, passed_on, on_ok, if_err}
 use Rattle.droid_frame.proofs.stream.frame_writer.write_frame.Goals as goal
 
@@ -33,7 +33,7 @@ returns-in_err-write_all-clause-failed g c = λ sound.
     let parts : frame_bytes frame ≡ [] ++ (c.to_bytes.result ++ frame.body) = rw (c.to_bytes.ensures, c.len.ensures) refl in
     let stops : Stops old new (frame_bytes frame) fault.written =
     stops_after old old new [] c.to_bytes.result frame.body (frame_bytes frame) c.new-progress.result.written fault.written (sent_nothing old _ none) c.in_err-write_all.ensures.err parts in
-    told_stop start _ _ _ fault.written _ _ c.from_residual.ensures.0 (first_room _ _ c.new-progress.result.written fault.written none c.in_err-write_all.ensures.room_err) stops.some_left
+    reported_stop start _ _ _ fault.written _ _ c.from_residual.ensures.0 (first_room _ _ c.new-progress.result.written fault.written none c.in_err-write_all.ensures.room_err) stops.some_left
     (c.in_err-write_all.ensures.counts start (counts_begin _ _ c.new-progress.ensures.retries sound))
 
 pub returns-clause-ok : goal.returns-clause-ok
@@ -73,6 +73,6 @@ returns-clause-failed g c = λ sound.
     let room : Takes (g.W.SteadyWrite.room c.args.writer.now) (g.W.SteadyWrite.room c.write_all.new.writer) before = rw sent c.in_ok-write_all.ensures.room_ok in
     let parts : header ++ body ≡ frame_bytes frame = rw (c.to_bytes.ensures, c.len.ensures, c.as_slice.ensures.value) refl in
     let size : length (frame_bytes frame) ≡ before + length body = omega (arith, ap length parts, sent, length-append header body) in
-    told_last start _ _ _ _ before (length body) _ _ c.write_all-2.result room size c.write_all-2.ensures.room_ok c.write_all-2.ensures.room_err
+    reported_last start _ _ _ _ before (length body) _ _ c.write_all-2.result room size c.write_all-2.ensures.room_ok c.write_all-2.ensures.room_err
     (within_part mid new body before (length (frame_bytes frame)) c.write_all-2.result size c.write_all-2.ensures.err)
     (c.write_all-2.ensures.counts start (c.in_ok-write_all.ensures.counts start (counts_begin _ _ c.new-progress.ensures.retries sound)))

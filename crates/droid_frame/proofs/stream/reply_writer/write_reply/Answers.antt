@@ -8,8 +8,8 @@ use Rattle.droid_frame.specs.StreamWrites.{Stops}
 use Rattle.droid_frame_stream.specs.Writes.{StopsWithin}
 use Rattle.droid_frame_stream.specs.Writes.{Takes}
 use Rattle.droid_frame_stream.proofs.Scopes.{counts_begin}
-use Rattle.droid_frame_stream.proofs.Stopping.{takes_more, told_stop}
-use Rattle.droid_frame.proofs.StreamEnds.{first_room, takes_before, told_last, within_part}
+use Rattle.droid_frame_stream.proofs.Stopping.{takes_more, reported_stop}
+use Rattle.droid_frame.proofs.StreamEnds.{first_room, takes_before, reported_last, within_part}
 use Rattle.droid_frame.proofs.ReplyFronts.{rest_spelled}
 use Rattle.droid_frame.proofs.ReplyWrites.{frame_size, all_sent, frame_is, rest_room, stops_in_front, stops_in_header, stops_in_rest}
 use Rattle.droid_frame.proofs.StreamWrites.{Sent, if_err, on_ok, passed_on, sent_more, sent_nothing}
@@ -37,7 +37,7 @@ returns-in_err-write_all-clause-failed g c = λ sound.
     let none = c.new-progress.ensures.written in
     let is = frame_is c.args.version c.args.client c.args.number c.kind.result c.reply_body_len.result reply c.to_bytes.result (reply_front c.args.version reply) c.kind.ensures c.reply_body_len.ensures.length c.to_bytes.ensures refl in
     let stops : Stops old new frame fault.written = stops_in_header old new frame c.to_bytes.result (reply_front c.args.version reply) (reply_rest reply) _ fault.written is none c.in_err-write_all.ensures.err in
-    told_stop start _ _ _ fault.written _ _ c.from_residual.ensures.0 (first_room _ _ c.new-progress.result.written fault.written none c.in_err-write_all.ensures.room_err) stops.some_left
+    reported_stop start _ _ _ fault.written _ _ c.from_residual.ensures.0 (first_room _ _ c.new-progress.result.written fault.written none c.in_err-write_all.ensures.room_err) stops.some_left
     (c.in_err-write_all.ensures.counts start (counts_begin _ _ c.new-progress.ensures.retries sound))
 
 pub returns-in_err-write_all-2-clause-err : goal.returns-in_err-write_all-2-clause-err
@@ -72,7 +72,7 @@ returns-in_err-write_all-2-clause-failed g c = λ sound.
     let sent : Sent old mid header before = sent_more old old mid [] header c.new-progress.result.written before (sent_nothing old _ c.new-progress.ensures.written) c.in_ok-write_all.ensures.ok c.in_ok-write_all.ensures.counted in
     let stops : Stops old new frame fault.written = stops_in_front old mid new frame header front (reply_rest reply) before fault.written is sent c.in_err-write_all-2.ensures.err in
     let room : Takes (g.W.SteadyWrite.room c.args.writer.now) (g.W.SteadyWrite.room c.write_all.new.writer) before = rw sent.counted c.in_ok-write_all.ensures.room_ok in
-    told_stop start _ _ _ fault.written _ _ c.from_residual-in_err-write_all-2.ensures.0 (takes_before _ _ _ before fault.written room c.in_err-write_all-2.ensures.room_err c.in_err-write_all-2.ensures.err.counts_on) stops.some_left
+    reported_stop start _ _ _ fault.written _ _ c.from_residual-in_err-write_all-2.ensures.0 (takes_before _ _ _ before fault.written room c.in_err-write_all-2.ensures.room_err c.in_err-write_all-2.ensures.err.counts_on) stops.some_left
     (c.in_err-write_all-2.ensures.counts start (c.in_ok-write_all.ensures.counts start (counts_begin _ _ c.new-progress.ensures.retries sound)))
 
 pub write_rest-requires-clause-spelling : goal.write_rest-requires-clause-spelling
@@ -152,6 +152,6 @@ returns-clause-failed g c = λ sound.
     let one : Takes (g.W.SteadyWrite.room c.args.writer.now) (g.W.SteadyWrite.room c.write_all.new.writer) before = rw sent c.in_ok-write_all.ensures.room_ok in
     let room : Takes (g.W.SteadyWrite.room c.args.writer.now) (g.W.SteadyWrite.room c.write_all-2.new.writer) after = rw both (takes_more _ _ _ _ _ one c.in_ok-write_all-2.ensures.room_ok) in
     let size : length frame ≡ after + length rest = frame_size frame header front rest before after is sent both in
-    told_last start _ _ _ _ after (length rest) _ _ c.write_rest.result room size c.write_rest.ensures.room_ok c.write_rest.ensures.room_err
+    reported_last start _ _ _ _ after (length rest) _ _ c.write_rest.result room size c.write_rest.ensures.room_ok c.write_rest.ensures.room_err
     (within_part next new rest after (length frame) c.write_rest.result size c.write_rest.ensures.err)
     (c.write_rest.ensures.counts start (c.in_ok-write_all-2.ensures.counts start (c.in_ok-write_all.ensures.counts start (counts_begin _ _ c.new-progress.ensures.retries sound))))

@@ -2,10 +2,10 @@
 use Rattle.std.proofs.Common.{sym, arith}
 use Rattle.std.specs.List.{flat_map}
 use Rattle.droid_pronom_pattern.specs.Cells.{elements_at}
-use Rattle.droid_pronom_pattern.proofs.HeadLemmas.{told_within}
+use Rattle.droid_pronom_pattern.proofs.HeadLemmas.{reported_within}
 use Rattle.droid_pronom_pattern.proofs.pattern.Pattern.settled_from.Goals as goal
 
 pub returns : goal.returns
 returns c =
-    told_within c.settled_at.result c.args.self.now (flat_map (elements_at c.deref-2.result.now) c.deref.result.now) c.args.bytes.now c.args.at
+    reported_within c.settled_at.result c.args.self.now (flat_map (elements_at c.deref-2.result.now) c.deref.result.now) c.args.bytes.now c.args.at
     (rw (c.deref.ensures.value, c.deref-2.ensures.value) (sym c.self.view_is)) (omega arith) c.settled_at.ensures

@@ -8,7 +8,7 @@ use Rattle.droid_store.proofs.Closed.{kept_is, closed}
 use Rattle.droid_store.proofs.CountsAfter.{counts_with_reply, counts_without_node, open_is_counted}
 use Rattle.std.proofs.Common.{◌-◌}
 use Rattle.droid_store.proofs.ReadableAfter.{readable_with_reply, readable_without_node}
-use Rattle.droid_store.proofs.ReportedFaults.{told_memory}
+use Rattle.droid_store.proofs.ReportedFaults.{reported_memory}
 use Rattle.droid_store.proofs.Unique.{keys_of}
 use Rattle.droid_store.proofs.store.Store.commit_abandon.Goals as goal
 
@@ -44,4 +44,4 @@ pub returns-in_err-write_abandon-clause-memory : goal.returns-in_err-write_aband
 returns-in_err-write_abandon-clause-memory c small =
     let rows = kept c.self.inside.conn in
     let changed = without_node c.args.profile c.args.file rows in
-    told_memory c.from_residual-in_err-write_abandon.result _ c.from_residual-in_err-write_abandon.ensures.1 (c.in_err-write_abandon.ensures.failure (keys_of rows c.self.invariant.1) (keys_of (with_reply c.args.entry.now changed) (apart_with_reply c.args.entry.now changed (rw (sym c.self.view_is) at c.requires.new) (apart_without_node c.args.profile c.args.file rows c.self.invariant.1))) small c.self.invariant.3)
+    reported_memory c.from_residual-in_err-write_abandon.result _ c.from_residual-in_err-write_abandon.ensures.1 (c.in_err-write_abandon.ensures.failure (keys_of rows c.self.invariant.1) (keys_of (with_reply c.args.entry.now changed) (apart_with_reply c.args.entry.now changed (rw (sym c.self.view_is) at c.requires.new) (apart_without_node c.args.profile c.args.file rows c.self.invariant.1))) small c.self.invariant.3)

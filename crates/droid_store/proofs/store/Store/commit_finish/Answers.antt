@@ -10,7 +10,7 @@ use Rattle.droid_store.proofs.CountsAfter.{counts_with_reply, counts_with_finish
 use Rattle.std.proofs.Common.{◌-◌}
 use Rattle.std.proofs.lemmas.Str.{IsUtf8-string_bytes}
 use Rattle.droid_store.proofs.ReadableAfter.{is_length, readable_with_reply, readable_with_finished}
-use Rattle.droid_store.proofs.ReportedFaults.{told_memory}
+use Rattle.droid_store.proofs.ReportedFaults.{reported_memory}
 use Rattle.droid_store.proofs.Unique.{keys_of}
 use Rattle.droid_store.proofs.store.Store.commit_finish.Goals as goal
 
@@ -46,4 +46,4 @@ pub returns-in_err-write_finish-clause-memory : goal.returns-in_err-write_finish
 returns-in_err-write_finish-clause-memory c small size =
     let rows = kept c.self.inside.conn in
     let changed = with_finished c.args.profile c.args.file c.args.method c.args.mismatch c.args.hash c.args.puids.now rows in
-    told_memory c.from_residual-in_err-write_finish.result _ c.from_residual-in_err-write_finish.ensures.1 (c.in_err-write_finish.ensures.failure c.args.puids.now c.requires.puids (search rules) (keys_of rows c.self.invariant.1) (keys_of (with_reply c.args.entry.now changed) (apart_with_reply c.args.entry.now changed (rw (sym c.self.view_is) at c.requires.new) (apart_with_finished c.args.profile c.args.file c.args.method c.args.mismatch c.args.hash c.args.puids.now rows c.self.invariant.1))) small (λ n there. size n (subst (λ r. node_at c.args.profile c.args.file r ≡ Some n) c.self.view_is there)) c.self.invariant.3)
+    reported_memory c.from_residual-in_err-write_finish.result _ c.from_residual-in_err-write_finish.ensures.1 (c.in_err-write_finish.ensures.failure c.args.puids.now c.requires.puids (search rules) (keys_of rows c.self.invariant.1) (keys_of (with_reply c.args.entry.now changed) (apart_with_reply c.args.entry.now changed (rw (sym c.self.view_is) at c.requires.new) (apart_with_finished c.args.profile c.args.file c.args.method c.args.mismatch c.args.hash c.args.puids.now rows c.self.invariant.1))) small (λ n there. size n (subst (λ r. node_at c.args.profile c.args.file r ≡ Some n) c.self.view_is there)) c.self.invariant.3)

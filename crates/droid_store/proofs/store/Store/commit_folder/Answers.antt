@@ -10,7 +10,7 @@ use Rattle.std.proofs.lemmas.Int.{to_z-of_z}
 use Rattle.std.specs.Int.{w64}
 use Rattle.droid_store.specs.Ranges.{NodeFits}
 use Rattle.droid_store.proofs.ReadableAfter.{readable_with_reply, readable_with_node}
-use Rattle.droid_store.proofs.ReportedFaults.{told_memory}
+use Rattle.droid_store.proofs.ReportedFaults.{reported_memory}
 use Rattle.droid_store.proofs.Unique.{keys_of}
 use Rattle.droid_store.proofs.store.Store.commit_folder.Goals as goal
 
@@ -41,4 +41,4 @@ pub returns-in_err-write_node-clause-memory : goal.returns-in_err-write_node-cla
 returns-in_err-write_node-clause-memory c small size =
     let rows = kept c.self.inside.conn in
     let changed = with_node (new_folder c.args.profile c.args.id c.args.parent c.args.modified c.args.name.now c.args.path.now) rows in
-    told_memory c.from_residual-in_err-write_node.result _ c.from_residual-in_err-write_node.ensures.1 ((rw (to_z-of_z w64 c.args.modified c.ranges.modified) at c.in_err-write_node.ensures.failure) (keys_of rows c.self.invariant.1) (keys_of (with_reply c.args.entry.now changed) (apart_with_reply c.args.entry.now changed (rw (sym c.self.view_is) at c.requires.new) (apart_with_node (new_folder c.args.profile c.args.id c.args.parent c.args.modified c.args.name.now c.args.path.now) rows (rw (sym c.self.view_is) at c.requires.next) (rw (sym c.self.view_is) at c.requires.free) c.self.invariant.1))) small size c.self.invariant.3)
+    reported_memory c.from_residual-in_err-write_node.result _ c.from_residual-in_err-write_node.ensures.1 ((rw (to_z-of_z w64 c.args.modified c.ranges.modified) at c.in_err-write_node.ensures.failure) (keys_of rows c.self.invariant.1) (keys_of (with_reply c.args.entry.now changed) (apart_with_reply c.args.entry.now changed (rw (sym c.self.view_is) at c.requires.new) (apart_with_node (new_folder c.args.profile c.args.id c.args.parent c.args.modified c.args.name.now c.args.path.now) rows (rw (sym c.self.view_is) at c.requires.next) (rw (sym c.self.view_is) at c.requires.free) c.self.invariant.1))) small size c.self.invariant.3)

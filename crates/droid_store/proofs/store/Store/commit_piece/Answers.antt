@@ -7,7 +7,7 @@ use Rattle.droid_store.proofs.ApartAfter.{apart_with_reply}
 use Rattle.droid_store.proofs.Closed.{kept_is, closed}
 use Rattle.droid_store.proofs.CountsAfter.{counts_with_reply}
 use Rattle.droid_store.proofs.ReadableAfter.{readable_with_reply}
-use Rattle.droid_store.proofs.ReportedFaults.{told_memory}
+use Rattle.droid_store.proofs.ReportedFaults.{reported_memory}
 use Rattle.droid_store.proofs.Unique.{keys_of}
 use Rattle.droid_store.proofs.store.Store.commit_piece.Goals as goal
 
@@ -37,4 +37,4 @@ pub returns-in_err-write_reply-clause-memory : goal.returns-in_err-write_reply-c
 returns-in_err-write_reply-clause-memory c small =
     let rows = kept c.self.inside.conn in
     let changed = rows in
-    told_memory c.from_residual-in_err-write_reply.result _ c.from_residual-in_err-write_reply.ensures.1 (c.in_err-write_reply.ensures.failure (keys_of (with_reply c.args.entry.now changed) (apart_with_reply c.args.entry.now changed (rw (sym c.self.view_is) at c.requires.new) (c.self.invariant.1))) small c.self.invariant.3)
+    reported_memory c.from_residual-in_err-write_reply.result _ c.from_residual-in_err-write_reply.ensures.1 (c.in_err-write_reply.ensures.failure (keys_of (with_reply c.args.entry.now changed) (apart_with_reply c.args.entry.now changed (rw (sym c.self.view_is) at c.requires.new) (c.self.invariant.1))) small c.self.invariant.3)

@@ -7,7 +7,7 @@ use Rattle.droid_store.proofs.ApartAfter.{apart_with_reply, apart_with_profile}
 use Rattle.droid_store.proofs.Closed.{kept_is, closed}
 use Rattle.droid_store.proofs.CountsAfter.{counts_with_reply, counts_with_profile}
 use Rattle.droid_store.proofs.ReadableAfter.{readable_with_reply, readable_with_profile}
-use Rattle.droid_store.proofs.ReportedFaults.{told_memory}
+use Rattle.droid_store.proofs.ReportedFaults.{reported_memory}
 use Rattle.droid_store.proofs.Unique.{keys_of}
 use Rattle.droid_store.proofs.store.Store.commit_profile.Goals as goal
 
@@ -37,4 +37,4 @@ pub returns-in_err-write_profile-clause-memory : goal.returns-in_err-write_profi
 returns-in_err-write_profile-clause-memory c small =
     let rows = kept c.self.inside.conn in
     let changed = with_profile c.args.scan_limit c.args.match_all c.args.hash rows in
-    told_memory c.from_residual-in_err-write_profile.result _ c.from_residual-in_err-write_profile.ensures.1 (c.in_err-write_profile.ensures.failure (keys_of rows c.self.invariant.1) (keys_of (with_reply c.args.entry.now changed) (apart_with_reply c.args.entry.now changed (rw (sym c.self.view_is) at c.requires.new) (apart_with_profile c.args.scan_limit c.args.match_all c.args.hash rows c.self.invariant.1))) small c.self.invariant.3)
+    reported_memory c.from_residual-in_err-write_profile.result _ c.from_residual-in_err-write_profile.ensures.1 (c.in_err-write_profile.ensures.failure (keys_of rows c.self.invariant.1) (keys_of (with_reply c.args.entry.now changed) (apart_with_reply c.args.entry.now changed (rw (sym c.self.view_is) at c.requires.new) (apart_with_profile c.args.scan_limit c.args.match_all c.args.hash rows c.self.invariant.1))) small c.self.invariant.3)

@@ -1,7 +1,7 @@
 use Rattle.std.proofs.Common.{◌∙◌, sym}
 use Rattle.csv.specs.Records.{fields_of}
 use Rattle.droid_pronom.specs.RegistryRecords.{miscounted}
-use Rattle.droid_pronom.proofs.RegistrySteps.{tells_step, unreported}
+use Rattle.droid_pronom.proofs.RegistrySteps.{reports_step, unreported}
 use Rattle.droid_pronom.specs.RegistryCalls.{draft_of}
 use Rattle.droid_pronom.proofs.registry.draft.Draft.take.Goals as goal
 
@@ -15,5 +15,5 @@ returns-in_default c =
 
 pub returns : goal.returns
 returns c =
-    tells_step c.judge.result (draft_of c.judge.new.self) (draft_of c.args.self.now) (fields_of c.args.row) _ _ _ _ _ _
+    reports_step c.judge.result (draft_of c.judge.new.self) (draft_of c.args.self.now) (fields_of c.args.row) _ _ _ _ _ _
     (sym c.in-Ok.ensures.same ∙ c.of.ensures) (rw c.in-Ok.ensures.same at c.in-Ok.ensures.text) c.judge.ensures
