@@ -84,7 +84,7 @@ never_store setting history frame reply Stands legal handled same =
     let answered = subst (λ (r : Reply). Handles setting history frame r Stands) same handled in
     answer_no_store setting history frame legal (sym answered.0)
 
--- want of memory, or else what follows from an answer
+-- running out of memory, or else what follows from an answer
 unless_out_of_memory : (b : Bool) {P Q R : Type 0} → MatchBool b ⊤ P → Q → (P → R) → MatchBool b Q R
 unless_out_of_memory true is out_of_memory answered = out_of_memory
 unless_out_of_memory false is out_of_memory answered = answered is

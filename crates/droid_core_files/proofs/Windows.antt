@@ -12,7 +12,7 @@ take_own zero (b ∷ bytes) = refl
 take_own (suc n) [] = refl
 take_own (suc n) (b ∷ bytes) = ap (λ (rest : List ℕ). b ∷ rest) (take_own n bytes)
 
--- what every file with these ends comes to, as the registry tells it
+-- what every file with these ends comes to, as the registry says it
 abbrev pub Tells : Contents → List ℕ → Bool → ℕ → List ℕ → List ℕ → Found → Type 0
 Tells registry name match_all size first last found =
     (file : List ℕ) (scan_limit : ℕ) → length file ≡ size → min scan_limit size ≡ length first → take (length first) file ≡ first → drop (size - length first) file ≡ last → IsFound registry name file scan_limit match_all found

@@ -96,7 +96,7 @@ module _ (setting : Setting) (world : World) (version number id : ℕ) (row : Fi
   abbrev reply_and_world : Verdict
   reply_and_world = Accepted (finished_reply (finding_of setting has.profile has.name has.content)) (world_set world number (node_set has.profile id (File has.parent has.modified has.name (as_finished has.content))))
 
-  -- of a hash that no reply of its version can tell
+  -- of a hash that no reply of its version can carry
   pub refused_unreported : is_unfinished row.node.state ≡ true → is_carried version row.profile.hash ≡ false → judge_finish setting world version number id ≡ Refuses BadOption
   refused_unreported is unreported =
       let of_profile = ap (λ (p : ProfileRow). is_carried version p.hash) (sym has.profile_is) ∙ unreported in

@@ -21,7 +21,7 @@ use Rattle.droid_core_state.specs.declared.stamps.Stamp.{Stamp}
 use Rattle.droid_core_requests.specs.LookUps.{HasFile, for_file}
 use Rattle.droid_core_requests.proofs.FileVerdicts.{judged_there, unfinished_there, finished_there}
 
--- a call that tells nothing only where something is so that isn't
+-- a call that reports nothing only where something is so that isn't
 pub reported_at_all : {P : Type 0} (reported : Result Reply Refusal) → OnErr reported P → (P → ⊥) → IsOk reported
 reported_at_all (Ok reply) none isnt = refl
 reported_at_all (Err refusal) none isnt = absurd (isnt none)
@@ -59,7 +59,7 @@ module _ (setting : Setting) (world : World) (number id : ℕ) (row : FileRow) (
       reported_there ∙ ap Answered (sym (reports world has.profile has.parent has.modified has.name has.content assembled has.there has.at (unfinished_there world number id row has is)))
   of_progress files assembled is (Err refusal) reports = tt
 
-  -- of an unfinished file its assembly tells
+  -- of an unfinished file its assembly says
   pub unfinished_reported : (old new : Holdings) (stamp : Stamp) → Stays setting world old new → HasAssemblies world old.files → is_unfinished row.node.state ≡ true
       → (reported : Result Reply Refusal) → IfOk reported (TellsProgress old.files) → IsOk reported
       → Comes setting world old new stamp (judge_status world number id) (answered reported)

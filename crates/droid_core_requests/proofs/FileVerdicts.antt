@@ -38,7 +38,7 @@ module _ (world : World) (number id : ℕ) (row : FileRow) (has : HasFile world 
     | inr isnt ↦ rw isnt refl
   ]
 
-  -- its row tells whether it is finished
+  -- its row says whether it is finished
   pub finished_by_row : is_unfinished row.node.state ≡ not has.content.finished
   finished_by_row = ap is_unfinished has.state_is ∙ shown has.content
 

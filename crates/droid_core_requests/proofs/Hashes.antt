@@ -1,4 +1,4 @@
--- The hash of a file is of its profile's choice, and where a reply of the version can tell that choice, the hash has a spelling.
+-- The hash of a file is of its profile's choice, and where a reply of the version can carry that choice, the hash has a spelling.
 use Rattle.std.proofs.Common.{◌≡◌, ◌==◌, List, ℕ, Bool, cond, true, false, Option, Some, option_map, refl, sym, ap}
 use Rattle.std.specs.Prelude.{Result, Ok, IfOk, MatchBool}
 use Rattle.droid_frame.specs.Hashes.{IsHashValue, hash, hash_value_kind}
@@ -15,7 +15,7 @@ kind_of_hash kinds.Nothing bytes = refl
 kind_of_hash kinds.Md5 bytes = refl
 kind_of_hash kinds.Sha256 bytes = refl
 
--- a kind that the version's Finished can tell is one that the version tells of
+-- a kind that the version's Finished can carry is one that the version has
 reported_as_md5 : (first : Bool) (kind : HashKind) → cond first (is_md5 kind) true ≡ true → MatchBool first (kind ≡ kinds.Md5) (Unit {0})
 reported_as_md5 true kinds.Nothing reported = absurd cc
 reported_as_md5 true kinds.Md5 reported = refl

@@ -43,7 +43,7 @@ pub stays_as : (setting : Setting) (world : World) (old : Holdings) (store : Row
     → Stays setting world old (record old { store = store; files = files })
 stays_as setting world old store files same_store same_files is_in = rw (same_store, same_files) (record { world_is = is_in; replies = refl })
 
--- a want, and nothing changed
+-- memory ran out, and nothing changed
 pub comes_out_of_memory : (setting : Setting) (world : World) (old new : Holdings) (stamp : Stamp) (verdict : Verdict) (refusal : Refusal) → refusal ≡ Memory → Stays setting world old new
     → Comes setting world old new stamp verdict (replies.Refused refusal)
 comes_out_of_memory setting world old new stamp verdict refusal memory stays = rw memory stays

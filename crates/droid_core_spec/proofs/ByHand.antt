@@ -197,7 +197,7 @@ pub records_of_a_profile : records_shown (world_from usual empty_world (
 unfolding judge judge_create judge_folder judge_file judge_piece judge_finish judge_abandon judge_status judge_export is_scan_limit is_piece_size is_part_size is_too_large is_moment is_bad_name is_missing is_file is_too_deep is_taken missing file_bytes
 records_of_a_profile = refl
 
--- an export is told which hash its profile's files get; a file whose hash no reply of version 1 can tell isn't finished in it
+-- an export states which hash its profile's files get; a file whose hash no reply of version 1 can carry isn't finished in it
 abbrev every_record : Filter
 every_record = record { all = true; criteria = [] }
 

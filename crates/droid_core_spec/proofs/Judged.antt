@@ -1,4 +1,4 @@
--- What judging a request comes to by its kind: a command is accepted, a query told, or it is refused by a refusal of judging.
+-- What judging a request comes to by its kind: a command is accepted, a query answered, or it is refused by a refusal of judging.
 use Rattle.std.proofs.Common.{◌≡◌, ℕ, ℤ, ◌+◌, Bool, true, false, cond, List, [], ◌∷◌, ◌++◌, length, take, drop, Option, Some, None, refl, ap}
 use Rattle.droid_frame.specs.types.filter.Filter.{Filter}
 use Rattle.droid_frame.specs.types.refusal.Refusal.{Refusal}
@@ -112,7 +112,7 @@ judged setting world version (Export number from max filter) =
 pub judged_as : (setting : Setting) (world : World) (version : ℕ) (request : Request) (verdict : Verdict) → judge setting world version request ≡ verdict → MayCome world request verdict
 judged_as setting world version request verdict is = rw (← is) (judged setting world version request)
 
--- ---- the number that a part of an export tells
+-- ---- the number that a part of an export reports
 
 abbrev part_number : Verdict → ℕ
 part_number (Answered (replies.Part as_of total bytes)) = as_of

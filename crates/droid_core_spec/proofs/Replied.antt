@@ -1,4 +1,4 @@
--- What is answered in a history: never want of memory, nothing new after a refusal, and an accepted reply for ever.
+-- What is answered in a history: never running out of memory, nothing new after a refusal, and an accepted reply for ever.
 use Rattle.std.proofs.Common.{◌≡◌, ◌≢◌, ℕ, ◌==◌, Bool, true, false, cond, List, [], ◌∷◌, ◌++◌, find, Option, Some, None, IsSome, refl, sym, ap, subst, ◌∙◌, append-nil}
 use Rattle.std.specs.Option.{option_or}
 use Rattle.std.proofs.lemmas.Bool.{and_parts, eq-eqb, eqb-true}
@@ -22,7 +22,7 @@ use Rattle.droid_core_spec.proofs.Judged.{judged, judged_as}
 use Rattle.droid_core_spec.proofs.Legal.{kept_came}
 use Rattle.droid_core_spec.proofs.Meetings.{answer_kept, next_kept, answer_new, next_new, whatever_meets}
 
--- ---- no want
+-- ---- never out of memory
 
 no_memory_fault_of : (refusal : Refusal) → is_of_judging refusal ≡ true → is_out_of_memory_of refusal ≡ false
 no_memory_fault_of Memory is = absurd cc

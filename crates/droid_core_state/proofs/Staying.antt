@@ -1,4 +1,4 @@
--- A service that stays in its world, and what a refusal or want of memory leaves.
+-- A service that stays in its world, and what a refusal or running out of memory leaves.
 use Rattle.std.proofs.Common.{◌≡◌, Bool, true, false, refl, ap}
 use Rattle.std.specs.Prelude.{MatchBool, ⊤}
 use Rattle.droid_frame.specs.types.refusal.Refusal.{Refusal}

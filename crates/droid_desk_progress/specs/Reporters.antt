@@ -1,4 +1,4 @@
--- What a reporter does with what it is told (this project's own).
+-- What a reporter does with what it learns (this project's own).
 use Rattle.std.specs.Prelude.{ℕ}
 use Rattle.droid_tree.specs.Heard.{Heard}
 use Rattle.droid_desk_progress.specs.Rhythms.{IsReported}

@@ -43,7 +43,7 @@ abbrev pub after_found : Reply → Counts → Counts
 after_found (replies.Finished method mismatch hash puids) counts = after_mismatch mismatch (after_method method counts)
 after_found other counts = counts
 
--- the watcher was told this
+-- the watcher was informed of this
 abbrev pub after_heard : Heard → Counts → Counts
 after_heard (Left path why) counts = after_skipped counts
 after_heard (Held path count) counts = after_held count counts

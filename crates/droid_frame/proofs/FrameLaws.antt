@@ -1,4 +1,4 @@
--- A header, and a frame, is told by its spelling, whatever follows it.
+-- A header, and a frame, is determined by its spelling, whatever follows it.
 use Rattle.std.proofs.Common.{◌≡◌, ℕ, List, ◌++◌, length, take, drop, Option, Some, refl, sym, ap, ◌∙◌, arith}
 use Rattle.std.proofs.lemmas.List.{take_at, drop_at}
 use Rattle.droid_frame_values.specs.declared.frame.Frame.{Frame}
@@ -14,7 +14,7 @@ use Rattle.droid_frame.proofs.BodyLimits.{limit_at_most}
 some_is : {A : Type 0} (x y : A) → Some x ≡ Some y → x ≡ y
 some_is x y e = cc
 
--- the value of a field, and what follows it, are told by the bytes
+-- the value of a field, and what follows it, are determined by the bytes
 reported_field : {A : Type 0} {at : List ℕ → Option (A × List ℕ)} {spelled : A → List ℕ} {HasOne : A → Type 0} → IsField at spelled HasOne
     → (a b : A) (r s : List ℕ) → HasOne a → HasOne b → spelled a ++ r ≡ spelled b ++ s → (a ≡ b) × (r ≡ s)
 reported_field {A} {at} field a b r s has_a has_b e =

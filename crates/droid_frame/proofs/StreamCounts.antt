@@ -23,7 +23,7 @@ counts_judged start seen count TooLong other counts = counts
 counts_judged start seen count Memory other counts = counts
 counts_judged start seen count Read other counts = absurd (other refl)
 
--- what a whole frame tells of its reader
+-- what a whole frame says of its reader
 pub reported_read : (start : ℕ) (seen : Seen) (count : ℕ) (r : Result Arrival FrameFault) → ReadsOn start seen count r → ReportsFault start seen (IsErrOf r Read)
 reported_read start seen count (Ok arrival) counts = reported_none start seen count _ (λ e. absurd cc) counts
 reported_read start seen count (Err Truncated) counts = reported_none start seen count _ (λ e. absurd cc) counts

@@ -1,4 +1,4 @@
--- What a frame that was written in parts tells of its writer.
+-- What a frame that was written in parts says of its writer.
 use Rattle.std.proofs.Common.{◌≡◌, ℕ, ◌+◌, ◌-◌, ◌<◌, ◌≤◌, List, length, Option, Result, Ok, Err, OnOk, IfErr, IsErr, refl, sym, subst, arith}
 use Rattle.std.specs.Prelude.{IsErrAnd}
 use Rattle.droid_frame_stream.specs.declared.fault.WriteFault.{WriteFault}

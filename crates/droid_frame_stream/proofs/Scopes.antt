@@ -22,7 +22,7 @@ pub given_up : {T E : Type 0} (start : ℕ) (seen : Seen) (count : ℕ) (r : Res
 given_up start seen count (Ok value) P is up = absurd is
 given_up start seen count (Err fault) P is up = up
 
--- the fault of the stream is told where it is given up, and no other answer is that fault
+-- the fault of the stream is reported where it is given up, and no other answer is that fault
 pub reported_fault : (start : ℕ) (seen : Seen) (is_fault : Type 0) → is_fault → GivesUp start seen → ReportsFault start seen is_fault
 reported_fault start seen is_fault is up = record { fault = λ _. up; otherwise = λ not. absurd (not is) }
 

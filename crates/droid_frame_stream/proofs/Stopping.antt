@@ -42,7 +42,7 @@ pub given_up_only : (start : ℕ) (seen : Seen) (room : Option ℕ) → WriterSt
 given_up_only start seen room (inl up) none = up
 given_up_only start seen room (inr full) none = absurd (let same = sym none ∙ full.full in cc)
 
--- ---- what a whole frame or text tells
+-- ---- what a whole frame or text says
 
 -- some bytes were left where the writer stopped
 pub reported_stop : (start : ℕ) (seen : Seen) (before after : Option ℕ) (written size : ℕ) (is_fault : Type 0)

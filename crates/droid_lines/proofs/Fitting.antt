@@ -178,6 +178,6 @@ same true b to from = let e : b ≡ true = to refl in rw e refl
 same false true to from = from refl
 same false false to from = refl
 
--- what tells whether a request fits is the test
+-- what decides whether a request fits is the test
 pub test_is : (reported : Bool) (version : ℕ) (request : Request) → (reported ≡ true → Fits version request) → (Fits version request → reported ≡ true) → reported ≡ request_fits version request
 test_is reported version request to from = same reported (request_fits version request) (λ e. passes version request (to e)) (λ e. from (fits version request e))

@@ -51,7 +51,7 @@ place_below words p h =
           )
     ]
 
--- a place is told by its word alone
+-- a place is determined by its word alone
 pub place_same : (a b : List ℕ) (p : ℕ) → get_or a (p / 64) 0 ≡ get_or b (p / 64) 0 → IsPlace a p ↔ IsPlace b p
 unfolding IsPlace
 place_same a b p e = rw e (λ h. h, λ h. h)

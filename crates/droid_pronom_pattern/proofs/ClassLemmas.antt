@@ -23,7 +23,7 @@ set_bit word k j below =
           (λ h. inl (sym stays ∙ h), λ h. ⊎_elim (λ e. stays ∙ e) (λ e. absurd (other e)) h)
     ]
 
--- the first bits of a word, so many of them, tell what T says
+-- the first bits of a word, so many of them, say what T says
 abbrev pub Tells : (ℕ → Type 0) → ℕ → ℕ → Type 0
 Tells T count word = (i : ℕ) → i < 64 → (bit_at word i ≡ 1) ↔ ((i < count) × T i)
 

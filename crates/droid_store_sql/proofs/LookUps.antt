@@ -28,7 +28,7 @@ no_store_error Full e = cc
 no_store_error Broken e = cc
 no_store_error Unstorable e = cc
 
--- only an answer of no rows is told as that
+-- only an answer of no rows is reported as that
 pub never_fails_so : (sql : List ℕ) (params : Row) (old new : State) (q : Program) (names : List (List ℕ)) → IsPlain (understood old.now.schema sql) → command_of (understood old.now.schema sql) ≡ Select q names
     → FailsToQuery sql params old new QueryReturnedNoRows → ⊥
 unfolding FailsToQuery IsNotRun

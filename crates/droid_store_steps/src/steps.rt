@@ -1,4 +1,4 @@
-//! Commands as the store is told of them, written out so that tests can be tables.
+//! Commands as the store is informed of them, written out so that tests can be tables.
 
 use droid_frame::{Blob, HashKind, HashValue, Method};
 use droid_store::Entry;

@@ -1,4 +1,4 @@
-//! Names are told apart byte for byte, in each folder of each profile.
+//! Names are distinguished byte for byte, in each folder of each profile.
 
 use droid_frame::HashKind;
 use droid_store::Store;

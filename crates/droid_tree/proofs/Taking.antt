@@ -78,11 +78,11 @@ module _ {X W : Type 0} (asks : X → Asked → X → Type 0) (hears : W → Hea
         first : asks exchange (AddFile profile folder.number entry.modified entry.len piece_size entry.name, replies.Node number) announced
         first = subst (λ (r : Request). asks exchange (r, replies.Node number) announced) file_asked added.0
 
-        -- what the watcher was told of the pieces at this path, it was told of the entry's pieces
+        -- what the watcher was informed of the pieces at this path, it was informed of the entry's pieces
         pieces_here : (pieces : List Sent) (w v : W) → GoesOver hears w (pieces_heard path pieces) v → GoesOver hears w (pieces_heard (below folder.path entry.name) pieces) v
         pieces_here pieces w v heard = subst (λ (p : List ℕ). GoesOver hears w (pieces_heard p pieces) v) here heard
 
-        -- the same, if the watcher was told nothing before
+        -- the same, if the watcher was informed of nothing before
         pieces_first : (pieces : List Sent) (w : W) → GoesOver hears watcher_now (pieces_heard path pieces) w → GoesOver hears watcher (pieces_heard (below folder.path entry.name) pieces) w
         pieces_first pieces w heard = pieces_here pieces watcher w (subst (λ (v : W). GoesOver hears v (pieces_heard path pieces) w) added.1 heard)
 

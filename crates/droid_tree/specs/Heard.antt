@@ -1,4 +1,4 @@
--- What a watcher is told during a walk (this project's own).
+-- What a watcher learns during a walk (this project's own).
 use Rattle.std.specs.Prelude.{ℕ, List}
 use Rattle.droid_frame.specs.types.reply.Reply.{Reply}
 use Rattle.droid_tree.specs.declared.skipped.Skipped.{Skipped}

@@ -19,7 +19,7 @@ use Rattle.droid_tree.specs.declared.pending_folder.PendingFolder.{PendingFolder
 -- ---- a new node
 
 -- the service gave the new node this number, and the watcher was not called; or it refused the node (not for lack of
--- memory), and the watcher was told
+-- memory), and the watcher was informed
 abbrev pub AddsNode : {X W : Type 0} → (X → Asked → X → Type 0) → (W → Heard → W → Type 0) → List ℕ → Request → Option ℕ → X → X → W → W → Type 0
 AddsNode asks hears path request (Some number) exchange exchange_after watcher watcher_after = asks exchange (request, replies.Node number) exchange_after × (watcher_after ≡ watcher)
 AddsNode asks hears path request None exchange exchange_after watcher watcher_after =
@@ -107,7 +107,7 @@ pub record AsksStatus {X : Type 0} (asks : X → Asked → X → Type 0) (profil
   pub first_is : first ≡ first_missing status
   pub asked : asks exchange (Status profile file, status) exchange_after
 
--- a resumed walk sent Status for a new file, and the watcher was told how many bytes are not read
+-- a resumed walk sent Status for a new file, and the watcher was informed of how many bytes are not read
 pub record ResumesFile {X W : Type 0} (asks : X → Asked → X → Type 0) (hears : W → Heard → W → Type 0) (goes_on : Bool) (profile file piece_size size : ℕ) (path : List ℕ) (first : ℕ) (exchange exchange_after : X) (watcher watcher_after : W) : Type 0 where
   pub goes : goes_on ≡ true
   pub asks_status : AsksStatus asks profile file first exchange exchange_after

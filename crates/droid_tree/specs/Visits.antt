@@ -98,7 +98,7 @@ abbrev pub pieces_from : ℕ → ℕ → ℕ → List Sent → List Asked
 pieces_from profile file index [] = []
 pieces_from profile file index (piece ∷ pieces) = (Piece profile file index piece.0, replies.Taken piece.1) ∷ pieces_from profile file (suc index) pieces
 
--- the watcher is told of each piece: the file's path and the piece's length
+-- the watcher is informed of each piece: the file's path and the piece's length
 abbrev pub pieces_heard : List ℕ → List Sent → List Heard
 pieces_heard path sent = map (λ piece. TookBytes path (length piece.0)) sent
 
@@ -126,7 +126,7 @@ IsStop piece_size size from (NoneCame wanted) = IsRequested piece_size size from
 IsStop piece_size size from (FewerCame wanted bytes) = (from < size) × (wanted ≡ min piece_size (size - from)) × (length bytes < wanted)
 IsStop piece_size size from (MoreCame bytes) = (from ≡ size) × (0 < length bytes)
 
--- the reason that the watcher is told
+-- the reason that the watcher gets
 abbrev pub reason_of : Stop → Skipped
 reason_of (NoneCame wanted) = reasons.Unreadable
 reason_of (FewerCame wanted bytes) = reasons.Changed
@@ -190,7 +190,7 @@ asked_of_kid profile piece_size folder (WholeRest entry number status from sent 
 asked_of_kid profile piece_size folder (DroppedRest entry number status from sent stop) =
     (AddFile profile folder entry.modified entry.len piece_size entry.name, replies.Node number) ∷ asked_rest profile number status sent (Abandon profile number, replies.Abandoned)
 
--- what the watcher is told of it: that it is in the profile, with the reply that finished it, or that it was skipped,
+-- what the watcher is informed of it: that it is in the profile, with the reply that finished it, or that it was skipped,
 -- and why
 abbrev pub heard_of_kid : List ℕ → Kid → List Heard
 heard_of_kid path (Subfolder entry number) = TookFolder (below path entry.name) ∷ []
@@ -289,7 +289,7 @@ observed_of_visit visit = observed_of_folder visit.folder.path visit.observed �
 abbrev pub asked_of_visit : ℕ → ℕ → Visit → List Asked
 asked_of_visit profile piece_size visit = flat_map (asked_of_kid profile piece_size visit.folder.number) visit.kids
 
--- the watcher is told of an unreadable folder too
+-- the watcher is informed of an unreadable folder too
 abbrev pub heard_of_folder : List ℕ → Option (List FolderEntry) → List Heard
 heard_of_folder path None = Left path reasons.Unreadable ∷ []
 heard_of_folder path (Some observed) = []

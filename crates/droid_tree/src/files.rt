@@ -32,7 +32,7 @@ pub(crate) struct Destination {
     pub goes_on: bool,
 }
 
-/// Submits one file. Returns whether it is in the profile; if not, the watcher is told why.
+/// Submits one file. Returns whether it is in the profile; if not, the watcher is informed why.
 pub(crate) fn take_file<T: Tree, X: Exchange, W: Watcher>(
     tree: &mut T,
     exchange: &mut X,

@@ -43,7 +43,7 @@ pub struct Walked {
 }
 
 /// Creates a profile and submits everything in the tree to it. Folders come before what they contain, and the entries
-/// of one folder in the order of their names' bytes. The watcher is told of each entry that is skipped.
+/// of one folder in the order of their names' bytes. The watcher is informed of each entry that is skipped.
 pub fn walk<T: Tree, X: Exchange, W: Watcher>(
     alloc: Global,
     tree: &mut T,
@@ -51,7 +51,7 @@ pub fn walk<T: Tree, X: Exchange, W: Watcher>(
     watcher: &mut W,
     options: Options,
 ) -> Result<Walked, WalkFault>
-    // The requests are those of the tree as it was read, without the skipped entries, and the watcher was told of
+    // The requests are those of the tree as it was read, without the skipped entries, and the watcher was informed of
     // these.
     ensures all { IfOk result (λ walked.
         Walks T.observes X.asks W.hears options walked.profile walked.whole tree.old tree.new exchange.old exchange.new watcher.old watcher.new) }

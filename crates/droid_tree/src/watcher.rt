@@ -5,9 +5,9 @@ ghost use Rattle.droid_tree.specs.Heard.{Heard, Left, Held, TookBytes, TookFolde
 use crate::skipped::Skipped;
 use droid_frame::Reply;
 
-/// Is told what a walk does.
+/// Is informed of what a walk does.
 pub trait Watcher {
-    /// Relates the state before a call, what the watcher was told, and the state after it. By default it relates
+    /// Relates the state before a call, what the watcher was informed, and the state after it. By default it relates
     /// everything.
     ghost hears: { Self → Heard → Self → Type 0 } = { λ old heard new. Unit {0} };
 

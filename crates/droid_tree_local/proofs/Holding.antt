@@ -149,7 +149,7 @@ module _ (setting : Setting) (options : Options) where
         makes = over_more (Makes setting options) nodes first.after rest.after (map (λ (kid : Kid). (visit.folder.number, kid)) visit.kids) (all_kids visits) first.makes rest.makes;
       }
 
-  -- ---- where nothing was left out
+  -- ---- where nothing was skipped
 
   -- an entry is one more node
   record Held (folder : ℕ) (kid : Kid) (nodes : List Node) (own_after : Own) : Type 0 where

@@ -16,7 +16,7 @@ use droid_tree::{Options, Tree, Watcher, walk};
 use std::alloc::Global;
 
 /// Submits everything in a tree to a new service and writes the export. Returns whether nothing was skipped; the
-/// watcher is told of each skipped entry.
+/// watcher is informed of each skipped entry.
 ///
 /// Holds one piece of a file in memory, and then one part of the export.
 pub fn profile<T: Tree, W: Watcher, O: SteadyWrite>(
@@ -28,7 +28,7 @@ pub fn profile<T: Tree, W: Watcher, O: SteadyWrite>(
     writer: &mut O,
 ) -> Result<bool, ProfileFault>
     // The text is the definition's export of a profile with exactly the folders and files of the tree that were not
-    // skipped, each file with its bytes as they were read. The watcher was told of each skipped entry, with the reason.
+    // skipped, each file with its bytes as they were read. The watcher was informed of each skipped entry, with the reason.
     ensures all { (setting : Setting) → StandsFor setting service [] → IfOk result (λ whole.
         WritesTree T.observes W.hears setting options whole tree.old tree.new watcher.old watcher.new (O.contents writer.old) (O.contents writer.new)) }
     // If nothing was skipped, the text is the definition's export of a profile with exactly the tree's folders and

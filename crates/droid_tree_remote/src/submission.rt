@@ -10,7 +10,7 @@ use crate::sender::Sender;
 use droid_tree::{Options, Tree, WalkFault, Walked, Watcher, walk_on};
 use std::alloc::Global;
 
-/// Creates a profile and submits everything in the tree to it, over a connection that may break. The watcher is told of
+/// Creates a profile and submits everything in the tree to it, over a connection that may break. The watcher is informed of
 /// each entry that is skipped.
 ///
 /// To resume, call it again with the same tree, client and first number: pieces that the service holds are neither read

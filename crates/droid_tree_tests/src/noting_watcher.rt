@@ -1,4 +1,4 @@
-//! A watcher that notes what it is told.
+//! A watcher that notes what it learns.
 
 use droid_frame::{Refusal, Reply};
 use droid_tree::{Skipped, Watcher};

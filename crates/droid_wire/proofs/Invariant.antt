@@ -24,7 +24,7 @@ pub record IsEntry (desk : Desk) (frames : List Frame) (entry : Entry) : Type 0 
   pub command : is_command entry.frame ≡ true
   pub sound : IsAccepted desk entry
 
--- what a reply to this request says: a refusal, the reply of its entry, or what a query was told at some moment
+-- what a reply to this request says: a refusal, the reply of its entry, or what a query was answered at some moment
 pub data Says (Was : History → Frame → Type 0) (desk : Desk) (history : History) (frame : Frame) (reply : Reply) : Type 0 where
   Refusing : (refusal : Refusal) → refusal ≢ NumberReused → reply ≡ Refused refusal → Says Was desk history frame reply
   Kept : (entry : Entry) → Contains history entry → entry.frame ≡ frame → entry.reply ≡ reply → is_refused reply ≡ false → Says Was desk history frame reply

@@ -1,4 +1,4 @@
--- A frame that was written as one part: what that tells of the writer.
+-- A frame that was written as one part: what that says of the writer.
 use Rattle.std.proofs.Common.{◌≡◌, ℕ, ◌-◌, List, length, take, Option, Result, Ok, Err, OnOk, IfErr, IsErr, sym, ap, subst, arith}
 use Rattle.std.specs.Io.KnownBytes.{Appends}
 use Rattle.droid_frame.specs.StreamWrites.{Stops}

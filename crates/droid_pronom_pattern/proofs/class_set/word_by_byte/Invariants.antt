@@ -1,4 +1,4 @@
--- The bits so far tell which bytes pass.
+-- The bits so far say which bytes pass.
 use Rattle.std.proofs.Common.{◌≡◌, ◌+◌, true}
 use Rattle.droid_pronom_pattern.specs.Tokens.{accepts}
 use Rattle.droid_pronom_pattern.specs.Positions.{byte_behind}

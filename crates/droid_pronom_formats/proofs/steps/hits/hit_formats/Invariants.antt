@@ -6,7 +6,7 @@ use Rattle.droid_pronom_formats.specs.FoundWindows.{HitsWindows}
 use Rattle.droid_pronom_formats.proofs.Marks.{Marks}
 use Rattle.droid_pronom_formats.proofs.steps.hits.hit_formats.Given as goal
 
--- the flags tell of the signatures so far
+-- the flags stand for the signatures so far
 abbrev pub invariant-loop-signature : goal.invariant-loop-signature
 invariant-loop-signature l =
     let Q : ℕ → Signed → Type 0 = λ k signature. (signature.place ≡ k) × AllByRecursion (HitsWindows l.first l.last) signature.sequences in

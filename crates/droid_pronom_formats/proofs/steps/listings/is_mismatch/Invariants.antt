@@ -4,7 +4,7 @@ use Rattle.droid_pronom_formats.specs.Registry.{AnyOf}
 use Rattle.droid_pronom_formats.specs.FoundWindows.{Stands}
 use Rattle.droid_pronom_formats.proofs.steps.listings.is_mismatch.Given as goal
 
--- no row so far lists the extension, and the flag tells whether one is of a format that is left
+-- no row so far lists the extension, and the flag says whether one is of a format that is left
 abbrev pub invariant-loop-row : goal.invariant-loop-row
 invariant-loop-row l =
     AllByRecursion (λ row. row.place < length l.left) (drop l.row-index l.extensions)

@@ -6,7 +6,7 @@ use Rattle.droid_pronom_formats.specs.declared.rows.ListedExtension.{ListedExten
 use Rattle.droid_pronom_formats.proofs.Marks.{Marks}
 use Rattle.droid_pronom_formats.proofs.steps.listings.named_formats.Given as goal
 
--- the flags tell of the rows so far
+-- the flags stand for the rows so far
 abbrev pub invariant-loop-row : goal.invariant-loop-row
 invariant-loop-row l =
     let Q : ℕ → ListedExtension → Type 0 = λ k row. (row.place ≡ k) × (l.wanted ≢ []) × (row.extension ≡ l.wanted) × ((l.match_all ≡ true) ⊎ (Stands l.signed row.place → ⊥)) in

@@ -6,7 +6,7 @@ use Rattle.droid_pronom_formats.specs.declared.rows.Priority.{Priority}
 use Rattle.droid_pronom_formats.proofs.Marks.{Marks}
 use Rattle.droid_pronom_formats.proofs.steps.priority.beaten_formats.Given as goal
 
--- the flags tell of the priorities so far
+-- the flags stand for the priorities so far
 abbrev pub invariant-loop-row : goal.invariant-loop-row
 invariant-loop-row l =
     let Q : ℕ → Priority → Type 0 = λ k row. Stands l.hit row.place × (row.over ≡ k) in

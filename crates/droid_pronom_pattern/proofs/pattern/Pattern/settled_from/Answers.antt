@@ -1,4 +1,4 @@
--- Past the end, and where the cells tell.
+-- Past the end, and where the cells decide.
 use Rattle.std.proofs.Common.{sym, arith}
 use Rattle.std.specs.List.{flat_map}
 use Rattle.droid_pronom_pattern.specs.Cells.{elements_at}
