@@ -78,7 +78,7 @@ module _ {X W : Type 0} (asks : X → Asked → X → Type 0) (hears : W → Hea
         first : asks exchange (AddFile profile folder.number entry.modified entry.len piece_size entry.name, replies.Node number) announced
         first = subst (λ (r : Request). asks exchange (r, replies.Node number) announced) file_asked added.0
 
-        -- what the watcher was informed of the pieces at this path, it was informed of the entry's pieces
+        -- what the watcher learned of the pieces at this path, it learned of the entry's pieces
         pieces_here : (pieces : List Sent) (w v : W) → GoesOver hears w (pieces_heard path pieces) v → GoesOver hears w (pieces_heard (below folder.path entry.name) pieces) v
         pieces_here pieces w v heard = subst (λ (p : List ℕ). GoesOver hears w (pieces_heard p pieces) v) here heard
 

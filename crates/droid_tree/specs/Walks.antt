@@ -24,7 +24,7 @@ abbrev pub EachFolderOnce : List Visit → Type 0
 EachFolderOnce visits = map (λ visit. visit.folder) visits ≡ top ∷ flat_map subfolders_of_visit visits
 
 -- The tree was walked, resuming an earlier walk or not: what the tree returned folder by folder, the requests, what the
--- watcher was informed, and whether nothing was skipped.
+-- watcher learned, and whether nothing was skipped.
 pub record WalksOn {T X W : Type 0} (observes : T → Observation → T → Type 0) (asks : X → Asked → X → Type 0) (hears : W → Heard → W → Type 0) (goes_on : Bool) (options : Options) (profile : ℕ) (whole : Bool)
     (tree tree_after : T) (exchange exchange_after : X) (watcher watcher_after : W) : Type 0 where
   pub visits : List Visit

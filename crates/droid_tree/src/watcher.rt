@@ -7,7 +7,7 @@ use droid_frame::Reply;
 
 /// Is informed of what a walk does.
 pub trait Watcher {
-    /// Relates the state before a call, what the watcher was informed, and the state after it. By default it relates
+    /// Relates the state before a call, what the watcher learned, and the state after it. By default it relates
     /// everything.
     ghost hears: { Self → Heard → Self → Type 0 } = { λ old heard new. Unit {0} };
 

@@ -13,7 +13,7 @@ use Rattle.droid_tree_local.specs.Answering.{text_of}
 use Rattle.droid_tree_local.specs.Making.{Makes}
 use Rattle.droid_tree_local.specs.Nodes.{AreNodes, all_kids}
 
--- The tree was read folder by folder, each folder once, and this is what the watcher was informed. The profile has exactly
+-- The tree was read folder by folder, each folder once, and this is what the watcher learned. The profile has exactly
 -- the nodes that come of the entries, and its export was written. `whole` says whether nothing was skipped.
 pub record WritesTree {T W : Type 0} (observes : T → Observation → T → Type 0) (hears : W → Heard → W → Type 0) (setting : Setting) (options : Options) (whole : Bool) (tree tree_after : T) (watcher watcher_after : W) (written written_after : Option (List ℕ)) : Type 0 where
   pub visits : List Visit

@@ -37,7 +37,7 @@ pub record Submits {C : Type 0} (does : C → Event → C → Type 0) (client : 
   pub only : AllByRecursion (WritesOnly (IsOneOf client first asked)) events
   pub done : AreDone events client first asked
 
--- The tree was walked, resuming an earlier submission: what it returned folder by folder, what the watcher was informed,
+-- The tree was walked, resuming an earlier submission: what it returned folder by folder, what the watcher learned,
 -- and the tree's requests were submitted.
 pub record SubmitsTree {T C W : Type 0} (observes : T → Observation → T → Type 0) (does : C → Event → C → Type 0) (hears : W → Heard → W → Type 0) (client : ℕ) (first : Numbers) (options : Options) (profile : ℕ) (whole : Bool)
     (tree tree_after : T) (old new : C) (watcher watcher_after : W) : Type 0 where
