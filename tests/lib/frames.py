@@ -115,16 +115,31 @@ def part(number, accepted, text, client=1, version=1):
     return frame(PART, client, number, struct.pack(">QQ", accepted, len(text)) + text, version)
 
 
+class Frame(NamedTuple):
+    version: int
+    kind: int
+    client: int
+    number: int
+    body: bytes
+
+
+def cut(stream):
+    """Cuts whole frames out of bytes, one after the other."""
+    start = 0
+    while start < len(stream):
+        version, kind, client, number, length = HEADER.unpack_from(stream, start)
+        start += HEADER.size
+        yield Frame(version, kind, client, number, stream[start : start + length])
+        start += length
+
+
 def in_version(version, stream):
     """Translates frames of version 1 to a version. In version 2 two bodies name the hash; version 1 implies MD5."""
     if version == 1:
         return stream
-    frames, start = [], 0
-    while start < len(stream):
-        _, kind, client, number, length = HEADER.unpack_from(stream, start)
-        start += HEADER.size
-        body = stream[start : start + length]
-        start += length
+    frames = []
+    for _, kind, client, number, body in cut(stream):
+        length = len(body)
         place = {CREATE_PROFILE: length, FINISHED: 2}.get(kind)
         named = body if place is None else body[:place] + bytes([MD5]) + body[place:]
         frames.append(frame(kind, client, number, named, version))

@@ -27,7 +27,7 @@ def submit(folder, port, client, *words, piece=PIECE, quiet=True, **more):
 
 class Proxy(threading.Thread):
     """Passes connections to its port on to another port, and cuts each after a number of bytes, both ways together: the
-    next of `cuts`, or never where that is None."""
+    next of `cuts`, or never where that is None. `sent` has what the clients sent."""
 
     def __init__(self, to, cuts):
         super().__init__(daemon=True)
@@ -37,6 +37,7 @@ class Proxy(threading.Thread):
         self.port = self.listener.getsockname()[1]
         self.count = 0
         self.ended = False
+        self.sent = b""
 
     def __enter__(self):
         self.start()
@@ -67,6 +68,8 @@ class Proxy(threading.Thread):
                     part = one.recv(4096 if left is None else min(4096, left + 1))
                     if not part:
                         return False
+                    if one is client:
+                        self.sent += part
                     if left is not None and len(part) > left:
                         other.sendall(part[:left])
                         return True

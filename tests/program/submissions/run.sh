@@ -4,4 +4,4 @@
 set -u
 tests=$(cd "$(dirname "$0")/../.." && pwd)
 . "$tests/lib/modules.sh"
-run_modules submit_whole submit_broken submit_resumed submit_disturbed example_client
+run_modules submit_whole submit_broken submit_resumed submit_disturbed submit_options example_client
