@@ -28,8 +28,8 @@ def slow(milliseconds):
 
 
 class Progress(InFolder):
-    def on_terminal(self, *words, **options):
-        """Runs `profile` on a terminal: its standard error, and its seconds."""
+    def on_terminal(self, *words, status=0, **options):
+        """Runs `profile` on a terminal, to this exit status: its standard error, and its seconds."""
         ours, theirs = os.openpty()
         begun = time.monotonic()
         with subprocess.Popen([PROGRAM, "profile", self.top, *words], stdout=subprocess.DEVNULL, stderr=theirs, **options) as run:
@@ -41,7 +41,7 @@ class Progress(InFolder):
             except OSError:
                 pass
         os.close(ours)
-        self.assertEqual(run.returncode, 0)
+        self.assertEqual(run.returncode, status)
         return written, time.monotonic() - begun
 
     def test_terminal(self):
@@ -70,17 +70,7 @@ class Progress(InFolder):
         self.file(b"/a.bin", b"x" * (8 << 20))
         self.file(b"/b\xff", b"")
         self.file(b"/c.bin", b"x" * (8 << 20))
-        ours, theirs = os.openpty()
-        with subprocess.Popen([PROGRAM, "profile", self.top], stdout=subprocess.DEVNULL, stderr=theirs, env=slow(50)) as run:
-            os.close(theirs)
-            written = b""
-            try:
-                while more := os.read(ours, 1 << 16):
-                    written += more
-            except OSError:
-                pass
-        os.close(ours)
-        self.assertEqual(run.returncode, 5)
+        written, _ = self.on_terminal(status=5, env=slow(50))
         self.assertIn(AWAY + SKIPPED + b"/b\\xff: its name is no UTF-8\r\n", written)
 
     def test_quiet_on_terminal(self):
