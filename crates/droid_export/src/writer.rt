@@ -9,7 +9,7 @@ ghost use Rattle.droid_export.specs.Text.{HaveMoments, text};
 
 use crate::fault::ExportFault;
 use crate::text::export_text;
-use droid_frame::{Filter, HashKind, Progress, Record, SteadyWrite, WriteFault, write_all};
+use droid_frame::{Filter, HashKind, Record, SteadyWrite, WriteFault, WriteState, write_all};
 use droid_pronom::Registry;
 use std::alloc::Global;
 
@@ -52,6 +52,6 @@ fn write_text<W: SteadyWrite>(writer: &mut W, bytes: &[u8]) -> Result<(), WriteF
     ensures stopped { IsSound (W.seen writer.old) → OnErr result (WriterStops (W.seen writer.old).interruptions (W.seen writer.new) (W.room writer.new)) }
     ensures steady { IsSound (W.seen writer.old) → OnOk result (Lasts (W.seen writer.old).interruptions (W.seen writer.new)) }
 {
-    let mut progress = Progress::new();
+    let mut progress = WriteState::new();
     write_all(writer, bytes, &mut progress)
 }

@@ -13,7 +13,7 @@ ghost use Rattle.droid_core.specs.Standing.{StandsFor, limits_of, registry_of};
 
 use crate::script_fault::ScriptFault;
 use droid_core::Service;
-use droid_frame::{Progress, Reply, SteadyWrite, request_frame, write_all};
+use droid_frame::{Reply, SteadyWrite, WriteState, request_frame, write_all};
 use droid_lines::{Tally, next_line, parse_line, print_answer};
 use std::alloc::{AllocError, Global};
 
@@ -66,7 +66,7 @@ fn run_line<W: SteadyWrite>(
 {
     let answer = handle_line(alloc, service, line)?;
     let printed = print_answer(alloc, &answer)?;
-    write_all(writer, printed.as_slice(), &mut Progress::new())?;
+    write_all(writer, printed.as_slice(), &mut WriteState::new())?;
     Ok(answer.is_none())
 }
 

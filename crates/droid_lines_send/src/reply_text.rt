@@ -11,7 +11,7 @@ ghost use Rattle.droid_lines_send.specs.Steps.{Takes, TakesNone};
 ghost use Rattle.droid_lines_send.specs.Stopping.{WritesFront};
 
 use crate::send_fault::SendFault;
-use droid_frame::{Frame, Progress, Reply, SteadyWrite, write_all};
+use droid_frame::{Frame, Reply, SteadyWrite, WriteState, write_all};
 use droid_lines::{print_answer, print_reply};
 use droid_wire_client::{Client, Heard};
 use std::alloc::{AllocError, Global};
@@ -63,7 +63,7 @@ pub(crate) fn write_text<T: SteadyWrite>(text: &mut T, printed: &[u8]) -> Result
     ensures reported { IsSound (T.seen text.old) → T.room text.old ≡ None →
         ReportsFault (T.seen text.old).interruptions (T.seen text.new) (IsErrOf result SendFault.Text) × (T.room text.new ≡ None) }
 {
-    let mut progress = Progress::new();
+    let mut progress = WriteState::new();
     match write_all(text, printed, &mut progress) {
         Ok(()) => Ok(()),
         Err(_) => Err(SendFault::Text),

@@ -13,7 +13,7 @@ ghost use Rattle.droid_tree_local.specs.Faults.{IsPastWalk};
 use crate::fault::ProfileFault;
 use crate::own_service::Own;
 use droid_frame::{
-    Blob, Criteria, Filter, PART_LIMIT, Progress, Refusal, Reply, Request, SteadyWrite, write_all,
+    Blob, Criteria, Filter, PART_LIMIT, Refusal, Reply, Request, SteadyWrite, WriteState, write_all,
 };
 use droid_tree::{WalkFault, ask};
 use std::alloc::Global;
@@ -42,7 +42,7 @@ pub(crate) fn export<W: SteadyWrite>(
     for _ in 0..u64::MAX {
         let part = part_from(alloc, own, profile, from)?;
         let bytes = part.bytes.as_slice();
-        write_all(writer, bytes, &mut Progress::new())?;
+        write_all(writer, bytes, &mut WriteState::new())?;
         from = place_after(from, bytes)?;
         if from >= part.total {
             return Ok(());

@@ -10,7 +10,7 @@ use crate::connection::{Connection, VERSION};
 use crate::fault::{DownloadFault, TransferFault};
 use crate::in_flight::InFlight;
 use droid_frame::{
-    Blob, Criteria, Filter, Frame, PART_LIMIT, Progress, Refusal, Reply, Request, SteadyWrite,
+    Blob, Criteria, Filter, Frame, PART_LIMIT, Refusal, Reply, Request, SteadyWrite, WriteState,
     request_frame, write_all,
 };
 use std::alloc::Global;
@@ -78,7 +78,7 @@ fn write_part<O: SteadyWrite>(writer: &mut O, from: u64, part: &Part) -> Result<
     let Some(after) = from.checked_add(bytes.len() as u64) else {
         return Err(DownloadFault::Sending(TransferFault::Stranger));
     };
-    write_all(writer, bytes, &mut Progress::new())?;
+    write_all(writer, bytes, &mut WriteState::new())?;
     Ok(after)
 }
 

@@ -10,7 +10,7 @@ ghost use Rattle.droid_frame.specs.StreamWrites.{Stops};
 ghost use Rattle.droid_frame.specs.Versions.{IsVersion};
 
 use droid_frame::{
-    HEADER_LENGTH, Noted, Progress, Reply, SteadyWrite, WriteFault, reply_body_len, write_all,
+    HEADER_LENGTH, Noted, Reply, SteadyWrite, WriteFault, WriteState, reply_body_len, write_all,
     write_reply,
 };
 use std::alloc::Global;
@@ -38,7 +38,7 @@ pub(crate) fn send_reply<W: SteadyWrite>(
     ensures room_err { IfErr result (λ fault. Takes (W.room writer.old) (W.room writer.new) fault.written) }
 {
     match gathered(alloc, version, client, number, reply) {
-        Some(frame) => write_all(writer, frame.as_slice(), &mut Progress::new()),
+        Some(frame) => write_all(writer, frame.as_slice(), &mut WriteState::new()),
         None => write_reply(version, client, number, reply, writer),
     }
 }
