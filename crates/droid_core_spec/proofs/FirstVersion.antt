@@ -33,7 +33,7 @@ small_pieces modified piece_size none =
 -- ---- a world after a request of version 1
 
 module _ (world : World) (plain : IsWorldOfVersion1 world) where
-  its_profile : (number : ℕ) (profile : Profile) → numbered world.profiles number ≡ Some profile → IsProfileOfVersion1 profile
+  pub its_profile : (number : ℕ) (profile : Profile) → numbered world.profiles number ≡ Some profile → IsProfileOfVersion1 profile
   its_profile number profile is = profile_there IsProfileOfVersion1 world.profiles number profile plain is
 
   node_added : (number : ℕ) (profile : Profile) (node : Node) → numbered world.profiles number ≡ Some profile → HasSmallPieces node → IsWorldOfVersion1 (world_set world number (with_node profile node))
@@ -96,11 +96,11 @@ hash_fits version (Abandon number file) has = tt
 hash_fits version (Status number file) has = tt
 hash_fits version (Export number from max filter) has = tt
 
-asks_fitting : (frame : Frame) (request : Request) → IsOfVersion1 frame → command frame ≡ Some request → HashFits 1 request
+pub asks_fitting : (frame : Frame) (request : Request) → IsOfVersion1 frame → command frame ≡ Some request → HashFits 1 request
 asks_fitting frame request is asked =
     subst (λ version. HashFits version request) is.version (hash_fits frame.version request (asks frame request is.bytes asked).spelled.has_spelling)
 
-plain_asked : (setting : Setting) (world : World) (frame : Frame) (o : Option Request) → command frame ≡ o → IsOfVersion1 frame → IsWorldOfVersion1 world
+pub plain_asked : (setting : Setting) (world : World) (frame : Frame) (o : Option Request) → command frame ≡ o → IsOfVersion1 frame → IsWorldOfVersion1 world
     → IsWorldOfVersion1 (world_asked setting world frame.version o)
 plain_asked setting world frame None asked is plain = plain
 plain_asked setting world frame (Some request) asked is plain =
@@ -108,7 +108,8 @@ plain_asked setting world frame (Some request) asked is plain =
 
 -- ---- the history and the world after a list of them
 
-abbrev AreOfVersion1 : History → Type 0
+-- each accepted request was a frame of version 1
+abbrev pub AreOfVersion1 : History → Type 0
 AreOfVersion1 history = AllByRecursion (λ entry. IsOfVersion1 entry.frame) history
 
 module _ (history : History) (frame : Frame) (are : AreOfVersion1 history) (is : IsOfVersion1 frame) where
@@ -120,11 +121,11 @@ module _ (history : History) (frame : Frame) (are : AreOfVersion1 history) (is :
   with_one (New (Answered reply)) = are
   with_one (New (Refuses refusal)) = are
 
-  next_of_version_1 : (setting : Setting) → AreOfVersion1 (next setting history frame)
+  pub next_of_version_1 : (setting : Setting) → AreOfVersion1 (next setting history frame)
   unfolding next
   next_of_version_1 setting = with_one (meeting setting history frame)
 
-history_of_version_1 : (setting : Setting) (history : History) (frames : List Frame) → AreOfVersion1 history → AllByRecursion IsOfVersion1 frames → AreOfVersion1 (history_from setting history frames)
+pub history_of_version_1 : (setting : Setting) (history : History) (frames : List Frame) → AreOfVersion1 history → AllByRecursion IsOfVersion1 frames → AreOfVersion1 (history_from setting history frames)
 history_of_version_1 setting history [] are all = are
 history_of_version_1 setting history (frame ∷ frames) are all =
     history_of_version_1 setting (next setting history frame) frames (next_of_version_1 history frame are all.0 setting) all.1
@@ -135,9 +136,12 @@ plain_from setting world [] are plain = plain
 plain_from setting world (entry ∷ entries) are plain =
     plain_from setting (world_asked setting world entry.frame.version (command entry.frame)) entries are.1 (plain_asked setting world entry.frame (command entry.frame) refl are.0 plain)
 
-pub world_of_version_1 : (setting : Setting) (frames : List Frame) → AllByRecursion IsOfVersion1 frames → IsWorldOfVersion1 (world_of setting (history_from setting [] frames))
+pub plain_world : (setting : Setting) (history : History) → AreOfVersion1 history → IsWorldOfVersion1 (world_of setting history)
 unfolding world_of
-world_of_version_1 setting frames all = plain_from setting empty_world (history_from setting [] frames) (history_of_version_1 setting [] frames tt all) tt
+plain_world setting history are = plain_from setting empty_world history are tt
+
+pub world_of_version_1 : (setting : Setting) (frames : List Frame) → AllByRecursion IsOfVersion1 frames → IsWorldOfVersion1 (world_of setting (history_from setting [] frames))
+world_of_version_1 setting frames all = plain_world setting (history_from setting [] frames) (history_of_version_1 setting [] frames tt all)
 
 -- ---- a Finish of version 1 there
 

@@ -1,5 +1,6 @@
 pub mod After
 pub mod Asked
+mod BeforeVersion2
 mod ByHand
 pub mod ByKind
 pub mod ByVersion

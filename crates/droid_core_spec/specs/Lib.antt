@@ -1,3 +1,4 @@
+pub mod BeforeVersion2
 pub mod Conditions
 pub mod Exported
 pub mod Files
@@ -11,3 +12,4 @@ pub mod Verdicts
 pub mod MemoryFaults
 pub mod Whole
 pub mod World
+pub mod Written

@@ -4,6 +4,7 @@ ghost use Rattle.std.specs.Prelude.{◌≡◌, ◌≢◌, ◌+◌, ◌↔◌, �
 ghost use Rattle.std.specs.List.{AllByRecursion, Contains};
 ghost use Rattle.droid_frame.specs.Bodies.{request_kind};
 ghost use Rattle.droid_frame.specs.Fields.{IsBytes};
+ghost use Rattle.droid_frame.specs.ReplyFrames.{reply_frame};
 ghost use Rattle.droid_frame.specs.Versions.{is_version};
 ghost use Rattle.droid_frame.specs.types.filter.Filter.{Filter};
 ghost use Rattle.droid_frame.specs.types.frame.Frame.{Frame};
@@ -14,8 +15,9 @@ ghost use Rattle.droid_frame.specs.types.reply.Reply.{Reply};
 ghost use Rattle.droid_frame.specs.types.reply.Reply.TheVariants.{Part, Refused};
 ghost use Rattle.droid_frame.specs.types.request.Request.{Request};
 ghost use Rattle.droid_frame.specs.types.request.Request.TheVariants.{Export, Finish};
+ghost use Rattle.droid_core_spec.specs.BeforeVersion2 as before;
 ghost use Rattle.droid_core_spec.specs.FirstVersion.{IsOfVersion1, IsWorldOfVersion1};
-ghost use Rattle.droid_core_spec.specs.Histories.{Entry, History, IsLegal, Asks, AsksNothing, HasReply, command, kept, world_of, is_request_of, answer, next, history_from};
+ghost use Rattle.droid_core_spec.specs.Histories.{Entry, History, IsLegal, Asks, AsksNothing, HasReply, command, kept, world_of, is_request_of, answer, answers, next, history_from};
 ghost use Rattle.droid_core_spec.specs.Judging.{Answered, Refuses, judge};
 ghost use Rattle.droid_core_spec.specs.Records.{records, IsRecordIn};
 ghost use Rattle.droid_core_spec.specs.Setting.{Setting};
@@ -23,6 +25,7 @@ ghost use Rattle.droid_core_spec.specs.Verdicts.{is_command, is_refused, MayCome
 ghost use Rattle.droid_core_spec.specs.MemoryFaults.{is_out_of_memory};
 ghost use Rattle.droid_core_spec.specs.Whole.{FinishedAreWhole};
 ghost use Rattle.droid_core_spec.specs.World.{Profile, World};
+ghost use Rattle.droid_core_spec.specs.Written.{reply_frames};
 
 /// A frame asks a request exactly if its number is below 2^63 and its version, kind and body spell that request. It
 /// asks nothing exactly if there is no such request.
@@ -56,6 +59,26 @@ pub fn other_versions_ask_nothing()
 pub fn version_1_stands_alone()
     ensures world { (setting : Setting) (frames : List Frame) → AllByRecursion IsOfVersion1 frames → IsWorldOfVersion1 (world_of setting (history_from setting [] frames)) }
     ensures finish { (setting : Setting) (world : World) (profile file : ℕ) → IsWorldOfVersion1 world → judge setting world 1 (Finish profile file) ≢ Refuses BadOption }
+{}
+
+/// A fresh service that gets frames of version 1 alone gives the replies that it gave before there was a version 2, and
+/// their frames have the same bytes. `before` is the service of that time: `specs/BeforeVersion2.antt` defines it
+/// without a version and without a choice of hash.
+pub fn version_1_is_as_before()
+    // A frame asked a request exactly if its number is below 2^63 and its kind and body spelled that request.
+    ensures requests { (frame : Frame) (request : Request) → IsOfVersion1 frame → (before.command frame ≡ Some request) ↔ before.Asks frame request }
+    ensures replies { (setting : Setting) (frames : List Frame) → AllByRecursion IsOfVersion1 frames → answers setting [] frames ≡ before.answers setting [] frames }
+    // The accepted requests are the same ones, and so are the world that they make and the reply to one frame more.
+    ensures history { (setting : Setting) (frames : List Frame) → AllByRecursion IsOfVersion1 frames → history_from setting [] frames ≡ before.history_from setting [] frames }
+    ensures world { (setting : Setting) (frames : List Frame) → AllByRecursion IsOfVersion1 frames
+        → world_of setting (history_from setting [] frames) ≡ before.world_of setting (before.history_from setting [] frames) }
+    ensures reply { (setting : Setting) (frames : List Frame) (frame : Frame) → AllByRecursion IsOfVersion1 frames → IsOfVersion1 frame
+        → answer setting (history_from setting [] frames) frame ≡ before.answer setting (before.history_from setting [] frames) frame }
+    // Every reply has the same bytes, also one that says that memory ran out. So the bytes written for a list of frames
+    // are the same.
+    ensures bytes { (client number : ℕ) (reply : Reply) → reply_frame 1 client number reply ≡ before.reply_frame client number reply }
+    ensures written { (setting : Setting) (frames : List Frame) → AllByRecursion IsOfVersion1 frames
+        → reply_frames frames (answers setting [] frames) ≡ before.reply_frames frames (before.answers setting [] frames) }
 {}
 
 /// After a legal history no answer says that memory ran out, and none says that the database refused.
