@@ -57,6 +57,10 @@ words_again ([] ∷ words) all = absurd (all.0.some refl)
 words_again ((b ∷ bs) ∷ []) all = cut_again (b ∷ bs) [] all.0 all.1
 words_again ((b ∷ bs) ∷ w ∷ ws) all = cut_again (b ∷ bs) (w ∷ ws) all.0 all.1
 
+-- the words of which a text is joined
+pub words_in : (text : List ℕ) (words : List (List ℕ)) → text ≡ joined words → AllByRecursion IsWord words → words_of text ≡ words
+words_in text words is all = ap words_of is ∙ words_again words all
+
 -- ---- rows
 
 profiles_again : (n : ℕ) (ps : List ProfileRow) → map profile_in (map profile_row (numbered_from n ps)) ≡ ps

@@ -1,3 +1,4 @@
+pub mod AfterChange
 pub mod ApartAfter
 pub mod ChangesNodes
 pub mod Clean

@@ -1,4 +1,5 @@
 pub mod Changes
+pub mod CommandChanges
 pub mod Encoded
 pub mod Faults
 pub mod Kept

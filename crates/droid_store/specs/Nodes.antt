@@ -1,6 +1,6 @@
 -- The node that a `NewNode` of the code is.
 use Rattle.std.specs.Prelude.{ℤ}
-use Rattle.droid_store.specs.declared.changes.NewNode.{NewNode}
+use Rattle.droid_store.specs.declared.change.NewNode.{NewNode}
 use Rattle.droid_store.specs.Changes.{new_node}
 use Rattle.droid_store.specs.Rows.{Node}
 

@@ -5,19 +5,20 @@
 //! tables hold them is internal to this crate.
 #![tactic(auto)]
 
-mod changes;
-mod commits;
-mod counting;
+mod change;
+mod counters;
 mod fault;
 mod hashes;
-mod listing;
-mod look_ups;
-mod making;
-mod read_rows;
+mod identifiers;
+mod look_up;
+mod record_list;
+mod row_change;
+mod row_reader;
 mod rows;
+mod schema;
 mod statements;
 mod store;
-mod words;
+mod transaction;
 
 pub use fault::StoreFault;
 pub use rows::{Counts, Entry, NodeRow, NodeState, ProfileRow};

@@ -5,15 +5,15 @@ ghost use Rattle.droid_store.specs.Rows.{no_rows};
 ghost use Rattle.droid_store.specs.declared.fault.StoreFault.TheVariants.{Memory};
 
 use crate::fault::StoreFault;
-use crate::making::{make_tables, open_empty};
 use crate::rows::Counts;
+use crate::schema::{make_tables, open_empty};
 use droid_store_trees::TreeStore;
 use sqlite::Connection;
 use std::alloc::Global;
 use std::marker::Model;
 
-mod committing;
-mod reading;
+mod commands;
+mod queries;
 
 /// The rows of a service: profiles, nodes and replies. They live as long as this value, and nothing is written to disk.
 ///

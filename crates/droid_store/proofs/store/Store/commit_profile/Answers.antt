@@ -1,40 +1,10 @@
 use Rattle.std.proofs.Common.{◌+◌, ◌∙◌, ap, sym}
-use Rattle.droid_store_sql.proofs.Transactions.{on_err}
 use Rattle.droid_store.specs.declared.rows.Counts.{Counts}
-use Rattle.droid_store.specs.Changes.{with_reply, with_profile}
-use Rattle.droid_store.specs.Kept.{kept}
-use Rattle.droid_store.proofs.ApartAfter.{apart_with_reply, apart_with_profile}
-use Rattle.droid_store.proofs.Closed.{kept_is, closed}
-use Rattle.droid_store.proofs.CountsAfter.{counts_with_reply, counts_with_profile}
-use Rattle.droid_store.proofs.ReadableAfter.{readable_with_reply, readable_with_profile}
-use Rattle.droid_store.proofs.ReportedFaults.{reported_memory}
-use Rattle.droid_store.proofs.Unique.{keys_of}
+use Rattle.droid_store.specs.Rows.{counts_of}
+use Rattle.droid_store.proofs.CountsAfter.{counts_with_profile}
 use Rattle.droid_store.proofs.store.Store.commit_profile.Goals as goal
 
-pub invariant_of-self : goal.invariant_of-self
-invariant_of-self c = closed c.write_profile.new.conn (kept c.self.inside.conn) _ c.in_err-write_profile.ensures.err c.self.invariant.1 c.self.invariant.2 (c.write_profile.ensures.limit ∙ c.self.invariant.3) c.self.invariant.4
-
-pub returns-in_err-write_profile-clause-err : goal.returns-in_err-write_profile-clause-err
-returns-in_err-write_profile-clause-err c = on_err c.from_residual-in_err-write_profile.result _ (kept_is c.write_profile.new.conn (kept c.self.inside.conn) c.in_err-write_profile.ensures.err ∙ c.self.view_is)
-
-pub invariant_of-self-2 : goal.invariant_of-self-2
-invariant_of-self-2 c =
-    let rows = kept c.self.inside.conn in
-    let changed = with_profile c.args.scan_limit c.args.match_all c.args.hash rows in
-    let after = with_reply c.args.entry.now changed in
-    closed c.write_profile.new.conn after _ (c.in_ok-write_profile.ensures.ok) (apart_with_reply c.args.entry.now changed (rw (sym c.self.view_is) at c.requires.new) (apart_with_profile c.args.scan_limit c.args.match_all c.args.hash rows c.self.invariant.1))
-    (c.in_ok-counts.ensures.more ∙ ap (λ (k : Counts). record k { accepted = k.accepted + 1 }) (c.in_ok-changed.ensures.more ∙ ap (λ (k : Counts). record k { profiles = k.profiles + 1 }) c.self.invariant.2 ∙ sym (counts_with_profile c.args.scan_limit c.args.match_all c.args.hash rows)) ∙ sym (counts_with_reply c.args.entry.now changed)) (c.write_profile.ensures.limit ∙ c.self.invariant.3) (readable_with_reply c.args.entry.now changed c.in_ok-write_profile.ensures.fits (readable_with_profile c.args.scan_limit c.args.match_all c.args.hash rows c.ranges.scan_limit.fits c.self.invariant.4))
-
-pub returns-clause-ok : goal.returns-clause-ok
-returns-clause-ok c =
-    let rows = kept c.self.inside.conn in
-    let changed = with_profile c.args.scan_limit c.args.match_all c.args.hash rows in
-    let after = with_reply c.args.entry.now changed in
-    let is = kept_is c.write_profile.new.conn after (c.in_ok-write_profile.ensures.ok) in
-    rw⁻¹ c.self.view_is is
-
-pub returns-in_err-write_profile-clause-memory : goal.returns-in_err-write_profile-clause-memory
-returns-in_err-write_profile-clause-memory c small =
-    let rows = kept c.self.inside.conn in
-    let changed = with_profile c.args.scan_limit c.args.match_all c.args.hash rows in
-    reported_memory c.from_residual-in_err-write_profile.result _ c.from_residual-in_err-write_profile.ensures.1 (c.in_err-write_profile.ensures.failure (keys_of rows c.self.invariant.1) (keys_of (with_reply c.args.entry.now changed) (apart_with_reply c.args.entry.now changed (rw (sym c.self.view_is) at c.requires.new) (apart_with_profile c.args.scan_limit c.args.match_all c.args.hash rows c.self.invariant.1))) small c.self.invariant.3)
+pub commit-requires-clause-counts : goal.commit-requires-clause-counts
+commit-requires-clause-counts c =
+    c.in_ok-counts.ensures.more ∙ ap (λ (k : Counts). record k { profiles = k.profiles + 1 }) (c.self.invariant.2 ∙ ap counts_of c.self.view_is)
+    ∙ sym (counts_with_profile c.args.scan_limit c.args.match_all c.args.hash c.args.self.now)

@@ -1,0 +1,61 @@
+use Rattle.std.proofs.Common.{refl, pos, FitsSigned, rules, [], ◌∷◌, subst}
+use Rattle.std.proofs.lemmas.Int.{to_z-of_z}
+use Rattle.std.specs.Int.{w64}
+use Rattle.sqlite.specs.Held.{state}
+use Rattle.droid_store_trees.specs.Over.{over_trees}
+use Rattle.droid_store.proofs.Clean.{trees_are_clean}
+use Rattle.droid_store.specs.Kept.{kept}
+use Rattle.droid_store.specs.Rows.{reply_for}
+use Rattle.droid_store.specs.Shown.{shown_reply}
+use Rattle.droid_store.proofs.Closed.{kept_is, kept_still}
+use Rattle.droid_store.proofs.FoundRows.{found_is}
+use Rattle.droid_store.proofs.FindsReplies.{finds_reply}
+use Rattle.sqlite.specs.State.{QueriesRow}
+use Rattle.droid_store_sql.proofs.MemoryFaults.{in_memory}
+use Rattle.droid_store.specs.declared.statements.TheConstants.{FIND_REPLY}
+use Rattle.droid_store.proofs.MemoryFaultsOfLookUps.{row_or_none, reply_runs_out}
+use Rattle.droid_store.specs.Encoded.{number}
+use Rattle.droid_store.proofs.look_up.find_reply.Goals as goal
+
+pub returns-clause-same : goal.returns-clause-same
+returns-clause-same c =
+    let rows = kept c.args.conn.now in
+    let old = state over_trees c.args.conn.now in
+    let new = state over_trees c.query_row-answer.new.self in
+    let fits : FitsSigned w64 (pos c.args.number) = search rules in
+    let ran = rw (c.params-to_sql.ensures, c.params-to_sql-2.ensures, c.signed.ensures, to_z-of_z w64 (pos c.args.number) fits) at (c.query_row-answer.ensures.row (trees_are_clean c.query_row-answer.new.self)) in
+    let it = finds_reply old new c.args.client c.args.number rows c.query_row-answer.result refl c.requires.holds c.requires.apart ran in
+    kept_is c.query_row-answer.new.self rows it.0
+
+pub returns-clause-holds : goal.returns-clause-holds
+returns-clause-holds c =
+    let rows = kept c.args.conn.now in
+    let old = state over_trees c.args.conn.now in
+    let new = state over_trees c.query_row-answer.new.self in
+    let fits : FitsSigned w64 (pos c.args.number) = search rules in
+    let ran = rw (c.params-to_sql.ensures, c.params-to_sql-2.ensures, c.signed.ensures, to_z-of_z w64 (pos c.args.number) fits) at (c.query_row-answer.ensures.row (trees_are_clean c.query_row-answer.new.self)) in
+    let it = finds_reply old new c.args.client c.args.number rows c.query_row-answer.result refl c.requires.holds c.requires.apart ran in
+    kept_still c.query_row-answer.new.self rows it.0
+
+pub returns-clause-found : goal.returns-clause-found
+returns-clause-found c =
+    let rows = kept c.args.conn.now in
+    let old = state over_trees c.args.conn.now in
+    let new = state over_trees c.query_row-answer.new.self in
+    let fits : FitsSigned w64 (pos c.args.number) = search rules in
+    let ran = rw (c.params-to_sql.ensures, c.params-to_sql-2.ensures, c.signed.ensures, to_z-of_z w64 (pos c.args.number) fits) at (c.query_row-answer.ensures.row (trees_are_clean c.query_row-answer.new.self)) in
+    let it = finds_reply old new c.args.client c.args.number rows c.query_row-answer.result refl c.requires.holds c.requires.apart ran in
+    found_is c.query_row-answer.result c.or_none.result shown_reply (reply_for c.args.client c.args.number rows) c.or_none.ensures.found it.1 it.2
+
+pub returns-clause-limit : goal.returns-clause-limit
+returns-clause-limit c = c.query_row-answer.ensures.survives.limit
+
+pub returns-clause-failure : goal.returns-clause-failure
+returns-clause-failure c none =
+    let rows = kept c.args.conn.now in
+    let old = state over_trees c.args.conn.now in
+    let new = state over_trees c.query_row-answer.new.self in
+    let fits : FitsSigned w64 (pos c.args.number) = search rules in
+    let ran = rw (c.params-to_sql.ensures, c.params-to_sql-2.ensures, c.signed.ensures, to_z-of_z w64 (pos c.args.number) fits) at (c.query_row-answer.ensures.row (trees_are_clean c.query_row-answer.new.self)) in
+    row_or_none c.query_row-answer.result c.or_none.result c.or_none.ensures.err
+    (λ e other is. reply_runs_out old new c.args.client c.args.number rows e (in_memory c.args.conn.now c.query_row-answer.new.self none) c.requires.holds.holds other (subst (QueriesRow FIND_REPLY.now (number c.args.client ∷ number c.args.number ∷ []) old new) is ran))
