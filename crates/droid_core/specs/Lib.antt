@@ -11,6 +11,7 @@ pub use Rattle.droid_core_spec.specs.Verdicts
 pub use Rattle.droid_core_spec.specs.MemoryFaults
 pub use Rattle.droid_core_spec.specs.Whole
 pub use Rattle.droid_core_spec.specs.World
+pub use Rattle.droid_core_spec.specs.Written
 -- Which setting a registry makes.
 pub use Rattle.droid_core_requests.specs.Identified
 -- What the service stands for and caches, and what one request and a list of requests come to.

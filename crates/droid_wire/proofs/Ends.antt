@@ -11,7 +11,8 @@ use Rattle.droid_core.specs.Setting.{Setting}
 use Rattle.droid_wire.specs.declared.ended.Ended.TheVariants.{Closed, Turns}
 use Rattle.droid_wire.specs.declared.serve_fault.ServeFault.{ServeFault}
 use Rattle.droid_wire.specs.declared.serve_fault.ServeFault.TheVariants as faults
-use Rattle.droid_wire.specs.Serving.{Handled, Outcome, Serves, ServesCut, reply_frames}
+use Rattle.droid_core.specs.Written.{reply_frames}
+use Rattle.droid_wire.specs.Serving.{Handled, Outcome, Serves, ServesCut}
 use Rattle.droid_wire.specs.Steps.{Cut, Idle, TurnGives}
 use Rattle.droid_wire.proofs.SoFar.{SoFar, handled_more, history_after, reply_frames-push, turn_here}
 

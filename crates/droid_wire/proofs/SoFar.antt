@@ -15,7 +15,8 @@ use Rattle.droid_core.specs.declared.service.Service.{Service}
 use Rattle.droid_core.proofs.Running.{Runs-none, Runs-push}
 use Rattle.droid_core.specs.Histories.{History, history_from}
 use Rattle.droid_core.specs.Setting.{Setting}
-use Rattle.droid_wire.specs.Serving.{Handled, reply_frames}
+use Rattle.droid_core.specs.Written.{reply_frames}
+use Rattle.droid_wire.specs.Serving.{Handled}
 use Rattle.droid_wire.specs.Steps.{Turn, TurnGives}
 use Rattle.droid_wire.proofs.Passing.{if_some_is}
 

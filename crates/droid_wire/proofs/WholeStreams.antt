@@ -21,7 +21,8 @@ use Rattle.droid_wire.specs.declared.ended.Ended.{Ended}
 use Rattle.droid_wire.specs.declared.ended.Ended.TheVariants.{Closed, Turns}
 use Rattle.droid_wire.specs.declared.serve_fault.ServeFault.{ServeFault}
 use Rattle.droid_wire.specs.declared.serve_fault.ServeFault.TheVariants as faults
-use Rattle.droid_wire.specs.Serving.{Outcome, Serves, reply_frames}
+use Rattle.droid_core.specs.Written.{reply_frames}
+use Rattle.droid_wire.specs.Serving.{Outcome, Serves}
 use Rattle.droid_wire.specs.Whole.{FirstFramesAreAnswered, ServesWhole, UnlessFailed, end_of, last_end}
 
 -- ---- frames at the front of a stream

@@ -2,7 +2,6 @@
 use Rattle.std.specs.Prelude.{◌≡◌, ℕ, ◌<◌, ◌≤◌, List, [], ◌∷◌, ◌++◌, length, take, Option, Some, Result, Ok, Err}
 use Rattle.std.specs.Io.KnownBytes.{Appends}
 use Rattle.std.specs.List.{AllByRecursion, flat_map}
-use Rattle.droid_frame.specs.ReplyFrames.{reply_frame}
 use Rattle.droid_frame.specs.StreamReads.{Tells, ReadsNoFrame}
 use Rattle.droid_frame.specs.Streams.{IsReadable}
 use Rattle.droid_frame.specs.Frames.{frame_bytes}
@@ -12,16 +11,11 @@ use Rattle.droid_core.specs.Running.{Runs}
 use Rattle.droid_core.specs.declared.service.Service.{Service}
 use Rattle.droid_core.specs.Histories.{History}
 use Rattle.droid_core.specs.Setting.{Setting}
+use Rattle.droid_core.specs.Written.{reply_frames}
 use Rattle.droid_wire.specs.declared.ended.Ended.{Ended}
 use Rattle.droid_wire.specs.declared.ended.Ended.TheVariants.{Closed, Turns}
 use Rattle.droid_wire.specs.declared.serve_fault.ServeFault.{ServeFault}
 use Rattle.droid_wire.specs.declared.serve_fault.ServeFault.TheVariants as faults
-
--- the replies' frames, one after another, each with the version, client and number of its request
-abbrev pub reply_frames : List Frame → List Reply → List ℕ
-reply_frames [] replies = []
-reply_frames (frame ∷ frames) [] = []
-reply_frames (frame ∷ frames) (reply ∷ replies) = reply_frame frame.version frame.client frame.number reply ++ reply_frames frames replies
 
 -- these frames were read from the front of the input, which leaves `rest`, and were handled one after another, with
 -- these replies

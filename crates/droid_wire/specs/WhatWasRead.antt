@@ -11,7 +11,8 @@ use Rattle.droid_core.specs.Setting.{Setting}
 use Rattle.droid_wire.specs.declared.ended.Ended.{Ended}
 use Rattle.droid_wire.specs.declared.serve_fault.ServeFault.{ServeFault}
 use Rattle.droid_wire.specs.declared.serve_fault.ServeFault.TheVariants as faults
-use Rattle.droid_wire.specs.Serving.{Outcome, reply_frames}
+use Rattle.droid_core.specs.Written.{reply_frames}
+use Rattle.droid_wire.specs.Serving.{Outcome}
 
 -- all of these bytes; or, where writing failed, the first `written` of them
 abbrev pub sent : Result Ended ServeFault → List ℕ → List ℕ

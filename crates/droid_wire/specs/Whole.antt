@@ -15,7 +15,8 @@ use Rattle.droid_wire.specs.declared.ended.Ended.{Ended}
 use Rattle.droid_wire.specs.declared.ended.Ended.TheVariants.{Closed, Turns}
 use Rattle.droid_wire.specs.declared.serve_fault.ServeFault.{ServeFault}
 use Rattle.droid_wire.specs.declared.serve_fault.ServeFault.TheVariants as faults
-use Rattle.droid_wire.specs.Serving.{Outcome, reply_frames}
+use Rattle.droid_core.specs.Written.{reply_frames}
+use Rattle.droid_wire.specs.Serving.{Outcome}
 
 -- how serving ends where all frames were answered, by the reason why no frame follows
 abbrev pub last_end : Result Arrival FrameFault → Result Ended ServeFault
