@@ -9,6 +9,8 @@ mod memory_tree;
 #[cfg(test)]
 mod noting_watcher;
 #[cfg(test)]
+mod profile_page;
+#[cfg(test)]
 mod profiles;
 #[cfg(test)]
 mod sample_service;

@@ -6,7 +6,7 @@ use droid_pronom_sample::SAMPLE;
 use std::alloc::Global;
 use std::test::Fail;
 
-const LIMITS: Limits = Limits {
+pub const LIMITS: Limits = Limits {
     profiles: 64,
     nodes: 100_000,
     unfinished: 64,

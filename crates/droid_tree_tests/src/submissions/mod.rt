@@ -6,3 +6,4 @@ mod changed_tree;
 mod in_flight_limits;
 mod restarts;
 mod small_tree;
+mod submission_page;

@@ -6,3 +6,4 @@ mod orders;
 mod piece_cuts;
 mod skipped_entries;
 mod tree_counts;
+mod walk_page;
