@@ -88,6 +88,13 @@ module _ (world : World) (number : ℕ) (profile : Profile) (id : ℕ) (before a
 
 -- ---- a file's assembly goes away
 
+-- the file at the place was removed, and the others are found as before
+pub record IsWithout (place : ℕ) (old new : OpenFiles) : Type 0 where
+  pub gone : (file : OpenFile) → IsAt old.files place file → open_at file.profile file.file new.files ≡ None
+  pub others : (file : OpenFile) (number id : ℕ) → IsAt old.files place file → is_of number id file ≡ false → open_at number id new.files ≡ open_at number id old.files
+  pub count : length new.files + 1 ≡ length old.files
+  pub limit : new.limit ≡ old.limit
+
 found_is : {X : Type 0} (p : X → Bool) (xs : List X) (x : X) → find p xs ≡ Some x → p x ≡ true
 found_is p [] x is = absurd cc
 found_is p (y ∷ ys) x is = elim (cases_Bool (p y)) [
@@ -97,10 +104,7 @@ found_is p (y ∷ ys) x is = elim (cases_Bool (p y)) [
 
 module _ (world : World) (number : ℕ) (profile : Profile) (id parent : ℕ) (modified : ℤ) (name : List ℕ) (content : Content) (old new : OpenFiles) (place : ℕ) (has : HasAssemblies world old)
     (is : numbered world.profiles number ≡ Some profile) (there : node_at profile.nodes id ≡ Some (File parent modified name content)) (unfinished : content.finished ≡ false)
-    (at_place : slice_get old.files place ≡ open_at number id old.files)
-    (gone : (file : OpenFile) → IsAt old.files place file → open_at file.profile file.file new.files ≡ None)
-    (others : (file : OpenFile) (that_number that_id : ℕ) → IsAt old.files place file → is_of that_number that_id file ≡ false → open_at that_number that_id new.files ≡ open_at that_number that_id old.files)
-    (count : length new.files + 1 ≡ length old.files) where
+    (at_place : slice_get old.files place ≡ open_at number id old.files) (removed : IsWithout place old new) where
   without : (after : Node) → weight after ≡ 0 → ((found : Option OpenFile) → found ≡ None → HasItsAssembly (node_set profile id after) (Some after) found)
       → HasAssemblies (world_set world number (node_set profile id after)) new
   without after weightless has_none =
@@ -111,12 +115,12 @@ module _ (world : World) (number : ℕ) (profile : Profile) (id parent : ℕ) (m
       let parts = and_parts (file.profile == number) (file.file == id) (found_is (is_of number id) old.files file its.there) in
       let of_number : file.profile ≡ number = eqb-true file.profile number parts.0 in
       let of_id : file.file ≡ id = eqb-true file.file id parts.1 in
-      let none : open_at number id new.files ≡ None = (let it = gone file file_there in rw (of_number, of_id) at it) in
+      let none : open_at number id new.files ≡ None = (let it = removed.gone file file_there in rw (of_number, of_id) at it) in
       let weighs : weight before ≡ 1 = rw unfinished refl in
       assemblies_turned world number profile id before after old new has is (at_file (numbered profile.nodes id) parent modified name content there)
-      (λ that_number that_id apart. others file that_number that_id file_there (another file that_number that_id (λ one two. apart (sym one ∙ of_number) (sym two ∙ of_id))))
+      (λ that_number that_id apart. removed.others file that_number that_id file_there (another file that_number that_id (λ one two. apart (sym one ∙ of_number) (sym two ∙ of_id))))
       (has_none (open_at number id new.files) none)
-      (omega (arith, weightless, weighs, count))
+      (omega (arith, weightless, weighs, removed.count))
     where
       another : (file : OpenFile) (that_number that_id : ℕ) → (file.profile ≡ that_number → file.file ≡ that_id → ⊥) → is_of that_number that_id file ≡ false
       another file that_number that_id apart = elim (cases_Bool (file.profile == that_number)) [

@@ -17,32 +17,31 @@ use Rattle.droid_core_state.proofs.Sizes.{piece_size_within, size_within}
 use Rattle.droid_core_state.proofs.Soundness.{sound_profile, sound_sizes}
 use Rattle.droid_core_requests.specs.LookUps.{HasFile}
 use Rattle.droid_core_requests.specs.declared.file_rows.FileRow.{FileRow}
-use Rattle.droid_core_requests.proofs.Assembled.{assembly_of}
-use Rattle.droid_core_requests.proofs.FileVerdicts.{unfinished_there}
+use Rattle.droid_core_requests.proofs.FileVerdicts.{its_assembly}
 use Rattle.droid_core_requests.proofs.Moments.{moments_found}
 
 -- ---- of a file that was found
 
-module _ (setting : Setting) (world : World) (number id : ℕ) (row : FileRow) (has : HasFile world number id row) (old : Holdings) (is_in : IsIn setting world old) where
-  module _ (is : is_unfinished row.node.state ≡ true) where
-    its : IsOpenFor has.profile has.content (open_at number id old.files.files)
-    its = assembly_of world old.files is_in.files number has.profile id has.parent has.modified has.name has.content has.there has.at (unfinished_there world number id row has is)
+module _ (world : World) (number id : ℕ) (row : FileRow) (has : HasFile world number id row) where
+  module _ (files : OpenFiles) (assembled : HasAssemblies world files) (is : is_unfinished row.node.state ≡ true) where
+    its : IsOpenFor has.profile has.content (open_at number id files.files)
+    its = its_assembly world number id row has files assembled is
 
     -- it has no assembly
-    pub no_assembly : open_at number id old.files.files ≡ None → ⊥
+    pub no_assembly : open_at number id files.files ≡ None → ⊥
     no_assembly none = let both = sym none ∙ its.there in absurd cc
 
     -- a piece of it is pending
-    pub one_pending : (place : ℕ) → slice_get old.files.files place ≡ open_at number id old.files.files → At old.files place (λ file. IsSome file.pending) → ⊥
+    pub one_pending : (place : ℕ) → slice_get files.files place ≡ open_at number id files.files → At files place (λ file. IsSome file.pending) → ⊥
     one_pending place at_place pending =
         let some = pending its.file (at_place ∙ its.there) in
         let none = its.assembled.none_pending in
         absurd (let wrong = rw none at some in cc)
 
   -- its pieces can't be counted
-  pub no_count : (0 < row.node.piece_size → piece_count row.node.item.size row.node.piece_size < 2 ^ 32 → ⊥) → ⊥
-  no_count none =
-      let sized = sound_sizes world number has.profile id has.parent has.modified has.name has.content is_in.sound has.there has.at in
+  pub no_count : IsSoundWorld world → (0 < row.node.piece_size → piece_count row.node.item.size row.node.piece_size < 2 ^ 32 → ⊥) → ⊥
+  no_count sound none =
+      let sized = sound_sizes world number has.profile id has.parent has.modified has.name has.content sound has.there has.at in
       let cut = piece_size_within 2 has.content.piece_size sized.pieces in
       let whole = size_within has.content.size has.content.piece_size sized.whole in
       (rw (has.size_is, has.piece_size_is) at none) (omega (arith, cut.0)) (omega (arith, whole.1))

@@ -1,11 +1,11 @@
 -- What comes of finishing a file that was found.
-use Rattle.std.proofs.Common.{◌≡◌, ℕ, ◌+◌, List, length, slice_get, true, false, Some, None, refl, sym, ap, subst, ◌∙◌}
+use Rattle.std.proofs.Common.{◌≡◌, ℕ, List, true, false, Option, Some, None, refl, sym, ap, subst, ◌∙◌}
 use Rattle.std.specs.Prelude.{ℤ, Bool, MatchBool, ⊤}
 use Rattle.droid_assembly.specs.Pieces.{Piece}
 use Rattle.droid_assembly.specs.State.{StandsFor, IsUnchanged}
 use Rattle.droid_frame.specs.types.hash_value.HashValue.{HashValue}
 use Rattle.droid_frame.specs.types.refusal.Refusal.{Refusal}
-use Rattle.droid_frame.specs.types.refusal.Refusal.TheVariants.{AlreadyFinished, BadOption}
+use Rattle.droid_frame.specs.types.refusal.Refusal.TheVariants.{BadOption}
 use Rattle.droid_frame.specs.types.reply.Reply.{Reply}
 use Rattle.droid_frame.specs.types.reply.Reply.TheVariants as replies
 use Rattle.droid_frame.specs.Hashes.{hash_value_kind}
@@ -24,22 +24,23 @@ use Rattle.droid_core_state.proofs.Finished.{file_finished}
 use Rattle.droid_core_state.proofs.Soundness.{sound_file_set}
 use Rattle.droid_store.specs.Changes.{with_reply}
 use Rattle.droid_store.specs.declared.rows.ProfileRow.{ProfileRow}
-use Rattle.droid_store.specs.Rows.{Rows, is_unfinished}
-use Rattle.droid_core_files.specs.Files.{OpenFile, OpenFiles, IsAt, At, Turns, IsAlikeBut, is_of, open_at}
+use Rattle.droid_store.specs.Rows.{Rows}
+use Rattle.droid_core_files.specs.Files.{OpenFiles, IsAt, At, Turns, IsAlikeBut, open_at}
 use Rattle.droid_core_files.specs.Identifying.{IsFindingOf}
 use Rattle.droid_core_files.specs.declared.finding.Finding as files
-use Rattle.droid_core_state.specs.Assemblies.{IsAssemblyOf, IsOpenFor}
+use Rattle.droid_core_state.specs.Assemblies.{IsOpenFor}
 use Rattle.droid_core_state.specs.Changes.{Stays, Comes, stamped}
 use Rattle.droid_core_state.specs.declared.holdings.Holdings.{Holdings}
-use Rattle.droid_core_requests.specs.declared.file_rows.FileRow.{FileRow}
+use Rattle.droid_core_requests.specs.declared.file_rows.UnfinishedRow.{UnfinishedRow}
 use Rattle.droid_core_state.specs.declared.stamps.Stamp.{Stamp}
-use Rattle.droid_core_requests.specs.LookUps.{HasFile, for_file}
+use Rattle.droid_core_requests.specs.LookUps.{HasFile, HasUnfinished, for_file}
+use Rattle.droid_core_requests.specs.Findings.{IsJudged, IsKept, finding_in}
 use Rattle.droid_core_state.specs.Standing.{IsIn}
-use Rattle.droid_core_requests.proofs.Assembled.{assembly_of, assemblies_finished}
+use Rattle.droid_core_requests.proofs.Assembled.{IsWithout, assemblies_finished}
 use Rattle.droid_core_requests.proofs.FinishJudged.{hash_unreported}
 use Rattle.droid_core_requests.proofs.Hashes.{kind_of_hash}
-use Rattle.droid_core_requests.proofs.FileVerdicts.{judged_there, unfinished_there, finished_there}
-use Rattle.droid_core_state.proofs.Staying.{comes_refused, of_any}
+use Rattle.droid_core_requests.proofs.FileVerdicts.{judged_there}
+use Rattle.droid_core_state.proofs.Staying.{comes_refused, if_refused}
 use Rattle.droid_core_requests.proofs.UnchangedFiles.{assemblies_unchanged, place_still}
 
 -- what comes of finishing this file
@@ -67,10 +68,6 @@ only_looked setting world old place store files same alike unchanged is_in = rw 
   replies = refl;
 })
 
-out_of_memory_or : (out_of_memory : Bool) (P Q R : Type 0) → MatchBool out_of_memory ⊤ P → Q → (P → MatchBool out_of_memory Q R) → MatchBool out_of_memory Q R
-out_of_memory_or true P Q R it memory_faults turn = memory_faults
-out_of_memory_or false P Q R it memory_faults turn = turn it
-
 unwanted : (out_of_memory : Bool) (P Q : Type 0) → out_of_memory ≡ false → Q → MatchBool out_of_memory P Q
 unwanted true P Q is it = absurd cc
 unwanted false P Q is it = it
@@ -83,123 +80,99 @@ found_is : (setting : Setting) (world : World) (old : Holdings) (name bytes : Li
 found_is setting world old name bytes scan_limit match_all found is_in is =
     found_once (Hits bytes scan_limit) old.registry name match_all found (found_in (setting.identify name bytes scan_limit match_all)) is (is_in.is_setting.registry.identifies name bytes scan_limit match_all)
 
-module _ (setting : Setting) (world : World) (version number id : ℕ) (row : FileRow) (has : HasFile world number id row) where
-  judged : judge_finish setting world version number id ≡ finish_there setting world version number id has.profile has.parent has.modified has.name has.content
-  judged = finish_for_file setting world version number id ∙ judged_there world number id row has (finish_there setting world version number id)
-
-  pub refused_finished : is_unfinished row.node.state ≡ false → judge_finish setting world version number id ≡ Refuses AlreadyFinished
-  refused_finished isnt =
-      let finished = finished_there world number id row has isnt in
-      judged ∙ rw finished refl
+module _ (setting : Setting) (world : World) (version number id : ℕ) (old : Holdings) (found : UnfinishedRow) (is : HasUnfinished world old.files number id found) where
+  abbrev has : HasFile world number id found.row
+  has = is.file
 
   -- where nothing refuses it
-  abbrev reply_and_world : Verdict
-  reply_and_world = Accepted (finished_reply (finding_of setting has.profile has.name has.content)) (world_set world number (node_set has.profile id (File has.parent has.modified has.name (as_finished has.content))))
+  abbrev finding : Finding
+  finding = finding_of setting has.profile has.name has.content
+
+  abbrev after : World
+  after = world_set world number (node_set has.profile id (File has.parent has.modified has.name (as_finished has.content)))
+
+  -- the first refusal decides
+  judged_first : (first : Option Refusal) → refusal_of (finish_checks version has.profile.hash has.content) ≡ first → judge_finish setting world version number id ≡ unless_refused first (Accepted (finished_reply finding) after)
+  judged_first first is_first =
+      finish_for_file setting world version number id
+      ∙ judged_there world number id found.row has (finish_there setting world version number id)
+      ∙ ap (λ it. unless_refused it (Accepted (finished_reply finding) after)) is_first
+
+  carried_there : (b : Bool) → is_carried version found.row.profile.hash ≡ b → is_carried version has.profile.hash ≡ b
+  carried_there b row = ap (λ (p : ProfileRow). is_carried version p.hash) (sym has.profile_is) ∙ row
 
   -- of a hash that no reply of its version can carry
-  pub refused_unreported : is_unfinished row.node.state ≡ true → is_carried version row.profile.hash ≡ false → judge_finish setting world version number id ≡ Refuses BadOption
-  refused_unreported is unreported =
-      let of_profile = ap (λ (p : ProfileRow). is_carried version p.hash) (sym has.profile_is) ∙ unreported in
-      judged ∙ ap (λ found. unless_refused found reply_and_world) (hash_unreported version has.profile.hash has.content (unfinished_there world number id row has is) of_profile)
+  pub refused_unreported : is_carried version found.row.profile.hash ≡ false → judge_finish setting world version number id ≡ Refuses BadOption
+  refused_unreported unreported = judged_first (Some BadOption) (hash_unreported version has.profile.hash has.content is.unfinished (carried_there false unreported))
 
-  pub reported_there : is_carried version row.profile.hash ≡ true → is_carried version has.profile.hash ≡ true
-  reported_there reported = ap (λ (p : ProfileRow). is_carried version p.hash) (sym has.profile_is) ∙ reported
+  its : IsOpenFor has.profile has.content (open_at number id old.files.files)
+  its = is.its
 
-  refused : (refusal : Refusal) → refusal_of (finish_checks version has.profile.hash has.content) ≡ Some refusal → judge_finish setting world version number id ≡ Refuses refusal
-  refused refusal is = judged ∙ ap (λ found. unless_refused found reply_and_world) is
+  here : IsAt old.files.files found.place its.file
+  here = is.place ∙ its.there
 
-  accepted : refusal_of (finish_checks version has.profile.hash has.content) ≡ None → judge_finish setting world version number id ≡ reply_and_world
-  accepted is = judged ∙ ap (λ found. unless_refused found reply_and_world) is
+  first_is : (P : Option Refusal → Type 0) → is_carried version found.row.profile.hash ≡ true → At old.files found.place (IsJudged P) → P (refusal_of (finish_checks version has.profile.hash has.content))
+  first_is P reported said = said its.file here version has.profile has.content its.assembled is.unfinished (carried_there true reported)
 
-  module _ (old : Holdings) (place : ℕ) (is_in : IsIn setting world old) (is : is_unfinished row.node.state ≡ true) (at_place : slice_get old.files.files place ≡ open_at number id old.files.files)
-      (reported : is_carried version has.profile.hash ≡ true) where
-    unfinished : has.content.finished ≡ false
-    unfinished = unfinished_there world number id row has is
+  -- it is not identified
+  pub comes_unfinished : (stamp : Stamp) (new : Holdings) (refusal : Refusal) → is_carried version found.row.profile.hash ≡ true
+      → At old.files found.place (IsJudged (λ first. MatchBool (is_out_of_memory_of refusal) ⊤ (first ≡ Some refusal))) → Stays setting world old new
+      → Comes setting world old new stamp (judge_finish setting world version number id) (replies.Refused refusal)
+  comes_unfinished stamp new refusal reported said stays =
+      comes_refused setting world old new stamp _ refusal (if_refused (is_out_of_memory_of refusal) (judged_first (Some refusal)) (first_is (λ first. MatchBool (is_out_of_memory_of refusal) ⊤ (first ≡ Some refusal)) reported said)) stays
 
-    its : IsOpenFor has.profile has.content (open_at number id old.files.files)
-    its = assembly_of world old.files is_in.files number has.profile id has.parent has.modified has.name has.content has.there has.at unfinished
+  -- what was seen of the file at the place
+  module _ (seen : files.Finding) (said : At old.files found.place (λ file. (pieces : List Piece) → StandsFor file pieces → IsFindingOf old.registry found.row.node.item.name found.row.profile.match_all file pieces seen)) where
+    made : IsFindingOf old.registry found.row.node.item.name found.row.profile.match_all its.file.assembly has.content.pieces seen
+    made = said its.file here has.content.pieces its.assembled.pieces
 
-    -- it is not identified
-    pub comes_unfinished : (stamp : Stamp) (new : Holdings) (refusal : Refusal) → Stays setting world old new
-        → At old.files place (λ file. (version : ℕ) (profile : Profile) (content : Content) → IsAssemblyOf profile content file → content.finished ≡ false → is_carried version profile.hash ≡ true → MatchBool (is_out_of_memory_of refusal) ⊤ (refusal_of (finish_checks version profile.hash content) ≡ Some refusal))
-        → Comes setting world old new stamp (judge_finish setting world version number id) (replies.Refused refusal)
-    comes_unfinished stamp new refusal stays said =
-        out_of_memory_or (is_out_of_memory_of refusal) _ _ _ (said its.file (at_place ∙ its.there) version has.profile has.content its.assembled unfinished reported) stays
-        (λ refuses. comes_refused setting world old new stamp (judge_finish setting world version number id) refusal (of_any _ (refused refusal refuses)) stays)
+    digest_is : seen.sealed.hash ≡ digest_of has.profile.hash has.content
+    digest_is = rw (its.assembled.hash, its.assembled.size, its.assembled.piece_size) at made.hash
 
-    -- the finding is one of the file at the place
-    abbrev IsSeen : files.Finding → Type 0
-    IsSeen seen = At old.files place (λ file. (pieces : List Piece) → StandsFor file pieces → IsFindingOf old.registry row.node.item.name row.profile.match_all file pieces seen)
+    -- its hash is of the kind that the profile's row names
+    pub kind_is : hash_value_kind seen.sealed.hash ≡ found.row.profile.hash
+    kind_is = ap hash_value_kind digest_is ∙ kind_of_hash has.profile.hash (bytes_of has.content) ∙ ap (λ (p : ProfileRow). p.hash) (sym has.profile_is)
 
     -- what is found is the setting's
-    pub finds : (seen : files.Finding) → IsSeen seen → seen.found ≡ found_in (identified setting has.profile has.name has.content)
-    finds seen said =
-        let made = said its.file (at_place ∙ its.there) has.content.pieces its.assembled.pieces in
-        let reported : IsFound old.registry row.node.item.name (bytes_of has.content) has.profile.scan_limit row.profile.match_all seen.found =
+    finds : IsIn setting world old → seen.found ≡ found_in (identified setting has.profile has.name has.content)
+    finds is_in =
+        let reported : IsFound old.registry found.row.node.item.name (bytes_of has.content) has.profile.scan_limit found.row.profile.match_all seen.found =
         rw (its.assembled.size, its.assembled.piece_size, its.assembled.scan_limit) at made.found in
-        let named = subst (λ (name : List ℕ). IsFound old.registry name (bytes_of has.content) has.profile.scan_limit row.profile.match_all seen.found) has.name_is reported in
+        let named = subst (λ (name : List ℕ). IsFound old.registry name (bytes_of has.content) has.profile.scan_limit found.row.profile.match_all seen.found) has.name_is reported in
         let of_profile = subst (λ (p : ProfileRow). IsFound old.registry has.name (bytes_of has.content) has.profile.scan_limit p.match_all seen.found) has.profile_is named in
         found_is setting world old has.name (bytes_of has.content) has.profile.scan_limit has.profile.match_all seen.found is_in of_profile
 
-    pub digest_is : (seen : files.Finding) → IsSeen seen → seen.sealed.hash ≡ digest_of has.profile.hash has.content
-    digest_is seen said =
-        let made = said its.file (at_place ∙ its.there) has.content.pieces its.assembled.pieces in
-        rw (its.assembled.hash, its.assembled.size, its.assembled.piece_size) at made.hash
-
-    -- so it is of the choice that the profile's row names
-    pub kind_is : (seen : files.Finding) → IsSeen seen → hash_value_kind seen.sealed.hash ≡ row.profile.hash
-    kind_is seen said =
-        ap hash_value_kind (digest_is seen said)
-        ∙ kind_of_hash has.profile.hash (bytes_of has.content)
-        ∙ ap (λ (p : ProfileRow). p.hash) (sym has.profile_is)
-
-    pub allowed_there : At old.files place (λ file. (version : ℕ) (profile : Profile) (content : Content) → IsAssemblyOf profile content file → content.finished ≡ false → is_carried version profile.hash ≡ true → refusal_of (finish_checks version profile.hash content) ≡ None) → refusal_of (finish_checks version has.profile.hash has.content) ≡ None
-    allowed_there said = said its.file (at_place ∙ its.there) version has.profile has.content its.assembled unfinished reported
-
-    -- the finding, the reply, and the rows with it, as the verdict has them
-    abbrev finding : Finding
-    finding = finding_of setting has.profile has.name has.content
-
-    -- what was seen of the file is that
-    pub seen_is : (found : Found) (digest : HashValue) → found ≡ found_in (identified setting has.profile has.name has.content) → digest ≡ digest_of has.profile.hash has.content
-        → found_as (as_identification found) digest ≡ finding
-    seen_is found digest same_found same_digest =
-        ap (λ (it : Found). found_as (as_identification it) digest) same_found
-        ∙ ap (λ (d : HashValue). found_as (identified setting has.profile has.name has.content) d) same_digest
-
-    abbrev reply : Reply
-    reply = finished_reply finding
+    seen_is : IsIn setting world old → finding_in seen ≡ finding
+    seen_is is_in =
+        ap (λ (it : Found). found_as (as_identification it) seen.sealed.hash) (finds is_in)
+        ∙ ap (λ (d : HashValue). found_as (identified setting has.profile has.name has.content) d) digest_is
 
     abbrev finished_rows : Stamp → Rows
-    finished_rows stamp = with_reply (stamped stamp reply) (with_finding number id finding old.store)
+    finished_rows stamp = with_reply (stamped stamp (finished_reply finding)) (with_finding number id finding old.store)
 
-    pub finished : (stamp : Stamp) (given : Reply) (store : Rows) (mid new : OpenFiles) (seen : Finding) → refusal_of (finish_checks version has.profile.hash has.content) ≡ None
-        → seen ≡ finding → given ≡ finished_reply seen → store ≡ with_reply (stamped stamp given) (with_finding number id seen old.store)
-        → IsAlikeBut place old.files mid → Turns old.files mid place IsUnchanged
-        → ((one : OpenFile) → IsAt mid.files place one → open_at one.profile one.file new.files ≡ None)
-        → ((one : OpenFile) (that_number that_id : ℕ) → IsAt mid.files place one → is_of that_number that_id one ≡ false → open_at that_number that_id new.files ≡ open_at that_number that_id mid.files)
-        → length new.files + 1 ≡ length mid.files → new.limit ≡ mid.limit
-        → Comes setting world old (record old { store = store; files = new }) stamp (judge_finish setting world version number id) given
-    finished stamp given store mid new seen allowed same gives stored alike unchanged gone others count limit =
-        let after = world_set world number (node_set has.profile id (File has.parent has.modified has.name (as_finished has.content))) in
-        let replied : given ≡ reply = gives ∙ ap (λ (it : Finding). finished_reply it) same in
-        let kept : store ≡ finished_rows stamp =
-        stored
-        ∙ ap (λ (it : Reply). with_reply (stamped stamp it) (with_finding number id seen old.store)) replied
-        ∙ ap (λ (it : Finding). with_reply (stamped stamp reply) (with_finding number id it old.store)) same in
-        let rows = file_finished setting world old.store (stamped stamp reply) number has.profile id has.parent has.modified has.name has.content is_in.rows has.there has.at unfinished in
-        let looked = assemblies_unchanged world old.files mid place is_in.files alike unchanged in
-        let still = place_still world old.files mid place is_in.files alike unchanged number id at_place in
-        unwanted (is_out_of_memory given) _ _ (ap is_out_of_memory gives) (rw (accepted allowed) (
+    pub finished : (stamp : Stamp) (reply : Reply) (store : Rows) (mid new : OpenFiles) → IsIn setting world old → is_carried version found.row.profile.hash ≡ true
+        → At old.files found.place (IsJudged (λ first. first ≡ None)) → IsKept stamp number id seen old.store store reply
+        → IsAlikeBut found.place old.files mid → Turns old.files mid found.place IsUnchanged → IsWithout found.place mid new
+        → Comes setting world old (record old { store = store; files = new }) stamp (judge_finish setting world version number id) reply
+    finished stamp reply store mid new is_in reported allowed kept alike unchanged removed =
+        let replied : reply ≡ finished_reply finding = kept.replied ∙ ap (λ (it : Finding). finished_reply it) (seen_is is_in) in
+        let stored : store ≡ finished_rows stamp =
+        kept.rows
+        ∙ ap (λ (it : Reply). with_reply (stamped stamp it) (with_finding number id (finding_in seen) old.store)) replied
+        ∙ ap (λ (it : Finding). with_reply (stamped stamp (finished_reply finding)) (with_finding number id it old.store)) (seen_is is_in) in
+        let rows = file_finished setting world old.store (stamped stamp (finished_reply finding)) number has.profile id has.parent has.modified has.name has.content is_in.rows has.there has.at is.unfinished in
+        let looked = assemblies_unchanged world old.files mid found.place is_in.files alike unchanged in
+        let still = place_still world old.files mid found.place is_in.files alike unchanged number id is.place in
+        unwanted (is_out_of_memory reply) _ _ (ap is_out_of_memory kept.replied) (rw (judged_first None (first_is (λ first. first ≡ None) reported allowed)) (
           replied,
           record {
             world_is = record {
               is_setting = record { limits = is_in.is_setting.limits; allowed = is_in.is_setting.allowed; registry = is_in.is_setting.registry };
-              rows = subst (KeepsWorld setting after) (sym kept) rows;
+              rows = subst (KeepsWorld setting after) (sym stored) rows;
               sound = sound_file_set world number has.profile id has.parent has.modified has.name has.content is_in.sound has.there has.at (as_finished has.content) refl refl;
-              files = assemblies_finished world number has.profile id has.parent has.modified has.name has.content mid new place looked has.there has.at unfinished still gone others count;
-              room = limit ∙ alike.limit ∙ is_in.room;
+              files = assemblies_finished world number has.profile id has.parent has.modified has.name has.content mid new found.place looked has.there has.at is.unfinished still removed;
+              room = removed.limit ∙ alike.limit ∙ is_in.room;
             };
-            replies = ap (λ (rows : Rows). rows.replies) kept;
+            replies = ap (λ (rows : Rows). rows.replies) stored;
           },
         ))

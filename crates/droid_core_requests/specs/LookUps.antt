@@ -1,16 +1,20 @@
--- What the look-up of a file finds of a world. No public clause of the service names these: they only serve proofs.
-use Rattle.std.specs.Prelude.{◌≡◌, ℕ, ℤ, if◌then◌else◌, List, Option, None, Some, MatchBool, ⊤, Result, Ok, Err}
+-- What the look-ups of a file and of an unfinished file find of a world. No public clause of the service names these: they only serve proofs.
+use Rattle.std.specs.Prelude.{◌≡◌, ℕ, ℤ, true, false, if◌then◌else◌, List, Option, None, Some, MatchBool, ⊤, Result, Ok, Err}
+use Rattle.std.specs.List.{slice_get}
+use Rattle.droid_core_files.specs.Files.{OpenFiles, open_at}
 use Rattle.droid_frame.specs.types.refusal.Refusal.{Refusal}
-use Rattle.droid_frame.specs.types.refusal.Refusal.TheVariants.{Memory, NoSuchNode}
+use Rattle.droid_frame.specs.types.refusal.Refusal.TheVariants.{AlreadyFinished, Memory, NoSuchNode}
 use Rattle.droid_core_spec.specs.Judging.{Verdict, Refuses, in_profile, in_file}
 use Rattle.droid_core_spec.specs.MemoryFaults.{is_out_of_memory_of}
 use Rattle.droid_core_spec.specs.World.{Content, File, Profile, World, numbered, node_at}
+use Rattle.droid_core_state.specs.Assemblies.{IsOpenFor}
 use Rattle.droid_core_state.specs.Rows.{profile_row}
 use Rattle.droid_store.specs.declared.fault.StoreFault.{StoreFault}
 use Rattle.droid_store.specs.declared.rows.NodeRow.{NodeRow}
 use Rattle.droid_store.specs.declared.rows.NodeState.{NodeState}
 use Rattle.droid_store.specs.declared.rows.NodeState.TheVariants.{Unfinished, Finished}
 use Rattle.droid_core_requests.specs.declared.file_rows.FileRow.{FileRow}
+use Rattle.droid_core_requests.specs.declared.file_rows.UnfinishedRow.{UnfinishedRow}
 
 -- from what the store returned: the node's row, or that there is no such node, or that memory ran out
 abbrev pub node_in : Result (Option NodeRow) StoreFault → Result NodeRow Refusal
@@ -45,3 +49,21 @@ abbrev pub FindsFile : World → ℕ → ℕ → Result FileRow Refusal → Type
 FindsFile world profile id (Ok row) = HasFile world profile id row
 FindsFile world profile id (Err refusal) =
     MatchBool (is_out_of_memory_of refusal) ⊤ ((judge_there : Profile → ℕ → ℤ → List ℕ → Content → Verdict) → for_file world profile id judge_there ≡ Refuses refusal)
+
+-- the world has the file, which is unfinished; these are its rows, and its assembly is at this place
+pub record HasUnfinished (world : World) (files : OpenFiles) (which id : ℕ) (found : UnfinishedRow) : Type 0 where
+  pub file : HasFile world which id found.row
+  pub unfinished : file.content.finished ≡ false
+  pub its : IsOpenFor file.profile file.content (open_at which id files.files)
+  pub place : slice_get files.files found.place ≡ open_at which id files.files
+
+-- the request is refused for a finished file
+abbrev pub RefusesFinished : (Profile → ℕ → ℤ → List ℕ → Content → Verdict) → Type 0
+RefusesFinished judge_there = (its : Profile) (parent : ℕ) (modified : ℤ) (name : List ℕ) (content : Content) → content.finished ≡ true
+    → judge_there its parent modified name content ≡ Refuses AlreadyFinished
+
+-- the unfinished file; or each request for the file that needs an unfinished one is refused so, or memory ran out
+abbrev pub FindsUnfinished : World → OpenFiles → ℕ → ℕ → Result UnfinishedRow Refusal → Type 0
+FindsUnfinished world files profile id (Ok found) = HasUnfinished world files profile id found
+FindsUnfinished world files profile id (Err refusal) =
+    MatchBool (is_out_of_memory_of refusal) ⊤ ((judge_there : Profile → ℕ → ℤ → List ℕ → Content → Verdict) → RefusesFinished judge_there → for_file world profile id judge_there ≡ Refuses refusal)

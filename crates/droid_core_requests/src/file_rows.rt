@@ -2,10 +2,11 @@
 
 ghost use Rattle.std.specs.Prelude.{◌≡◌, ◌<◌, length, false, Ok, Some, None, MatchBool, ⊤, IsSome, IfOk, IfErr, OnOk, OnErr, option_map};
 ghost use Rattle.std.specs.List.{slice_get};
-ghost use Rattle.droid_core_requests.specs.LookUps.{FindsFile, node_in};
+ghost use Rattle.droid_core_requests.specs.LookUps.{FindsFile, FindsUnfinished, node_in};
 ghost use Rattle.droid_core_spec.specs.Setting.{Setting};
 ghost use Rattle.droid_core_spec.specs.MemoryFaults.{is_out_of_memory_of};
 ghost use Rattle.droid_core_spec.specs.World.{World};
+ghost use Rattle.droid_core_state.specs.Assemblies.{HasAssemblies};
 ghost use Rattle.droid_core_state.specs.Rows.{KeepsWorld};
 ghost use Rattle.droid_store.specs.Changes.{IsOpen};
 ghost use Rattle.droid_store.specs.Rows.{is_unfinished, profile_at};
@@ -38,6 +39,39 @@ impl FileRow {
             NodeState::Finished => false,
         }
     }
+}
+
+/// An unfinished file: its rows, and the place of its assembly.
+#[derive(Debug, Drop)]
+pub struct UnfinishedRow {
+    /// The rows of the file and of its profile.
+    pub row: FileRow,
+    /// The place of its assembly, counted from 0.
+    pub place: usize,
+}
+
+/// Looks up the unfinished file with this number in this profile. Between two requests no piece of it is pending.
+pub fn unfinished_file(
+    store: &mut Store,
+    files: &UnfinishedFiles,
+    profile: u32,
+    file: u32,
+) -> Result<UnfinishedRow, Refusal>
+    ensures same { store.new ≡ store.old }
+    ensures open { OnOk result (IsOpen profile file store.old) }
+    ensures hash { IfOk result (λ found. option_map (λ p. p.hash) (profile_at profile store.old) ≡ Some found.row.profile.hash) }
+    ensures within { IfOk result (λ found. found.place < length files.now.files) }
+    ensures none_pending { IfOk result (λ found. At files.now found.place (λ file. file.pending ≡ None)) }
+    ensures found { (setting : Setting) (world : World) → KeepsWorld setting world store.old → HasAssemblies world files.now
+        → FindsUnfinished world files.now profile file result }
+{
+    let row = file_of(store, profile, file)?;
+    if !row.is_unfinished() {
+        return Err(Refusal::AlreadyFinished);
+    }
+    let place = place_of_file(files, profile, file)?;
+    none_is_pending(files, place)?;
+    Ok(UnfinishedRow { row, place })
 }
 
 /// Looks up the file with this number in this profile.
@@ -87,7 +121,7 @@ pub fn place_of_file(files: &UnfinishedFiles, profile: u32, file: u32) -> Result
 
 /// Checks that no piece of the file at this place is pending, as the prover needs it. It cannot happen that one is,
 /// between two requests; the code would answer Store.
-pub fn none_is_pending(files: &UnfinishedFiles, place: usize) -> Result<(), Refusal>
+fn none_is_pending(files: &UnfinishedFiles, place: usize) -> Result<(), Refusal>
     requires { place < length files.now.files }
     ensures none_pending { OnOk result (At files.now place (λ file. file.pending ≡ None)) }
     ensures pending { OnErr result (At files.now place (λ file. IsSome file.pending)) }

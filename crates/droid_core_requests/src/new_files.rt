@@ -11,7 +11,7 @@ ghost use Rattle.droid_frame.specs.Versions.{IsVersion};
 ghost use Rattle.droid_store.specs.Rows.{reply_for};
 ghost use Rattle.droid_core_files.specs.Files.{open_at};
 
-use crate::new_places::{node_room, path_of_new};
+use crate::destination::{node_room, path_of_new};
 use droid_assembly::Assembly;
 use droid_core_files::UnfinishedFiles;
 use droid_core_state::{Holdings, Room, Stamp, entry_of, file_refusal, is_scan_limit, profile_of};

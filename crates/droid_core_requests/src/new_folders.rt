@@ -7,7 +7,7 @@ ghost use Rattle.droid_core_spec.specs.Judging.{judge_folder};
 ghost use Rattle.droid_frame.specs.Versions.{IsVersion};
 ghost use Rattle.droid_store.specs.Rows.{reply_for};
 
-use crate::new_places::{node_room, path_of_new};
+use crate::destination::{node_room, path_of_new};
 use droid_core_state::{Holdings, Stamp, entry_of, folder_refusal, profile_of};
 use droid_frame::{Refusal, Reply, Text};
 

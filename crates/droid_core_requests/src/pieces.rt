@@ -1,6 +1,6 @@
 //! Piece: the pieces of files.
 
-ghost use Rattle.std.specs.Prelude.{◌≡◌, ◌<◌, ◌^◌, ◌+◌, ◌++◌, ◌∷◌, [], List, length, false, None, Some, IsSome, IfOk, IfErr, OnOk, OnErr};
+ghost use Rattle.std.specs.Prelude.{◌≡◌, ◌<◌, ◌^◌, ◌++◌, ◌∷◌, [], List, length, false, None, Some, IsSome, IfErr, OnOk, OnErr};
 ghost use Rattle.droid_assembly.specs.Pieces.{Piece};
 ghost use Rattle.droid_assembly.specs.State.{StandsFor, IsOfSameFile, with_pending};
 ghost use Rattle.droid_core_state.specs.Assemblies.{IsAssemblyOf};
@@ -16,7 +16,7 @@ ghost use Rattle.droid_store.specs.Rows.{reply_for};
 ghost use Rattle.droid_store.specs.Sizes.{entry_size, FitsARow};
 ghost use Rattle.droid_core_files.specs.Files.{At, Turns, IsAlikeBut};
 
-use crate::file_rows::{file_of, none_is_pending, place_of_file};
+use crate::file_rows::unfinished_file;
 use droid_core_files::UnfinishedFiles;
 use droid_core_state::{Holdings, Stamp, entry_of};
 use droid_frame::{Blob, Refusal, Reply};
@@ -36,30 +36,18 @@ pub fn take_piece(
     requires version { IsVersion stamp.version }
     ensures answers { Answers (λ setting world. judge_piece world profile file index bytes) stamp holdings.old holdings.new (answered result) }
 {
-    let row = file_of(&mut holdings.store, profile, file)?;
-    if !row.is_unfinished() {
-        return Err(Refusal::AlreadyFinished);
-    }
-    let place = place_of_file(&holdings.files, profile, file)?;
-    let held = held_with_one_more(&holdings.files, place)?;
+    let found = unfinished_file(&mut holdings.store, &holdings.files, profile, file)?;
+    let held = holdings.files.held(found.place) + 1;
     let reply = Reply::Taken { held };
     let entry = entry_of(holdings.alloc, stamp, &reply)?;
-    put_piece(&mut holdings.files, place, index, bytes)?;
-    keep_piece(&mut holdings.store, &mut holdings.files, place, &entry)?;
+    put_piece(&mut holdings.files, found.place, index, bytes)?;
+    keep_piece(
+        &mut holdings.store,
+        &mut holdings.files,
+        found.place,
+        &entry,
+    )?;
     Ok(reply)
-}
-
-/// Returns the number of pieces of the file at this place, with one more. It cannot happen that a piece is pending
-/// between two requests; the code would answer Store.
-fn held_with_one_more(files: &UnfinishedFiles, place: usize) -> Result<u32, Refusal>
-    requires { place < length files.now.files }
-    ensures held { IfOk result (λ held. At files.now place (λ file. (pieces : List Piece) → StandsFor file pieces → held ≡ length pieces + 1)) }
-    ensures none_pending { OnOk result (At files.now place (λ file. file.pending ≡ None)) }
-    ensures pending { OnErr result (At files.now place (λ file. IsSome file.pending)) }
-    ensures failure { IfErr result (λ refusal. refusal ≡ Refusal.Store) }
-{
-    none_is_pending(files, place)?;
-    Ok(files.held(place) + 1)
 }
 
 /// Makes the piece the pending one of the file at this place, or refuses it.

@@ -1,8 +1,7 @@
 -- The sizes of an accepted file are those that an assembly may have.
-use Rattle.std.proofs.Common.{◌≡◌, ℕ, ◌≤◌, ◌==◌, nat_le, false, inl, inr, IsTrue, Option, Some, None, IfNone, refl, arith}
+use Rattle.std.proofs.Common.{◌≡◌, ℕ, ◌≤◌, ◌==◌, nat_le, false, inl, inr, IsTrue, refl, arith}
 use Rattle.std.proofs.lemmas.Bool.{and_parts, cases_Bool, leb-true, le-leb}
 use Rattle.droid_assembly.specs.Pieces.{AreSizes, piece_count}
-use Rattle.droid_frame.specs.types.refusal.Refusal.{Refusal}
 use Rattle.droid_core_spec.specs.Conditions.{is_scan_limit, is_piece_size, piece_size_limit, is_too_large}
 
 limit_within : (scan_limit : ℕ) → IsTrue (is_scan_limit scan_limit) → (1 ≤ scan_limit) × (scan_limit ≤ 65536)
@@ -33,7 +32,7 @@ pub size_within : (size piece_size : ℕ) → is_too_large size piece_size ≡ f
 unfolding is_too_large
 size_within size piece_size within = grind (arith)
 
-sizes : (version size piece_size scan_limit : ℕ) → IsTrue (is_piece_size version piece_size) → is_too_large size piece_size ≡ false → IsTrue (is_scan_limit scan_limit) → AreSizes size piece_size scan_limit
+pub sizes : (version size piece_size scan_limit : ℕ) → IsTrue (is_piece_size version piece_size) → is_too_large size piece_size ≡ false → IsTrue (is_scan_limit scan_limit) → AreSizes size piece_size scan_limit
 sizes version size piece_size scan_limit due within at =
     let cut = piece_size_within version piece_size due in
     let whole = size_within size piece_size within in
@@ -46,8 +45,3 @@ sizes version size piece_size scan_limit due within at =
       scan_limit_positive = scanned.0;
       scan_limit_fits = scanned.1;
     }
-
-pub sizes_where_none : (refusal : Option Refusal) (version size piece_size : ℕ) → IfNone refusal (IsTrue (is_piece_size version piece_size)) → IfNone refusal (is_too_large size piece_size ≡ false)
-    → IfNone refusal ((scan_limit : ℕ) → IsTrue (is_scan_limit scan_limit) → AreSizes size piece_size scan_limit)
-sizes_where_none None version size piece_size due within = λ scan_limit at. sizes version size piece_size scan_limit due within at
-sizes_where_none (Some refusal) version size piece_size due within = due

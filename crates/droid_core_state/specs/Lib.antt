@@ -1,6 +1,5 @@
 pub mod Assemblies
 pub mod Changes
-pub mod Checks
 pub mod Identified
 pub mod LookUps
 pub mod Replies

@@ -26,7 +26,7 @@ returns-then-is_unfinished c = record {
         let has = c.in_ok-row.ensures.found setting world is_in.rows in
         unfinished_reported setting world c.args.profile c.args.file c.in_ok-row.row has c.args.holdings.now _ stamp (read_only setting world c.args.holdings.now c.file_of.new.store c.file_of.ensures.same is_in)
         is_in.files (sym c.if-is_unfinished.ensures) c.progress_of.result c.progress_of.ensures.progress
-        (reported_at_all c.progress_of.result c.progress_of.ensures.none (no_assembly setting world c.args.profile c.args.file c.in_ok-row.row has c.args.holdings.now is_in (sym c.if-is_unfinished.ensures)));
+        (reported_at_all c.progress_of.result c.progress_of.ensures.none (no_assembly world c.args.profile c.args.file c.in_ok-row.row has c.args.holdings.now.files is_in.files (sym c.if-is_unfinished.ensures)));
     spelled = c.progress_of.ensures.spelled stamp.version;
     limits = refl;
     registry = refl;
@@ -51,7 +51,7 @@ returns-in_err-pieces c = record {
   answers = λ stamp. record {
     comes = λ setting world is_in.
         let has = c.in_ok-row.ensures.found setting world is_in.rows in
-        absurd (no_count setting world c.args.profile c.args.file c.in_ok-row.row has c.args.holdings.now is_in (λ some few. absurd (let reported = c.in_err-pieces.ensures.fits some few in cc)));
+        absurd (no_count world c.args.profile c.args.file c.in_ok-row.row has is_in.sound (λ some few. absurd (let reported = c.in_err-pieces.ensures.fits some few in cc)));
     spelled = search rules;
     limits = refl;
     registry = refl;
