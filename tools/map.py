@@ -27,7 +27,7 @@ BELOW_HEADS = {
     "droid_desk_service": ["droid_lines_script", "droid_lines_send", "droid_pronom_common"],
 }
 # what tests share
-SHARED = ["droid_frame_shaky", "droid_frame_vectors", "droid_pronom_sample", "droid_store_steps"]
+SHARED = ["droid_frame_shaky", "droid_frame_vectors", "droid_pronom_sample"]
 # the kit's libraries that are named as std or a module of it: only a line tells that one of them is meant
 AS_IN_STD = {"std", "core", "io", "os", "libc", "bytes"}
 # `rt` sums up the sources of a crate once for each path to it, at every call

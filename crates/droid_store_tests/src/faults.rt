@@ -1,4 +1,4 @@
-//! How the store's faults are printed.
+//! How the store's errors are printed.
 
 use droid_store::StoreFault;
 use std::test::Fail;
@@ -11,7 +11,7 @@ fn texts(rt: HostRuntime) -> Result<(), Fail> {
         (StoreFault::Refused, "the database refused"),
     ] {
         let printed = format!(in alloc; "{fault}")?;
-        assert_eq!(rt; printed.as_str(), text);
+        assert!(rt; printed.as_str() == text, "{text}");
     }
     Ok(())
 }

@@ -1,18 +1,17 @@
 //! First and last values of each field come back as they were sent.
 
-use droid_frame::{HashKind, HashValue, Method};
-use droid_store::{NodeState, ProfileRow, Store};
-use droid_store_steps::{
-    Change, Found, Kept, NODE, NOTHING, Place, Shown, Step, StepFault, commit, expect, is_kept,
-    look_at_node, make_profile,
-};
+use crate::commands::{check, commit, expect, keep_reply, make_profile};
+use crate::queries::{look_at_no_reply, look_at_node, look_at_reply};
+use crate::rows::{Change, Kept, NODE, Node};
+use droid_frame::{HashKind, Method};
+use droid_store::{NodeState, ProfileRow, Store, StoreFault};
 use std::alloc::Global;
-use std::process::Abort;
 use std::test::Fail;
 
 const LAST_NUMBER: u64 = 9_223_372_036_854_775_807;
 
-/// Each differs from others in the client alone, in the number alone, or in what is kept: the first and the last in number and version. The table takes versions that no frame has.
+/// Each differs from others in the client alone, in the number alone, or in what is kept: the first and the last in number
+/// and version. The store takes versions that no frame has.
 const ENTRIES: [Kept<'static>; 14] = [
     (1, 1, 1, 0x00, 129, &[]),
     (1, 2, 2, 0xff, 130, &[0]),
@@ -47,211 +46,177 @@ const NO_ENTRIES: [(u32, u64); 13] = [
     (4_294_967_295, 18_446_744_073_709_551_615),
 ];
 
+fn keep_each(alloc: Global, store: &mut Store, entries: &[Kept<'_>]) -> Result<(), StoreFault> {
+    for kept in entries {
+        keep_reply(alloc, store, kept)?;
+    }
+    expect(store.counts()?.accepted == 14)
+}
+
+fn first_lost(store: &mut Store, entries: &[Kept<'_>]) -> Option<usize> {
+    for (place, kept) in entries.iter().enumerate() {
+        if look_at_reply(store, kept).is_err() {
+            return Some(place);
+        }
+    }
+    None
+}
+
+fn first_invented(store: &mut Store, numbers: &[(u32, u64)]) -> Option<usize> {
+    for (place, (client, number)) in numbers.iter().enumerate() {
+        if look_at_no_reply(store, *client, *number).is_err() {
+            return Some(place);
+        }
+    }
+    None
+}
+
 #[test]
 fn replies(rt: HostRuntime) -> Result<(), Fail> {
     let mut store = Store::in_memory(rt.alloc())?;
     keep_each(rt.alloc(), &mut store, &ENTRIES)?;
-    assert_eq!(rt; store.counts()?.accepted, 14);
-    each_is_kept(&rt, &mut store, &ENTRIES)?;
-    none_is_kept(&rt, &mut store, &NO_ENTRIES)?;
+    let lost = first_lost(&mut store, &ENTRIES);
+    check(&rt, lost);
+    let invented = first_invented(&mut store, &NO_ENTRIES);
+    check(&rt, invented);
     Ok(())
 }
 
-fn keep_each(alloc: Global, store: &mut Store, entries: &[Kept<'_>]) -> Result<(), StepFault> {
-    for kept in entries {
-        let step: Step<'_> = (*kept, Change::Piece);
-        commit(alloc, store, &step)?;
-    }
-    Ok(())
-}
-
-fn each_is_kept(rt: &impl Abort, store: &mut Store, entries: &[Kept<'_>]) -> Result<(), StepFault> {
-    for kept in entries {
-        let (client, number, ..) = *kept;
-        let found = store.reply_of(client, number)?;
-        assert!(rt; is_kept(found.as_ref(), kept), "{kept:?}");
-    }
-    Ok(())
-}
-
-fn none_is_kept(
-    rt: &impl Abort,
-    store: &mut Store,
-    numbers: &[(u32, u64)],
-) -> Result<(), StepFault> {
-    for (client, number) in numbers {
-        let found = store.reply_of(*client, *number)?;
-        assert!(rt; found.is_none(), "number {number} of {client}");
-    }
-    Ok(())
-}
-
-/// Files: parent, moment, size and piece size.
-type Numbers = (u32, i64, u64, u32);
-
-/// What is found of each, in the order of the table.
-const FILES: [(Numbers, Found<'static>); 7] = [
+/// Files of one name, each with the number before it as its parent, but for the last values of a number.
+const FILES: &[Node<'static>] = &[
     (
-        (0, -62_135_596_800, 0, 1),
-        Found {
-            method: Method::Unidentified,
-            mismatch: false,
-            hash: HashValue::Sha256([0; 32]),
-            puids: &[],
-        },
-    ),
-    (
-        (1, 253_402_300_799, 1_099_511_627_776, 1_048_576),
-        Found {
-            method: Method::Signature,
-            mismatch: true,
-            hash: HashValue::Sha256([255; 32]),
-            puids: &["fmt/1"],
-        },
-    ),
-    (
-        (2, -1, 1, 1_048_575),
-        Found {
-            method: Method::Extension,
-            mismatch: false,
-            hash: HashValue::Sha256([
-                0, 1, 2, 3, 4, 5, 6, 7, 8, 9, 10, 11, 12, 13, 14, 15, 16, 17, 18, 19, 20, 21, 22,
-                23, 24, 25, 26, 27, 28, 29, 30, 31,
-            ]),
-            puids: &["fmt/2", "fmt/1"],
-        },
-    ),
-    (
-        (3, 0, 1_099_511_627_775, 1),
-        Found {
-            method: Method::Signature,
-            mismatch: false,
-            hash: HashValue::Sha256([0x20; 32]),
-            puids: &["a", "a", "b", "a"],
-        },
-    ),
-    (
+        (1, 1, 0, -62_135_596_800, "f", "/f"),
+        (0, 1),
         (
-            4_294_967_295,
-            9_223_372_036_854_775_807,
-            LAST_NUMBER,
-            4_294_967_295,
+            Method::Unidentified,
+            false,
+            b"\0\0\0\0\0\0\0\0\0\0\0\0\0\0\0\0\0\0\0\0\0\0\0\0\0\0\0\0\0\0\0\0",
+            "",
         ),
-        Found {
-            method: Method::Extension,
-            mismatch: true,
-            hash: HashValue::Sha256([0x27; 32]),
-            puids: &[
-                "abcdefghijklmnopqrstuvwxyz/12345",
-                "'",
-                "''",
-                "%",
-                "NULL",
-                "0",
-            ],
-        },
     ),
     (
-        (5, -9_223_372_036_854_775_808, 4_294_967_296, 2),
-        Found {
-            method: Method::Unidentified,
-            mismatch: true,
-            hash: HashValue::Sha256([1; 32]),
-            puids: &["\u{e9}", "\u{10ffff}", "\t", "\u{1}", "\u{a0}"],
-        },
+        (1, 2, 1, 253_402_300_799, "f", "/f"),
+        (1_099_511_627_776, 1_048_576),
+        (
+            Method::Signature,
+            true,
+            b"\xff\xff\xff\xff\xff\xff\xff\xff\xff\xff\xff\xff\xff\xff\xff\xff\xff\xff\xff\xff\xff\xff\xff\xff\xff\xff\xff\xff\xff\xff\xff\xff",
+            "fmt/1",
+        ),
     ),
     (
-        (6, 1, 2, 3),
-        Found {
-            method: Method::Signature,
-            mismatch: true,
-            hash: HashValue::Sha256([0x7f; 32]),
-            puids: &[],
-        },
+        (1, 3, 2, -1, "f", "/f"),
+        (1, 1_048_575),
+        (
+            Method::Extension,
+            false,
+            b"\x00\x01\x02\x03\x04\x05\x06\x07\x08\x09\x0a\x0b\x0c\x0d\x0e\x0f\x10\x11\x12\x13\x14\x15\x16\x17\x18\x19\x1a\x1b\x1c\x1d\x1e\x1f",
+            "fmt/2 fmt/1",
+        ),
+    ),
+    (
+        (1, 4, 3, 0, "f", "/f"),
+        (1_099_511_627_775, 1),
+        (
+            Method::Signature,
+            false,
+            b"                                ",
+            "a a b a",
+        ),
+    ),
+    (
+        (1, 5, 4_294_967_295, 9_223_372_036_854_775_807, "f", "/f"),
+        (LAST_NUMBER, 4_294_967_295),
+        (
+            Method::Extension,
+            true,
+            b"''''''''''''''''''''''''''''''''",
+            "abcdefghijklmnopqrstuvwxyz/12345 ' '' % NULL 0",
+        ),
+    ),
+    (
+        (1, 6, 5, -9_223_372_036_854_775_808, "f", "/f"),
+        (4_294_967_296, 2),
+        (
+            Method::Unidentified,
+            true,
+            b"\x01\x01\x01\x01\x01\x01\x01\x01\x01\x01\x01\x01\x01\x01\x01\x01\x01\x01\x01\x01\x01\x01\x01\x01\x01\x01\x01\x01\x01\x01\x01\x01",
+            "\u{e9} \u{10ffff} \t \u{1} \u{a0}",
+        ),
+    ),
+    (
+        (1, 7, 6, 1, "f", "/f"),
+        (2, 3),
+        (
+            Method::Signature,
+            true,
+            b"\x7f\x7f\x7f\x7f\x7f\x7f\x7f\x7f\x7f\x7f\x7f\x7f\x7f\x7f\x7f\x7f\x7f\x7f\x7f\x7f\x7f\x7f\x7f\x7f\x7f\x7f\x7f\x7f\x7f\x7f\x7f\x7f",
+            "",
+        ),
     ),
 ];
 
-// The file as it is made under this number.
-fn made(id: u32, numbers: Numbers) -> Shown<'static> {
-    let (parent, modified, size, piece_size) = numbers;
-    Shown {
-        place: Place {
-            profile: 1,
-            id,
-            parent,
-            modified,
-            name: "f",
-            path: "/f",
-        },
-        state: NodeState::Unfinished,
-        size,
-        piece_size,
-        found: NOTHING,
-    }
-}
-
-#[test]
-fn files(rt: HostRuntime) -> Result<(), Fail> {
-    let mut store = Store::in_memory(rt.alloc())?;
-    profile_of_last_values(rt.alloc(), &mut store)?;
-    make_each(rt.alloc(), &mut store, &FILES)?;
-    finish_each(rt.alloc(), &mut store, &FILES)?;
-    Ok(())
-}
-
-fn profile_of_last_values(alloc: Global, store: &mut Store) -> Result<(), StepFault> {
-    make_profile(alloc, store, 0, 1, 4_294_967_295, true, HashKind::Sha256)?;
+fn make_last_profile(alloc: Global, store: &mut Store) -> Result<(), StoreFault> {
+    let kept = (1, 0, 1, 0, 129, b"".as_slice());
+    make_profile(
+        alloc,
+        store,
+        &kept,
+        1,
+        &(4_294_967_295, true, HashKind::Sha256),
+    )?;
     let row = ProfileRow {
         scan_limit: 4_294_967_295,
         match_all: true,
         nodes: 0,
         hash: HashKind::Sha256,
     };
-    expect(store.profile(1)? == Some(row), "the profile is shown")
+    expect(store.profile(1)? == Some(row))
 }
 
-fn make_each(
+// Changes each file by a command of this client, in the version of this number, and looks at it. The place of the first
+// that isn't in this state then.
+fn first_not(
     alloc: Global,
     store: &mut Store,
-    files: &[(Numbers, Found<'_>)],
-) -> Result<(), StepFault> {
-    let mut id = 0;
-    for (numbers, _) in files {
-        id = u32::wrapping_add(id, 1);
-        let shown = made(id, *numbers);
-        let change = Change::File {
-            place: shown.place,
-            size: shown.size,
-            piece_size: shown.piece_size,
-        };
-        let kept = (1, u64::from(id), 1, 1, NODE, b"".as_slice());
-        commit(alloc, store, &(kept, change))?;
-        look_at_node(store, &shown)?;
+    client: u8,
+    change: Change,
+    state: NodeState,
+    files: &[Node<'_>],
+) -> Option<usize> {
+    for (place, file) in files.iter().enumerate() {
+        if try_file(alloc, store, client, change, file).is_err()
+            | look_at_node(store, file, state).is_err()
+        {
+            return Some(place);
+        }
     }
-    Ok(())
+    None
 }
 
-fn finish_each(
+fn try_file(
     alloc: Global,
     store: &mut Store,
-    files: &[(Numbers, Found<'_>)],
-) -> Result<(), StepFault> {
-    let mut file = 0;
-    for (numbers, found) in files {
-        file = u32::wrapping_add(file, 1);
-        let change = Change::Finish {
-            profile: 1,
-            file,
-            found: *found,
-        };
-        let kept = (2, u64::from(file), 2, 1, NODE, b"".as_slice());
-        commit(alloc, store, &(kept, change))?;
-        let shown = Shown {
-            state: NodeState::Finished,
-            found: *found,
-            ..made(file, *numbers)
-        };
-        look_at_node(store, &shown)?;
-    }
+    client: u8,
+    change: Change,
+    file: &Node<'_>,
+) -> Result<(), StoreFault> {
+    let ((_, id, ..), ..) = *file;
+    let number = u64::from(id);
+    let kept = (u32::from(client), number, client, 1, NODE, b"".as_slice());
+    commit(alloc, store, &kept, change, file)
+}
+
+#[test]
+fn files(rt: HostRuntime) -> Result<(), Fail> {
+    let alloc = rt.alloc();
+    let mut store = Store::in_memory(alloc)?;
+    make_last_profile(alloc, &mut store)?;
+    let open = NodeState::Unfinished;
+    let unmade = first_not(alloc, &mut store, 1, Change::Node, open, FILES);
+    check(&rt, unmade);
+    let closed = NodeState::Finished;
+    let unfinished = first_not(alloc, &mut store, 2, Change::Finish, closed, FILES);
+    check(&rt, unfinished);
     Ok(())
 }

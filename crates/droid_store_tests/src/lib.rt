@@ -1,6 +1,11 @@
-//! Tests of the store, over the public calls of `droid_store` and `droid_frame` alone.
+//! Tests of the store, over the public calls of `droid_store` and `droid_frame` alone. Commands and what the store shows
+//! are rows of tables. What isn't as it should be is an error, or the place of the first row that is wrong.
 #![tactic(auto)]
 
+#[cfg(test)]
+mod cases;
+#[cfg(test)]
+mod commands;
 #[cfg(test)]
 mod faults;
 #[cfg(test)]
@@ -14,10 +19,18 @@ mod memory;
 #[cfg(test)]
 mod names;
 #[cfg(test)]
+mod one_profile;
+#[cfg(test)]
+mod page;
+#[cfg(test)]
 mod plain;
 #[cfg(test)]
-mod profiles;
+mod queries;
 #[cfg(test)]
 mod random;
 #[cfg(test)]
-mod row;
+mod rows;
+#[cfg(test)]
+mod three_profiles;
+#[cfg(test)]
+mod words;

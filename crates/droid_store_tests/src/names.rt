@@ -1,16 +1,15 @@
 //! Names are distinguished byte for byte, in each folder of each profile.
 
+use crate::commands::{check, expect, make_folder, make_profile};
+use crate::queries::look_at_node;
+use crate::rows::{FOLDER, MADE, NOTHING};
 use droid_frame::HashKind;
-use droid_store::Store;
-use droid_store_steps::{
-    Change, NODE, Place, Shown, Step, StepFault, commit, look_at_node, make_profile,
-};
-use std::alloc::Global;
-use std::process::Abort;
+use droid_store::{NodeState, Store, StoreFault};
+use std::alloc::{AllocError, Global};
 use std::test::Fail;
 
-/// Names, each as a text repeated so many times and what follows it.
-type Name<'a> = (&'a str, usize, &'a str);
+/// A name: a text, how often it is repeated, and what follows it.
+pub type Name<'a> = (&'a str, usize, &'a str);
 
 /// They lie in one folder side by side: the place in the table is the node's number less 1.
 const NAMES: [Name<'static>; 44] = [
@@ -80,7 +79,14 @@ const ABSENT: [Name<'static>; 16] = [
     ("a", 254, "b"),
 ];
 
-fn name_of(alloc: Global, name: &Name<'_>) -> Result<String, Fail> {
+/// What is done with a name.
+enum Turn {
+    Make,
+    Find,
+    Miss,
+}
+
+pub fn name_of(alloc: Global, name: &Name<'_>) -> Result<String, AllocError> {
     let (unit, count, end) = *name;
     let mut text = String::new(alloc);
     for _ in 0..count {
@@ -90,96 +96,70 @@ fn name_of(alloc: Global, name: &Name<'_>) -> Result<String, Fail> {
     Ok(text)
 }
 
-// Makes the folder under the number of the command.
-fn make_folder(
+// Nothing is found under the name in this folder.
+fn miss(store: &mut Store, profile: u32, parent: u32, name: &str) -> Result<(), StoreFault> {
+    let found = store.child(profile, parent, name)?;
+    expect(found.is_none())
+}
+
+// Makes a folder at the top under the name, which isn't there before.
+fn make(alloc: Global, store: &mut Store, id: u32, name: &str) -> Result<(), StoreFault> {
+    miss(store, 1, 0, name)?;
+    make_folder(alloc, store, u64::from(id), (1, id, 0, 0, name, name))
+}
+
+// The name has this number, is shown under it as it was sent, and lies in no other folder.
+fn find(store: &mut Store, id: u32, name: &str) -> Result<(), StoreFault> {
+    let folder = ((1, id, 0, 0, name, name), FOLDER, NOTHING);
+    look_at_node(store, &folder, NodeState::Folder)?;
+    miss(store, 1, id, name)?;
+    miss(store, 2, 0, name)
+}
+
+fn take(
     alloc: Global,
     store: &mut Store,
-    number: u64,
-    place: Place<'_>,
-) -> Result<(), StepFault> {
-    let step: Step<'_> = ((1, number, 1, 2, NODE, b"node"), Change::Folder(place));
-    commit(alloc, store, &step)
+    turn: &Turn,
+    id: u32,
+    name: &Name<'_>,
+) -> Result<(), StoreFault> {
+    let text = name_of(alloc, name)?;
+    match turn {
+        Turn::Make => make(alloc, store, id, text.as_str()),
+        Turn::Find => find(store, id, text.as_str()),
+        Turn::Miss => miss(store, 1, 0, text.as_str()),
+    }
+}
+
+// The number of the first name with which that fails.
+fn first_wrong(alloc: Global, store: &mut Store, turn: &Turn, names: &[Name<'_>]) -> Option<usize> {
+    let mut id = 0u32;
+    for name in names {
+        id = id.wrapping_add(1);
+        if take(alloc, store, turn, id, name).is_err() {
+            return Some(id as usize);
+        }
+    }
+    None
+}
+
+// Makes the profile under its number by a command of client 2.
+fn make_usual_profile(alloc: Global, store: &mut Store, profile: u32) -> Result<(), StoreFault> {
+    let kept = (2, u64::from(profile), 1, 0, MADE, b"".as_slice());
+    make_profile(alloc, store, &kept, profile, &(1, true, HashKind::Md5))
 }
 
 #[test]
 fn byte_for_byte(rt: HostRuntime) -> Result<(), Fail> {
-    let mut store = Store::in_memory(rt.alloc())?;
-    make_profile(rt.alloc(), &mut store, 0, 1, 1, true, HashKind::Md5)?;
-    make_each(&rt, rt.alloc(), &mut store, &NAMES)?;
-    each_is_found(&rt, rt.alloc(), &mut store, &NAMES)?;
-    none_is_found(&rt, rt.alloc(), &mut store, &ABSENT)
-}
-
-// Makes a folder at the top for each name, which isn't there before.
-fn make_each(
-    rt: &impl Abort,
-    alloc: Global,
-    store: &mut Store,
-    names: &[Name<'_>],
-) -> Result<(), Fail> {
-    let mut id = 0;
-    for name in names {
-        id = u32::wrapping_add(id, 1);
-        let text = name_of(alloc, name)?;
-        none_lies_under(rt, store, text.as_str())?;
-        let place = at_the_top(id, text.as_str());
-        make_folder(alloc, store, u64::from(id), place)?;
-    }
-    Ok(())
-}
-
-fn none_is_found(
-    rt: &impl Abort,
-    alloc: Global,
-    store: &mut Store,
-    names: &[Name<'_>],
-) -> Result<(), Fail> {
-    for name in names {
-        let text = name_of(alloc, name)?;
-        none_lies_under(rt, store, text.as_str())?;
-    }
-    Ok(())
-}
-
-// Nothing lies at the top of the first profile under this name.
-fn none_lies_under(rt: &impl Abort, store: &mut Store, name: &str) -> Result<(), StepFault> {
-    assert_eq!(rt; store.child(1, 0, name)?, None, "{name}");
-    Ok(())
-}
-
-// The folder as it is made under this number.
-fn at_the_top(id: u32, name: &str) -> Place<'_> {
-    Place {
-        profile: 1,
-        id,
-        parent: 0,
-        modified: 0,
-        name,
-        path: name,
-    }
-}
-
-// Each name has the number of its place, and is shown under it as it was sent; it lies in no other folder.
-fn each_is_found(
-    rt: &impl Abort,
-    alloc: Global,
-    store: &mut Store,
-    names: &[Name<'_>],
-) -> Result<(), Fail> {
-    let mut id = 0;
-    for name in names {
-        id = u32::wrapping_add(id, 1);
-        let text = name_of(alloc, name)?;
-        is_found(rt, store, id, text.as_str())?;
-    }
-    Ok(())
-}
-
-fn is_found(rt: &impl Abort, store: &mut Store, id: u32, name: &str) -> Result<(), StepFault> {
-    let shown = Shown::folder(at_the_top(id, name));
-    assert_eq!(rt; look_at_node(store, &shown), Ok(()), "{name}");
-    assert_eq!(rt; store.child(1, id, name)?, None, "{name}");
-    assert_eq!(rt; store.child(2, 0, name)?, None, "{name}");
+    let alloc = rt.alloc();
+    let mut store = Store::in_memory(alloc)?;
+    make_usual_profile(alloc, &mut store, 1)?;
+    let made = first_wrong(alloc, &mut store, &Turn::Make, &NAMES);
+    check(&rt, made);
+    let found = first_wrong(alloc, &mut store, &Turn::Find, &NAMES);
+    check(&rt, found);
+    let missed = first_wrong(alloc, &mut store, &Turn::Miss, &ABSENT);
+    check(&rt, missed);
     Ok(())
 }
 
@@ -205,56 +185,47 @@ const EMPTY_FOLDERS: [(u32, u32); 7] = [
     (4_294_967_295, 0),
 ];
 
-#[test]
-fn one_name_in_many_folders(rt: HostRuntime) -> Result<(), Fail> {
-    let mut store = Store::in_memory(rt.alloc())?;
-    for profile in 1..4 {
-        make_profile(
-            rt.alloc(),
-            &mut store,
-            u64::from(profile),
-            profile,
-            1,
-            true,
-            HashKind::Md5,
-        )?;
-    }
-    make_same_name(rt.alloc(), &mut store, &SAME_NAME)?;
-    same_name_is_found(&rt, &mut store, &SAME_NAME, &EMPTY_FOLDERS)?;
-    Ok(())
-}
-
 fn make_same_name(
     alloc: Global,
     store: &mut Store,
     places: &[(u32, u32, u32)],
-) -> Result<(), StepFault> {
-    let mut number = 3;
+) -> Result<(), StoreFault> {
+    for profile in 1..4 {
+        make_usual_profile(alloc, store, profile)?;
+    }
+    let mut number = 0u64;
     for (profile, id, parent) in places {
-        number = u64::wrapping_add(number, 1);
-        let place = Place {
-            profile: *profile,
-            parent: *parent,
-            ..at_the_top(*id, "in")
-        };
-        make_folder(alloc, store, number, place)?;
+        number = number.wrapping_add(1);
+        make_folder(
+            alloc,
+            store,
+            number,
+            (*profile, *id, *parent, 0, "in", "in"),
+        )?;
     }
     Ok(())
 }
 
-fn same_name_is_found(
-    rt: &impl Abort,
-    store: &mut Store,
-    places: &[(u32, u32, u32)],
-    empty: &[(u32, u32)],
-) -> Result<(), StepFault> {
+fn find_same_name(store: &mut Store, places: &[(u32, u32, u32)]) -> Result<(), StoreFault> {
     for (profile, id, parent) in places {
         let found = store.child(*profile, *parent, "in")?;
-        assert_eq!(rt; found, Some(*id), "{profile}");
+        expect(found == Some(*id))?;
     }
-    for (profile, parent) in empty {
-        let found = store.child(*profile, *parent, "in")?;
-        assert_eq!(rt; found, None, "{profile}");
+    Ok(())
+}
+
+fn miss_same_name(store: &mut Store, folders: &[(u32, u32)]) -> Result<(), StoreFault> {
+    for (profile, parent) in folders {
+        miss(store, *profile, *parent, "in")?;
     }
+    Ok(())
+}
+
+#[test]
+fn one_name_in_many_folders(rt: HostRuntime) -> Result<(), Fail> {
+    let mut store = Store::in_memory(rt.alloc())?;
+    make_same_name(rt.alloc(), &mut store, &SAME_NAME)?;
+    find_same_name(&mut store, &SAME_NAME)?;
+    miss_same_name(&mut store, &EMPTY_FOLDERS)?;
     Ok(())
 }

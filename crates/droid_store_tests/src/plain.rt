@@ -1,14 +1,15 @@
-//! Plain lists of what random commits put into a store, and what each row of them has.
+//! Plain lists of what random commits put into a store, and the row of each.
 
-use droid_frame::{HashKind, HashValue, Method};
-use droid_store_steps::{Found, Kept, Place};
+use crate::rows::{FOLDER, Found, Kept, Node, Options};
+use droid_frame::{HashKind, Method};
+use droid_store::NodeState;
 use std::alloc::{AllocError, Global};
 
 /// How many profiles there are.
-pub(crate) const PROFILES: u32 = 4;
+pub const PROFILES: u32 = 4;
 
-/// Commands of so many clients come in turn.
-pub(crate) const CLIENTS: u32 = 50;
+/// Commands of this many clients come in turn.
+pub const CLIENTS: u32 = 50;
 
 /// The bodies of replies.
 const BODIES: [&[u8]; 4] = [
@@ -18,30 +19,21 @@ const BODIES: [&[u8]; 4] = [
     b"a body of more than twenty bytes",
 ];
 
-/// The formats of finished files.
-const FORMATS: [&[&str]; 3] = [&[], &["fmt/18"], &["x-fmt/111", "fmt/40", "fmt/412"]];
+/// The identifiers of finished files.
+const FORMATS: [&str; 3] = ["", "fmt/18", "x-fmt/111 fmt/40 fmt/412"];
 
-/// What became of a node of the plain list.
-#[derive(Clone, Copy, PartialEq, Eq)]
-pub(crate) enum Fate {
-    Folder,
-    Unfinished,
-    Finished,
-    Abandoned,
-}
+/// The bytes of each hash stand somewhere in this text.
+const HASHES: &[u8] =
+    b"Each hash that a random commit gives to a file is cut out of this text: one that is made for a \
+    file of this number starts as many bytes behind its first letter as the number says, and so no two of the first two \
+    hundred and fifty-six are alike. That is long enough, since thirty-two more letters are all that the last of them needs.";
 
-/// A node of the plain list. The rest of its row follows from its numbers.
-#[derive(Clone, Copy)]
-pub(crate) struct Plain {
-    pub profile: u32,
-    pub id: u32,
-    pub parent: u32,
-    pub fate: Fate,
-}
+/// A node: its profile, number and parent, and its state if it wasn't abandoned.
+pub type Plain = (u32, u32, u32, Option<NodeState>);
 
 /// What was committed, in plain lists.
 #[derive(Drop)]
-pub(crate) struct Lists {
+pub struct Lists {
     /// How many nodes each profile has had.
     pub counts: Vec<u32>,
     /// All nodes that were ever there, in the order in which they came.
@@ -51,153 +43,147 @@ pub(crate) struct Lists {
     /// The kind of each reply, and how many there are.
     pub replies: Vec<u8>,
     pub number: u32,
-    state: u64,
+    pub state: u64,
 }
 
-impl Lists {
-    pub(crate) fn new(alloc: Global) -> Lists {
-        Lists {
-            counts: Vec::new(alloc),
-            nodes: Vec::new(alloc),
-            open: Vec::new(alloc),
-            replies: Vec::new(alloc),
-            number: 0,
-            state: 20_251_125,
-        }
+pub fn new_lists(alloc: Global) -> Lists {
+    Lists {
+        counts: Vec::new(alloc),
+        nodes: Vec::new(alloc),
+        open: Vec::new(alloc),
+        replies: Vec::new(alloc),
+        number: 0,
+        state: 20_251_125,
     }
+}
 
-    /// A random number below `limit`, and 0 where that is 0.
-    pub(crate) fn below(&mut self, limit: u32) -> u32 {
-        self.state = self
-            .state
-            .wrapping_mul(6_364_136_223_846_793_005)
-            .wrapping_add(1_442_695_040_888_963_407);
-        let drawn = (self.state >> 33) as u32;
-        if limit == 0 { 0 } else { drawn % limit }
+/// A random number below `limit`, and 0 if that is 0.
+pub fn below(state: &mut u64, limit: u32) -> u32 {
+    *state = (*state)
+        .wrapping_mul(6_364_136_223_846_793_005)
+        .wrapping_add(1_442_695_040_888_963_407);
+    let drawn = (*state >> 33) as u32;
+    if limit == 0 { 0 } else { drawn % limit }
+}
+
+/// The node with the next number of a random profile.
+pub fn next_node(lists: &mut Lists, state: NodeState) -> Plain {
+    let at = below(&mut lists.state, PROFILES);
+    let count = lists.counts.get(at as usize).copied().unwrap_or(0);
+    let id = count.wrapping_add(1);
+    let parent = below(&mut lists.state, id);
+    (at.wrapping_add(1), id, parent, Some(state))
+}
+
+/// The place of a random unfinished file among the open ones, and that of its node.
+pub fn open_one(lists: &mut Lists) -> Option<(usize, usize)> {
+    let drawn = below(&mut lists.state, u32::MAX) as usize;
+    let count = lists.open.len();
+    let chosen = if count == 0 { 0 } else { drawn % count };
+    let place = lists.open.get(chosen).copied()?;
+    Some((chosen, place))
+}
+
+/// Notes a reply of this kind.
+pub fn keep(lists: &mut Lists, kind: u8) -> Result<(), AllocError> {
+    lists.replies.push(kind)?;
+    lists.number = lists.number.wrapping_add(1);
+    Ok(())
+}
+
+/// Notes a new profile.
+pub fn add_profile(lists: &mut Lists) -> Result<(), AllocError> {
+    lists.counts.push(0)?;
+    Ok(())
+}
+
+/// Notes a new node.
+pub fn add(lists: &mut Lists, node: Plain) -> Result<(), AllocError> {
+    let (profile, id, _, state) = node;
+    if !matches!(state, Some(NodeState::Folder)) {
+        lists.open.push(lists.nodes.len())?;
     }
-
-    /// The place of a random unfinished file among the open ones, and that of its node.
-    pub(crate) fn open_one(&mut self) -> Option<(usize, usize)> {
-        let drawn = self.below(u32::MAX) as usize;
-        let count = self.open.len();
-        let chosen = if count == 0 { 0 } else { drawn % count };
-        let found = self.open.get(chosen).copied();
-        found.map(|place| (chosen, place))
+    lists.nodes.push(node)?;
+    let at = profile.wrapping_sub(1) as usize;
+    if at < lists.counts.len() {
+        lists.counts[at] = id;
     }
+    Ok(())
+}
 
-    pub(crate) fn keep(&mut self, kind: u8) -> Result<(), AllocError> {
-        self.replies.push(kind)?;
-        self.number = self.number.wrapping_add(1);
-        Ok(())
+/// Notes that the unfinished file at these two places is this node now.
+pub fn end(lists: &mut Lists, drawn: usize, at: usize, node: Plain) {
+    if drawn < lists.open.len() {
+        lists.open.swap_remove(drawn);
     }
-
-    pub(crate) fn add_profile(&mut self) -> Result<(), AllocError> {
-        self.counts.push(0)?;
-        Ok(())
-    }
-
-    /// The node with the next number of a random profile.
-    pub(crate) fn next_node(&mut self, fate: Fate) -> Plain {
-        let at = self.below(PROFILES);
-        let count = self.counts.get(at as usize).copied().unwrap_or(0);
-        let id = count.wrapping_add(1);
-        let parent = self.below(id);
-        Plain {
-            profile: at.wrapping_add(1),
-            id,
-            parent,
-            fate,
-        }
-    }
-
-    pub(crate) fn add(&mut self, node: Plain) -> Result<(), AllocError> {
-        if node.fate != Fate::Folder {
-            self.open.push(self.nodes.len())?;
-        }
-        self.nodes.push(node)?;
-        let at = node.profile.wrapping_sub(1) as usize;
-        if at < self.counts.len() {
-            self.counts[at] = node.id;
-        }
-        Ok(())
-    }
-
-    /// The unfinished file at these two places has another fate.
-    pub(crate) fn end(&mut self, drawn: usize, at: usize, fate: Fate) {
-        if drawn < self.open.len() {
-            self.open.swap_remove(drawn);
-        }
-        if at < self.nodes.len() {
-            self.nodes[at].fate = fate;
-        }
+    if at < lists.nodes.len() {
+        lists.nodes[at] = node;
     }
 }
 
 /// A number of 64 bits for a node, in no order and never twice.
-fn mixed(node: &Plain) -> u64 {
-    let both = (u64::from(node.profile) << 32) | u64::from(node.id);
+fn mixed(profile: u32, id: u32) -> u64 {
+    let both = (u64::from(profile) << 32) | u64::from(id);
     both.wrapping_mul(0x9e37_79b9_7f4a_7c15)
 }
 
-pub(crate) fn name_of(alloc: Global, node: &Plain) -> Result<String, AllocError> {
-    let mix = mixed(node);
+pub fn name_of(alloc: Global, node: &Plain) -> Result<String, AllocError> {
+    let (profile, id, ..) = *node;
+    let mix = mixed(profile, id);
     format!(in alloc; "{mix:016x}")
 }
 
-pub(crate) fn place<'a>(node: &Plain, name: &'a str) -> Place<'a> {
-    Place {
-        profile: node.profile,
-        id: node.id,
-        parent: node.parent,
-        modified: (mixed(node) >> 20).cast_signed().wrapping_sub(1 << 43),
-        name,
-        path: name,
-    }
+/// The row of the node. All of it follows from its numbers.
+pub fn row_of<'a>(node: &Plain, name: &'a str) -> Node<'a> {
+    let (profile, id, parent, state) = *node;
+    let mix = mixed(profile, id);
+    let modified = (mix >> 20).cast_signed().wrapping_sub(1 << 43);
+    let is_folder = matches!(state, Some(NodeState::Folder));
+    let sizes = if is_folder {
+        FOLDER
+    } else {
+        (mix >> (id % 60 + 2), id.wrapping_mul(77))
+    };
+    (
+        (profile, id, parent, modified, name, name),
+        sizes,
+        found_of(profile, id),
+    )
 }
 
-pub(crate) fn size_of(node: &Plain) -> u64 {
-    mixed(node) >> (node.id % 60 + 2)
-}
-
-pub(crate) fn piece_size_of(node: &Plain) -> u32 {
-    node.id.wrapping_mul(77)
-}
-
-/// The hash that the files of a profile get: each kind comes.
-pub(crate) fn hash_kind_of(profile: u32) -> HashKind {
-    match profile % 3 {
-        0 => HashKind::Nothing,
-        1 => HashKind::Md5,
-        _ => HashKind::Sha256,
-    }
-}
-
-fn hash_of(node: &Plain) -> HashValue {
-    let byte = (node.id % 256) as u8;
-    match hash_kind_of(node.profile) {
-        HashKind::Nothing => HashValue::Nothing,
-        HashKind::Md5 => HashValue::Md5([byte; 16]),
-        HashKind::Sha256 => HashValue::Sha256([byte; 32]),
-    }
-}
-
-/// What is found of a file's bytes.
-pub(crate) fn found(node: &Plain) -> Found<'static> {
-    let method = match node.id % 3 {
+fn found_of(profile: u32, id: u32) -> Found<'static> {
+    let method = match id % 3 {
         0 => Method::Unidentified,
         1 => Method::Signature,
         _ => Method::Extension,
     };
-    Found {
-        method,
-        mismatch: node.id % 2 == 1,
-        hash: hash_of(node),
-        puids: FORMATS[node.id as usize % 3],
+    let from = id as usize % 256;
+    let hash = HASHES
+        .get(from..from.saturating_add(hash_length(profile)))
+        .unwrap_or(b"");
+    (method, id % 2 == 1, hash, FORMATS[id as usize % 3])
+}
+
+fn hash_length(profile: u32) -> usize {
+    match profile % 3 {
+        0 => 0,
+        1 => 16,
+        _ => 32,
     }
 }
 
-/// The entry of the reply with this number, counted from 0. Each third command is of version 2.
-pub(crate) fn kept(number: u32, kind: u8) -> Kept<'static> {
+/// The options of the profile: each kind of hash comes.
+pub fn options_of(profile: u32) -> Options {
+    let hash = match profile % 3 {
+        0 => HashKind::Nothing,
+        1 => HashKind::Md5,
+        _ => HashKind::Sha256,
+    };
+    (profile.wrapping_mul(1_000), profile % 2 == 1, hash)
+}
+
+/// The reply with this number, counted from 0. Each third command is of version 2.
+pub fn kept(number: u32, kind: u8) -> Kept<'static> {
     let body = BODIES[number as usize % 4];
     let byte = (number % 256) as u8;
     let version = if number % 3 == 0 { 2 } else { 1 };
