@@ -1,0 +1,5 @@
+//! Tests of the numbers of requests, over public calls alone.
+#![tactic(auto)]
+
+#[cfg(test)]
+mod numbers;
