@@ -1,0 +1,3 @@
+pub mod Lanes
+pub mod Tails
+pub mod Md5
