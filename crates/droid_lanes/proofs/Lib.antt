@@ -1,6 +1,13 @@
 pub mod Eight
+pub mod Four
 pub mod Steps
+pub mod Majority
+pub mod Schedule
 pub mod Blocks
-pub mod Runs
+pub mod Parts
 pub mod Updating
 pub mod Ending
+pub mod Sha256Blocks
+pub mod Sha256Parts
+pub mod Sha256Updating
+pub mod Sha256Ending

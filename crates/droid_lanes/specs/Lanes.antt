@@ -11,9 +11,13 @@ piece j given = slice_index_or (map (λ x. x.now) given) j []
 abbrev pub lane_at : List (List ℕ) → ℕ → ℕ → ℕ
 lane_at x k j = slice_index (slice_index_or x k []) j
 
--- the four variables of message j
+-- the four variables of message j (MD5)
 abbrev pub lane : ℕ → List (List ℕ) → List ℕ
 lane j x = lane_at x 0 j ∷ lane_at x 1 j ∷ lane_at x 2 j ∷ lane_at x 3 j ∷ []
+
+-- the eight variables of message j (SHA-256)
+abbrev pub lane8 : ℕ → List (List ℕ) → List ℕ
+lane8 j x = lane_at x 0 j ∷ lane_at x 1 j ∷ lane_at x 2 j ∷ lane_at x 3 j ∷ lane_at x 4 j ∷ lane_at x 5 j ∷ lane_at x 6 j ∷ lane_at x 7 j ∷ []
 
 -- the words of message j's block
 abbrev pub words : ℕ → List (List ℕ) → List ℕ

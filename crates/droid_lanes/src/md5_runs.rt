@@ -5,14 +5,8 @@ ghost use Rattle.md5.specs.Md5.{compress};
 ghost use Rattle.droid_lanes.specs.Lanes.{lane, piece};
 
 use crate::md5_kernel::compress_run;
+use crate::runs::{longer, one_of, part, within};
 use std::simd::u32x8;
-
-fn longer<'a>(one: &'a [[u8; 64]], other: &'a [[u8; 64]]) -> &'a [[u8; 64]]
-    ensures first { length one.now ≤ length result.now }
-    ensures second { length other.now ≤ length result.now }
-{
-    if one.len() < other.len() { other } else { one }
-}
 
 fn longest<'a>(runs: [&'a [[u8; 64]]; 8]) -> &'a [[u8; 64]]
     ensures { (j : ℕ) → j < 8 → length (piece j runs.entry) ≤ length result.now }
@@ -22,19 +16,6 @@ fn longest<'a>(runs: [&'a [[u8; 64]]; 8]) -> &'a [[u8; 64]]
         longer(longer(a, b), longer(c, d)),
         longer(longer(e, f), longer(g, h)),
     )
-}
-
-// `most`, or what a run of `len` blocks has from `at` on if that is less and not nothing.
-fn within(most: usize, len: usize, at: usize) -> usize
-    ensures most { result ≤ most }
-    ensures some { 0 < most → 0 < result }
-    ensures inside { at < len → at + result ≤ len }
-{
-    if at < len && len - at < most {
-        len - at
-    } else {
-        most
-    }
 }
 
 // How many blocks from `at` on each run has that has not ended there: at most `most`.
@@ -53,18 +34,6 @@ fn common(runs: [&[[u8; 64]]; 8], at: usize, most: usize) -> usize
     let low = within(low, g.len(), at);
     let low = within(low, h.len(), at);
     low
-}
-
-// The run from `at` on, or the filler where the run has ended there.
-fn part<'a>(run: &'a [[u8; 64]], filler: &'a [[u8; 64]], at: usize) -> &'a [[u8; 64]]
-    requires { at ≤ length filler.now }
-    ensures { result.now ≡ (if nat_lt at (length run.now) then drop at run.now else drop at filler.now) }
-{
-    if at < run.len() {
-        &run[at..]
-    } else {
-        &filler[at..]
-    }
 }
 
 fn parts<'a>(runs: [&'a [[u8; 64]]; 8], filler: &'a [[u8; 64]], at: usize) -> [&'a [[u8; 64]]; 8]
@@ -135,13 +104,6 @@ fn chosen_lanes(named: [bool; 8], new: u32x8, old: u32x8) -> u32x8
         one_of(n6, a6, b6),
         one_of(n7, a7, b7),
     ])
-}
-
-#[inline(always)]
-fn one_of(named: bool, new: u32, old: u32) -> u32
-    ensures { result ≡ (if named then new else old) }
-{
-    if named { new } else { old }
 }
 
 // Takes `count` blocks from `at` on of each run that has not ended there. An idle lane takes the filler's blocks, and its

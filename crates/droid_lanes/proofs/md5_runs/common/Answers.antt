@@ -1,6 +1,6 @@
 use Rattle.std.proofs.Common.{arith}
 use Rattle.droid_lanes.proofs.Eight.{below_eight}
-use Rattle.droid_lanes.proofs.Runs.{shorter_inside}
+use Rattle.droid_lanes.proofs.Parts.{shorter_inside}
 use Rattle.droid_lanes.proofs.md5_runs.common.Goals as goal
 
 pub returns-clause-inside : goal.returns-clause-inside

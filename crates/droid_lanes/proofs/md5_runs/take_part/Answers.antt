@@ -1,5 +1,5 @@
 use Rattle.droid_lanes.specs.Lanes.{lane, piece}
-use Rattle.droid_lanes.proofs.Runs.{part_long, part_taken}
+use Rattle.droid_lanes.proofs.Parts.{part_long, part_taken}
 use Rattle.droid_lanes.proofs.md5_runs.take_part.Goals as goal
 
 pub compress_run-requires : goal.compress_run-requires

@@ -1,0 +1,44 @@
+//! One run of blocks beside others.
+
+ghost use Rattle.std.specs.Prelude.{◌≡◌, ◌+◌, ◌<◌, ◌≤◌, nat_lt, length, drop, if◌then◌else◌};
+
+// The longer of two runs.
+pub(crate) fn longer<'a>(one: &'a [[u8; 64]], other: &'a [[u8; 64]]) -> &'a [[u8; 64]]
+    ensures first { length one.now ≤ length result.now }
+    ensures second { length other.now ≤ length result.now }
+{
+    if one.len() < other.len() { other } else { one }
+}
+
+// `most`, or what a run of `len` blocks has from `at` on if that is less and not nothing.
+pub(crate) fn within(most: usize, len: usize, at: usize) -> usize
+    ensures most { result ≤ most }
+    ensures some { 0 < most → 0 < result }
+    ensures inside { at < len → at + result ≤ len }
+{
+    if at < len && len - at < most {
+        len - at
+    } else {
+        most
+    }
+}
+
+// The run from `at` on, or the filler where the run has ended there.
+pub(crate) fn part<'a>(run: &'a [[u8; 64]], filler: &'a [[u8; 64]], at: usize) -> &'a [[u8; 64]]
+    requires { at ≤ length filler.now }
+    ensures { result.now ≡ (if nat_lt at (length run.now) then drop at run.now else drop at filler.now) }
+{
+    if at < run.len() {
+        &run[at..]
+    } else {
+        &filler[at..]
+    }
+}
+
+// The new variable in a lane that is named, and the old one in another.
+#[inline(always)]
+pub(crate) fn one_of(named: bool, new: u32, old: u32) -> u32
+    ensures { result ≡ (if named then new else old) }
+{
+    if named { new } else { old }
+}
