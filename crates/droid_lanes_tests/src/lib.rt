@@ -1,5 +1,5 @@
-//! Tests of the hashes in lanes. They use only the public calls of `droid_lanes`, and compare with RFC 1321's own digests
-//! and with the kit's `md5`.
+//! Tests of the hashes in lanes. They use only the public calls of `droid_lanes`, and compare with the digests that
+//! RFC 1321 and FIPS 180-4 have, and with the kit's `md5` and `sha2`.
 #![tactic(auto)]
 
 #[cfg(test)]
@@ -10,5 +10,7 @@ mod example;
 mod lengths;
 #[cfg(test)]
 mod schedules;
+#[cfg(test)]
+mod sha256;
 #[cfg(test)]
 mod vectors;
