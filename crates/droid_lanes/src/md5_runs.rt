@@ -8,6 +8,7 @@ use crate::md5_kernel::compress_run;
 use crate::runs::{longer, one_of, part, within};
 use std::simd::u32x8;
 
+// The longest run.
 fn longest<'a>(runs: [&'a [[u8; 64]]; 8]) -> &'a [[u8; 64]]
     ensures { (j : ℕ) → j < 8 → length (piece j runs.entry) ≤ length result.now }
 {
@@ -18,7 +19,7 @@ fn longest<'a>(runs: [&'a [[u8; 64]]; 8]) -> &'a [[u8; 64]]
     )
 }
 
-// How many blocks from `at` on each run has that has not ended there: at most `most`.
+// How many blocks from `at` on all runs have that have not ended there, at most `most`.
 fn common(runs: [&[[u8; 64]]; 8], at: usize, most: usize) -> usize
     ensures most { result ≤ most }
     ensures some { 0 < most → 0 < result }
@@ -36,6 +37,7 @@ fn common(runs: [&[[u8; 64]]; 8], at: usize, most: usize) -> usize
     low
 }
 
+// Each run from `at` on, or the filler where it has ended.
 fn parts<'a>(runs: [&'a [[u8; 64]]; 8], filler: &'a [[u8; 64]], at: usize) -> [&'a [[u8; 64]]; 8]
     requires { at ≤ length filler.now }
     ensures { (j : ℕ) → j < 8 → piece j result
@@ -87,6 +89,7 @@ fn chosen(named: [bool; 8], new: [u32x8; 4], old: [u32x8; 4]) -> [u32x8; 4]
     ]
 }
 
+// The same for one variable.
 fn chosen_lanes(named: [bool; 8], new: u32x8, old: u32x8) -> u32x8
     ensures { (j : ℕ) → j < 8
         → slice_index result j ≡ (if slice_index_or named j false then slice_index new j else slice_index old j) }

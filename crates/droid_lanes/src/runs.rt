@@ -10,7 +10,7 @@ pub(crate) fn longer<'a>(one: &'a [[u8; 64]], other: &'a [[u8; 64]]) -> &'a [[u8
     if one.len() < other.len() { other } else { one }
 }
 
-// `most`, or what a run of `len` blocks has from `at` on if that is less and not nothing.
+// How many blocks a run of `len` blocks has from `at` on, at most `most`; `most` if the run has ended.
 pub(crate) fn within(most: usize, len: usize, at: usize) -> usize
     ensures most { result ≤ most }
     ensures some { 0 < most → 0 < result }

@@ -8,6 +8,7 @@ use crate::runs::{longer, one_of, part, within};
 use crate::sha256_kernel::compress_run;
 use std::simd::u32x4;
 
+// The longest run.
 fn longest<'a>(runs: [&'a [[u8; 64]]; 4]) -> &'a [[u8; 64]]
     ensures { (j : ℕ) → j < 4 → length (piece j runs.entry) ≤ length result.now }
 {
@@ -15,7 +16,7 @@ fn longest<'a>(runs: [&'a [[u8; 64]]; 4]) -> &'a [[u8; 64]]
     longer(longer(a, b), longer(c, d))
 }
 
-// How many blocks from `at` on each run has that has not ended there: at most `most`.
+// How many blocks from `at` on all runs have that have not ended there, at most `most`.
 fn common(runs: [&[[u8; 64]]; 4], at: usize, most: usize) -> usize
     ensures most { result ≤ most }
     ensures some { 0 < most → 0 < result }
@@ -29,6 +30,7 @@ fn common(runs: [&[[u8; 64]]; 4], at: usize, most: usize) -> usize
     low
 }
 
+// Each run from `at` on, or the filler where it has ended.
 fn parts<'a>(runs: [&'a [[u8; 64]]; 4], filler: &'a [[u8; 64]], at: usize) -> [&'a [[u8; 64]]; 4]
     requires { at ≤ length filler.now }
     ensures { (j : ℕ) → j < 4 → piece j result
@@ -71,6 +73,7 @@ fn chosen(named: [bool; 4], new: [u32x4; 8], old: [u32x4; 8]) -> [u32x4; 8]
     ]
 }
 
+// The same for one variable.
 fn chosen_lanes(named: [bool; 4], new: u32x4, old: u32x4) -> u32x4
     ensures { (j : ℕ) → j < 4
         → slice_index result j ≡ (if slice_index_or named j false then slice_index new j else slice_index old j) }

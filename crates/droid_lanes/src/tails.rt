@@ -11,7 +11,7 @@ const PADDING: [u8; 64] = [
     0,
 ];
 
-// How many bytes of the block at hand a message of so many bytes has begun.
+// How many bytes of its last block a message of `total` bytes has, 0 if that block is whole.
 pub(crate) fn used_of(total: u64) -> usize
     ensures value { result ≡ total % 64 }
     ensures short { result < 64 }
@@ -27,7 +27,7 @@ fn joining(used: usize, len: usize) -> usize
     ((64 - used) % 64).min(len)
 }
 
-// The block that `used` bytes of `tail` begin, with the piece's first bytes after them.
+// The first `used` bytes of `tail`, and after them the first bytes of the piece.
 pub(crate) fn joined(tail: &[u8; 64], used: usize, piece: &[u8]) -> [u8; 64]
     requires { used < 64 }
     ensures { IsJoined tail.now used piece.now result }
