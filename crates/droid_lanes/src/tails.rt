@@ -107,3 +107,11 @@ pub(crate) fn ending(tail: &[u8; 64], used: usize, length: [u8; 8]) -> ([u8; 128
     put(&mut all, end, &length);
     (all, end + 8)
 }
+
+// The blocks of the bytes that end a message.
+pub(crate) fn blocks_of(ending: &([u8; 128], usize)) -> &[[u8; 64]]
+    requires { ending.now.1 ≤ 128 }
+    ensures { result.now ≡ first_chunks 64 (length (take ending.now.1 ending.now.0) / 64) (take ending.now.1 ending.now.0) }
+{
+    chunks(&ending.0[..ending.1])
+}
