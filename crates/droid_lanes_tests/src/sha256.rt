@@ -80,13 +80,11 @@ fn every_length_in_every_lane(rt: HostRuntime) {
             Span::at(20).piece(&bytes, lens[2]),
             Span::at(30).piece(&bytes, lens[3]),
         ]);
+        let digests = lanes.digests();
         for lane in 0..4 {
-            let part = Span::at(10 * lane).piece(&bytes, lens[lane]);
-            assert_eq!(rt;
-                lanes.end(lane),
-                Sha256::digest(part),
-                "lane {lane}, turn {turn}"
-            );
+            let digest = Sha256::digest(Span::at(10 * lane).piece(&bytes, lens[lane]));
+            assert_eq!(rt; digests[lane], digest, "lane {lane}, turn {turn}");
+            assert_eq!(rt; lanes.end(lane), digest, "lane {lane}, turn {turn}");
         }
     }
 }
