@@ -1,0 +1,5 @@
+pub mod Items
+pub mod Inventories
+pub mod Reports
+pub mod Pairing
+pub mod Holding

@@ -1,0 +1,33 @@
+-- For proofs: what the calls that read a profile promise, in the code's own types.
+use Rattle.std.specs.Prelude.{◌≡◌, ◌≢◌, ℕ, List, Vec, Result, Ok, Err, ⊤}
+use Rattle.std.specs.declared.alloc.Global.{Global}
+use Rattle.csv.specs.declared.error.ErrorKind.{ErrorKind}
+use Rattle.csv.specs.declared.error.ErrorKind.TheVariants as csv
+use Rattle.droid_fixity.specs.declared.item.Item.{Item}
+use Rattle.droid_fixity_lists.specs.Profiles.{Draft}
+use Rattle.droid_fixity_lists.specs.declared.draft.Draft as inside
+use Rattle.droid_fixity_lists.specs.declared.fault.ListFault.{ListFault}
+use Rattle.droid_fixity_lists.specs.declared.fault.ListFault.TheVariants as faults
+
+-- the contents of the code's draft
+abbrev pub draft_of : inside.Draft → Draft
+draft_of draft = record { digest = draft.digest; records = draft.records; items = draft.items.items }
+
+-- a call gave what was expected, unless memory ran out
+abbrev pub Gives : Result (Vec Item Global) ListFault → Result (List Item) ListFault → Type 0
+Gives (Ok items) expected = expected ≡ Ok items.items
+Gives (Err fault) expected = fault ≢ faults.Memory → expected ≡ Err fault
+
+-- the same of a call that changes a draft
+abbrev pub Leaves : Result (Unit {0}) ListFault → Draft → Result Draft ListFault → Type 0
+Leaves (Ok done) new expected = expected ≡ Ok new
+Leaves (Err fault) new expected = fault ≢ faults.Memory → expected ≡ Err fault
+
+-- the errors of `csv` that can end the reading of byte records: out of memory, or a failed reader
+abbrev pub EndsReading : ErrorKind → Type 0
+EndsReading csv.OutOfMemory = ⊤
+EndsReading (csv.Io e) = ⊤
+EndsReading (csv.UnequalLengths pos expected len) = ⊥
+EndsReading (csv.Utf8 pos err) = ⊥
+EndsReading (csv.Serialize text) = ⊥
+EndsReading (csv.Deserialize pos err) = ⊥

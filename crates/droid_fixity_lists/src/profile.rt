@@ -1,0 +1,41 @@
+//! The CSV of a profile.
+
+ghost use Rattle.std.specs.Prelude.{◌≡◌, ℕ, List};
+ghost use Rattle.csv.specs.Reading.{AreRecords, default_config, strip_bom};
+ghost use Rattle.csv.specs.declared.parser.State.TheVariants as st;
+ghost use Rattle.droid_fixity_lists.specs.Calls.{Gives};
+ghost use Rattle.droid_fixity_lists.specs.Profiles.{profile_of};
+
+use crate::csv_error::csv_fault;
+use crate::draft::Draft;
+use crate::fault::ListFault;
+use csv::ReaderBuilder;
+use droid_fixity::Item;
+use std::alloc::Global;
+
+/// Reads the CSV of a profile or of an export, with any of the three hash columns. docs/CSV.md describes it.
+///
+/// A row that repeats the row before it, but for the columns on formats, is taken once. An error names the first
+/// malformed record. A field of a hash may be empty.
+pub fn read_profile(alloc: Global, text: &[u8]) -> Result<Vec<Item>, ListFault>
+    // The result is that of the records that `csv` reads, unless memory runs out.
+    ensures { (records : List (List (List ℕ))) → AreRecords default_config st.StartRecord (strip_bom text.now) records → Gives result (profile_of records) }
+{
+    // `Draft::take` judges the number of fields, so the reader accepts any number.
+    let reader = ReaderBuilder::new()
+        .has_headers(false)
+        .flexible(true)
+        .from_reader(alloc, text);
+    let mut draft = Draft::new(alloc);
+    for row in reader.into_byte_records() {
+        match row {
+            Err(error) => return Err(csv_fault(error)),
+            Ok(row) => {
+                if let Err(fault) = draft.take(alloc, &row) {
+                    return Err(fault);
+                }
+            }
+        }
+    }
+    draft.finish()
+}
