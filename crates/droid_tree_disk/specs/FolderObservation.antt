@@ -1,5 +1,5 @@
 -- What a folder of a file system returns as a tree (this project's own).
-use Rattle.std.specs.Prelude.{◌≡◌, ◌⊎◌, ℕ, List, [], ◌∷◌, ◌++◌, map, Option, Some, None}
+use Rattle.std.specs.Prelude.{◌≡◌, ◌≢◌, ◌⊎◌, ℕ, List, [], ◌∷◌, ◌++◌, map, Option, Some, None}
 use Rattle.std.specs.Str.{IsUtf8}
 use Rattle.droid_tree.specs.Observation as tree
 use Rattle.droid_tree.specs.Observation.{GoesOver}
@@ -50,27 +50,36 @@ pub record OpensAt {D : Type 0} (says : D → Said → D → Type 0) (path : Lis
   pub opened : says middle (Opened path found) disk_after
   pub same : IsSameFile there found
 
--- something is at this path, and it can't be opened
+-- something is at this path that is no regular file, and it was not opened
+pub record FindsNoFile {D : Type 0} (says : D → Said → D → Type 0) (path : List ℕ) (disk disk_after : D) : Type 0 where
+  pub there : FileMetadata
+  pub looked : says disk (Looked path (Some there)) disk_after
+  pub kind : there.kind ≢ kinds.File
+
+-- a regular file is at this path, and it can't be opened
 pub record OpenFails {D : Type 0} (says : D → Said → D → Type 0) (path : List ℕ) (disk disk_after : D) : Type 0 where
   pub there : FileMetadata
+  pub is_file : there.kind ≡ kinds.File
   pub middle : D
   pub looked : says disk (Looked path (Some there)) middle
   pub failed : says middle (NotOpened path) disk_after
 
--- something is at this path, and what was opened is no regular file, or another one
+-- a regular file is at this path, and what was opened is no regular file, or another one
 pub record OpensOther {D : Type 0} (says : D → Said → D → Type 0) (path : List ℕ) (disk disk_after : D) : Type 0 where
   pub there : FileMetadata
+  pub is_file : there.kind ≡ kinds.File
   pub found : FileMetadata
   pub middle : D
   pub looked : says disk (Looked path (Some there)) middle
   pub opened : says middle (Opened path found) disk_after
   pub other : IsSameFile there found → ⊥
 
--- no file could be opened by this path: nothing was found, or it can't be opened, or it is no regular file, or another
--- file was opened
+-- no file could be opened by this path: nothing was found, or no regular file, which is then not opened (a pipe would
+-- wait for ever, a device may do anything); or the file can't be opened, or another one was opened
 abbrev pub OpensNone : {D : Type 0} → (D → Said → D → Type 0) → List ℕ → D → D → Type 0
 OpensNone says path disk disk_after =
-    says disk (Looked path None) disk_after ⊎ (OpenFails says path disk disk_after ⊎ OpensOther says path disk disk_after)
+    says disk (Looked path None) disk_after
+    ⊎ (FindsNoFile says path disk disk_after ⊎ (OpenFails says path disk disk_after ⊎ OpensOther says path disk disk_after))
 
 -- a file that was opened by this path, now or before, returned these bytes
 pub record ReadsAt {D : Type 0} (says : D → Said → D → Type 0) (path : List ℕ) (from wanted : ℕ) (bytes : List ℕ) (disk disk_after : D) : Type 0 where

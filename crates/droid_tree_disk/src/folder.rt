@@ -121,7 +121,8 @@ fn file_at<D: Disk>(
     open_at(alloc, disk, path)
 }
 
-/// Opens a regular file. Fails if the path was a link, or if another file was opened than the one that was there.
+/// Opens a regular file. Opens nothing else, such as a pipe or a link. Fails if another file was opened than the one that
+/// was there.
 fn open_at<D: Disk>(alloc: Global, disk: &mut D, path: &str) -> Result<D::File, TreeFault>
     ensures path { IfOk result (λ file. D.path_of file ≡ path.now) }
     ensures opened { IfOk result (λ file. OpensAt D.says path.now disk.old disk.new) }
@@ -130,6 +131,9 @@ fn open_at<D: Disk>(alloc: Global, disk: &mut D, path: &str) -> Result<D::File, 
     let Some(there) = disk.look(path) else {
         return Err(TreeFault::Unreadable);
     };
+    if !is_file(there) {
+        return Err(TreeFault::Unreadable);
+    }
     let file = disk.open(alloc, path)?;
     if is_same_file(there, D::metadata(&file)) {
         Ok(file)
