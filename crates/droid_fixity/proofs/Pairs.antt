@@ -1,10 +1,7 @@
 -- What the pairs of two inventories say: each is right, each item has one, and they are in order.
-use Rattle.std.proofs.Common.{◌≡◌, ◌∙◌, ℕ, zero, suc, ◌+◌, ◌<◌, ◌≤◌, ◌⊎◌, Bool, true, false, List, [], ◌∷◌, drop, map, Option, Some, None, cond, refl, sym, ap, subst, inl, inr, arith}
-use Rattle.std.specs.Cmp.Lexicographic.{slice_cmp}
+use Rattle.std.proofs.Common.{◌≡◌, ◌∙◌, ℕ, zero, suc, ◌+◌, ◌≤◌, ◌⊎◌, Bool, true, false, List, [], ◌∷◌, drop, map, Option, Some, None, cond, refl, sym, ap, subst, inl, inr, arith}
 use Rattle.std.specs.List.{AllByRecursion, filter, filter_map, slice_get}
 use Rattle.std.specs.Option.{option_map_or}
-use Rattle.std.specs.Ordering.{nat_cmp}
-use Rattle.std.specs.declared.cmp.Ordering.TheVariants.{Less, Equal, Greater}
 use Rattle.droid_fixity.specs.Holding.{only_found, only_listed}
 use Rattle.droid_fixity.specs.Inventories.{AreInOrder, IsBefore}
 use Rattle.droid_fixity.specs.Pairing.{Merges, ends, both, listed, found, last_listed, last_found}
@@ -12,7 +9,7 @@ use Rattle.droid_fixity.specs.Reports.{is_absent, path_at}
 use Rattle.droid_fixity.specs.declared.item.Item.{Item}
 use Rattle.droid_fixity.specs.declared.pair.Pair.{Pair}
 use Rattle.droid_fixity.specs.declared.pair.Pair.TheVariants.{Both, Listed, Found}
-use Rattle.droid_fixity.proofs.Order.{absent_apart, absent_before, absent_same, absent_there, after_differs, after_is_before, before_all, before_differs, equal_paths, first_left, none_left}
+use Rattle.droid_fixity.proofs.Order.{absent_apart, absent_before, absent_there, after_differs, after_is_before, before_all, equal_paths, first_left, none_left}
 use Rattle.droid_fixity.proofs.Passing.{AnyByRecursion}
 
 abbrev pub paths : List Item → List (List ℕ)

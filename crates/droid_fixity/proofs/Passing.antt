@@ -1,7 +1,7 @@
 -- Lists that are passed through tests.
-use Rattle.std.proofs.Common.{◌≡◌, ◌∙◌, ℕ, zero, suc, ◌+◌, ◌<◌, Bool, true, false, List, [], ◌∷◌, ◌++◌, length, map, take, get_or, Option, Some, None, cond, refl, sym, ap, inl, inr, arith}
+use Rattle.std.proofs.Common.{◌≡◌, ◌∙◌, ℕ, zero, suc, ◌+◌, ◌<◌, Bool, true, false, List, [], ◌∷◌, ◌++◌, length, take, get_or, Option, Some, None, cond, refl, ap, inl, inr, arith}
 use Rattle.std.specs.List.{AllByRecursion, filter, filter_map, cons_option, slice_get}
-use Rattle.std.specs.Option.{option_to_list, option_map_or}
+use Rattle.std.specs.Option.{option_to_list}
 use Rattle.std.specs.Prelude.{Contains, ◌⊎◌}
 use Rattle.std.proofs.lemmas.List.{take_more}
 use Rattle.std.proofs.lemmas.List.Elements.{filter_map-append}

@@ -7,7 +7,7 @@ use Rattle.droid_frame.specs.Hashes.{hash_bytes, hash_kind_number, hash_value_ki
 use Rattle.droid_frame.specs.types.hash_value.HashValue.{HashValue}
 use Rattle.droid_fixity.specs.Inventories.{AreInOrder}
 use Rattle.droid_fixity.specs.Items.{changes_between, is_any, is_file, other_hash, other_length, other_moment, same_truth}
-use Rattle.droid_fixity.specs.Reports.{IsDifference, IsReport, changed, is_absent, missing, moved, new, touched}
+use Rattle.droid_fixity.specs.Reports.{IsDifference, IsReport, changed, missing, moved, new, touched}
 use Rattle.droid_fixity.specs.declared.difference.Difference.{Difference}
 use Rattle.droid_fixity.specs.declared.item.Item.{Item}
 use Rattle.droid_fixity.proofs.Order.{absent_there, same_place}

@@ -1,9 +1,8 @@
 -- The differences at all pairs are the report.
-use Rattle.std.proofs.Common.{◌≡◌, ◌∙◌, ℕ, ◌+◌, ◌≤◌, ◌⊎◌, Bool, true, false, List, [], ◌∷◌, map, Option, Some, None, refl, sym, ap, subst, inl, inr, arith}
+use Rattle.std.proofs.Common.{◌≡◌, ◌∙◌, ℕ, Bool, true, false, List, [], ◌∷◌, map, Option, Some, None, refl, sym, ap, subst, arith}
 use Rattle.std.specs.List.{AllByRecursion, cons_option, filter, filter_map, slice_get}
-use Rattle.std.specs.Option.{option_and_then, option_map_or}
-use Rattle.std.specs.Prelude.{Contains, if◌then◌else◌}
-use Rattle.std.specs.Str.{bytes_eq}
+use Rattle.std.specs.Option.{option_and_then}
+use Rattle.std.specs.Prelude.{if◌then◌else◌}
 use Rattle.droid_frame.specs.Hashes.{hash_bytes}
 use Rattle.droid_fixity.specs.Holding.{both_by, difference_at, holder_among, move_of, only_found, only_listed, or_missing, or_new}
 use Rattle.droid_fixity.specs.Inventories.{AreInOrder, IsBefore}
@@ -15,8 +14,7 @@ use Rattle.droid_fixity.specs.declared.difference.Difference.TheVariants.{Change
 use Rattle.droid_fixity.specs.declared.holders.Holder.{Holder}
 use Rattle.droid_fixity.specs.declared.item.Item.{Item}
 use Rattle.droid_fixity.specs.declared.pair.Pair.{Pair}
-use Rattle.droid_fixity.specs.declared.pair.Pair.TheVariants.{Both, Found, Listed}
-use Rattle.droid_fixity.proofs.Moves.{IsMove, MoveOf, Says, bears_says, move_of_is, same_move, says_among, says_bears}
+use Rattle.droid_fixity.proofs.Moves.{MoveOf, Says, bears_says, move_of_is, same_move, says_among, says_bears}
 use Rattle.droid_fixity.proofs.Order.{absent_there, same_place}
 use Rattle.droid_fixity.proofs.Pairs.{IsPair, Pairs, agree_start, all_right, each_found, each_listed, in_found, in_list, in_order, is_both, is_found, is_listed, missing_items, new_items, pair_path, pairs_merge, path_is, paths}
 use Rattle.droid_fixity.proofs.Passing.{AnyByRecursion, any_with_all, given_all, given_is_there, is_the_only, only_passes}

@@ -1,5 +1,5 @@
 -- A profile, record by record.
-use Rattle.std.proofs.Common.{Bor, ◌≢◌, ◌≡◌, ◌∙◌, ℕ, true, false, List, [], ◌∷◌, Option, Some, None, Result, Ok, Err, refl, sym, ap, subst}
+use Rattle.std.proofs.Common.{Bor, ◌≡◌, ◌∙◌, ℕ, true, false, List, [], ◌∷◌, Option, Some, None, Result, Ok, Err, refl, sym, ap, subst}
 use Rattle.csv.specs.Machine.{Read, next_record}
 use Rattle.csv.specs.Reading.{AreRecords, ExplainsRead, ReadRecord, Reached, default_config, source_of}
 use Rattle.csv.specs.declared.error.ErrorKind.{ErrorKind}
@@ -9,10 +9,9 @@ use Rattle.csv.specs.declared.parser.State.{State}
 use Rattle.csv.specs.declared.reader.Reader.{Reader}
 use Rattle.csv.proofs.ReadFacts.{rows-end, rows-more}
 use Rattle.droid_fixity.specs.declared.item.Item.{Item}
-use Rattle.droid_fixity_lists.specs.Calls.{EndsReading, Leaves}
+use Rattle.droid_fixity_lists.specs.Calls.{EndsReading}
 use Rattle.droid_fixity_lists.specs.Profiles.{Draft, after, finished, items_from, taken}
 use Rattle.droid_fixity_lists.specs.declared.fault.ListFault.{ListFault}
-use Rattle.droid_fixity_lists.specs.declared.fault.ListFault.TheVariants as faults
 
 -- the bytes of a slice that is read from
 abbrev pub rest_of : Bor (List ℕ) → Option (List ℕ)

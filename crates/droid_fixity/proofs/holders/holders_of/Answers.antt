@@ -1,4 +1,4 @@
-use Rattle.std.proofs.Common.{◌∙◌, ◌≡◌, Some, Option, ap, sym, get_or, arith}
+use Rattle.std.proofs.Common.{◌∙◌, Some, Option, ap, sym, get_or, arith}
 use Rattle.std.specs.Prelude.{if◌then◌else◌}
 use Rattle.droid_fixity.specs.Holding.{holder_after}
 use Rattle.droid_fixity.specs.Items.{bears}

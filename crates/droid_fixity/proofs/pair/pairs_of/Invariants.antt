@@ -1,4 +1,4 @@
-use Rattle.std.proofs.Common.{◌≡◌, ◌+◌, ◌-◌, ◌≤◌, ◌++◌, List, drop, length}
+use Rattle.std.proofs.Common.{◌+◌, ◌-◌, ◌≤◌, ◌++◌, List, drop, length}
 use Rattle.droid_fixity.specs.Pairing.{Merges}
 use Rattle.droid_fixity.specs.declared.pair.Pair.{Pair}
 use Rattle.droid_fixity.proofs.pair.pairs_of.Given as goal

@@ -1,4 +1,4 @@
-use Rattle.std.proofs.Common.{◌∙◌, [], refl, inl, inr, sym, ap}
+use Rattle.std.proofs.Common.{◌∙◌, [], refl, inl, inr}
 use Rattle.csv.specs.Reading.{error_kind, strip_bom}
 use Rattle.csv.specs.Records.{fields_of}
 use Rattle.droid_fixity_lists.specs.Calls.{draft_of}
