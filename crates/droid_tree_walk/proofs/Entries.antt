@@ -3,19 +3,14 @@ use Rattle.std.proofs.Common.{◌≡◌, ℕ, ◌+◌, ◌<◌, ◌≤◌, ◌&&
 use Rattle.std.specs.List.{flat_map, list_all}
 use Rattle.std.proofs.lemmas.List.{map-append, take_more, take_all}
 use Rattle.std.proofs.lemmas.List.Folds.{list_all-append}
-use Rattle.std.proofs.lemmas.Grind.{flat_map-append}
-use Rattle.droid_tree.specs.Asked.{Asked}
+use Rattle.droid_tree_walk.specs.Asked.{Asked}
 use Rattle.droid_tree.specs.Heard.{Heard}
-use Rattle.droid_tree.specs.Steps.{TakesKid, TakesKids}
+use Rattle.droid_tree_walk.specs.Steps.{TakesKid, TakesKids}
 use Rattle.droid_tree.specs.Observation.{Observation, GoesOver}
-use Rattle.droid_tree.specs.Visits.{MayCome, entry_of, is_taken, observed_of_kid, asked_of_kid, heard_of_kid, subfolders_of_kid}
+use Rattle.droid_tree_walk.specs.Visits.{MayCome, entry_of, is_taken, observed_of_kid, asked_of_kid, heard_of_kid, subfolders_of_kid}
 use Rattle.droid_tree.specs.declared.folder_entry.FolderEntry.{FolderEntry}
 use Rattle.droid_tree.specs.declared.pending_folder.PendingFolder.{PendingFolder}
-use Rattle.droid_tree.proofs.Runs.{over_more, all_more}
-
--- one item more of what each item gives
-pub given_more : {A B : Type 0} (f : A → List B) (xs : List A) (x : A) → flat_map f (xs ++ x ∷ []) ≡ flat_map f xs ++ f x
-given_more f xs x = flat_map-append f xs (x ∷ []) ∙ ap (λ (l : List _). flat_map f xs ++ l) (append-nil (f x))
+use Rattle.droid_tree.proofs.Runs.{given_more, over_more, all_more}
 
 -- one item more that all have to pass
 and_true : (b : Bool) → (b && true) ≡ b

@@ -1,15 +1,16 @@
 -- A walk that skipped nothing.
-use Rattle.std.proofs.Common.{◌≡◌, ℕ, Bool, true, false, List, [], ◌∷◌, map, Option, Some, None, refl, sym, ◌∙◌}
+use Rattle.std.proofs.Common.{◌≡◌, ℕ, ◌&&◌, Bool, true, false, List, [], ◌∷◌, map, Option, Some, None, refl, sym, subst, ◌∙◌, append-nil}
 use Rattle.std.specs.Prelude.{IsPermutation, is_some}
 use Rattle.std.specs.List.{list_all, AllByRecursion}
 use Rattle.std.proofs.lemmas.Bool.{and_parts}
-use Rattle.droid_tree.specs.Asked.{Asked}
+use Rattle.droid_tree_walk.specs.Asked.{Asked}
 use Rattle.droid_tree.specs.Heard.{Heard}
 use Rattle.droid_tree.specs.Observation.{Observation}
-use Rattle.droid_tree.specs.Visits.{Kid, Subfolder, WholeFile, OtherKind, NoText, RefusedFolder, RefusedFile, DroppedFile, WholeRest, DroppedRest, Visit, AreThose, IsKid, IsOutcome, IsVisit, IsVisited, entry_of, is_full, is_taken}
-use Rattle.droid_tree.specs.Walks.{Walks, WalksWhole}
+use Rattle.droid_tree.specs.Listings.{AreThose}
+use Rattle.droid_tree_walk.specs.Visits.{Kid, Subfolder, WholeFile, OtherKind, NoText, RefusedFolder, RefusedFile, DroppedFile, WholeRest, DroppedRest, Visit, IsKid, IsOutcome, IsVisit, IsVisited, entry_of, is_empty, is_full, is_taken}
+use Rattle.droid_tree_walk.specs.Walks.{Walks, WalksWhole}
 use Rattle.droid_tree.specs.declared.folder_entry.FolderEntry.{FolderEntry}
-use Rattle.droid_tree.specs.declared.tree_walk.Options.{Options}
+use Rattle.droid_tree_walk.specs.declared.tree_walk.Options.{Options}
 
 module _ (piece_size : ℕ) where
   kid_taken : (kid : Kid) → is_taken kid ≡ true → IsOutcome piece_size kid → IsKid piece_size kid
@@ -32,15 +33,17 @@ module _ (piece_size : ℕ) where
     its : observed ≡ Some listed
     same : IsPermutation listed entries
 
-  was_listed : (observed : Option (List FolderEntry)) (entries : List FolderEntry) → is_some observed ≡ true → AreThose observed entries → Listed observed entries
-  was_listed None entries is same = absurd cc
-  was_listed (Some listed) entries is same = record { listed = listed; its = refl; same = same }
+  was_listed : (observed : Option (List FolderEntry)) (entries repeated : List FolderEntry) → is_some observed ≡ true → is_empty repeated ≡ true → AreThose observed entries repeated → Listed observed entries
+  was_listed None entries repeated is none same = absurd cc
+  was_listed (Some listed) entries [] is none same = record { listed = listed; its = refl; same = subst (λ (l : List FolderEntry). IsPermutation listed l) (append-nil entries) same }
+  was_listed (Some listed) entries (entry ∷ repeated) is none same = absurd cc
 
   visit_full : (visit : Visit) → is_full visit ≡ true → IsVisit piece_size visit → IsVisited piece_size visit
   visit_full visit full is =
-      let both = and_parts (is_some visit.observed) (list_all is_taken visit.kids) full in
-      let all = was_listed visit.observed (map entry_of visit.kids) both.0 is.same in
-      record { observed = all.listed; listed = all.its; same = all.same; in_order = is.in_order; kids = kids_taken visit.kids both.1 is.kids }
+      let both = and_parts (is_some visit.observed) (is_empty visit.repeated && list_all is_taken visit.kids) full in
+      let rest = and_parts (is_empty visit.repeated) (list_all is_taken visit.kids) both.1 in
+      let all = was_listed visit.observed (map entry_of visit.kids) visit.repeated both.0 rest.0 is.same in
+      record { observed = all.listed; listed = all.its; same = all.same; in_order = is.in_order; kids = kids_taken visit.kids rest.1 is.kids }
 
   visits_full : (visits : List Visit) → list_all is_full visits ≡ true → AllByRecursion (IsVisit piece_size) visits → AllByRecursion (IsVisited piece_size) visits
   visits_full [] full are = tt

@@ -1,5 +1,5 @@
 -- The pieces of a file, one after the other.
-use Rattle.std.proofs.Common.{◌≡◌, ◌≢◌, ℕ, suc, ◌+◌, ◌-◌, ◌*◌, ◌<◌, ◌≤◌, inl, inr, min, List, [], ◌∷◌, ◌++◌, length, Result, Ok, Err, refl, sym, ap, subst, ◌∙◌, arith, length-append, append_assoc, append-nil}
+use Rattle.std.proofs.Common.{◌≡◌, ℕ, suc, ◌+◌, ◌-◌, ◌*◌, ◌<◌, ◌≤◌, inl, inr, min, List, [], ◌∷◌, ◌++◌, length, Result, Ok, Err, refl, sym, ap, subst, ◌∙◌, arith, length-append, append_assoc, append-nil}
 use Rattle.std.specs.Prelude.{MatchResult}
 use Rattle.std.proofs.lemmas.List.{get_or-append-add, map-append}
 use Rattle.std.proofs.lemmas.Grind.{flat_map-append}
@@ -7,14 +7,15 @@ use Rattle.droid_frame.specs.Bodies.{SpellsRequest}
 use Rattle.droid_frame.specs.Fields.{IsBytes, IsU32, u32_bytes}
 use Rattle.droid_frame.specs.types.reply.Reply.TheVariants as replies
 use Rattle.droid_frame.specs.types.request.Request.TheVariants.{Piece}
-use Rattle.droid_tree.specs.Asked.{Asked}
 use Rattle.droid_tree.specs.Heard.{Heard, TookBytes}
-use Rattle.droid_tree.specs.Steps.{IsPastEnd, IsShort, ReadsPiece, SendsPiece, SendsFront, SendsAll, SendsPart, StopsAt}
-use Rattle.droid_tree.specs.Observation.{Observation, Read, GoesOver, BytesCame}
-use Rattle.droid_tree.specs.Visits.{Sent, Stop, NoneCame, FewerCame, MoreCame, AreCut, IsStop, begin_of, bytes_of, reads_from, observed_of_stop, pieces_from, pieces_heard}
+use Rattle.droid_tree.specs.Observation.{Observation, Read, GoesOver}
+use Rattle.droid_tree.specs.Reading.{Stop, NoneCame, FewerCame, MoreCame, OtherFile, IsPastEnd, IsShort, IsStop, StopsAt, begin_of, observed_of_stop}
+use Rattle.droid_tree.specs.declared.folder_entry.FolderEntry.{FolderEntry}
 use Rattle.droid_tree.specs.declared.skipped.Skipped.{Skipped}
-use Rattle.droid_tree.specs.declared.skipped.Skipped.TheVariants as reasons
 use Rattle.droid_tree.proofs.Runs.{over_one, over_more}
+use Rattle.droid_tree_walk.specs.Asked.{Asked}
+use Rattle.droid_tree_walk.specs.Steps.{SendsPiece, SendsFront, SendsAll, SendsPart}
+use Rattle.droid_tree_walk.specs.Visits.{Sent, AreCut, bytes_of, reads_from, pieces_from, pieces_heard}
 
 -- ---- the body of one piece
 
@@ -33,41 +34,13 @@ spells_piece profile file index begun bytes body header is ranges all =
       has_spelling = (ranges.0, ranges.1, ranges.2, bytes_behind begun bytes (subst IsBytes is all));
     }
 
--- ---- what was read of a file, or why nothing was
-
--- all bytes came, or fewer
-pub came_all : {T A : Type 0} (observes : T → Observation → T → Type 0) (path : List ℕ) (from wanted count : ℕ) (before after : List ℕ) (tree tree_after : T) (read : Result A Skipped)
-    → BytesCame observes tree path from wanted before after tree_after → count ≡ length after - length before
-    → MatchResult read (λ _. count ≡ wanted) (λ why. (why ≡ reasons.Changed) × (count ≢ wanted))
-    → MatchResult read (λ _. ReadsPiece observes path from wanted before after tree tree_after) (λ why. StopsAt observes (IsShort wanted) path from why tree tree_after)
-came_all observes path from wanted count before after tree tree_after (Ok u) came counted is =
-    record { bytes = came.bytes; counted = omega (arith, ap length came.added, length-append before came.bytes, counted, is); added = came.added; observed = came.observed }
-came_all observes path from wanted count before after tree tree_after (Err why) came counted is = record {
-  stop = FewerCame wanted came.bytes;
-  such = (refl, omega (arith, ap length came.added, length-append before came.bytes, counted, is.1, came.within));
-  reason = is.0;
-  observed = came.observed;
-}
-
--- none came, or more
-pub came_more : {T A : Type 0} (observes : T → Observation → T → Type 0) (path : List ℕ) (from : ℕ) (more : List ℕ) (tree tree_after : T) (read : Result A Skipped)
-    → BytesCame observes tree path from 1 [] more tree_after → MatchResult read (λ _. more ≡ []) (λ why. (why ≡ reasons.Changed) × (0 < length more))
-    → MatchResult read (λ _. observes tree (Read path from 1 []) tree_after) (λ why. StopsAt observes IsPastEnd path from why tree tree_after)
-came_more observes path from more tree tree_after (Ok u) came is = subst (λ (l : List ℕ). observes tree (Read path from 1 l) tree_after) (sym came.added ∙ is) came.observed
-came_more observes path from more tree tree_after (Err why) came is = record {
-  stop = MoreCame came.bytes;
-  such = subst (λ (l : List ℕ). 0 < length l) came.added is.1;
-  reason = is.0;
-  observed = came.observed;
-}
-
 -- ---- pieces after pieces
 
-reads_more : (path : List ℕ) (from total : ℕ) (sent : List Sent) (piece : Sent) → total ≡ from + length (bytes_of sent)
-    → reads_from path from (sent ++ piece ∷ []) ≡ reads_from path from sent ++ Read path total (length piece.0) piece.0 ∷ []
-reads_more path from total [] piece e = let same : from ≡ total = omega arith in ap (λ k. Read path k (length piece.0) piece.0 ∷ []) same
-reads_more path from total (first ∷ sent) piece e =
-    ap (λ (l : List Observation). Read path from (length first.0) first.0 ∷ l) (reads_more path (from + length first.0) total sent piece (omega (arith, e, length-append first.0 (bytes_of sent))))
+reads_more : (path : List ℕ) (entry : FolderEntry) (from total : ℕ) (sent : List Sent) (piece : Sent) → total ≡ from + length (bytes_of sent)
+    → reads_from path entry from (sent ++ piece ∷ []) ≡ reads_from path entry from sent ++ Read path entry total (length piece.0) piece.0 ∷ []
+reads_more path entry from total [] piece e = let same : from ≡ total = omega arith in ap (λ k. Read path entry k (length piece.0) piece.0 ∷ []) same
+reads_more path entry from total (first ∷ sent) piece e =
+    ap (λ (l : List Observation). Read path entry from (length first.0) first.0 ∷ l) (reads_more path entry (from + length first.0) total sent piece (omega (arith, e, length-append first.0 (bytes_of sent))))
 
 pieces_more : (profile file index total : ℕ) (sent : List Sent) (piece : Sent) → total ≡ index + length sent
     → pieces_from profile file index (sent ++ piece ∷ []) ≡ pieces_from profile file index sent ++ (Piece profile file total piece.0, replies.Taken piece.1) ∷ []
@@ -92,25 +65,25 @@ bytes_more sent piece = flat_map-append (λ (p : Sent). p.0) sent (piece ∷ [])
 least_size : (n size start : ℕ) → start ≡ min n size → start ≤ size
 least_size n size start is = omega (arith, is)
 
-module _ {T X W : Type 0} (observes : T → Observation → T → Type 0) (asks : X → Asked → X → Type 0) (hears : W → Heard → W → Type 0) (profile file piece_size size first start : ℕ) (path : List ℕ) where
+module _ {T X W : Type 0} (observes : T → Observation → T → Type 0) (asks : X → Asked → X → Type 0) (hears : W → Heard → W → Type 0) (profile file piece_size size first start : ℕ) (path : List ℕ) (entry : FolderEntry) where
   pub none_sent : (from : ℕ) (tree : T) (exchange : X) (watcher : W) → from ≡ start → start ≡ begin_of piece_size size first
-      → SendsFront observes asks hears profile file piece_size size first start path first from tree tree exchange exchange watcher watcher
+      → SendsFront observes asks hears profile file piece_size size first start path entry first from tree tree exchange exchange watcher watcher
   none_sent from tree exchange watcher same begins =
       let least = least_size (first * piece_size) size start begins in
       record { sent = []; counted = omega arith; joined = omega (arith, same); within = omega (arith, same, least); cut = tt; observed = refl; asked = refl; heard = refl }
 
   pub one_more_sent : (count from wanted added held : ℕ) (tree tree_now tree_after : T) (exchange exchange_now exchange_after : X) (watcher watcher_now watcher_after : W)
-      → SendsFront observes asks hears profile file piece_size size first start path count from tree tree_now exchange exchange_now watcher watcher_now
-      → SendsPiece observes asks profile file count path from wanted held tree_now tree_after exchange_now exchange_after
+      → SendsFront observes asks hears profile file piece_size size first start path entry count from tree tree_now exchange exchange_now watcher watcher_now
+      → SendsPiece observes asks profile file count path entry from wanted held tree_now tree_after exchange_now exchange_after
       → hears watcher_now (TookBytes path wanted) watcher_after
       → wanted ≡ min piece_size (size - from) → (wanted ≡ 0 → ⊥) → added ≡ wanted
-      → SendsFront observes asks hears profile file piece_size size first start path (count + 1) (from + added) tree tree_after exchange exchange_after watcher watcher_after
+      → SendsFront observes asks hears profile file piece_size size first start path entry (count + 1) (from + added) tree tree_after exchange exchange_after watcher watcher_after
   one_more_sent count from wanted added held tree tree_now tree_after exchange exchange_now exchange_after watcher watcher_now watcher_after front next heard due some same =
       let piece : Sent = (next.bytes, held) in
       let behind : from ≡ start + length (bytes_of front.sent) = sym front.joined in
       let folder : count ≡ first + length front.sent = sym front.counted in
       let within : from < size = omega (arith, due, some) in
-      let read : observes tree_now (Read path from (length next.bytes) next.bytes) tree_after = subst (λ n. observes tree_now (Read path from n next.bytes) tree_after) (sym next.counted) next.observed in
+      let read : observes tree_now (Read path entry from (length next.bytes) next.bytes) tree_after = subst (λ n. observes tree_now (Read path entry from n next.bytes) tree_after) (sym next.counted) next.observed in
       let noted : hears watcher_now (TookBytes path (length next.bytes)) watcher_after = subst (λ n. hears watcher_now (TookBytes path n) watcher_after) (sym next.counted) heard in
       record {
         sent = front.sent ++ piece ∷ [];
@@ -118,8 +91,8 @@ module _ {T X W : Type 0} (observes : T → Observation → T → Type 0) (asks 
         joined = omega (arith, ap length (bytes_more front.sent piece), length-append (bytes_of front.sent) next.bytes, front.joined, next.counted, same);
         within = omega (arith, due, same);
         cut = cut_more piece_size size start from front.sent piece behind within (next.counted ∙ due) front.cut;
-        observed = subst (λ (l : List Observation). GoesOver observes tree l tree_after) (sym (reads_more path start from front.sent piece behind))
-            (over_more observes tree tree_now tree_after (reads_from path start front.sent) (Read path from (length next.bytes) next.bytes ∷ []) front.observed (over_one observes tree_now tree_after _ read));
+        observed = subst (λ (l : List Observation). GoesOver observes tree l tree_after) (sym (reads_more path entry start from front.sent piece behind))
+            (over_more observes tree tree_now tree_after (reads_from path entry start front.sent) (Read path entry from (length next.bytes) next.bytes ∷ []) front.observed (over_one observes tree_now tree_after _ read));
         asked = subst (λ (l : List Asked). GoesOver asks exchange l exchange_after) (sym (pieces_more profile file first count front.sent piece folder))
             (over_more asks exchange exchange_now exchange_after (pieces_from profile file first front.sent) ((Piece profile file count next.bytes, replies.Taken held) ∷ []) front.asked (over_one asks exchange_now exchange_after _ next.asked));
         heard = subst (λ (l : List Heard). GoesOver hears watcher l watcher_after) (sym (map-append (λ (p : Sent). TookBytes path (length p.0)) front.sent (piece ∷ [])))
@@ -127,29 +100,29 @@ module _ {T X W : Type 0} (observes : T → Observation → T → Type 0) (asks 
       }
 
   module _ (count from : ℕ) (tree tree_now tree_after : T) (exchange exchange_now : X) (watcher watcher_now : W)
-      (front : SendsFront observes asks hears profile file piece_size size first start path count from tree tree_now exchange exchange_now watcher watcher_now) where
-    pub all_sent : observes tree_now (Read path from 1 []) tree_after → from ≡ size
-        → SendsAll observes asks hears profile file piece_size size first start path tree tree_after exchange exchange_now watcher watcher_now
+      (front : SendsFront observes asks hears profile file piece_size size first start path entry count from tree tree_now exchange exchange_now watcher watcher_now) where
+    pub all_sent : observes tree_now (Read path entry from 1 []) tree_after → from ≡ size
+        → SendsAll observes asks hears profile file piece_size size first start path entry tree tree_after exchange exchange_now watcher watcher_now
     all_sent ended all = record {
       sent = front.sent;
       joined = front.joined ∙ all;
       cut = front.cut;
-      observed = over_more observes tree tree_now tree_after (reads_from path start front.sent) (Read path (start + length (bytes_of front.sent)) 1 [] ∷ []) front.observed
-          (over_one observes tree_now tree_after _ (subst (λ n. observes tree_now (Read path n 1 []) tree_after) (sym front.joined) ended));
+      observed = over_more observes tree tree_now tree_after (reads_from path entry start front.sent) (Read path entry (start + length (bytes_of front.sent)) 1 [] ∷ []) front.observed
+          (over_one observes tree_now tree_after _ (subst (λ n. observes tree_now (Read path entry n 1 []) tree_after) (sym front.joined) ended));
       asked = front.asked;
       heard = front.heard;
     }
 
-    part_sent : (IsSuch : Stop → Type 0) (why : Skipped) → StopsAt observes IsSuch path from why tree_now tree_after → ((stop : Stop) → IsSuch stop → IsStop piece_size size from stop)
-        → SendsPart observes asks hears profile file piece_size size first start path why tree tree_after exchange exchange_now watcher watcher_now
+    part_sent : (IsSuch : Stop → Type 0) (why : Skipped) → StopsAt observes IsSuch path entry from why tree_now tree_after → ((stop : Stop) → IsSuch stop → IsStop piece_size size from stop)
+        → SendsPart observes asks hears profile file piece_size size first start path entry why tree tree_after exchange exchange_now watcher watcher_now
     part_sent IsSuch why stops is_stop = record {
       sent = front.sent;
       stop = stops.stop;
       cut = front.cut;
       stopped = subst (λ n. IsStop piece_size size n stops.stop) (sym front.joined) (is_stop stops.stop stops.such);
       reason = stops.reason;
-      observed = over_more observes tree tree_now tree_after (reads_from path start front.sent) (observed_of_stop path (start + length (bytes_of front.sent)) stops.stop ∷ []) front.observed
-          (over_one observes tree_now tree_after _ (subst (λ n. observes tree_now (observed_of_stop path n stops.stop) tree_after) (sym front.joined) stops.observed));
+      observed = over_more observes tree tree_now tree_after (reads_from path entry start front.sent) (observed_of_stop path entry (start + length (bytes_of front.sent)) stops.stop ∷ []) front.observed
+          (over_one observes tree_now tree_after _ (subst (λ n. observes tree_now (observed_of_stop path entry n stops.stop) tree_after) (sym front.joined) stops.observed));
       asked = front.asked;
       heard = front.heard;
     }
@@ -158,25 +131,27 @@ module _ {T X W : Type 0} (observes : T → Observation → T → Type 0) (asks 
     short_stop wanted due some (NoneCame n) is = inl (omega (arith, due, some), is ∙ due)
     short_stop wanted due some (FewerCame n bytes) is = (omega (arith, due, some), is.0 ∙ due, omega (arith, is.0, is.1))
     short_stop wanted due some (MoreCame bytes) is = absurd is
+    short_stop wanted due some (OtherFile n) is = inl (omega (arith, due, some), is ∙ due)
 
-    pub short_sent : (wanted : ℕ) (why : Skipped) (exchange_after : X) → StopsAt observes (IsShort wanted) path from why tree_now tree_after × (exchange_after ≡ exchange_now) → wanted ≡ min piece_size (size - from) → (wanted ≡ 0 → ⊥)
-        → SendsPart observes asks hears profile file piece_size size first start path why tree tree_after exchange exchange_after watcher watcher_now
+    pub short_sent : (wanted : ℕ) (why : Skipped) (exchange_after : X) → StopsAt observes (IsShort wanted) path entry from why tree_now tree_after × (exchange_after ≡ exchange_now) → wanted ≡ min piece_size (size - from) → (wanted ≡ 0 → ⊥)
+        → SendsPart observes asks hears profile file piece_size size first start path entry why tree tree_after exchange exchange_after watcher watcher_now
     short_sent wanted why exchange_after stops due some =
-        subst (λ (x : X). SendsPart observes asks hears profile file piece_size size first start path why tree tree_after exchange x watcher watcher_now) (sym stops.1) (part_sent (IsShort wanted) why stops.0 (short_stop wanted due some))
+        subst (λ (x : X). SendsPart observes asks hears profile file piece_size size first start path entry why tree tree_after exchange x watcher watcher_now) (sym stops.1) (part_sent (IsShort wanted) why stops.0 (short_stop wanted due some))
 
     end_stop : from ≡ size → (stop : Stop) → IsPastEnd stop → IsStop piece_size size from stop
     end_stop all (NoneCame n) is = inr (all, is)
     end_stop all (FewerCame n bytes) is = absurd is
     end_stop all (MoreCame bytes) is = (all, is)
+    end_stop all (OtherFile n) is = inr (all, is)
 
-    pub past_end_sent : (why : Skipped) → from ≡ size → StopsAt observes IsPastEnd path from why tree_now tree_after
-        → SendsPart observes asks hears profile file piece_size size first start path why tree tree_after exchange exchange_now watcher watcher_now
+    pub past_end_sent : (why : Skipped) → from ≡ size → StopsAt observes IsPastEnd path entry from why tree_now tree_after
+        → SendsPart observes asks hears profile file piece_size size first start path entry why tree tree_after exchange exchange_now watcher watcher_now
     past_end_sent why all stops = part_sent IsPastEnd why stops (end_stop all)
 
     -- at its end a file is whole, or not
     pub ends_sent : {A : Type 0} (read : Result A Skipped) → from ≡ size
-        → MatchResult read (λ _. observes tree_now (Read path from 1 []) tree_after) (λ why. StopsAt observes IsPastEnd path from why tree_now tree_after)
-        → MatchResult read (λ _. SendsAll observes asks hears profile file piece_size size first start path tree tree_after exchange exchange_now watcher watcher_now)
-        (λ why. SendsPart observes asks hears profile file piece_size size first start path why tree tree_after exchange exchange_now watcher watcher_now)
+        → MatchResult read (λ _. observes tree_now (Read path entry from 1 []) tree_after) (λ why. StopsAt observes IsPastEnd path entry from why tree_now tree_after)
+        → MatchResult read (λ _. SendsAll observes asks hears profile file piece_size size first start path entry tree tree_after exchange exchange_now watcher watcher_now)
+        (λ why. SendsPart observes asks hears profile file piece_size size first start path entry why tree tree_after exchange exchange_now watcher watcher_now)
     ends_sent (Ok u) all ended = all_sent ended all
     ends_sent (Err why) all stops = past_end_sent why all stops

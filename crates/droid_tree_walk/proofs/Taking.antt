@@ -5,11 +5,13 @@ use Rattle.droid_frame.specs.types.reply.Reply.{Reply}
 use Rattle.droid_frame.specs.types.reply.Reply.TheVariants as replies
 use Rattle.droid_frame.specs.types.request.Request.{Request}
 use Rattle.droid_frame.specs.types.request.Request.TheVariants.{AddFolder, AddFile, Finish, Abandon}
-use Rattle.droid_tree.specs.Asked.{Asked}
+use Rattle.droid_tree_walk.specs.Asked.{Asked}
 use Rattle.droid_tree.specs.Heard.{Heard, Left, Held, TookFolder, TookFile}
-use Rattle.droid_tree.specs.Steps.{AddsNode, AddsFolder, Finishes, ResumesFile, ResumesWhere, SendsAll, SendsPart, TakesKid}
+use Rattle.droid_tree_walk.specs.Steps.{AddsNode, AddsFolder, Finishes, ResumesFile, ResumesWhere, SendsAll, SendsPart, TakesKid}
 use Rattle.droid_tree.specs.Observation.{Observation, GoesOver}
-use Rattle.droid_tree.specs.Visits.{Subfolder, WholeFile, OtherKind, NoText, RefusedFolder, RefusedFile, DroppedFile, WholeRest, DroppedRest, Sent, GoesOn, begin_of, below, first_missing, whole_read, part_read, pieces_from, pieces_heard, reason_of}
+use Rattle.droid_tree.specs.Paths.{below}
+use Rattle.droid_tree.specs.Reading.{begin_of, reason_of}
+use Rattle.droid_tree_walk.specs.Visits.{Subfolder, WholeFile, OtherKind, NoText, RefusedFolder, RefusedFile, DroppedFile, WholeRest, DroppedRest, Sent, GoesOn, first_missing, whole_read, part_read, pieces_from, pieces_heard}
 use Rattle.droid_tree.specs.declared.folder_entry.FolderEntry.{FolderEntry}
 use Rattle.droid_tree.specs.declared.folder_entry.EntryKind.TheVariants as kinds
 use Rattle.droid_tree.specs.declared.skipped.Skipped.{Skipped}
@@ -88,7 +90,7 @@ module _ {X W : Type 0} (asks : X → Asked → X → Type 0) (hears : W → Hea
 
         -- ---- from its first piece on
 
-        file_whole : SendsAll observes asks hears profile number piece_size entry.len 0 0 path tree tree_after announced sent watcher_now watcher_sent → (found : Reply) → Finishes asks profile number found sent done
+        file_whole : SendsAll observes asks hears profile number piece_size entry.len 0 0 path entry tree tree_after announced sent watcher_now watcher_sent → (found : Reply) → Finishes asks profile number found sent done
             → hears watcher_sent (TookFile path found) watcher_after
             → TakesKid observes asks hears goes_on profile piece_size folder entry true tree tree_after exchange done watcher watcher_after waiting waiting
         file_whole all found finished took =
@@ -98,14 +100,14 @@ module _ {X W : Type 0} (asks : X → Asked → X → Type 0) (hears : W → Hea
               its = refl;
               is_outcome = (is_file, record { size = all.joined; cut = all.cut }, finished.is_finished);
               taken_is = refl;
-              observed = subst (λ (p : List ℕ). GoesOver observes tree (whole_read p 0 all.sent) tree_after) here all.observed;
+              observed = subst (λ (p : List ℕ). GoesOver observes tree (whole_read p entry 0 all.sent) tree_after) here all.observed;
               asked = (announced, first, over_more asks announced sent done (pieces_from profile number 0 all.sent) ((Finish profile number, found) ∷ []) all.asked (over_one asks sent done _ finished.asked));
               heard = over_more hears watcher watcher_sent watcher_after (pieces_heard (below folder.path entry.name) all.sent) (TookFile (below folder.path entry.name) found ∷ []) heard
                   (over_one hears watcher_sent watcher_after _ (reported_here watcher_sent watcher_after (λ p. TookFile p found) took));
               pending = sym (append-nil waiting);
             }
 
-        file_dropped : (why : Skipped) → SendsPart observes asks hears profile number piece_size entry.len 0 0 path why tree tree_after announced sent watcher_now watcher_sent
+        file_dropped : (why : Skipped) → SendsPart observes asks hears profile number piece_size entry.len 0 0 path entry why tree tree_after announced sent watcher_now watcher_sent
             → asks sent (Abandon profile number, replies.Abandoned) done → hears watcher_sent (Left path why) watcher_after
             → TakesKid observes asks hears goes_on profile piece_size folder entry false tree tree_after exchange done watcher watcher_after waiting waiting
         file_dropped why part given_up left =
@@ -116,7 +118,7 @@ module _ {X W : Type 0} (asks : X → Asked → X → Type 0) (hears : W → Hea
               its = refl;
               is_outcome = (is_file, record { cut = part.cut; stopped = part.stopped });
               taken_is = refl;
-              observed = subst (λ (p : List ℕ). GoesOver observes tree (part_read p 0 part.sent part.stop) tree_after) here part.observed;
+              observed = subst (λ (p : List ℕ). GoesOver observes tree (part_read p entry 0 part.sent part.stop) tree_after) here part.observed;
               asked = (announced, first, over_more asks announced sent done (pieces_from profile number 0 part.sent) ((Abandon profile number, replies.Abandoned) ∷ []) part.asked (over_one asks sent done _ given_up));
               heard = over_more hears watcher watcher_sent watcher_after (pieces_heard (below folder.path entry.name) part.sent) (Left (below folder.path entry.name) (reason_of part.stop) ∷ []) heard
                   (over_one hears watcher_sent watcher_after _ (reported_here watcher_sent watcher_after (λ p. Left p (reason_of part.stop)) reported_why));
@@ -141,7 +143,7 @@ module _ {X W : Type 0} (asks : X → Asked → X → Type 0) (hears : W → Hea
           held_here : hears watcher (Held (below folder.path entry.name) from) watcher_looked
           held_here = reported_here watcher watcher_looked (λ p. Held p from) (subst (λ (v : W). hears v (Held path from) watcher_looked) added.1 looks.heard)
 
-          rest_whole : SendsAll observes asks hears profile number piece_size entry.len index from path tree tree_after looked sent watcher_looked watcher_sent → (found : Reply) → Finishes asks profile number found sent done
+          rest_whole : SendsAll observes asks hears profile number piece_size entry.len index from path entry tree tree_after looked sent watcher_looked watcher_sent → (found : Reply) → Finishes asks profile number found sent done
               → hears watcher_sent (TookFile path found) watcher_after
               → TakesKid observes asks hears goes_on profile piece_size folder entry true tree tree_after exchange done watcher watcher_after waiting waiting
           rest_whole all found finished took =
@@ -151,7 +153,7 @@ module _ {X W : Type 0} (asks : X → Asked → X → Type 0) (hears : W → Hea
                 its = refl;
                 is_outcome = (goes, record { size = all.joined; cut = all.cut }, finished.is_finished);
                 taken_is = refl;
-                observed = subst (λ (p : List ℕ). GoesOver observes tree (whole_read p from all.sent) tree_after) here all.observed;
+                observed = subst (λ (p : List ℕ). GoesOver observes tree (whole_read p entry from all.sent) tree_after) here all.observed;
                 asked = (
                   announced,
                   first,
@@ -170,7 +172,7 @@ module _ {X W : Type 0} (asks : X → Asked → X → Type 0) (hears : W → Hea
                 pending = sym (append-nil waiting);
               }
 
-          rest_dropped : (why : Skipped) → SendsPart observes asks hears profile number piece_size entry.len index from path why tree tree_after looked sent watcher_looked watcher_sent
+          rest_dropped : (why : Skipped) → SendsPart observes asks hears profile number piece_size entry.len index from path entry why tree tree_after looked sent watcher_looked watcher_sent
               → asks sent (Abandon profile number, replies.Abandoned) done → hears watcher_sent (Left path why) watcher_after
               → TakesKid observes asks hears goes_on profile piece_size folder entry false tree tree_after exchange done watcher watcher_after waiting waiting
           rest_dropped why part given_up left =
@@ -181,7 +183,7 @@ module _ {X W : Type 0} (asks : X → Asked → X → Type 0) (hears : W → Hea
                 its = refl;
                 is_outcome = (goes, record { cut = part.cut; stopped = part.stopped });
                 taken_is = refl;
-                observed = subst (λ (p : List ℕ). GoesOver observes tree (part_read p from part.sent part.stop) tree_after) here part.observed;
+                observed = subst (λ (p : List ℕ). GoesOver observes tree (part_read p entry from part.sent part.stop) tree_after) here part.observed;
                 asked = (
                   announced,
                   first,
@@ -213,24 +215,24 @@ module _ {X W : Type 0} (asks : X → Asked → X → Type 0) (hears : W → Hea
             (subst (λ (x : X). P 0 (begin_of piece_size entry.len 0) x watcher_looked) same.0 (subst (λ n. P n (begin_of piece_size entry.len n) looked watcher_looked) none p)))
 
         pub file_taken : (status : Option ℕ) (index : ℕ) → ResumesWhere asks hears goes_on profile number piece_size entry.len path status announced looked watcher_now watcher_looked → index ≡ unwrap_or status 0
-            → SendsAll observes asks hears profile number piece_size entry.len index (begin_of piece_size entry.len index) path tree tree_after looked sent watcher_looked watcher_sent
+            → SendsAll observes asks hears profile number piece_size entry.len index (begin_of piece_size entry.len index) path entry tree tree_after looked sent watcher_looked watcher_sent
             → (found : Reply) → Finishes asks profile number found sent done → hears watcher_sent (TookFile path found) watcher_after
             → TakesKid observes asks hears goes_on profile piece_size folder entry true tree tree_after exchange done watcher watcher_after waiting waiting
         file_taken None index looks is all found finished took =
-            file_whole (from_first (λ n k x w. SendsAll observes asks hears profile number piece_size entry.len n k path tree tree_after x sent w watcher_sent) index is looks all) found finished took
+            file_whole (from_first (λ n k x w. SendsAll observes asks hears profile number piece_size entry.len n k path entry tree tree_after x sent w watcher_sent) index is looks all) found finished took
         file_taken (Some there) index looks is all found finished took =
-            rest_whole there looks (subst (λ n. SendsAll observes asks hears profile number piece_size entry.len n (begin_of piece_size entry.len n) path tree tree_after looked sent watcher_looked watcher_sent) is all)
+            rest_whole there looks (subst (λ n. SendsAll observes asks hears profile number piece_size entry.len n (begin_of piece_size entry.len n) path entry tree tree_after looked sent watcher_looked watcher_sent) is all)
             found finished took
 
         pub file_left : (status : Option ℕ) (index : ℕ) (why : Skipped) → ResumesWhere asks hears goes_on profile number piece_size entry.len path status announced looked watcher_now watcher_looked → index ≡ unwrap_or status 0
-            → SendsPart observes asks hears profile number piece_size entry.len index (begin_of piece_size entry.len index) path why tree tree_after looked sent watcher_looked watcher_sent
+            → SendsPart observes asks hears profile number piece_size entry.len index (begin_of piece_size entry.len index) path entry why tree tree_after looked sent watcher_looked watcher_sent
             → asks sent (Abandon profile number, replies.Abandoned) done → hears watcher_sent (Left path why) watcher_after
             → TakesKid observes asks hears goes_on profile piece_size folder entry false tree tree_after exchange done watcher watcher_after waiting waiting
         file_left None index why looks is part given_up left =
-            file_dropped why (from_first (λ n k x w. SendsPart observes asks hears profile number piece_size entry.len n k path why tree tree_after x sent w watcher_sent) index is looks part) given_up left
+            file_dropped why (from_first (λ n k x w. SendsPart observes asks hears profile number piece_size entry.len n k path entry why tree tree_after x sent w watcher_sent) index is looks part) given_up left
         file_left (Some there) index why looks is part given_up left =
             rest_dropped there looks why
-            (subst (λ n. SendsPart observes asks hears profile number piece_size entry.len n (begin_of piece_size entry.len n) path why tree tree_after looked sent watcher_looked watcher_sent) is part) given_up left
+            (subst (λ n. SendsPart observes asks hears profile number piece_size entry.len n (begin_of piece_size entry.len n) path entry why tree tree_after looked sent watcher_looked watcher_sent) is part) given_up left
 
   module _ {T : Type 0} (observes : T → Observation → T → Type 0) (folder : PendingFolder) (entry : FolderEntry) (tree : T) where
     pub kid_of_folder : (taken : Bool) (exchange exchange_after : X) (watcher watcher_after : W) (waiting waiting_after : List PendingFolder)

@@ -1,23 +1,26 @@
 -- One folder, and folders one after the other.
-use Rattle.std.proofs.Common.{◌≡◌, ℕ, ◌&&◌, Bool, true, false, List, [], ◌∷◌, ◌++◌, Some, None, length, map, drop, length-drop, refl, sym, ap, subst, ◌∙◌, append_assoc, append-nil, arith}
+use Rattle.std.proofs.Common.{◌≡◌, ℕ, ◌+◌, ◌<◌, ◌≤◌, ◌&&◌, Bool, true, false, List, [], ◌∷◌, ◌++◌, Some, None, length, map, take, refl, sym, ap, subst, ◌∙◌, get_or, append_assoc, append-nil}
 use Rattle.std.specs.Prelude.{IsPermutation}
 use Rattle.std.specs.List.{flat_map, list_all, AllByRecursion}
-use Rattle.std.proofs.lemmas.List.{map-append}
+use Rattle.std.proofs.lemmas.List.{map-append, take_more, take_all}
+use Rattle.std.proofs.lemmas.List.Elements.{All-nil}
 use Rattle.droid_frame.specs.types.reply.Reply.TheVariants as replies
 use Rattle.droid_frame.specs.types.request.Request.TheVariants.{CreateProfile}
-use Rattle.droid_tree.specs.Asked.{Asked}
+use Rattle.droid_tree_walk.specs.Asked.{Asked}
 use Rattle.droid_tree.specs.Heard.{Heard, Left}
-use Rattle.droid_tree.specs.Steps.{ListsInOrder, TakesKids, TakesVisit}
+use Rattle.droid_tree.specs.Listings.{AreInOrder, AreRepeated, HasNameOf, ListsInOrder}
+use Rattle.droid_tree.specs.Paths.{below, top}
+use Rattle.droid_tree_walk.specs.Steps.{TakesKids, TakesVisit}
 use Rattle.droid_tree.specs.Observation.{Observation, Listed, Unlisted, GoesOver}
-use Rattle.droid_tree.specs.Visits.{AreInOrder, Visit, MayVisit, entry_of, is_full, observed_of_visit, asked_of_visit, heard_of_visit, subfolders_of_visit}
-use Rattle.droid_tree.specs.Walks.{WalksOn, asked_of_tree, top}
+use Rattle.droid_tree_walk.specs.Visits.{Visit, MayVisit, entry_of, heard_of_kid, heard_of_repeated, is_empty, is_full, observed_of_visit, asked_of_visit, heard_of_visit, subfolders_of_visit}
+use Rattle.droid_tree_walk.specs.Walks.{WalksOn, asked_of_tree}
 use Rattle.droid_tree.specs.declared.folder_entry.FolderEntry.{FolderEntry}
 use Rattle.droid_tree.specs.declared.skipped.Skipped.{Skipped}
 use Rattle.droid_tree.specs.declared.skipped.Skipped.TheVariants as reasons
 use Rattle.droid_tree.specs.declared.pending_folder.PendingFolder.{PendingFolder}
-use Rattle.droid_tree.specs.declared.tree_walk.Options.{Options}
-use Rattle.droid_tree.proofs.Entries.{given_more, passed_more}
-use Rattle.droid_tree.proofs.Runs.{over_one, over_more, all_more}
+use Rattle.droid_tree_walk.specs.declared.tree_walk.Options.{Options}
+use Rattle.droid_tree.proofs.Runs.{given_more, over_one, over_more, all_more}
+use Rattle.droid_tree_walk.proofs.Entries.{passed_more}
 
 -- the walk so far: these folders were visited, and those are pending
 pub record Walking {T X W : Type 0} (observes : T → Observation → T → Type 0) (asks : X → Asked → X → Type 0) (hears : W → Heard → W → Type 0) (goes_on : Bool) (options : Options) (profile : ℕ) (waiting : List PendingFolder) (whole : Bool)
@@ -30,31 +33,43 @@ pub record Walking {T X W : Type 0} (observes : T → Observation → T → Type
   pub asked : GoesOver asks exchange (asked_of_tree options profile visits) exchange_now
   pub heard : GoesOver hears watcher (flat_map heard_of_visit visits) watcher_now
 
--- a list that loses nothing with its first item is empty
-pub none_left : (waiting : List PendingFolder) → waiting ≡ drop 1 waiting → waiting ≡ []
-none_left [] none = refl
-none_left (folder ∷ waiting) none = absurd (omega (arith, ap length none, length-drop 1 (folder ∷ waiting)))
+-- the watcher was informed of one repeated entry more, or of all
+module _ {W : Type 0} (hears : W → Heard → W → Type 0) (path : List ℕ) (repeated : List FolderEntry) (at : ℕ) (watcher watcher_now : W) where
+  pub repeated_more : (entry : FolderEntry) (watcher_after : W) → GoesOver hears watcher (heard_of_repeated path (take at repeated)) watcher_now → hears watcher_now (Left (below path entry.name) reasons.SameName) watcher_after
+      → at < length repeated → entry ≡ get_or repeated at entry → GoesOver hears watcher (heard_of_repeated path (take (at + 1) repeated)) watcher_after
+  repeated_more entry watcher_after front next within there =
+      let one_more : take (at + 1) repeated ≡ take at repeated ++ entry ∷ [] = take_more repeated at entry within ∙ ap (λ (e : FolderEntry). take at repeated ++ e ∷ []) (sym there) in
+      let heard : heard_of_repeated path (take (at + 1) repeated) ≡ heard_of_repeated path (take at repeated) ++ Left (below path entry.name) reasons.SameName ∷ [] =
+      ap (heard_of_repeated path) one_more ∙ map-append (λ (e : FolderEntry). Left (below path e.name) reasons.SameName) (take at repeated) (entry ∷ []) in
+      subst (λ (l : List Heard). GoesOver hears watcher l watcher_after) (sym heard)
+      (over_more hears watcher watcher_now watcher_after (heard_of_repeated path (take at repeated)) (Left (below path entry.name) reasons.SameName ∷ []) front (over_one hears watcher_now watcher_after _ next))
+
+  pub repeated_all : GoesOver hears watcher (heard_of_repeated path (take at repeated)) watcher_now → length repeated ≤ at → GoesOver hears watcher (heard_of_repeated path repeated) watcher_now
+  repeated_all front all = subst (λ (l : List FolderEntry). GoesOver hears watcher (heard_of_repeated path l) watcher_now) (take_all at repeated all) front
 
 module _ {T X W : Type 0} (observes : T → Observation → T → Type 0) (asks : X → Asked → X → Type 0) (hears : W → Heard → W → Type 0) where
   module _ (goes_on : Bool) (profile piece_size : ℕ) (folder : PendingFolder) (tree tree_now tree_after : T) (exchange exchange_after : X) (watcher watcher_after : W) (waiting waiting_after : List PendingFolder) where
-    pub visit_made : (path : List ℕ) (entries found : List FolderEntry) (whole : Bool) → path ≡ folder.path → ListsInOrder observes path found tree tree_now → entries ≡ found
-        → TakesKids observes asks hears goes_on profile piece_size folder entries whole tree_now tree_after exchange exchange_after watcher watcher_after waiting waiting_after
+    pub visit_made : (path : List ℕ) (entries found repeated repeated_now : List FolderEntry) (taken whole : Bool) (watcher_now : W) → path ≡ folder.path → ListsInOrder observes path found repeated tree tree_now → entries ≡ found → repeated_now ≡ repeated
+        → GoesOver hears watcher (heard_of_repeated folder.path repeated_now) watcher_now
+        → TakesKids observes asks hears goes_on profile piece_size folder entries taken tree_now tree_after exchange exchange_after watcher_now watcher_after waiting waiting_after
+        → whole ≡ (is_empty repeated_now && taken)
         → TakesVisit observes asks hears goes_on profile piece_size folder whole tree tree_after exchange exchange_after watcher watcher_after waiting waiting_after
-    visit_made path entries found whole here lists same taken =
-        let are : found ≡ map entry_of taken.kids = sym (taken.its ∙ same) in
+    visit_made path entries found repeated repeated_now taken whole watcher_now here lists same same_repeated left kids is =
+        let are : found ≡ map entry_of kids.kids = sym (kids.its ∙ same) in
         record {
-          visit = record { folder = folder; observed = Some lists.listed; kids = taken.kids };
+          visit = record { folder = folder; observed = Some lists.listed; repeated = repeated_now; kids = kids.kids };
           its = refl;
           is_visit = record {
-            same = subst (λ (l : List FolderEntry). IsPermutation lists.listed l) are lists.same;
+            same = subst (λ (l : List FolderEntry). IsPermutation lists.listed (l ++ repeated_now)) are (subst (λ (l : List FolderEntry). IsPermutation lists.listed (found ++ l)) (sym same_repeated) lists.same);
             in_order = subst AreInOrder are lists.in_order;
-            kids = taken.are_outcomes;
+            are_repeated = subst (λ (l : List FolderEntry). AreRepeated l repeated_now) are (subst (AreRepeated found) (sym same_repeated) lists.are_repeated);
+            kids = kids.are_outcomes;
           };
-          whole_is = taken.whole_is;
-          observed = (tree_now, subst (λ (p : List ℕ). observes tree (Listed p lists.listed) tree_now) here lists.observed, taken.observed);
-          asked = taken.asked;
-          heard = taken.heard;
-          pending = taken.pending;
+          whole_is = is ∙ ap (λ (b : Bool). is_empty repeated_now && b) kids.whole_is;
+          observed = (tree_now, subst (λ (p : List ℕ). observes tree (Listed p lists.listed) tree_now) here lists.observed, kids.observed);
+          asked = kids.asked;
+          heard = over_more hears watcher watcher_now watcher_after (heard_of_repeated folder.path repeated_now) (flat_map (heard_of_kid folder.path) kids.kids) left kids.heard;
+          pending = kids.pending;
         }
 
   pub visit_unread : (goes_on : Bool) (profile piece_size : ℕ) (folder : PendingFolder) (why : Skipped) (path bytes : List ℕ) (tree tree_after : T) (exchange : X) (watcher watcher_after : W) (waiting : List PendingFolder)
@@ -64,9 +79,9 @@ module _ {T X W : Type 0} (observes : T → Observation → T → Type 0) (asks 
       let observed_at : observes tree (Unlisted folder.path) tree_after = subst (λ (p : List ℕ). observes tree (Unlisted p) tree_after) same_path unread.1 in
       let left_at : hears watcher (Left folder.path why) watcher_after = subst (λ (p : List ℕ). hears watcher (Left p why) watcher_after) same_bytes left in
       record {
-        visit = record { folder = folder; observed = None; kids = [] };
+        visit = record { folder = folder; observed = None; repeated = []; kids = [] };
         its = refl;
-        is_visit = record { same = refl; in_order = λ k first second one two. absurd cc; kids = tt };
+        is_visit = record { same = (refl, refl); in_order = λ k first second one two. absurd cc; are_repeated = All-nil (HasNameOf []); kids = tt };
         whole_is = refl;
         observed = over_one observes tree tree_after _ observed_at;
         asked = refl;

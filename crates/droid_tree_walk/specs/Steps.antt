@@ -7,10 +7,11 @@ use Rattle.droid_frame.specs.types.reply.Reply.{Reply}
 use Rattle.droid_frame.specs.types.reply.Reply.TheVariants as replies
 use Rattle.droid_frame.specs.types.request.Request.{Request}
 use Rattle.droid_frame.specs.types.request.Request.TheVariants.{Piece, Finish, Status}
-use Rattle.droid_tree.specs.Asked.{Asked}
+use Rattle.droid_tree_walk.specs.Asked.{Asked}
 use Rattle.droid_tree.specs.Heard.{Heard, Left, Held}
-use Rattle.droid_tree.specs.Observation.{Observation, Listed, Read, GoesOver}
-use Rattle.droid_tree.specs.Visits.{AreInOrder, Sent, Stop, NoneCame, FewerCame, MoreCame, Kid, Visit, AreCut, MayCome, MayVisit, IsStatusReply, IsFinished, IsStop, bytes_of, entry_of, is_taken, begin_of, first_missing, is_full, part_read, pieces_from, pieces_heard, reads_from, reason_of, observed_of_stop, whole_read, observed_of_kid, asked_of_kid, heard_of_kid, subfolders_of_kid, observed_of_visit, asked_of_visit, heard_of_visit, subfolders_of_visit}
+use Rattle.droid_tree.specs.Observation.{Observation, Read, GoesOver}
+use Rattle.droid_tree.specs.Reading.{Stop, IsStop, begin_of, reason_of}
+use Rattle.droid_tree_walk.specs.Visits.{Sent, Kid, Visit, AreCut, MayCome, MayVisit, IsStatusReply, IsFinished, bytes_of, entry_of, is_taken, first_missing, is_full, part_read, pieces_from, pieces_heard, reads_from, whole_read, observed_of_kid, asked_of_kid, heard_of_kid, subfolders_of_kid, observed_of_visit, asked_of_visit, heard_of_visit, subfolders_of_visit}
 use Rattle.droid_tree.specs.declared.folder_entry.FolderEntry.{FolderEntry}
 use Rattle.droid_tree.specs.declared.skipped.Skipped.{Skipped}
 use Rattle.droid_tree.specs.declared.skipped.Skipped.TheVariants as reasons
@@ -27,71 +28,45 @@ AddsNode asks hears path request None exchange exchange_after watcher watcher_af
 
 -- ---- a file
 
--- `wanted` bytes were read from offset `from` and appended to the buffer
-pub record ReadsPiece {T : Type 0} (observes : T → Observation → T → Type 0) (path : List ℕ) (from wanted : ℕ) (before after : List ℕ) (tree tree_after : T) : Type 0 where
-  pub bytes : List ℕ
-  pub counted : length bytes ≡ wanted
-  pub added : after ≡ before ++ bytes
-  pub observed : observes tree (Read path from wanted bytes) tree_after
-
 -- one piece of `wanted` bytes was read from offset `from` and sent
-pub record SendsPiece {T X : Type 0} (observes : T → Observation → T → Type 0) (asks : X → Asked → X → Type 0) (profile file index : ℕ) (path : List ℕ) (from wanted held : ℕ) (tree tree_after : T) (exchange exchange_after : X) : Type 0 where
+pub record SendsPiece {T X : Type 0} (observes : T → Observation → T → Type 0) (asks : X → Asked → X → Type 0) (profile file index : ℕ) (path : List ℕ) (entry : FolderEntry) (from wanted held : ℕ) (tree tree_after : T) (exchange exchange_after : X) : Type 0 where
   pub bytes : List ℕ
   pub counted : length bytes ≡ wanted
-  pub observed : observes tree (Read path from wanted bytes) tree_after
+  pub observed : observes tree (Read path entry from wanted bytes) tree_after
   pub asked : asks exchange (Piece profile file index bytes, replies.Taken held) exchange_after
 
--- of the bytes of a piece none could be read, or too few came
-abbrev pub IsShort : ℕ → Stop → Type 0
-IsShort wanted (NoneCame n) = n ≡ wanted
-IsShort wanted (FewerCame n bytes) = (n ≡ wanted) × (length bytes < wanted)
-IsShort wanted (MoreCame bytes) = ⊥
-
--- the byte behind the file's end could not be read, or came
-abbrev pub IsPastEnd : Stop → Type 0
-IsPastEnd (NoneCame n) = n ≡ 1
-IsPastEnd (FewerCame n bytes) = ⊥
-IsPastEnd (MoreCame bytes) = 0 < length bytes
-
--- the reading of a file ended early at this offset, for this reason
-pub record StopsAt {T : Type 0} (observes : T → Observation → T → Type 0) (IsSuch : Stop → Type 0) (path : List ℕ) (from : ℕ) (why : Skipped) (tree tree_after : T) : Type 0 where
-  pub stop : Stop
-  pub such : IsSuch stop
-  pub reason : why ≡ reason_of stop
-  pub observed : observes tree (observed_of_stop path from stop) tree_after
-
 -- pieces of a file were read and sent, from the one with this index and offset, up to the other index and offset
-pub record SendsFront {T X W : Type 0} (observes : T → Observation → T → Type 0) (asks : X → Asked → X → Type 0) (hears : W → Heard → W → Type 0) (profile file piece_size size first start : ℕ) (path : List ℕ) (count total : ℕ)
+pub record SendsFront {T X W : Type 0} (observes : T → Observation → T → Type 0) (asks : X → Asked → X → Type 0) (hears : W → Heard → W → Type 0) (profile file piece_size size first start : ℕ) (path : List ℕ) (entry : FolderEntry) (count total : ℕ)
     (tree tree_after : T) (exchange exchange_after : X) (watcher watcher_after : W) : Type 0 where
   pub sent : List Sent
   pub counted : first + length sent ≡ count
   pub joined : start + length (bytes_of sent) ≡ total
   pub within : total ≤ size
   pub cut : AreCut piece_size size start sent
-  pub observed : GoesOver observes tree (reads_from path start sent) tree_after
+  pub observed : GoesOver observes tree (reads_from path entry start sent) tree_after
   pub asked : GoesOver asks exchange (pieces_from profile file first sent) exchange_after
   pub heard : GoesOver hears watcher (pieces_heard path sent) watcher_after
 
 -- all pieces of a file were read and sent, from the one with this index and offset, and the file has no more bytes
-pub record SendsAll {T X W : Type 0} (observes : T → Observation → T → Type 0) (asks : X → Asked → X → Type 0) (hears : W → Heard → W → Type 0) (profile file piece_size size first start : ℕ) (path : List ℕ)
+pub record SendsAll {T X W : Type 0} (observes : T → Observation → T → Type 0) (asks : X → Asked → X → Type 0) (hears : W → Heard → W → Type 0) (profile file piece_size size first start : ℕ) (path : List ℕ) (entry : FolderEntry)
     (tree tree_after : T) (exchange exchange_after : X) (watcher watcher_after : W) : Type 0 where
   pub sent : List Sent
   pub joined : start + length (bytes_of sent) ≡ size
   pub cut : AreCut piece_size size start sent
-  pub observed : GoesOver observes tree (whole_read path start sent) tree_after
+  pub observed : GoesOver observes tree (whole_read path entry start sent) tree_after
   pub asked : GoesOver asks exchange (pieces_from profile file first sent) exchange_after
   pub heard : GoesOver hears watcher (pieces_heard path sent) watcher_after
 
 -- pieces of a file were read and sent, from the one with this index and offset; then the reading ended early, for this
 -- reason
-pub record SendsPart {T X W : Type 0} (observes : T → Observation → T → Type 0) (asks : X → Asked → X → Type 0) (hears : W → Heard → W → Type 0) (profile file piece_size size first start : ℕ) (path : List ℕ) (why : Skipped)
+pub record SendsPart {T X W : Type 0} (observes : T → Observation → T → Type 0) (asks : X → Asked → X → Type 0) (hears : W → Heard → W → Type 0) (profile file piece_size size first start : ℕ) (path : List ℕ) (entry : FolderEntry) (why : Skipped)
     (tree tree_after : T) (exchange exchange_after : X) (watcher watcher_after : W) : Type 0 where
   pub sent : List Sent
   pub stop : Stop
   pub cut : AreCut piece_size size start sent
   pub stopped : IsStop piece_size size (start + length (bytes_of sent)) stop
   pub reason : why ≡ reason_of stop
-  pub observed : GoesOver observes tree (part_read path start sent stop) tree_after
+  pub observed : GoesOver observes tree (part_read path entry start sent stop) tree_after
   pub asked : GoesOver asks exchange (pieces_from profile file first sent) exchange_after
   pub heard : GoesOver hears watcher (pieces_heard path sent) watcher_after
 
@@ -170,10 +145,3 @@ pub record TakesVisit {T X W : Type 0} (observes : T → Observation → T → T
   pub asked : GoesOver asks exchange (asked_of_visit profile piece_size visit) exchange_after
   pub heard : GoesOver hears watcher (heard_of_visit visit) watcher_after
   pub pending : waiting_after ≡ waiting ++ subfolders_of_visit visit
-
--- the entries of a folder are those that the tree returned, sorted by name
-pub record ListsInOrder {T : Type 0} (observes : T → Observation → T → Type 0) (path : List ℕ) (entries : List FolderEntry) (tree tree_after : T) : Type 0 where
-  pub listed : List FolderEntry
-  pub observed : observes tree (Listed path listed) tree_after
-  pub same : IsPermutation listed entries
-  pub in_order : AreInOrder entries

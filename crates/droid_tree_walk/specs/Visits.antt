@@ -6,10 +6,12 @@ use Rattle.droid_frame.specs.types.refusal.Refusal.TheVariants as refusals
 use Rattle.droid_frame.specs.types.reply.Reply.{Reply}
 use Rattle.droid_frame.specs.types.reply.Reply.TheVariants as replies
 use Rattle.droid_frame.specs.types.request.Request.TheVariants.{AddFolder, AddFile, Piece, Finish, Abandon, Status}
-use Rattle.droid_tree.specs.Asked.{Asked}
+use Rattle.droid_tree_walk.specs.Asked.{Asked}
 use Rattle.droid_tree.specs.Heard.{Heard, Left, Held, TookBytes, TookFolder, TookFile}
-use Rattle.droid_tree.specs.Order.{IsBefore}
-use Rattle.droid_tree.specs.Observation.{Observation, Listed, Read, Unlisted, Unread}
+use Rattle.droid_tree.specs.Listings.{AreInOrder, AreRepeated, AreThose, observed_of_folder}
+use Rattle.droid_tree.specs.Observation.{Observation, Read}
+use Rattle.droid_tree.specs.Paths.{below}
+use Rattle.droid_tree.specs.Reading.{Stop, IsStop, begin_of, observed_of_stop, reason_of}
 use Rattle.droid_tree.specs.declared.folder_entry.FolderEntry.{FolderEntry}
 use Rattle.droid_tree.specs.declared.folder_entry.EntryKind.TheVariants as kinds
 use Rattle.droid_tree.specs.declared.skipped.Skipped.{Skipped}
@@ -23,13 +25,6 @@ Sent = List ℕ × ℕ
 -- the bytes of all pieces, joined
 abbrev pub bytes_of : List Sent → List ℕ
 bytes_of sent = flat_map (λ piece. piece.0) sent
-
--- why the reading of a file ended early: `wanted` bytes could not be read, or fewer came, or the file has more bytes
--- than its folder lists
-pub data Stop : Type 0 where
-  NoneCame : (wanted : ℕ) → Stop
-  FewerCame : (wanted : ℕ) (bytes : List ℕ) → Stop
-  MoreCame : (bytes : List ℕ) → Stop
 
 -- What came of an entry. It is in the profile: a folder with its number, or a file with its number, its pieces, and the
 -- reply that finished it. Or it was skipped: neither folder nor file; a name that is not UTF-8; refused; or a file with
@@ -69,29 +64,20 @@ is_taken (DroppedFile entry number sent stop) = false
 is_taken (WholeRest entry number status from sent found) = true
 is_taken (DroppedRest entry number status from sent stop) = false
 
--- the path of an entry: its folder's path, `/` and its name
-abbrev pub below : List ℕ → List ℕ → List ℕ
-below path name = path ++ 47 ∷ name
-
 -- ---- a file
 
 -- the pieces are read one after the other from this offset, each completely
-abbrev pub reads_from : List ℕ → ℕ → List Sent → List Observation
-reads_from path from [] = []
-reads_from path from (piece ∷ pieces) = Read path from (length piece.0) piece.0 ∷ reads_from path (from + length piece.0) pieces
+abbrev pub reads_from : List ℕ → FolderEntry → ℕ → List Sent → List Observation
+reads_from path entry from [] = []
+reads_from path entry from (piece ∷ pieces) = Read path entry from (length piece.0) piece.0 ∷ reads_from path entry (from + length piece.0) pieces
 
 -- all pieces were read, and the file has no more bytes
-abbrev pub whole_read : List ℕ → ℕ → List Sent → List Observation
-whole_read path from sent = reads_from path from sent ++ Read path (from + length (bytes_of sent)) 1 [] ∷ []
+abbrev pub whole_read : List ℕ → FolderEntry → ℕ → List Sent → List Observation
+whole_read path entry from sent = reads_from path entry from sent ++ Read path entry (from + length (bytes_of sent)) 1 [] ∷ []
 
--- the next read fails, or returns too few bytes, or returns bytes behind the file's end
-abbrev pub observed_of_stop : List ℕ → ℕ → Stop → Observation
-observed_of_stop path from (NoneCame wanted) = Unread path from wanted
-observed_of_stop path from (FewerCame wanted bytes) = Read path from wanted bytes
-observed_of_stop path from (MoreCame bytes) = Read path from 1 bytes
-
-abbrev pub part_read : List ℕ → ℕ → List Sent → Stop → List Observation
-part_read path from sent stop = reads_from path from sent ++ observed_of_stop path (from + length (bytes_of sent)) stop ∷ []
+-- some pieces were read, and then the reading ended early
+abbrev pub part_read : List ℕ → FolderEntry → ℕ → List Sent → Stop → List Observation
+part_read path entry from sent stop = reads_from path entry from sent ++ observed_of_stop path entry (from + length (bytes_of sent)) stop ∷ []
 
 -- the pieces are sent one after the other, from this index
 abbrev pub pieces_from : ℕ → ℕ → ℕ → List Sent → List Asked
@@ -116,22 +102,6 @@ pub record IsWhole (piece_size : ℕ) (entry : FolderEntry) (from : ℕ) (sent :
   pub size : from + length (bytes_of sent) ≡ entry.len
   pub cut : AreCut piece_size entry.len from sent
 
--- the next read asks for a piece; or for one byte, to see that the file has ended
-abbrev pub IsRequested : ℕ → ℕ → ℕ → ℕ → Type 0
-IsRequested piece_size size from wanted = ((from < size) × (wanted ≡ min piece_size (size - from))) ⊎ ((from ≡ size) × (wanted ≡ 1))
-
--- the reading may end at this offset in this way
-abbrev pub IsStop : ℕ → ℕ → ℕ → Stop → Type 0
-IsStop piece_size size from (NoneCame wanted) = IsRequested piece_size size from wanted
-IsStop piece_size size from (FewerCame wanted bytes) = (from < size) × (wanted ≡ min piece_size (size - from)) × (length bytes < wanted)
-IsStop piece_size size from (MoreCame bytes) = (from ≡ size) × (0 < length bytes)
-
--- the reason that the watcher gets
-abbrev pub reason_of : Stop → Skipped
-reason_of (NoneCame wanted) = reasons.Unreadable
-reason_of (FewerCame wanted bytes) = reasons.Changed
-reason_of (MoreCame bytes) = reasons.Changed
-
 -- these are the first pieces of the file from this offset, and the next read did not return what it should
 pub record IsPart (piece_size : ℕ) (entry : FolderEntry) (from : ℕ) (sent : List Sent) (stop : Stop) : Type 0 where
   pub cut : AreCut piece_size entry.len from sent
@@ -148,23 +118,19 @@ abbrev pub first_missing : Reply → ℕ
 first_missing (replies.Progress held missing) = missing
 first_missing _ = 0
 
--- the offset at which this piece begins, at most the file's length
-abbrev pub begin_of : ℕ → ℕ → ℕ → ℕ
-begin_of piece_size size index = min (index * piece_size) size
-
 -- ---- an entry
 
 -- what the tree returns for it
 abbrev pub observed_of_kid : List ℕ → Kid → List Observation
 observed_of_kid path (Subfolder entry number) = []
-observed_of_kid path (WholeFile entry number sent found) = whole_read (below path entry.name) 0 sent
+observed_of_kid path (WholeFile entry number sent found) = whole_read (below path entry.name) entry 0 sent
 observed_of_kid path (OtherKind entry) = []
 observed_of_kid path (NoText entry) = []
 observed_of_kid path (RefusedFolder entry refusal) = []
 observed_of_kid path (RefusedFile entry refusal) = []
-observed_of_kid path (DroppedFile entry number sent stop) = part_read (below path entry.name) 0 sent stop
-observed_of_kid path (WholeRest entry number status from sent found) = whole_read (below path entry.name) from sent
-observed_of_kid path (DroppedRest entry number status from sent stop) = part_read (below path entry.name) from sent stop
+observed_of_kid path (DroppedFile entry number sent stop) = part_read (below path entry.name) entry 0 sent stop
+observed_of_kid path (WholeRest entry number status from sent found) = whole_read (below path entry.name) entry from sent
+observed_of_kid path (DroppedRest entry number status from sent stop) = part_read (below path entry.name) entry from sent stop
 
 -- the requests for a file from this piece to its end
 abbrev pub asked_from : ℕ → ℕ → ℕ → List Sent → Asked → List Asked
@@ -242,34 +208,32 @@ IsOutcome piece_size kid = MayCome false piece_size kid
 
 -- ---- a folder
 
--- a folder, the entries that the tree returned if it is readable, and what came of each of them
+-- a folder, the entries that the tree returned if it is readable, those of them that have the name of another one, and
+-- what came of each of the others
 pub record Visit : Type 0 where
   pub folder : PendingFolder
   pub observed : Option (List FolderEntry)
+  pub repeated : List FolderEntry
   pub kids : List Kid
 
--- the names are in the order of their bytes, and no two are equal
-abbrev pub AreInOrder : List FolderEntry → Type 0
-AreInOrder entries = (k : ℕ) (first second : FolderEntry) → slice_get entries k ≡ Some first → slice_get entries (k + 1) ≡ Some second → IsBefore first.name second.name
-
--- the entries are those that the tree returned; none if the folder is unreadable
-abbrev pub AreThose : Option (List FolderEntry) → List FolderEntry → Type 0
-AreThose None entries = entries ≡ []
-AreThose (Some observed) entries = IsPermutation observed entries
-
--- the entries that the tree returned are visited in the order of their names
+-- the entries that the tree returned are visited in the order of their names, one of each name
 pub record MayVisit (goes_on : Bool) (piece_size : ℕ) (visit : Visit) : Type 0 where
-  pub same : AreThose visit.observed (map entry_of visit.kids)
+  pub same : AreThose visit.observed (map entry_of visit.kids) visit.repeated
   pub in_order : AreInOrder (map entry_of visit.kids)
+  pub are_repeated : AreRepeated (map entry_of visit.kids) visit.repeated
   pub kids : AllByRecursion (MayCome goes_on piece_size) visit.kids
 
 -- a visit in a walk from the beginning
 abbrev pub IsVisit : ℕ → Visit → Type 0
 IsVisit piece_size visit = MayVisit false piece_size visit
 
+abbrev pub is_empty : List FolderEntry → Bool
+is_empty [] = true
+is_empty (entry ∷ entries) = false
+
 -- nothing of it was skipped
 abbrev pub is_full : Visit → Bool
-is_full visit = is_some visit.observed && list_all is_taken visit.kids
+is_full visit = is_some visit.observed && (is_empty visit.repeated && list_all is_taken visit.kids)
 
 -- all entries that the tree returned are in the profile, in the order of their names
 pub record IsVisited (piece_size : ℕ) (visit : Visit) : Type 0 where
@@ -278,10 +242,6 @@ pub record IsVisited (piece_size : ℕ) (visit : Visit) : Type 0 where
   pub same : IsPermutation observed (map entry_of visit.kids)
   pub in_order : AreInOrder (map entry_of visit.kids)
   pub kids : AllByRecursion (IsKid piece_size) visit.kids
-
-abbrev pub observed_of_folder : List ℕ → Option (List FolderEntry) → Observation
-observed_of_folder path None = Unlisted path
-observed_of_folder path (Some observed) = Listed path observed
 
 abbrev pub observed_of_visit : Visit → List Observation
 observed_of_visit visit = observed_of_folder visit.folder.path visit.observed ∷ flat_map (observed_of_kid visit.folder.path) visit.kids
@@ -294,8 +254,12 @@ abbrev pub heard_of_folder : List ℕ → Option (List FolderEntry) → List Hea
 heard_of_folder path None = Left path reasons.Unreadable ∷ []
 heard_of_folder path (Some observed) = []
 
+-- the watcher is informed of each entry that has the name of another one
+abbrev pub heard_of_repeated : List ℕ → List FolderEntry → List Heard
+heard_of_repeated path repeated = map (λ (entry : FolderEntry). Left (below path entry.name) reasons.SameName) repeated
+
 abbrev pub heard_of_visit : Visit → List Heard
-heard_of_visit visit = heard_of_folder visit.folder.path visit.observed ++ flat_map (heard_of_kid visit.folder.path) visit.kids
+heard_of_visit visit = heard_of_folder visit.folder.path visit.observed ++ (heard_of_repeated visit.folder.path visit.repeated ++ flat_map (heard_of_kid visit.folder.path) visit.kids)
 
 abbrev pub subfolders_of_visit : Visit → List PendingFolder
 subfolders_of_visit visit = flat_map (subfolders_of_kid visit.folder.path) visit.kids

@@ -3,16 +3,12 @@ use Rattle.std.specs.Prelude.{◌≡◌, ℕ, Bool, false, List, [], ◌∷◌, 
 use Rattle.std.specs.List.{flat_map, list_all, AllByRecursion}
 use Rattle.droid_frame.specs.types.reply.Reply.TheVariants as replies
 use Rattle.droid_frame.specs.types.request.Request.TheVariants.{CreateProfile}
-use Rattle.droid_tree.specs.Asked.{Asked}
+use Rattle.droid_tree_walk.specs.Asked.{Asked}
 use Rattle.droid_tree.specs.Heard.{Heard}
 use Rattle.droid_tree.specs.Observation.{Observation, GoesOver}
-use Rattle.droid_tree.specs.Visits.{Visit, MayVisit, IsVisited, is_full, observed_of_visit, asked_of_visit, heard_of_visit, subfolders_of_visit}
-use Rattle.droid_tree.specs.declared.pending_folder.PendingFolder.{PendingFolder}
-use Rattle.droid_tree.specs.declared.tree_walk.Options.{Options}
-
--- the top of the tree, which has no node
-abbrev pub top : PendingFolder
-top = record { path = []; number = 0 }
+use Rattle.droid_tree.specs.Paths.{top}
+use Rattle.droid_tree_walk.specs.Visits.{Visit, MayVisit, IsVisited, is_full, observed_of_visit, asked_of_visit, heard_of_visit, subfolders_of_visit}
+use Rattle.droid_tree_walk.specs.declared.tree_walk.Options.{Options}
 
 -- the requests of a tree, with their replies: a new profile, and then the entries folder by folder
 abbrev pub asked_of_tree : Options → ℕ → List Visit → List Asked

@@ -1,17 +1,28 @@
 //! The service that a walk talks to.
 
-ghost use Rattle.std.specs.Prelude.{IfOk};
+ghost use Rattle.std.specs.Prelude.{◌≡◌, IfOk};
 ghost use Rattle.droid_frame.specs.Bodies.{SpellsRequest};
 ghost use Rattle.droid_frame.specs.types.request.Request.{Request};
-ghost use Rattle.droid_tree.specs.Asked.{Asked};
+ghost use Rattle.droid_tree_walk.specs.Asked.{Asked};
 
 use droid_frame::{Blob, Reply};
+use droid_tree::WalkFault;
 use thiserror::Error;
 
 /// The service sent no reply, and will send none.
 #[derive(Clone, Copy, Debug, PartialEq, Eq, Error)]
 #[error("no reply came")]
 pub struct ExchangeFault;
+
+impl From<ExchangeFault> for WalkFault {
+    ghost use Rattle.droid_tree.specs.declared.fault.WalkFault.TheVariants.{Exchange};
+
+    ghost from_gives = { λ _ fault. fault ≡ Exchange };
+
+    fn from(_fault: ExchangeFault) -> WalkFault {
+        WalkFault::Exchange
+    }
+}
 
 /// A service, in this process or behind a connection. It takes one request at a time and gives each request its own
 /// number.

@@ -2,19 +2,16 @@
 
 ghost use Rattle.std.specs.Prelude.{◌≡◌, List, IfOk};
 ghost use Rattle.droid_frame.specs.types.request.Request.TheVariants as requests;
-ghost use Rattle.droid_tree.specs.Steps.{AddsNode, ResumesWhere, TakesKid};
-ghost use Rattle.droid_tree.specs.Visits.{below};
+ghost use Rattle.droid_tree_walk.specs.Steps.{AddsNode, ResumesWhere, TakesKid};
+ghost use Rattle.droid_tree.specs.Paths.{below};
 ghost use Rattle.droid_tree.specs.declared.folder_entry.EntryKind.TheVariants as kinds;
 ghost use Rattle.droid_tree.specs.declared.pending_folder.PendingFolder.{PendingFolder};
 
 use crate::exchange::Exchange;
-use crate::fault::WalkFault;
-use crate::folder_entry::FolderEntry;
-use crate::pieces::{Target, begin_of, send_pieces};
+use crate::piece_requests::{Target, send_pieces};
 use crate::service_requests::{add_node, ask_status, finish, give_up};
-use crate::tree::Tree;
-use crate::watcher::Watcher;
 use droid_frame::{Request, Text};
+use droid_tree::{FolderEntry, Tree, WalkFault, Watcher, begin_of};
 use std::alloc::Global;
 
 /// The folder of a profile that gets entries, and how their files are sent.
@@ -57,7 +54,7 @@ pub(crate) fn take_file<T: Tree, X: Exchange, W: Watcher>(
         size: entry.len,
         first: status.unwrap_or(0),
     };
-    match send_pieces(tree, exchange, watcher, to, path)? {
+    match send_pieces(tree, exchange, watcher, to, path, entry)? {
         Ok(()) => {
             let found = finish(into.alloc, exchange, into.profile, file)?;
             watcher.took_file(path, &found);

@@ -3,22 +3,21 @@
 ghost use Rattle.std.specs.Prelude.{◌≡◌, ◌&&◌, IfOk, OnOk};
 ghost use Rattle.droid_frame.specs.types.request.Request.TheVariants as requests;
 ghost use Rattle.droid_tree.specs.Heard.{Left};
-ghost use Rattle.droid_tree.specs.Steps.{AddsFolder, AddsNode, TakesKid, TakesKids, TakesVisit};
-ghost use Rattle.droid_tree.specs.Visits.{below};
+ghost use Rattle.droid_tree_walk.specs.Steps.{AddsFolder, AddsNode, TakesKid, TakesKids, TakesVisit};
+ghost use Rattle.droid_tree_walk.specs.Visits.{heard_of_repeated, is_empty};
+ghost use Rattle.droid_tree.specs.Observation.{GoesOver};
+ghost use Rattle.droid_tree.specs.Paths.{below};
 ghost use Rattle.droid_tree.specs.declared.folder_entry.EntryKind.TheVariants as kinds;
 ghost use Rattle.droid_tree.specs.declared.pending_folder.PendingFolder.{PendingFolder};
 
 use crate::exchange::Exchange;
-use crate::fault::WalkFault;
 use crate::files::{Destination, take_file};
-use crate::folder_entry::{EntryKind, FolderEntry};
-use crate::listing::{name_of, read_folder};
-use crate::pending_folder::{PendingFolder, add_pending, path_below};
 use crate::service_requests::add_node;
-use crate::skipped::Skipped;
-use crate::tree::Tree;
-use crate::watcher::Watcher;
 use droid_frame::{Request, Text};
+use droid_tree::{
+    EntryKind, FolderEntry, PendingFolder, Skipped, Tree, WalkFault, Watcher, add_pending, name_of,
+    path_below, read_folder,
+};
 use std::alloc::Global;
 use std::collections::VecDeque;
 
@@ -35,16 +34,40 @@ pub(crate) fn take_folder<T: Tree, X: Exchange, W: Watcher>(
         TakesVisit T.observes X.asks W.hears into.goes_on into.profile into.piece_size folder.now whole tree.old tree.new exchange.old exchange.new watcher.old watcher.new pending.old.items pending.new.items) }
 {
     match read_folder(into.alloc, tree, folder.path.as_str())? {
-        Ok(entries) => {
-            let entries = entries.as_slice();
-            let whole = take_entries(tree, exchange, watcher, into, folder, entries, pending)?;
-            Ok(whole)
+        Ok(listing) => {
+            let repeated = listing.repeated.as_slice();
+            report_repeated(into.alloc, watcher, folder, repeated)?;
+            let entries = listing.entries.as_slice();
+            let taken = take_entries(tree, exchange, watcher, into, folder, entries, pending)?;
+            Ok(both(are_none(repeated), taken))
         }
         Err(why) => {
             watcher.skipped(folder.path.as_str().as_bytes(), why);
             Ok(false)
         }
     }
+}
+
+/// Reports each entry that has the name of another one.
+fn report_repeated<W: Watcher>(
+    alloc: Global,
+    watcher: &mut W,
+    folder: &PendingFolder,
+    repeated: &[FolderEntry],
+) -> Result<(), WalkFault>
+    ensures { OnOk result (GoesOver W.hears watcher.old (heard_of_repeated folder.now.path repeated.now) watcher.new) }
+{
+    for entry in repeated {
+        report_below(alloc, watcher, folder, entry, Skipped::SameName)?;
+    }
+    Ok(())
+}
+
+/// Returns whether there are no entries.
+fn are_none(entries: &[FolderEntry]) -> bool
+    ensures { result ≡ is_empty entries.now }
+{
+    entries.is_empty()
 }
 
 /// Submits these entries of a folder.

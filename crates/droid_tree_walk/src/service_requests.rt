@@ -5,14 +5,12 @@ ghost use Rattle.droid_frame.specs.types.reply.Reply.TheVariants as replies;
 ghost use Rattle.droid_frame.specs.types.request.Request.TheVariants as requests;
 ghost use Rattle.droid_frame.specs.types.refusal.Refusal.TheVariants as refusals;
 ghost use Rattle.droid_tree.specs.Heard.{Left};
-ghost use Rattle.droid_tree.specs.Steps.{AddsNode, AsksStatus, Finishes};
+ghost use Rattle.droid_tree_walk.specs.Steps.{AddsNode, AsksStatus, Finishes};
 ghost use Rattle.droid_tree.specs.declared.skipped.Skipped.TheVariants as reasons;
 
 use crate::exchange::Exchange;
-use crate::fault::WalkFault;
-use crate::skipped::Skipped;
-use crate::watcher::Watcher;
 use droid_frame::{Frame, HashKind, Refusal, Reply, Request, request_frame};
+use droid_tree::{Skipped, WalkFault, Watcher};
 use std::alloc::Global;
 
 /// The version of the frames: version 2 has all hashes.

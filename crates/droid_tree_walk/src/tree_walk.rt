@@ -1,24 +1,15 @@
 //! The walk over a whole tree.
 
-ghost use Rattle.std.specs.Prelude.{◌≡◌, [], ◌∷◌, IfOk, IsTrue, true};
-ghost use Rattle.droid_tree.specs.Walks.{Walks, WalksOn, WalksWhole, top};
+ghost use Rattle.std.specs.Prelude.{IfOk, IsTrue, true};
+ghost use Rattle.droid_tree_walk.specs.Walks.{Walks, WalksOn, WalksWhole};
 
 use crate::exchange::Exchange;
-use crate::fault::WalkFault;
 use crate::files::Destination;
 use crate::folders::{both, take_folder};
-use crate::pending_folder::{PendingFolder, add_pending};
 use crate::service_requests::make_profile;
-use crate::tree::Tree;
-use crate::tree_size::NODE_LIMIT;
-use crate::watcher::Watcher;
-use droid_frame::{HashKind, Text};
-use std::alloc::{AllocError, Global};
-use std::collections::VecDeque;
-
-/// How many turns the walk makes at most: one for each folder of a full profile, one for the top, and one that finds no
-/// more.
-pub(crate) const TURNS: u64 = NODE_LIMIT + 2;
+use droid_frame::HashKind;
+use droid_tree::{TURNS, Tree, WalkFault, Watcher, only_the_top};
+use std::alloc::Global;
 
 /// How a tree is submitted.
 #[derive(Clone, Copy, Debug)]
@@ -115,14 +106,4 @@ fn walk_by<T: Tree, X: Exchange, W: Watcher>(
         whole = both(whole, taken);
     }
     Err(WalkFault::Folders)
-}
-
-/// Returns the list of pending folders with the top alone.
-pub(crate) fn only_the_top(alloc: Global) -> Result<VecDeque<PendingFolder>, AllocError>
-    ensures { IfOk result (λ pending. pending.items ≡ top ∷ []) }
-{
-    let mut pending = VecDeque::new(alloc);
-    let path = Text::from(String::new(alloc));
-    add_pending(&mut pending, path, 0)?;
-    Ok(pending)
 }

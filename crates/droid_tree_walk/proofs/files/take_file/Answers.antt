@@ -1,7 +1,7 @@
 use Rattle.std.proofs.Common.{ℕ, List, subst}
 use Rattle.droid_tree.specs.Heard.{Left}
-use Rattle.droid_tree.proofs.Taking.{file_left, file_refused, file_taken}
-use Rattle.droid_tree.proofs.files.take_file.Goals as goal
+use Rattle.droid_tree_walk.proofs.Taking.{file_left, file_refused, file_taken}
+use Rattle.droid_tree_walk.proofs.files.take_file.Goals as goal
 
 pub returns-in_default : goal.returns-in_default
 returns-in_default g c = λ folder waiting here folder_number name kind.

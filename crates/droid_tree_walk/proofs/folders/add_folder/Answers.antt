@@ -1,7 +1,7 @@
 use Rattle.std.proofs.Common.{ℕ, List, subst, ◌∙◌}
 use Rattle.droid_tree.specs.Heard.{TookFolder}
-use Rattle.droid_tree.proofs.Taking.{folder_refused, folder_added}
-use Rattle.droid_tree.proofs.folders.add_folder.Goals as goal
+use Rattle.droid_tree_walk.proofs.Taking.{folder_refused, folder_added}
+use Rattle.droid_tree_walk.proofs.folders.add_folder.Goals as goal
 
 pub returns-in_ok-add_pending-in-Some : goal.returns-in_ok-add_pending-in-Some
 returns-in_ok-add_pending-in-Some g c = λ folder here folder_number name kind.

@@ -1,5 +1,5 @@
-use Rattle.droid_tree.proofs.Entries.{all_kids, kids_more, no_kids}
-use Rattle.droid_tree.proofs.folders.take_entries.Goals as goal
+use Rattle.droid_tree_walk.proofs.Entries.{all_kids, kids_more, no_kids}
+use Rattle.droid_tree_walk.proofs.folders.take_entries.Goals as goal
 
 pub loop-entry-init : goal.loop-entry-init
 loop-entry-init g c = λ folder. no_kids g.T.Tree.observes g.X.Exchange.asks g.W.Watcher.hears c.args.into.goes_on _ _ _ _ _ _ _

@@ -1,6 +1,6 @@
 use Rattle.std.proofs.Common.{◌≡◌, take}
-use Rattle.droid_tree.specs.Steps.{TakesKids}
-use Rattle.droid_tree.proofs.folders.take_entries.Given as goal
+use Rattle.droid_tree_walk.specs.Steps.{TakesKids}
+use Rattle.droid_tree_walk.proofs.folders.take_entries.Given as goal
 
 abbrev pub invariant-loop-entry : goal.invariant-loop-entry
 invariant-loop-entry g l = l.into.folder ≡ l.folder.number →

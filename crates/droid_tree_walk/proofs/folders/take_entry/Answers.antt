@@ -1,6 +1,6 @@
 use Rattle.std.proofs.Common.{ℕ, List, ◌∷◌, ◌++◌, ap, ◌∙◌}
-use Rattle.droid_tree.proofs.Taking.{kid_of_no_text, kid_of_other}
-use Rattle.droid_tree.proofs.folders.take_entry.Goals as goal
+use Rattle.droid_tree_walk.proofs.Taking.{kid_of_no_text, kid_of_other}
+use Rattle.droid_tree_walk.proofs.folders.take_entry.Goals as goal
 
 pub returns-in_default : goal.returns-in_default
 returns-in_default g c = λ folder.

@@ -1,5 +1,5 @@
-use Rattle.droid_tree.proofs.Full.{walks_whole}
-use Rattle.droid_tree.proofs.tree_walk.walk.Goals as goal
+use Rattle.droid_tree_walk.proofs.Full.{walks_whole}
+use Rattle.droid_tree_walk.proofs.tree_walk.walk.Goals as goal
 
 pub returns : goal.returns
 returns g c =

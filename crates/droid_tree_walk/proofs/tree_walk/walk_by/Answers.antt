@@ -1,6 +1,7 @@
 use Rattle.std.proofs.Common.{refl, ◌∙◌}
-use Rattle.droid_tree.proofs.Visiting.{begun, none_left, visited_more, walked}
-use Rattle.droid_tree.proofs.tree_walk.walk_by.Goals as goal
+use Rattle.droid_tree.proofs.Runs.{none_left}
+use Rattle.droid_tree_walk.proofs.Visiting.{begun, visited_more, walked}
+use Rattle.droid_tree_walk.proofs.tree_walk.walk_by.Goals as goal
 
 pub loop-init : goal.loop-init
 loop-init g c = begun g.T.Tree.observes g.X.Exchange.asks g.W.Watcher.hears c.args.goes_on c.args.options c.in_ok-profile.profile _ _ _ _ _ c.in_ok-pending.ensures c.in_ok-profile.ensures
