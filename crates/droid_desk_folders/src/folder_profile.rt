@@ -14,7 +14,7 @@ use crate::audience::Audience;
 use crate::profile_ending::ProfileEnding;
 use droid_desk_arguments::ProfileOptions;
 use droid_desk_progress::{Reporter, Verbosity};
-use droid_tree::{NODE_LIMIT, Options, Tree, WalkFault, Watcher, count};
+use droid_tree::{NODE_LIMIT, Tree, WalkFault, Watcher, count};
 use droid_tree_disk::{Folder, Output, System, is_folder};
 use droid_tree_local::{HashKind, Noted, ProfileFault, Service, SteadyWrite, profile};
 use std::alloc::Global;

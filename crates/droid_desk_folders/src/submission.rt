@@ -9,7 +9,7 @@ use crate::submission_ending::SubmissionEnding;
 use droid_desk_arguments::{Destination, SubmitOptions};
 use droid_desk_progress::{Reporter, Verbosity};
 use droid_frame::Noted;
-use droid_tree::{NODE_LIMIT, Options, WalkFault, Walked, count};
+use droid_tree::{NODE_LIMIT, WalkFault, count};
 use droid_tree_disk::{Folder, Output, OutputFault, System, is_folder};
 use droid_tree_remote::{
     DownloadFault, Sender, Streams, SubmissionFault, TransferFault, export, submit,

@@ -3,7 +3,7 @@ use Rattle.std.specs.Prelude.{◌≡◌, ◌≢◌, ◌⊎◌, ℕ, List, [], �
 use Rattle.std.specs.Str.{IsUtf8}
 use Rattle.droid_tree.specs.Observation as tree
 use Rattle.droid_tree.specs.Observation.{GoesOver}
-use Rattle.droid_tree.specs.Visits.{below}
+use Rattle.droid_tree_walk.specs.Visits.{below}
 use Rattle.droid_tree.specs.declared.folder_entry.FolderEntry.{FolderEntry}
 use Rattle.droid_tree.specs.declared.folder_entry.EntryKind.TheVariants as kinds
 use Rattle.droid_tree_disk.specs.Said.{Said, Names, NoNames, Looked, Opened, NotOpened, Gave, GaveNone}

@@ -1,7 +1,7 @@
 //! Lists the entries of a folder with their metadata.
 
 ghost use Rattle.std.specs.Prelude.{◌≡◌, ◌++◌, ◌∷◌, [], IfErr, IfOk, OnOk};
-ghost use Rattle.droid_tree.specs.Visits.{below};
+ghost use Rattle.droid_tree_walk.specs.Visits.{below};
 ghost use Rattle.droid_tree.specs.declared.fault.TreeFault.TheVariants.{Memory, Unreadable};
 ghost use Rattle.droid_tree_disk.specs.Said.{NoNames};
 ghost use Rattle.droid_tree_disk.specs.FolderObservation.{ListsAll, LooksAt, SaysOfText, Shows};

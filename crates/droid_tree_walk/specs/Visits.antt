@@ -1,6 +1,6 @@
 -- What is read and requested for the entries of one folder (this project's own).
-use Rattle.std.specs.Prelude.{◌≡◌, ◌≢◌, ◌⊎◌, ℕ, suc, ◌+◌, ◌-◌, ◌*◌, ◌<◌, ◌&&◌, min, Bool, true, false, List, [], ◌∷◌, ◌++◌, length, map, Option, Some, None, is_some, IsPermutation, IsUtf8}
-use Rattle.std.specs.List.{flat_map, slice_get, list_all, AllByRecursion}
+use Rattle.std.specs.Prelude.{◌≡◌, ◌≢◌, ℕ, suc, ◌+◌, ◌-◌, ◌<◌, ◌&&◌, min, Bool, true, false, List, [], ◌∷◌, ◌++◌, length, map, Option, Some, None, is_some, IsPermutation, IsUtf8}
+use Rattle.std.specs.List.{flat_map, list_all, AllByRecursion}
 use Rattle.droid_frame.specs.types.refusal.Refusal.{Refusal}
 use Rattle.droid_frame.specs.types.refusal.Refusal.TheVariants as refusals
 use Rattle.droid_frame.specs.types.reply.Reply.{Reply}
@@ -14,7 +14,6 @@ use Rattle.droid_tree.specs.Paths.{below}
 use Rattle.droid_tree.specs.Reading.{Stop, IsStop, begin_of, observed_of_stop, reason_of}
 use Rattle.droid_tree.specs.declared.folder_entry.FolderEntry.{FolderEntry}
 use Rattle.droid_tree.specs.declared.folder_entry.EntryKind.TheVariants as kinds
-use Rattle.droid_tree.specs.declared.skipped.Skipped.{Skipped}
 use Rattle.droid_tree.specs.declared.skipped.Skipped.TheVariants as reasons
 use Rattle.droid_tree.specs.declared.pending_folder.PendingFolder.{PendingFolder}
 
