@@ -1,7 +1,8 @@
 //! The file system of this machine.
 
-ghost use Rattle.std.specs.Prelude.{◌≡◌, IfOk};
+ghost use Rattle.std.specs.Prelude.{◌≡◌, ◌≢◌, IfErr, IfOk};
 ghost use Rattle.std.specs.Fs.{file_type};
+ghost use Rattle.droid_tree.specs.declared.fault.TreeFault.TheVariants.{Changed};
 ghost use Rattle.droid_tree_disk.specs.Machine.{IsMetadataOf, IsKindOf, IsOfSome, MaySay};
 
 use crate::disk::{Disk, FileMetadata};
@@ -90,6 +91,7 @@ impl<R: Files<File = File>> Disk for System<'_, R> {
 fn with_metadata(file: File, path: Text) -> Result<Opened, TreeFault>
     ensures path { IfOk result (λ opened. opened.path ≡ path) }
     ensures found { IfOk result (λ opened. IsOfSome opened.metadata) }
+    ensures known { IfErr result (λ fault. fault ≢ Changed) }
 {
     match file.metadata() {
         Ok(metadata) => Ok(Opened {
@@ -110,7 +112,7 @@ fn metadata_from(metadata: &Metadata) -> FileMetadata
         modified: metadata.mtime(),
         len: metadata.len(),
         device: metadata.dev(),
-        node: metadata.ino(),
+        inode: metadata.ino(),
     }
 }
 
