@@ -65,7 +65,7 @@ impl Display for SkippedLine<'_> {
 
 /// Returns why an entry was skipped, in words.
 #[tactic(auto, unfolding(crate::specs::Paths::cause_text))]
-fn cause(why: Skipped) -> &'static str
+pub fn cause(why: Skipped) -> &'static str
     ensures { result.now ≡ cause_text why }
 {
     match why {

@@ -49,7 +49,6 @@ pub(crate) fn unlisted(fault: TreeFault) -> Result<Skipped, WalkFault>
 {
     match fault {
         TreeFault::Memory => Err(WalkFault::Memory),
-        TreeFault::Unreadable => Ok(Skipped::Unreadable),
-        TreeFault::Changed => Ok(Skipped::Unreadable),
+        TreeFault::Unreadable | TreeFault::Changed => Ok(Skipped::Unreadable),
     }
 }

@@ -85,7 +85,7 @@ fn kept(path: Result<Text, AllocError>) -> Result<Text, TreeFault>
 }
 
 /// Returns the path of something below the top.
-fn place_of(alloc: Global, top: &str, path: &str) -> Result<Text, AllocError>
+pub(crate) fn place_of(alloc: Global, top: &str, path: &str) -> Result<Text, AllocError>
     ensures { IfOk result (λ text. text ≡ top.now ++ path.now) }
 {
     let joined = format!(in alloc; "{top}{path}")?;
