@@ -17,6 +17,7 @@ use droid_desk_progress::{Reporter, Verbosity};
 use droid_tree::{NODE_LIMIT, Tree, WalkFault, Watcher, count};
 use droid_tree_disk::{Folder, Output, System, is_folder};
 use droid_tree_local::{HashKind, Noted, ProfileFault, Service, SteadyWrite, profile};
+use droid_tree_walk::Options;
 use std::alloc::Global;
 use std::fs::{File, Files};
 use std::io;

@@ -14,6 +14,7 @@ use droid_tree_disk::{Folder, Output, OutputFault, System, is_folder};
 use droid_tree_remote::{
     DownloadFault, Sender, Streams, SubmissionFault, TransferFault, export, submit,
 };
+use droid_tree_walk::{Options, Walked};
 use std::fs::{File, Files};
 use std::io::ErrorKind;
 use std::net::{Net, TcpListener, TcpStream};
