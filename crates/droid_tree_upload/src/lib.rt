@@ -1,0 +1,2 @@
+//! Sends one file of a tree to a service.
+#![tactic(auto)]
