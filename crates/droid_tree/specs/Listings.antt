@@ -1,5 +1,5 @@
 -- What a folder lists, sorted by name (this project's own).
-use Rattle.std.specs.Prelude.{◌≡◌, ℕ, ◌+◌, ◌++◌, List, [], ◌∷◌, map, Option, Some, None, IsPermutation, IsSortedByKey}
+use Rattle.std.specs.Prelude.{◌≡◌, ℕ, ◌+◌, ◌++◌, List, [], map, Option, Some, None, IsPermutation, IsSortedByKey}
 use Rattle.std.specs.List.{slice_get, All, Contains}
 use Rattle.std.specs.Ordering.{nat_cmp}
 use Rattle.std.specs.Cmp.Lexicographic.{slice_cmp}
