@@ -1,11 +1,11 @@
 -- Runs that ended early, in the middle of longer ones.
-use Rattle.std.proofs.Common.{◌≡◌, ◌⊎◌, inl, inr, ℕ, true, false, List, [], ◌∷◌, ◌++◌, refl, sym, ap, subst, ◌∙◌, append_assoc, append-nil}
+use Rattle.std.proofs.Common.{◌≡◌, ◌⊎◌, inl, inr, ℕ, true, false, List, [], ◌∷◌, ◌++◌, refl, sym, ap, subst, ◌∙◌, append_assoc}
 use Rattle.droid_frame.specs.types.refusal.Refusal.TheVariants as refusals
 use Rattle.droid_frame.specs.types.reply.Reply.{Reply}
 use Rattle.droid_frame.specs.types.request.Request.{Request}
 use Rattle.droid_frame.specs.types.request.Request.TheVariants.{CreateProfile, AddFolder, AddFile, Piece, Finish, Abandon, Status, Export}
 use Rattle.droid_tree.specs.Observation.{GoesOver}
-use Rattle.droid_tree_upload.specs.Calls.{Call, Answered, Failed, Sent, SameRequest}
+use Rattle.droid_tree_upload.specs.Calls.{Call, Answered, Failed, Sent}
 use Rattle.droid_tree_upload.specs.Deeds.{Deed, Called}
 use Rattle.droid_tree_upload.specs.Faults.{IsAfterCall, IsAfterLastAttempt, IsAfterRead, IsEnd, MayBeOfOther, asks_for_more, fault_of_client, fault_of_reply, goes_on}
 use Rattle.droid_tree_upload.specs.Fronts.{AreJust, AsksInVain, Unsent, Unfit, Unanswered, EndsEarly, Explains, NoMemory, Long, ManyFolders, ByCall, IsFront, Front, Last, Stands}

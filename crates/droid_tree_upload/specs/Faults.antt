@@ -1,5 +1,5 @@
 -- Which replies a submission goes on from, and which fault a call that ends it gives (this project's own).
-use Rattle.std.specs.Prelude.{◌≡◌, ◌≢◌, ◌⊎◌, ℕ, ◌*◌, ◌++◌, ◌∷◌, [], nat_le, Bool, true, false, List, Result, Ok, Err}
+use Rattle.std.specs.Prelude.{◌≡◌, ◌⊎◌, ℕ, ◌*◌, ◌++◌, ◌∷◌, [], nat_le, Bool, true, false, List, Result, Ok, Err}
 use Rattle.droid_frame.specs.types.refusal.Limit.TheVariants as limits
 use Rattle.droid_frame.specs.types.refusal.Refusal.{Refusal}
 use Rattle.droid_frame.specs.types.refusal.Refusal.TheVariants as refusals

@@ -2,7 +2,6 @@
 use Rattle.std.specs.Prelude.{◌≡◌, ℕ, suc, ◌==◌, ◌&&◌, not, cond, Bool, true, false, List, [], ◌∷◌, ◌++◌, length, bytes_eq}
 use Rattle.droid_frame.specs.Hashes.{hash, hash_bytes, hash_kind_number, hash_value_kind}
 use Rattle.droid_frame.specs.types.hash_kind.HashKind.{HashKind}
-use Rattle.droid_frame.specs.types.hash_kind.HashKind.TheVariants as kinds
 use Rattle.droid_frame.specs.types.hash_value.HashValue.{HashValue}
 use Rattle.droid_frame.specs.types.hash_value.HashValue.TheVariants as values
 use Rattle.droid_frame.specs.types.refusal.Refusal.{Refusal}
@@ -18,7 +17,7 @@ use Rattle.droid_tree.specs.declared.folder_entry.FolderEntry.{FolderEntry}
 use Rattle.droid_tree.specs.declared.skipped.Skipped.TheVariants as reasons
 use Rattle.droid_tree_upload.specs.Calls.{Answered, Failed}
 use Rattle.droid_tree_upload.specs.Deeds.{Deed, Observed, Called, Informed}
-use Rattle.droid_tree_upload.specs.Faults.{skips, is_finished, is_left, goes_on}
+use Rattle.droid_tree_upload.specs.Faults.{skips, is_finished, is_left}
 use Rattle.droid_tree_upload.specs.Pieces.{Reading, ReadAll, ReadPart, ReadOther, MayRead, joined, reading_deeds}
 use Rattle.droid_tree_upload.specs.declared.client_fault.ClientFault.TheVariants as client_faults
 use Rattle.droid_tree_upload.specs.declared.upload.Destination.{Destination}
