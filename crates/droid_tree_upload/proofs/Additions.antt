@@ -1,28 +1,27 @@
 -- A file is added, read, and finished or abandoned.
-use Rattle.std.proofs.Common.{◌≡◌, inl, inr, ℕ, ◌+◌, Bool, true, false, List, [], ◌∷◌, ◌++◌, length, refl, sym, ap, subst, ◌∙◌, arith, append_assoc, append-nil}
-use Rattle.std.specs.Prelude.{cond, ◌==◌}
+use Rattle.std.proofs.Common.{◌≡◌, ℕ, Bool, List, [], ◌∷◌, ◌++◌, length, refl, sym, ap, subst, ◌∙◌, append_assoc, append-nil}
+use Rattle.std.specs.Prelude.{cond}
 use Rattle.std.proofs.lemmas.Bool.{eq-eqb, ne_eqb}
 use Rattle.droid_frame.specs.Hashes.{hash}
 use Rattle.droid_frame.specs.types.hash_kind.HashKind.{HashKind}
 use Rattle.droid_frame.specs.types.hash_value.HashValue.{HashValue}
 use Rattle.droid_frame.specs.types.refusal.Refusal.TheVariants as refusals
-use Rattle.droid_frame.specs.types.reply.Reply.{Reply}
 use Rattle.droid_frame.specs.types.reply.Reply.TheVariants as replies
-use Rattle.droid_frame.specs.types.request.Request.TheVariants.{Finish, Piece}
+use Rattle.droid_frame.specs.types.request.Request.TheVariants.{Piece}
 use Rattle.droid_hash.specs.Hashing.{running_kind, HoldsAll}
 use Rattle.droid_hash.specs.declared.running_hash.RunningHash.{RunningHash}
 use Rattle.droid_tree.specs.Heard.{Left, Held}
 use Rattle.droid_tree.specs.Observation.{Read, GoesOver}
-use Rattle.droid_tree.specs.Reading.{Stop, IsPastEnd, StopsAt, begin_of, observed_of_stop, reason_of}
+use Rattle.droid_tree.specs.Reading.{IsPastEnd, StopsAt, begin_of, reason_of}
 use Rattle.droid_tree.specs.declared.folder_entry.FolderEntry.{FolderEntry}
 use Rattle.droid_tree.specs.declared.skipped.Skipped.{Skipped}
-use Rattle.droid_tree_upload.specs.Calls.{Answered, Failed}
+use Rattle.droid_tree_upload.specs.Calls.{Failed}
 use Rattle.droid_tree_upload.specs.Deeds.{Deed, Observed, Called, Informed}
 use Rattle.droid_tree_upload.specs.Faults.{IsAfterCall, IsAfterRead}
-use Rattle.droid_tree_upload.specs.FileOutcomes.{AreOfFile, FileOutcome, MayComeOfFile, RefusedFile, UnreadFile, Uploads, changed_deeds, deeds_of_file, empty_deeds, file_request, gone_deeds, uploaded_of}
+use Rattle.droid_tree_upload.specs.FileOutcomes.{AreOfFile, MayComeOfFile, RefusedFile, UnreadFile, Uploads, changed_deeds, deeds_of_file, empty_deeds, gone_deeds, uploaded_of}
 use Rattle.droid_tree_upload.specs.Fronts.{EndsEarly, Stands}
-use Rattle.droid_tree_upload.specs.Pieces.{ReadAll, ReadPart, ReadOther, MayRead, joined, piece_deeds, reading_deeds}
-use Rattle.droid_tree_upload.specs.Steps.{AbandonedBy, AbandonedOther, Addition, Adds, AreAdded, AreChanged, AreDropping, AreFinishing, AreOpenings, ArePart, AreRest, Declined, Drops, EndsAfter, FinishedBy, FinishedOther, Finishes, Found, Hashes, Leaves, MayAdd, OpensFile, ReadsFile, Rest, RestOther, RestPart, RestWhole, Sees, SeesEnd, SendsRest, SentRest, StopsEmpty, StopsOther, StopsPart, NothingSent, ReadsWhole, addition_deeds, dropping_deeds, finishing_deeds, missing_deeds, opening_deeds, outcome_of_addition, rest_deeds, uploaded_of_addition}
+use Rattle.droid_tree_upload.specs.Pieces.{ReadAll, ReadPart, ReadOther, joined, piece_deeds, reading_deeds}
+use Rattle.droid_tree_upload.specs.Steps.{AbandonedBy, AbandonedOther, Addition, Adds, AreAdded, AreChanged, AreDropping, AreFinishing, AreOpenings, ArePart, AreRest, Declined, Drops, EndsAfter, FinishedBy, FinishedOther, Finishes, Found, Hashes, Leaves, MayAdd, OpensFile, RestOther, RestPart, RestWhole, Sees, SeesEnd, SendsRest, SentRest, StopsEmpty, StopsOther, StopsPart, NothingSent, ReadsWhole, addition_deeds, dropping_deeds, finishing_deeds, missing_deeds, outcome_of_addition, rest_deeds, uploaded_of_addition}
 use Rattle.droid_tree_upload.specs.declared.client_fault.ClientFault.TheVariants as client_faults
 use Rattle.droid_tree_upload.specs.declared.file_opening.Opened.TheVariants as openeds
 use Rattle.droid_tree_upload.specs.declared.file_pieces.Progress.{Progress}
@@ -65,12 +64,14 @@ module _ (to : Target) (path : List ℕ) (entry : FolderEntry) {T C W : Type 0} 
           let after : IsAfterRead before =
           (begun ∷ piece_deeds to.into.profile to.number to.first path entry 0 0 reads.pieces, Read path entry (length (joined reads.pieces)) 1 [], refl) in
           behind_ends does (AreFinishing to.into.profile to.number path read) Are before fault old new (ends old before after (reported, informed, reads.happened))
-          (λ tail are.
-          ([], (
-            RestWhole reads.pieces are.0,
-            (reads.may_read, are.1),
-            ap (λ (l : List Deed). before ++ l) (append-nil tail ∙ (are.2 ∙ ap (λ (h : HashValue). finishing_deeds to.into.profile to.number path h are.0) is)),
-          )))
+          (λ tail are. (
+            [],
+            (
+              RestWhole reads.pieces are.0,
+              (reads.may_read, are.1),
+              ap (λ (l : List Deed). before ++ l) (append-nil tail ∙ (are.2 ∙ ap (λ (h : HashValue). finishing_deeds to.into.profile to.number path h are.0) is)),
+            ),
+          ))
 
       pub rest_finished : (read : HashValue) (uploaded : Uploaded) (new : Upload T C W) → read ≡ hash to.into.hash (joined reads.pieces) → Finishes to.into.profile to.number path does read uploaded now new
           → SendsRest to.into path entry to.number to.first does uploaded old new
@@ -91,12 +92,14 @@ module _ (to : Target) (path : List ℕ) (entry : FolderEntry) {T C W : Type 0} 
       pub rest_undropped : (fault : SubmissionFault) (new : Upload T C W) → EndsEarly does (AreDropping to.into.profile to.number path why) fault now new → EndsEarly does Are fault old new
       rest_undropped fault new ends =
           part_ends does (AreDropping to.into.profile to.number path why) Are fault (begun ∷ part_deeds) old now new (reported, informed, stops.happened) ends
-          (λ whole are.
-          ([], (
-            RestPart stops.pieces stops.stop are.0,
-            (stops.may_read, are.1),
-            ap (λ (l : List Deed). (begun ∷ part_deeds) ++ l) (append-nil whole ∙ (are.2 ∙ ap (λ (r : Skipped). dropping_deeds to.into.profile to.number path r are.0) stops.reason)),
-          )))
+          (λ whole are. (
+            [],
+            (
+              RestPart stops.pieces stops.stop are.0,
+              (stops.may_read, are.1),
+              ap (λ (l : List Deed). (begun ∷ part_deeds) ++ l) (append-nil whole ∙ (are.2 ∙ ap (λ (r : Skipped). dropping_deeds to.into.profile to.number path r are.0) stops.reason)),
+            ),
+          ))
 
       pub rest_dropped : (uploaded : Uploaded) (new : Upload T C W) → Drops to.into.profile to.number path does why uploaded now new → SendsRest to.into path entry to.number to.first does uploaded old new
       rest_dropped uploaded new drops =
@@ -212,12 +215,14 @@ module _ (into : Destination) (path : List ℕ) (entry : FolderEntry) where
     pub upload_ends : (fault : SubmissionFault) (old middle new : Upload T C W) → GoesOver does old (empty_deeds path entry) middle → EndsEarly does (AreAdded into path entry) fault middle new → EndsEarly does (AreOfFile into path entry) fault old new
     upload_ends fault old middle new seen ends =
         part_ends does (AreAdded into path entry) (AreOfFile into path entry) fault (empty_deeds path entry) old middle new seen ends
-        (λ whole are.
-        ([], (
-          outcome_of_addition are.0,
-          may_of_addition are.0 are.1,
-          ap (λ (l : List Deed). empty_deeds path entry ++ l) (append-nil whole ∙ are.2) ∙ deeds_of_addition are.0,
-        )))
+        (λ whole are. (
+          [],
+          (
+            outcome_of_addition are.0,
+            may_of_addition are.0 are.1,
+            ap (λ (l : List Deed). empty_deeds path entry ++ l) (append-nil whole ∙ are.2) ∙ deeds_of_addition are.0,
+          ),
+        ))
 
 -- ---- the hash of what was read
 
@@ -241,6 +246,6 @@ empty_stops path entry does why old new empty stops = record { empty = empty; st
 
 pub empty_seen_by : (path : List ℕ) (entry : FolderEntry) {T C W : Type 0} (does : Upload T C W → Deed → Upload T C W → Type 0) (progress : Progress) (old new : Upload T C W) → ((why : Skipped) → progress ≡ progresses.Stopped why → ⊥)
     → entry.len ≡ 0 → SeesEnd path entry does progress old new → GoesOver does old (empty_deeds path entry) new
-empty_seen_by path entry does progresses.Done old new no empty sees = empty_seen path entry does old new empty sees
-empty_seen_by path entry does (progresses.Stopped why) old new no empty sees = absurd (no why refl)
-empty_seen_by path entry does progresses.Changed old new no empty sees = absurd sees
+empty_seen_by path entry does progresses.Done old new never empty sees = empty_seen path entry does old new empty sees
+empty_seen_by path entry does (progresses.Stopped why) old new never empty sees = absurd (never why refl)
+empty_seen_by path entry does progresses.Changed old new never empty sees = absurd sees

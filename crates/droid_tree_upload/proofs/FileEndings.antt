@@ -1,5 +1,5 @@
 -- How a file ends that was read, in whole or in part.
-use Rattle.std.proofs.Common.{◌≡◌, inl, ℕ, true, false, List, [], ◌∷◌, ◌++◌, length, refl, sym, ap, subst, ◌∙◌, append_assoc, append-nil}
+use Rattle.std.proofs.Common.{◌≡◌, inl, ℕ, true, false, List, [], ◌∷◌, ◌++◌, refl, ap, ◌∙◌, append_assoc, append-nil}
 use Rattle.droid_frame.specs.types.hash_value.HashValue.{HashValue}
 use Rattle.droid_frame.specs.types.hash_value.HashValue.TheVariants as values
 use Rattle.droid_frame.specs.types.method.Method.TheVariants.{Unidentified}
@@ -8,7 +8,6 @@ use Rattle.droid_frame.specs.types.reply.Reply.{Reply}
 use Rattle.droid_frame.specs.types.reply.Reply.TheVariants as replies
 use Rattle.droid_frame.specs.types.request.Request.TheVariants.{Finish, Abandon}
 use Rattle.droid_tree.specs.Heard.{Left}
-use Rattle.droid_tree.specs.Observation.{GoesOver}
 use Rattle.droid_tree.specs.declared.skipped.Skipped.{Skipped}
 use Rattle.droid_tree.specs.declared.skipped.Skipped.TheVariants as reasons
 use Rattle.droid_tree_upload.specs.Calls.{Answered, Failed}

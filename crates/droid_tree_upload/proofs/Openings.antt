@@ -1,5 +1,5 @@
 -- Adding a file, under one attempt after the other.
-use Rattle.std.proofs.Common.{◌≡◌, inl, inr, ℕ, suc, ◌+◌, true, false, Option, Some, None, List, [], ◌∷◌, ◌++◌, length, refl, sym, ap, subst, ◌∙◌, arith, length-append, append_assoc, append-nil}
+use Rattle.std.proofs.Common.{◌≡◌, inl, inr, ℕ, suc, ◌+◌, true, false, Some, None, List, [], ◌∷◌, ◌++◌, length, refl, sym, ap, subst, ◌∙◌, arith, length-append, append-nil}
 use Rattle.droid_frame.specs.types.refusal.Refusal.{Refusal}
 use Rattle.droid_frame.specs.types.refusal.Refusal.TheVariants as refusals
 use Rattle.droid_frame.specs.types.reply.Reply.{Reply}
@@ -11,10 +11,10 @@ use Rattle.droid_tree.specs.declared.folder_entry.FolderEntry.{FolderEntry}
 use Rattle.droid_tree.specs.declared.skipped.Skipped.TheVariants as reasons
 use Rattle.droid_tree_upload.specs.Calls.{Answered}
 use Rattle.droid_tree_upload.specs.Deeds.{Deed, Called, Informed}
-use Rattle.droid_tree_upload.specs.Faults.{IsAfterCall, IsAfterLastAttempt, IsAfterRead, fault_of_reply, is_countable, is_finished, is_node, is_open, skips}
+use Rattle.droid_tree_upload.specs.Faults.{IsAfterLastAttempt, fault_of_reply, is_countable, is_finished, is_node, is_open}
 use Rattle.droid_tree_upload.specs.FileOutcomes.{file_request, gone_deeds, hash_of_held, heard_of_end, uploaded_of_end}
-use Rattle.droid_tree_upload.specs.Fronts.{AsksInVain, EndsEarly, Stands}
-use Rattle.droid_tree_upload.specs.Steps.{AfterAdd, AreOpening, AreOpenings, Declined, EndsOpening, EndsOpenings, FindsGone, Found, LacksPiece, OpensFile, OpensNode, missing_deeds, opening_deeds}
+use Rattle.droid_tree_upload.specs.Fronts.{AsksInVain, EndsEarly}
+use Rattle.droid_tree_upload.specs.Steps.{AfterAdd, AreOpening, AreOpenings, Declined, Found, OpensFile, OpensNode, missing_deeds, opening_deeds}
 use Rattle.droid_tree_upload.specs.declared.file_opening.Opened.{Opened}
 use Rattle.droid_tree_upload.specs.declared.file_opening.Opened.TheVariants as openeds
 use Rattle.droid_tree_upload.specs.declared.submission_fault.SubmissionFault.{SubmissionFault}
@@ -153,13 +153,15 @@ module _ (into : Destination) (path : List ℕ) (entry : FolderEntry) {T C W : T
     pub opening_ends : (fault : SubmissionFault) → EndsEarly does (AreOpening into path entry attempt) fault now new → EndsEarly does (AreOpenings into path entry) fault old new
     opening_ends fault part =
         part_ends does (AreOpening into path entry attempt) (AreOpenings into path entry) fault (gone_deeds into entry 0 all.gone) old now new all.happened part
-        (λ whole are.
-        ([], (
-          all.gone,
-          are.0,
-          are.1,
-          ap (λ (l : List Deed). gone_deeds into entry 0 all.gone ++ l) (append-nil whole ∙ (are.2 ∙ ap (λ (n : ℕ). opening_deeds into path entry n are.0) (sym all.counted))),
-        )))
+        (λ whole are. (
+          [],
+          (
+            all.gone,
+            are.0,
+            are.1,
+            ap (λ (l : List Deed). gone_deeds into entry 0 all.gone ++ l) (append-nil whole ∙ (are.2 ∙ ap (λ (n : ℕ). opening_deeds into path entry n are.0) (sym all.counted))),
+          ),
+        ))
 
   pub unopened : (fault : SubmissionFault) (old : Upload T C W) → fault ≡ faults.Memory → EndsEarly does (AreOpenings into path entry) fault old old
   unopened fault old memory =

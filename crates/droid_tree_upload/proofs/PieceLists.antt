@@ -1,9 +1,8 @@
 -- Pieces after pieces.
-use Rattle.std.proofs.Common.{◌≡◌, ◌⊎◌, inl, inr, ℕ, suc, ◌+◌, ◌-◌, ◌*◌, ◌<◌, ◌≤◌, min, Bool, true, false, List, [], ◌∷◌, ◌++◌, length, refl, sym, ap, subst, ◌∙◌, arith, length-append, append_assoc, append-nil}
+use Rattle.std.proofs.Common.{◌≡◌, inl, inr, ℕ, suc, ◌+◌, ◌-◌, ◌*◌, ◌<◌, ◌≤◌, min, true, List, [], ◌∷◌, ◌++◌, length, refl, sym, ap, subst, ◌∙◌, arith, length-append, append_assoc, append-nil}
 use Rattle.std.proofs.Math.Nat.{suc-mul}
 use Rattle.std.proofs.lemmas.Bool.{cases_lt}
 use Rattle.std.proofs.lemmas.Grind.{flat_map-append}
-use Rattle.std.specs.Prelude.{cond, nat_lt}
 use Rattle.droid_tree.specs.Observation.{Read}
 use Rattle.droid_tree.specs.Reading.{Stop, NoneCame, FewerCame, MoreCame, OtherFile, IsRequested, IsShort, IsStop, begin_of}
 use Rattle.droid_tree.specs.declared.folder_entry.FolderEntry.{FolderEntry}
@@ -37,7 +36,7 @@ module _ (profile number first : ℕ) (path : List ℕ) (entry : FolderEntry) wh
       let later = piece_deeds profile number first path entry (suc index) (from + length head) pieces in
       let more : List Deed = Observed (Read path entry total (length bytes) bytes) ∷ sending_deeds profile number first path entry count bytes in
       ap (λ (l : List Deed). Observed (Read path entry from (length head) head) ∷ (now ++ l))
-          (pieces_more (suc index) (from + length head) count total pieces bytes (omega (arith, counted)) (omega (arith, e, length-append head (joined pieces))))
+      (pieces_more (suc index) (from + length head) count total pieces bytes (omega (arith, counted)) (omega (arith, e, length-append head (joined pieces))))
       ∙ ap (λ (l : List Deed). Observed (Read path entry from (length head) head) ∷ l) (sym (append_assoc now later more))
 
 -- ---- where pieces begin
@@ -66,7 +65,7 @@ begin_last piece_size size index countable low high =
 pub requested : (piece_size size from : ℕ) → from ≤ size → (wanted : ℕ) × IsRequested piece_size size from wanted
 requested piece_size size from within =
     elim (cases_lt from size) [
-      inl before ↦ (min piece_size (size - from), inl (before, refl))
+      | inl before ↦ (min piece_size (size - from), inl (before, refl))
       | inr behind ↦ (1, inr (omega arith, refl))
     ]
 
@@ -78,4 +77,3 @@ short_stop piece_size size from before (OtherFile n) is = inl (before, is)
 
 pub length_more : (pieces : List (List ℕ)) (bytes : List ℕ) → length (joined (pieces ++ bytes ∷ [])) ≡ length (joined pieces) + length bytes
 length_more pieces bytes = ap length (joined_more pieces bytes) ∙ length-append (joined pieces) bytes
-

@@ -1,8 +1,8 @@
 -- What comes of pieces, one after the other.
-use Rattle.std.proofs.Common.{◌≡◌, inl, inr, ℕ, ◌+◌, ◌<◌, ◌≤◌, Bool, true, false, List, [], ◌∷◌, ◌++◌, length, replicate, refl, sym, ap, subst, ◌∙◌, arith, length-append, append_assoc, append-nil}
+use Rattle.std.proofs.Common.{◌≡◌, inl, inr, ℕ, ◌+◌, ◌<◌, ◌≤◌, Bool, List, [], ◌∷◌, ◌++◌, length, replicate, refl, sym, ap, subst, ◌∙◌, arith, length-append, append_assoc, append-nil}
 use Rattle.std.proofs.lemmas.Bool.{le-ltb, lt-ltb}
 use Rattle.std.proofs.lemmas.List.{length-replicate}
-use Rattle.std.specs.Prelude.{cond, nat_lt}
+use Rattle.std.specs.Prelude.{cond}
 use Rattle.droid_frame.specs.types.refusal.Refusal.TheVariants as refusals
 use Rattle.droid_frame.specs.types.request.Request.TheVariants.{Piece}
 use Rattle.droid_hash.specs.Hashing.{HoldsAll}
@@ -15,8 +15,8 @@ use Rattle.droid_tree.specs.declared.skipped.Skipped.{Skipped}
 use Rattle.droid_tree_upload.specs.Calls.{Failed, Sent}
 use Rattle.droid_tree_upload.specs.Deeds.{Deed, Observed, Called, Informed}
 use Rattle.droid_tree_upload.specs.Fronts.{ByCall, EndsEarly, Last, Stands}
-use Rattle.droid_tree_upload.specs.Pieces.{ReadPart, joined, piece_deeds, sending_deeds}
-use Rattle.droid_tree_upload.specs.Steps.{ArePart, ArePassed, FailsPiece, FindsOther, Hashes, PassesAll, PassesFront, PassesOne, PassesPiece, ReadsFile, Sees, SeesEnd, SendsPiece, StopsOther, StopsPart, begin, other_deeds, passed_deeds, piece_request, read_deeds, wanted_at}
+use Rattle.droid_tree_upload.specs.Pieces.{joined, piece_deeds, sending_deeds}
+use Rattle.droid_tree_upload.specs.Steps.{ArePart, ArePassed, FailsPiece, FindsOther, Hashes, PassesAll, PassesFront, PassesOne, PassesPiece, ReadsFile, Sees, SeesEnd, SendsPiece, StopsOther, StopsPart, begin, passed_deeds, piece_request, wanted_at}
 use Rattle.droid_tree_upload.specs.declared.client_fault.ClientFault.TheVariants as client_faults
 use Rattle.droid_tree_upload.specs.declared.file_pieces.Progress.{Progress}
 use Rattle.droid_tree_upload.specs.declared.file_pieces.Progress.TheVariants as progresses
@@ -162,7 +162,7 @@ module _ (to : Target) (path : List ℕ) (entry : FolderEntry) where
       pub piece_changes : (new : Upload T C W) → FindsOther to path entry does index now new → StopsOther to path entry does old new
       piece_changes new other =
           let P = λ (n wanted count : ℕ). GoesOver does now (Observed (Read path entry n wanted other.bytes)
-              ∷ Called (Failed 0 (Piece to.into.profile to.number count other.bytes) (client_faults.Piece refusals.NumberReused)) ∷ []) new in
+          ∷ Called (Failed 0 (Piece to.into.profile to.number count other.bytes) (client_faults.Piece refusals.NumberReused)) ∷ []) new in
           let found : P (length (joined front.pieces)) (length other.bytes) (length front.pieces) =
           subst (λ n. P n (length other.bytes) (length front.pieces)) (sym front.length_is)
           (subst (λ n. P start n (length front.pieces)) (sym other.counted) (subst (λ n. P start (wanted_at to path entry index) n) (sym front.counted) other.happened)) in

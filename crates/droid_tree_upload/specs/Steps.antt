@@ -1,5 +1,5 @@
 -- What each part of an upload does.
-use Rattle.std.specs.Prelude.{◌≡◌, ◌≢◌, ◌⊎◌, ℕ, suc, ◌-◌, ◌≤◌, min, true, Option, Some, None, List, [], ◌∷◌, ◌++◌, length}
+use Rattle.std.specs.Prelude.{◌≡◌, ◌≢◌, ℕ, ◌-◌, ◌≤◌, min, true, Option, Some, None, List, [], ◌∷◌, ◌++◌, length}
 use Rattle.droid_frame.specs.Fields.{u32_bytes}
 use Rattle.droid_frame.specs.Hashes.{hash}
 use Rattle.droid_frame.specs.types.hash_value.HashValue.{HashValue}
@@ -13,7 +13,7 @@ use Rattle.droid_hash.specs.Hashing.{running_kind, HoldsAll}
 use Rattle.droid_hash.specs.declared.running_hash.RunningHash.{RunningHash}
 use Rattle.droid_tree.specs.Heard.{Left, Held, TookBytes}
 use Rattle.droid_tree.specs.Observation.{Observation, Read, GoesOver}
-use Rattle.droid_tree.specs.Reading.{Stop, IsPastEnd, IsShort, StopsAt, begin_of, observed_of_stop, reason_of}
+use Rattle.droid_tree.specs.Reading.{Stop, IsPastEnd, IsShort, StopsAt, begin_of, reason_of}
 use Rattle.droid_tree.specs.declared.folder_entry.FolderEntry.{FolderEntry}
 use Rattle.droid_tree.specs.declared.skipped.Skipped.{Skipped}
 use Rattle.droid_tree.specs.declared.skipped.Skipped.TheVariants as reasons

@@ -64,8 +64,24 @@ pub(crate) fn open_file<T: Tree, C: Client, W: Watcher>(
         piece_size: into.piece_size,
         name: Text::copy_of(upload.alloc, name)?,
     };
+    let opened = add_again(upload, into, path, entry, &request)?;
+    Ok(opened)
+}
+
+/// Adds a file under one attempt after the other, until its node was not abandoned before.
+fn add_again<T: Tree, C: Client, W: Watcher>(
+    upload: &mut Upload<T, C, W>,
+    into: Destination,
+    path: &str,
+    entry: &FolderEntry,
+    request: &Request,
+) -> Result<Opened, SubmissionFault>
+    requires { request.now ≡ file_request into entry.now }
+    ensures opened { IfOk result (λ opened. OpensFile into path.now entry.now (Does T.observes C.calls W.hears) opened upload.old upload.new) }
+    ensures ended { IfErr result (λ fault. EndsEarly (Does T.observes C.calls W.hears) (AreOpenings into path.now entry.now) fault upload.old upload.new) }
+{
     for attempt in 0..ATTEMPTS {
-        match open_node(upload, into, path, entry, attempt, &request)? {
+        match open_node(upload, into, path, entry, attempt, request)? {
             Some(opened) => return Ok(opened),
             None => {}
         }

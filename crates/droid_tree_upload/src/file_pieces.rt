@@ -159,7 +159,14 @@ pub(crate) fn see_last<T: Tree, C: Client, W: Watcher>(
     ensures memory { IfErr result (λ fault. fault ≡ Memory) }
     ensures stands { OnErr result (Stands Memory upload.old upload.new) }
 {
-    match see_end(upload.alloc, &mut upload.tree, path, entry, entry.len, entry.len) {
+    match see_end(
+        upload.alloc,
+        &mut upload.tree,
+        path,
+        entry,
+        entry.len,
+        entry.len,
+    ) {
         Ok(Ok(())) => Ok(Progress::Done),
         Ok(Err(why)) => Ok(Progress::Stopped(why)),
         Err(_memory) => Err(SubmissionFault::Memory),

@@ -108,7 +108,11 @@ fn send_rest<T: Tree, C: Client, W: Watcher>(
     ensures sent { IfOk result (λ uploaded. SendsRest to.into path.now entry.now to.number to.first (Does T.observes C.calls W.hears) uploaded upload.old upload.new) }
     ensures ended { IfErr result (λ fault. EndsEarly (Does T.observes C.calls W.hears) (AreRest to.into path.now entry.now to.number to.first) fault upload.old upload.new) }
 {
-    report_held(upload, path, begin_of(to.into.piece_size, entry.len, to.first));
+    report_held(
+        upload,
+        path,
+        begin_of(to.into.piece_size, entry.len, to.first),
+    );
     let mut running = RunningHash::of(to.into.hash);
     match read_file(upload, to, path, entry, &mut running)? {
         Progress::Done => {

@@ -113,10 +113,7 @@ pub fn add_folder<T: Tree, C: Client, W: Watcher>(
 }
 
 /// Returns the number of a new node, the refusal that skips it, or the fault. `of_use` says whether a number is of use.
-pub(crate) fn node_of(
-    reply: Reply,
-    of_use: bool,
-) -> Result<Result<u32, Refusal>, SubmissionFault>
+pub(crate) fn node_of(reply: Reply, of_use: bool) -> Result<Result<u32, Refusal>, SubmissionFault>
     ensures node { IfOk result (λ added. (reply ≡ reply_of_node added) × (is_node of_use reply ≡ true)) }
     ensures fault { IfErr result (λ fault. (fault ≡ fault_of_reply reply) × (is_node of_use reply ≡ false)) }
 {

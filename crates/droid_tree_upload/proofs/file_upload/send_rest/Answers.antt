@@ -1,6 +1,4 @@
-use Rattle.std.proofs.Common.{◌≡◌, ℕ, List, [], subst, ap, sym, ◌∙◌}
-use Rattle.droid_frame.specs.Hashes.{hash}
-use Rattle.droid_frame.specs.types.hash_kind.HashKind.{HashKind}
+use Rattle.std.proofs.Common.{ℕ, subst}
 use Rattle.droid_tree.specs.Heard.{Held}
 use Rattle.droid_tree_upload.specs.Deeds.{Does, Informed}
 use Rattle.droid_tree_upload.specs.Fronts.{EndsEarly}

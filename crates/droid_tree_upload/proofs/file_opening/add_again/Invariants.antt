@@ -1,7 +1,7 @@
 use Rattle.std.proofs.Common.{◌≤◌}
 use Rattle.droid_tree_upload.specs.Deeds.{Does}
 use Rattle.droid_tree_upload.proofs.Openings.{FindsAllGone}
-use Rattle.droid_tree_upload.proofs.file_opening.open_file.Given as goal
+use Rattle.droid_tree_upload.proofs.file_opening.add_again.Given as goal
 
 abbrev pub invariant-loop-attempt : goal.invariant-loop-attempt
 invariant-loop-attempt g l = record {
