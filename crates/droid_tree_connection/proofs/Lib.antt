@@ -1,0 +1,4 @@
+pub mod Chaining
+pub mod Going
+pub mod Counting
+pub mod Waiting
