@@ -1,5 +1,5 @@
 -- Which frames in flight count as written, and what they count on.
-use Rattle.std.proofs.Common.{◌≡◌, ◌<◌, ℕ, ◌+◌, Bool, true, false, cond, List, [], ◌∷◌, ◌++◌, Contains, take, drop, length, get_or, Option, Some, None, inl, inr, refl, sym, ap, subst, ◌∙◌, append-nil, arith}
+use Rattle.std.proofs.Common.{◌≡◌, ◌<◌, ℕ, suc, zero, ◌+◌, Bool, true, false, cond, List, [], ◌∷◌, ◌++◌, Contains, take, drop, length, get_or, Option, Some, None, inl, inr, refl, sym, ap, subst, ◌∙◌, append-nil, add-one, arith}
 use Rattle.std.proofs.lemmas.List.{take_more, take-append-drop}
 use Rattle.std.proofs.lemmas.List.Elements.{Contains-append_left, Contains-append_right, Contains-push, Contains-push_cases}
 use Rattle.droid_frame.specs.types.frame.Frame.{Frame}
@@ -39,11 +39,14 @@ among frames place count frame counted below is = (place, omega (arith, counted,
 
 -- ---- fronts and rests
 
+take_next : {A : Type 0} (count : ℕ) (xs : List A) → take count xs ++ take 1 (drop count xs) ≡ take (suc count) xs
+take_next zero [] = refl
+take_next zero (x ∷ xs) = refl
+take_next (suc count) [] = refl
+take_next {A} (suc count) (x ∷ xs) = ap (λ (l : List A). x ∷ l) (take_next count xs)
+
 pub take_on : {A : Type 0} (count : ℕ) (xs : List A) → take count xs ++ take 1 (drop count xs) ≡ take (count + 1) xs
-take_on zero [] = refl
-take_on zero (x ∷ xs) = refl
-take_on (suc count) [] = refl
-take_on {A} (suc count) (x ∷ xs) = ap (λ (l : List A). x ∷ l) (take_on count xs)
+take_on count xs = rw add-one (take_next count xs)
 
 pub in_rest : (count : ℕ) (xs : List Frame) → AreIn (drop count xs) xs
 in_rest count xs frame there = subst (λ (l : List Frame). Contains l frame) (take-append-drop count xs) (Contains-append_right (take count xs) (drop count xs) frame there)
@@ -100,15 +103,15 @@ module _ (known : KnownRequests) where
 
   vouched_profile : (facts : List Fact) (answer : Known) (is : Bool) → IsVouched known facts → IsRepeated facts answer
       → IsVouched (cond is (record { profile = Some answer; node = known.node }) known) facts
-  vouched_profile facts answer false vouched repeated = vouched
-  vouched_profile facts answer true vouched repeated one (inl is) = subst (λ (k : Known). IsRepeated facts k) cc repeated
+  vouched_profile facts answer false vouched repeated one is = vouched one is
+  vouched_profile facts answer true vouched repeated one (inl is) = subst (λ (k : Known). IsRepeated facts k) (cc) repeated
   vouched_profile facts answer true vouched repeated one (inr is) = vouched one (inr is)
 
   vouched_node : (facts : List Fact) (answer : Known) (is : Bool) → IsVouched known facts → IsRepeated facts answer
       → IsVouched (cond is (record { profile = known.profile; node = Some answer }) known) facts
-  vouched_node facts answer false vouched repeated = vouched
+  vouched_node facts answer false vouched repeated one is = vouched one is
   vouched_node facts answer true vouched repeated one (inl is) = vouched one (inl is)
-  vouched_node facts answer true vouched repeated one (inr is) = subst (λ (k : Known). IsRepeated facts k) cc repeated
+  vouched_node facts answer true vouched repeated one (inr is) = subst (λ (k : Known). IsRepeated facts k) (cc) repeated
 
   pub vouched_known : (facts : List Fact) (answer : Known) (reply : Reply) → IsVouched known facts → IsRepeated facts answer → IsVouched (remember_as known answer reply) facts
   vouched_known facts answer (Made profile) vouched repeated = vouched_profile facts answer _ vouched repeated

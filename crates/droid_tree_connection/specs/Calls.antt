@@ -64,6 +64,7 @@ pub record Fails {C : Type 0} (does : C → Event → C → Type 0) (known : Kno
 pub record Waited {C : Type 0} (does : C → Event → C → Type 0) (event : Event) (old new : InFlight C) : Type 0 where
   pub happened : does old.connection event new.connection
   pub same_waiting : new.waiting.items ≡ old.waiting.items
+  pub same_known : new.known ≡ old.known
   pub same_facts : (known : KnownRequests) (facts : List Fact) → StandsOn known facts old → StandsOn known facts new
 
 -- ---- of the steps between them

@@ -238,8 +238,9 @@ impl<C: Connection> InFlight<C> {
         ensures known { self.new.known ≡ self.old.known }
     {
         let first = self.read_once()?;
-        if let Some(frame) = first {
-            return Ok(frame);
+        match first {
+            Some(frame) => return Ok(frame),
+            None => {}
         }
         self.start_wait();
         let frame = self.receive_later()?;
@@ -258,8 +259,9 @@ impl<C: Connection> InFlight<C> {
                 return Err(TransferFault::Broken);
             }
             let read = self.read_once()?;
-            if let Some(frame) = read {
-                return Ok(frame);
+            match read {
+                Some(frame) => return Ok(frame),
+                None => {}
             }
         }
         Err(TransferFault::Broken)
