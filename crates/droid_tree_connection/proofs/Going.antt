@@ -1,6 +1,7 @@
 -- Events after events, and which facts stand after them.
-use Rattle.std.proofs.Common.{◌≡◌, ◌^◌, ◌-◌, ◌≤◌, ◌+◌, List, [], ◌∷◌, ◌++◌, Contains, length, inl, inr, refl, sym, ap, subst, ◌∙◌, append_assoc, length-append, arith}
+use Rattle.std.proofs.Common.{◌≡◌, ◌^◌, ◌-◌, ◌≤◌, ◌+◌, Bool, true, false, List, [], ◌∷◌, ◌++◌, Contains, length, inl, inr, refl, sym, ap, subst, ◌∙◌, append_assoc, length-append, arith}
 use Rattle.std.specs.List.{AllByRecursion}
+use Rattle.std.proofs.lemmas.Bool.{false≢true}
 use Rattle.droid_frame.specs.types.frame.Frame.{Frame}
 use Rattle.droid_frame.specs.types.refusal.Refusal.{Refusal}
 use Rattle.droid_frame.specs.types.reply.Reply.{Reply}
@@ -9,7 +10,7 @@ use Rattle.droid_tree_connection.specs.Answering.{IsAnswered, IsTaken}
 use Rattle.droid_tree_connection.specs.Events.{Event, Joined, Alone, Sent, Cut, Came, Lost, Paused, Expired, Started, EndsIn, Fact, Written, facts_after, facts_behind}
 use Rattle.droid_tree_connection.specs.Moves.{Goes, Moves, Stops}
 use Rattle.droid_tree_connection.specs.Stages.{CountsOn}
-use Rattle.droid_tree_connection.specs.TransferFaults.{Explains}
+use Rattle.droid_tree_connection.specs.TransferFaults.{Explains, is_refusal}
 use Rattle.droid_tree_connection.specs.Vouching.{IsVouched, MayAllHappen, MayHappen, MayWrite}
 use Rattle.droid_tree_connection.specs.declared.connection_steps.Stage.{Stage}
 use Rattle.droid_tree_connection.specs.declared.known_requests.KnownRequests.{KnownRequests}
@@ -114,6 +115,16 @@ module _ (known : KnownRequests) (Is Other : Frame → Type 0) (pieces more : Li
   explains_after Restarted why = record { known = why.known; came = why.came; is = why.is; last = ends_after xs ys (Sent why.known.request ∷ Came why.came ∷ []) why.last; other = why.other }
   explains_after (Refused refusal) why = record { frame = why.frame; is = in_more why.frame why.is; answered = answered_after known facts xs ys why.frame (replies.Refused refusal) why.answered; reason = why.reason }
   explains_after Busy why = absurd why
+
+-- a refusal stays one, whatever comes later
+pub explains_before : (known : KnownRequests) (Is : Frame → Type 0) (pieces : List Frame) (facts : List Fact) (xs ys : List Event) (fault : TransferFault) → is_refusal fault ≡ true → Explains fault known Is pieces facts xs → Explains fault known Is pieces facts (xs ++ ys)
+explains_before known Is pieces facts xs ys (Refused refusal) refused why =
+    record { frame = why.frame; is = why.is; answered = answered_before known facts xs ys why.frame (replies.Refused refusal) why.answered; reason = why.reason }
+explains_before known Is pieces facts xs ys Memory refused why = tt
+explains_before known Is pieces facts xs ys Broken refused why = absurd (false≢true refused)
+explains_before known Is pieces facts xs ys Stranger refused why = absurd (false≢true refused)
+explains_before known Is pieces facts xs ys Restarted refused why = absurd (false≢true refused)
+explains_before known Is pieces facts xs ys Busy refused why = absurd (false≢true refused)
 
 -- ---- on a connection
 

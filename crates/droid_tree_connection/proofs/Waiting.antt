@@ -1,5 +1,5 @@
 -- The frames in flight, and the replies to them.
-use Rattle.std.proofs.Common.{◌≡◌, ◌<◌, ◌≤◌, ℕ, ◌+◌, ◌-◌, List, [], ◌∷◌, ◌++◌, Contains, take, drop, length, inl, inr, refl, sym, ap, subst, ◌∙◌, append-nil, append_assoc, length-append, length-drop, arith}
+use Rattle.std.proofs.Common.{◌≡◌, ◌<◌, ◌≤◌, ℕ, ◌+◌, ◌-◌, Bool, true, List, [], ◌∷◌, ◌++◌, Contains, take, drop, length, inl, inr, refl, sym, ap, subst, ◌∙◌, append-nil, append_assoc, length-append, length-drop, arith}
 use Rattle.std.specs.List.{AllByRecursion}
 use Rattle.std.proofs.lemmas.List.{drop-drop, drop_at, take-append-drop, take-take, take_at}
 use Rattle.std.proofs.lemmas.List.Elements.{Contains-append_left, Contains-append_right, Contains-push, Contains-push_cases}
@@ -7,13 +7,14 @@ use Rattle.droid_frame.specs.types.frame.Frame.{Frame}
 use Rattle.droid_frame.specs.types.refusal.Refusal.{Refusal}
 use Rattle.droid_frame.specs.types.reply.Reply.{Reply}
 use Rattle.droid_frame.specs.types.reply.Reply.TheVariants as replies
-use Rattle.droid_frame.specs.Replies.{SpellsReply}
+use Rattle.droid_frame.specs.Replies.{SpellsReply, reply_bytes, reply_kind}
 use Rattle.droid_tree_connection.specs.Answering.{IsAnswered, IsReplyTo, IsTaken, IsTo}
+use Rattle.droid_tree_connection.specs.Chains.{GoesOver}
 use Rattle.droid_tree_connection.specs.Calls.{EndsAll, Fails, Hears, IsAmong, Puts, Sends, Settles, Takes, Tries, Waited, Waits}
-use Rattle.droid_tree_connection.specs.Events.{Event, Came, Lost, Paused, Started, Fact, Written, Received, facts_after}
+use Rattle.droid_tree_connection.specs.Events.{Event, Came, Lost, Paused, Started, EndsIn, Fact, Written, Received, facts_after}
 use Rattle.droid_tree_connection.specs.Moves.{Goes, Moves, ReadsNothing, Stops}
 use Rattle.droid_tree_connection.specs.Stages.{AreIn, CountsOn, HasFirst, StandsOn, counted}
-use Rattle.droid_tree_connection.specs.TransferFaults.{Explains, ExplainsBody, ExplainsPiece}
+use Rattle.droid_tree_connection.specs.TransferFaults.{Explains, ExplainsBody, ExplainsPiece, is_refusal}
 use Rattle.droid_tree_connection.specs.Vouching.{IsRepeated, remember, remember_as, reply_to}
 use Rattle.droid_tree_connection.specs.declared.connection_steps.Stage.{Stage}
 use Rattle.droid_tree_connection.specs.declared.connection_steps.Stage.TheVariants.{Nowhere}
@@ -23,13 +24,43 @@ use Rattle.droid_tree_connection.specs.declared.known_requests.KnownRequests.{Kn
 use Rattle.droid_tree_connection.specs.declared.transfer_fault.TransferFault.{TransferFault}
 use Rattle.droid_tree_connection.specs.declared.transfer_fault.TransferFault.TheVariants.{Memory, Broken, Stranger, Restarted, Refused, Busy}
 use Rattle.droid_tree_connection.proofs.Counting.{counts_nowhere, in_front, in_rest, take_on, vouched_known, vouched_more}
-use Rattle.droid_tree_connection.proofs.Going.{all_append, all_taken_after, all_taken_before, answered_after, answered_before, explains_after, facts_append, goes_in, goes_none, goes_on, goes_one, moves_on, stops_on}
+use Rattle.droid_tree_connection.proofs.Going.{all_append, all_taken_after, all_taken_before, answered_after, answered_before, ends_after, explains_after, explains_before, facts_append, goes_in, goes_none, goes_on, goes_one, moves_on, stops_on}
 
 -- the next frame is among the first so many
 pub next_in : (place count : ℕ) (xs : List Frame) → place < count → AreIn (take 1 (drop place xs)) (take count xs)
 next_in place count xs below frame there =
     let more : Contains (take (place + 1) xs) frame = subst (λ (l : List Frame). Contains l frame) (take_on place xs) (Contains-append_right (take place xs) (take 1 (drop place xs)) frame there) in
     in_front (place + 1) (take count xs) frame (subst (λ (l : List Frame). Contains l frame) (sym (take-take (place + 1) count xs (omega arith))) more)
+
+-- ---- the frame of a reply
+
+abbrev made_of : ℕ → ℕ → ℕ → ℕ → List ℕ → Frame
+made_of version kind client number body = record { version = version; kind = kind; client = client; number = number; body = body }
+
+same_made : (v w k l c d n m : ℕ) (b a : List ℕ) → v ≡ w → k ≡ l → c ≡ d → n ≡ m → b ≡ a → made_of v k c n b ≡ made_of w l d m a
+same_made v w k l c d n m b a p q r s t = cc
+
+-- a request and a reply have one frame for the reply
+pub came_is : (frame came : Frame) (reply : Reply) → IsReplyTo frame came reply → came ≡ reply_to frame reply
+came_is frame came reply is =
+    same_made came.version frame.version came.kind (reply_kind reply) came.client frame.client came.number frame.number came.body (reply_bytes frame.version reply) is.to.version is.spelled.kind_is is.to.client is.to.number
+    (is.spelled.body_is ∙ ap (λ (v : ℕ). reply_bytes v reply) is.to.version)
+
+abbrev known_by : Frame → Frame → Known
+known_by request reply = record { request = request; reply = reply }
+
+same_known : (one other came then : Frame) → one ≡ other → came ≡ then → known_by one came ≡ known_by other then
+same_known one other came then p q = cc
+
+-- why no reply could be read from the frame that came
+body_explains : (known : KnownRequests) (Is : Frame → Type 0) (pieces : List Frame) (facts : List Fact) (events : List Event) (answer : Known) → Is answer.request → EndsIn events (Came answer.reply ∷ []) → (fault : TransferFault) → ExplainsBody fault answer.reply
+    → Explains fault known Is pieces facts events
+body_explains known Is pieces facts events answer there last Memory why = tt
+body_explains known Is pieces facts events answer there last Stranger why = record { frame = answer.request; came = answer.reply; is = there; last = last; no_reply = λ reply is. absurd (why reply is.spelled) }
+body_explains known Is pieces facts events answer there last (Refused refusal) why = absurd why
+body_explains known Is pieces facts events answer there last Broken why = absurd why
+body_explains known Is pieces facts events answer there last Restarted why = absurd why
+body_explains known Is pieces facts events answer there last Busy why = absurd why
 
 module _ {C : Type 0} (does : C → Event → C → Type 0) (known : KnownRequests) where
   -- ---- tries
@@ -169,22 +200,19 @@ module _ {C : Type 0} (does : C → Event → C → Type 0) (known : KnownReques
   fails_in Is Other pieces more fault facts old new in_it in_more fails = fails_on Is Other pieces more fault facts old old new (goes_none does known Other facts old.connection) in_it in_more fails
 
   -- the first frame was refused, and the replies to the others were read
-  pub refused_first : (facts : List Fact) (answer : Known) (refusal : Refusal) (old now new : InFlight C) (takes : Takes does known answer facts old now) → old.waiting.items ≡ answer.request ∷ now.waiting.items
-      → IsTo answer.request answer.reply → ExplainsPiece (Refused refusal) answer.reply → Tries does known (facts_after facts takes.goes.events) now new → new.waiting.items ≡ []
-      → Fails does known (Contains old.waiting.items) (take 1 old.waiting.items) (Refused refusal) facts old new
-  refused_first facts answer refusal old now new takes first to why tries none =
+  pub refused_first : (facts : List Fact) (answer : Known) (fault : TransferFault) (old now new : InFlight C) (takes : Takes does known answer facts old now) → old.waiting.items ≡ answer.request ∷ now.waiting.items
+      → IsTo answer.request answer.reply → ExplainsPiece fault answer.reply → is_refusal fault ≡ true → Tries does known (facts_after facts takes.goes.events) now new → new.waiting.items ≡ []
+      → Fails does known (Contains old.waiting.items) (take 1 old.waiting.items) fault facts old new
+  refused_first facts answer fault old now new takes first to why refused tries none =
       let within : AreIn now.waiting.items old.waiting.items = λ frame there. subst (λ (l : List Frame). Contains l frame) (sym first) (Contains-append_right (answer.request ∷ []) now.waiting.items frame there) in
+      let front : Contains (take 1 old.waiting.items) answer.request = subst (λ (l : List Frame). Contains (take 1 l) answer.request) (sym first) (Contains-push [] answer.request) in
       record {
         none = none;
         stops = record {
           goes = goes_on does known (Contains old.waiting.items) facts old.connection now.connection new.connection takes.goes
               (goes_in does known (Contains now.waiting.items) (Contains old.waiting.items) (facts_after facts takes.goes.events) now.connection new.connection within tries.goes);
-          explained = record {
-            frame = answer.request;
-            is = subst (λ (l : List Frame). Contains (take 1 l) answer.request) (sym first) (Contains-push [] answer.request);
-            answered = answered_before known facts takes.goes.events tries.goes.events answer.request (replies.Refused refusal) (answer_is facts answer old now takes (replies.Refused refusal) to why.0);
-            reason = why.1;
-          };
+          explained = explains_before known (Contains old.waiting.items) (take 1 old.waiting.items) facts takes.goes.events tries.goes.events fault refused
+              (piece_explains facts answer old now takes (take 1 old.waiting.items) front (in_front 1 old.waiting.items answer.request front) to fault why);
         };
         stands_on = subst (λ (l : List Fact). StandsOn known l new) (sym (facts_append facts takes.goes.events tries.goes.events)) tries.stands_on;
       }
@@ -239,17 +267,15 @@ module _ {C : Type 0} (does : C → Event → C → Type 0) (known : KnownReques
 
   -- ---- a reply that is waited for
 
-  module _ (count : ℕ) (frame : Frame) (answer : Known) (facts : List Fact) (old sent settled last : InFlight C) (due : count ≡ length sent.waiting.items - 1)
-      (sends : Sends does known frame facts old sent) (settles : Settles does known (take count sent.waiting.items) (facts_after facts sends.goes.events) sent settled)
-      (left : settled.waiting.items ≡ drop count sent.waiting.items) where
+  module _ (count : ℕ) (frame : Frame) (facts : List Fact) (old sent : InFlight C) (due : count ≡ length sent.waiting.items - 1) (sends : Sends does known frame facts old sent) where
     long : length sends.others ≡ count
     long = omega (arith, due, ap (λ (l : List Frame). length l) sends.behind, length-append sends.others (frame ∷ []))
 
     front : take count sent.waiting.items ≡ sends.others
     front = ap (λ (l : List Frame). take count l) sends.behind ∙ take_at sends.others (frame ∷ []) count long
 
-    end : settled.waiting.items ≡ frame ∷ []
-    end = left ∙ (ap (λ (l : List Frame). drop count l) sends.behind ∙ drop_at sends.others (frame ∷ []) count long)
+    end : drop count sent.waiting.items ≡ frame ∷ []
+    end = ap (λ (l : List Frame). drop count l) sends.behind ∙ drop_at sends.others (frame ∷ []) count long
 
     pub among_sent : (other : Frame) → Contains sent.waiting.items other → IsAmong old.waiting.items frame other
     among_sent other there = elim (Contains-push_cases sends.others frame other (subst (λ (l : List Frame). Contains l other) sends.behind there)) [
@@ -257,60 +283,83 @@ module _ {C : Type 0} (does : C → Event → C → Type 0) (known : KnownReques
       | inr same ↦ inr (sym same)
     ]
 
-    pub among_settled : (other : Frame) → Contains settled.waiting.items other → IsAmong old.waiting.items frame other
-    among_settled other there = among_sent other (in_rest count sent.waiting.items other (subst (λ (l : List Frame). Contains l other) left there))
-
     pub pieces_sent : AreIn (take count sent.waiting.items) old.waiting.items
     pieces_sent other there = subst (λ (l : List Frame). Contains l other) (sym sends.cut) (Contains-append_right sends.settled sends.others other (subst (λ (l : List Frame). Contains l other) front there))
 
-    abbrev pub both_goes : Goes does known (IsAmong old.waiting.items frame) facts old.connection settled.connection
-    both_goes =
-        goes_on does known (IsAmong old.waiting.items frame) facts old.connection sent.connection settled.connection sends.goes
-        (goes_in does known (Contains sent.waiting.items) (IsAmong old.waiting.items frame) (facts_after facts sends.goes.events) sent.connection settled.connection among_sent settles.goes)
+    module _ (settled : InFlight C) (settles : Settles does known (take count sent.waiting.items) (facts_after facts sends.goes.events) sent settled) (left : settled.waiting.items ≡ drop count sent.waiting.items) where
+      pub among_settled : (other : Frame) → Contains settled.waiting.items other → IsAmong old.waiting.items frame other
+      among_settled other there = among_sent other (in_rest count sent.waiting.items other (subst (λ (l : List Frame). Contains l other) left there))
 
-    pub both_stand : (in_flight : InFlight C) → StandsOn known (facts_after (facts_after facts sends.goes.events) settles.goes.events) in_flight → StandsOn known (facts_after facts (sends.goes.events ++ settles.goes.events)) in_flight
-    both_stand in_flight on = subst (λ (l : List Fact). StandsOn known l in_flight) (sym (facts_append facts sends.goes.events settles.goes.events)) on
+      abbrev pub both_goes : Goes does known (IsAmong old.waiting.items frame) facts old.connection settled.connection
+      both_goes =
+          goes_on does known (IsAmong old.waiting.items frame) facts old.connection sent.connection settled.connection sends.goes
+          (goes_in does known (Contains sent.waiting.items) (IsAmong old.waiting.items frame) (facts_after facts sends.goes.events) sent.connection settled.connection among_sent settles.goes)
 
-    module _ (takes : Takes does known answer (facts_after facts (sends.goes.events ++ settles.goes.events)) settled last) (first : settled.waiting.items ≡ answer.request ∷ last.waiting.items) (to : IsTo answer.request answer.reply) where
-      pub its : answer.request ≡ frame
-      its = let same : answer.request ∷ last.waiting.items ≡ frame ∷ [] = sym first ∙ end in cc
+      pub both_stand : StandsOn known (facts_after facts (sends.goes.events ++ settles.goes.events)) settled
+      both_stand = subst (λ (l : List Fact). StandsOn known l settled) (sym (facts_append facts sends.goes.events settles.goes.events)) settles.stands_on
 
-      pub none_left : last.waiting.items ≡ []
-      none_left = let same : answer.request ∷ last.waiting.items ≡ frame ∷ [] = sym first ∙ end in cc
+      module _ (answer : Known) (last : InFlight C) (takes : Takes does known answer (facts_after facts (sends.goes.events ++ settles.goes.events)) settled last) (first : settled.waiting.items ≡ answer.request ∷ last.waiting.items) (to : IsTo answer.request answer.reply) where
+        its : answer.request ≡ frame
+        its = let same : answer.request ∷ last.waiting.items ≡ frame ∷ [] = sym first ∙ (left ∙ end) in cc
 
-      abbrev pub all_goes : Goes does known (IsAmong old.waiting.items frame) facts old.connection last.connection
-      all_goes =
-          goes_on does known (IsAmong old.waiting.items frame) facts old.connection settled.connection last.connection both_goes
-          (goes_in does known (Contains settled.waiting.items) (IsAmong old.waiting.items frame) (facts_after facts (sends.goes.events ++ settles.goes.events)) settled.connection last.connection among_settled takes.goes)
+        abbrev pub all_goes : Goes does known (IsAmong old.waiting.items frame) facts old.connection last.connection
+        all_goes =
+            goes_on does known (IsAmong old.waiting.items frame) facts old.connection settled.connection last.connection both_goes
+            (goes_in does known (Contains settled.waiting.items) (IsAmong old.waiting.items frame) (facts_after facts (sends.goes.events ++ settles.goes.events)) settled.connection last.connection among_settled takes.goes)
 
-      pub all_taken : AllByRecursion (IsTaken known facts ((sends.goes.events ++ settles.goes.events) ++ takes.goes.events)) old.waiting.items
-      all_taken =
-          let Is : Frame → Type 0 = IsTaken known facts (sends.goes.events ++ settles.goes.events) in
-          all_taken_before known facts (sends.goes.events ++ settles.goes.events) takes.goes.events old.waiting.items
-          (subst (λ (l : List Frame). AllByRecursion Is l) (sym sends.cut)
-          (all_append Is sends.settled sends.others (all_taken_before known facts sends.goes.events settles.goes.events sends.settled sends.taken)
-          (all_taken_after known facts sends.goes.events settles.goes.events sends.others
-          (subst (λ (l : List Frame). AllByRecursion (IsTaken known (facts_after facts sends.goes.events) settles.goes.events) l) front settles.taken))))
+        pub all_taken : AllByRecursion (IsTaken known facts ((sends.goes.events ++ settles.goes.events) ++ takes.goes.events)) old.waiting.items
+        all_taken =
+            let Is : Frame → Type 0 = IsTaken known facts (sends.goes.events ++ settles.goes.events) in
+            all_taken_before known facts (sends.goes.events ++ settles.goes.events) takes.goes.events old.waiting.items
+            (subst (λ (l : List Frame). AllByRecursion Is l) (sym sends.cut)
+            (all_append Is sends.settled sends.others (all_taken_before known facts sends.goes.events settles.goes.events sends.settled sends.taken)
+            (all_taken_after known facts sends.goes.events settles.goes.events sends.others
+            (subst (λ (l : List Frame). AllByRecursion (IsTaken known (facts_after facts sends.goes.events) settles.goes.events) l) front settles.taken))))
 
-      pub now_answered : (reply : Reply) → SpellsReply answer.reply.version answer.reply.kind answer.reply.body reply → IsAnswered known facts ((sends.goes.events ++ settles.goes.events) ++ takes.goes.events) frame reply
-      now_answered reply spelled =
-          subst (λ (f : Frame). IsAnswered known facts ((sends.goes.events ++ settles.goes.events) ++ takes.goes.events) f reply) its
-          (answered_after known facts (sends.goes.events ++ settles.goes.events) takes.goes.events answer.request reply
-          (answer_is (facts_after facts (sends.goes.events ++ settles.goes.events)) answer settled last takes reply to spelled))
+        pub now_answered : (reply : Reply) → SpellsReply answer.reply.version answer.reply.kind answer.reply.body reply → IsAnswered known facts ((sends.goes.events ++ settles.goes.events) ++ takes.goes.events) frame reply
+        now_answered reply spelled =
+            subst (λ (f : Frame). IsAnswered known facts ((sends.goes.events ++ settles.goes.events) ++ takes.goes.events) f reply) its
+            (answered_after known facts (sends.goes.events ++ settles.goes.events) takes.goes.events answer.request reply
+            (answer_is (facts_after facts (sends.goes.events ++ settles.goes.events)) answer settled last takes reply to spelled))
 
-      -- why no reply could be read
-      pub body_explains : (fault : TransferFault) → ExplainsBody fault answer.reply → Explains fault known (IsAmong old.waiting.items frame) old.waiting.items facts ((sends.goes.events ++ settles.goes.events) ++ takes.goes.events)
-      body_explains Memory why = tt
-      body_explains Stranger why =
-          let events : List Event = sends.goes.events ++ settles.goes.events in
-          record {
-            frame = answer.request;
-            came = answer.reply;
-            is = inr its;
-            last = (events ++ takes.before, ap (λ (l : List Event). events ++ l) takes.cut ∙ sym (append_assoc events takes.before (Came answer.reply ∷ [])));
-            no_reply = λ reply is. absurd (why reply is.spelled);
-          }
-      body_explains (Refused refusal) why = absurd why
-      body_explains Broken why = absurd why
-      body_explains Restarted why = absurd why
-      body_explains Busy why = absurd why
+        -- what is known then
+        pub now_stands : (reply : Reply) (new : InFlight C) → SpellsReply answer.reply.version answer.reply.kind answer.reply.body reply → new.known ≡ remember_as last.known answer reply → new.stage ≡ last.stage
+            → new.waiting.items ≡ last.waiting.items → StandsOn (remember known frame reply) (facts_after facts ((sends.goes.events ++ settles.goes.events) ++ takes.goes.events)) new
+        now_stands reply new spelled knows same_stage same_waiting =
+            let early : List Event = sends.goes.events ++ settles.goes.events in
+            let then : List Fact = facts_after (facts_after facts early) takes.goes.events in
+            let is : answer.reply ≡ reply_to frame reply = subst (λ (f : Frame). answer.reply ≡ reply_to f reply) its (came_is answer.request answer.reply reply (record { to = to; spelled = spelled })) in
+            let same : answer ≡ known_by frame (reply_to frame reply) = same_known answer.request frame answer.reply (reply_to frame reply) its is in
+            let counts : CountsOn last.stage (remember_as known answer reply) last.waiting.items then = record {
+              written = takes.stands_on.counts.written;
+              vouched = λ stands. vouched_known known then answer reply (takes.stands_on.counts.vouched stands) (repeated_by (facts_after facts early) answer settled last takes);
+            } in
+            subst (λ (l : List Fact). StandsOn (remember known frame reply) l new) (sym (facts_append facts early takes.goes.events))
+            (record {
+              same = knows ∙ (ap (λ (k : KnownRequests). remember_as k answer reply) takes.stands_on.same ∙ ap (λ (a : Known). remember_as known a reply) same);
+              counts = subst (λ (s : Stage). CountsOn s (remember known frame reply) new.waiting.items then) (sym same_stage)
+                  (subst (λ (l : List Frame). CountsOn last.stage (remember known frame reply) l then) (sym same_waiting)
+                  (subst (λ (a : Known). CountsOn last.stage (remember_as known a reply) last.waiting.items then) same counts));
+            })
+
+        -- no reply could be read
+        pub now_fails : (fault : TransferFault) (new : InFlight C) → ExplainsBody fault answer.reply → new.known ≡ last.known → new.stage ≡ last.stage → new.waiting.items ≡ last.waiting.items → new.connection ≡ last.connection → last.waiting.items ≡ []
+            → Fails does known (IsAmong old.waiting.items frame) old.waiting.items fault facts old new
+        now_fails fault new why knows same_stage same_waiting connected none =
+            let early : List Event = sends.goes.events ++ settles.goes.events in
+            let then : List Fact = facts_after (facts_after facts early) takes.goes.events in
+            let counts : CountsOn new.stage known new.waiting.items then =
+            subst (λ (s : Stage). CountsOn s known new.waiting.items then) (sym same_stage) (subst (λ (l : List Frame). CountsOn last.stage known l then) (sym same_waiting) takes.stands_on.counts) in
+            let last_one : EndsIn (early ++ takes.goes.events) (Came answer.reply ∷ []) = ends_after early takes.goes.events (Came answer.reply ∷ []) (takes.before, takes.cut) in
+            record {
+              none = same_waiting ∙ none;
+              stops = record {
+                goes = record {
+                  events = early ++ takes.goes.events;
+                  happened = subst (λ (c : C). GoesOver does old.connection (early ++ takes.goes.events) c) (sym connected) all_goes.happened;
+                  only = all_goes.only;
+                };
+                explained = body_explains known (IsAmong old.waiting.items frame) old.waiting.items facts (early ++ takes.goes.events) answer (inr its) last_one fault why;
+              };
+              stands_on = subst (λ (l : List Fact). StandsOn known l new) (sym (facts_append facts early takes.goes.events)) (record { same = knows ∙ takes.stands_on.same; counts = counts });
+            }

@@ -1,5 +1,5 @@
 -- What each fault says of what happened (this project's own).
-use Rattle.std.specs.Prelude.{◌≡◌, ◌≢◌, ◌⊎◌, ◌≤◌, ◌-◌, ◌^◌, List, [], ◌∷◌, Contains, length}
+use Rattle.std.specs.Prelude.{◌≡◌, ◌≢◌, ◌⊎◌, ◌≤◌, ◌-◌, ◌^◌, Bool, true, false, List, [], ◌∷◌, Contains, length}
 use Rattle.droid_frame.specs.types.frame.Frame.{Frame}
 use Rattle.droid_frame.specs.types.refusal.Refusal.{Refusal}
 use Rattle.droid_frame.specs.types.refusal.Refusal.TheVariants as refusals
@@ -55,6 +55,11 @@ Explains Stranger known Is pieces facts events = IsStranger Is events
 Explains Restarted known Is pieces facts events = IsRestarted known events
 Explains (Refused refusal) known Is pieces facts events = IsRefused known pieces facts events refusal
 Explains Busy known Is pieces facts events = ⊥
+
+-- a piece was refused
+abbrev pub is_refusal : TransferFault → Bool
+is_refusal (Refused refusal) = true
+is_refusal _ = false
 
 -- ---- of single frames
 

@@ -63,6 +63,7 @@ impl<C: Connection> InFlight<C> {
     pub fn send(&mut self, frame: Frame) -> Result<(), TransferFault>
         ensures sent { OnOk result (Wherever self.old (λ known facts. Sends C.does known frame facts self.old self.new)) }
         ensures failed { IfErr result (λ fault. Wherever self.old (λ known facts. Fails C.does known (IsAmong self.old.waiting.items frame) self.old.waiting.items fault facts self.old self.new)) }
+        ensures some { OnOk result (0 < length self.new.waiting.items) }
         ensures none { OnErr result (self.new.waiting.items ≡ []) }
     {
         let count = self.waiting.len().saturating_sub(IN_FLIGHT_LIMIT - 1);
@@ -155,12 +156,12 @@ impl<C: Connection> InFlight<C> {
         let answer = self.take()?;
         match read_taken(self.alloc, answer.reply) {
             Ok(()) => Ok(()),
-            Err(TransferFault::Refused(refusal)) => {
-                self.drain()?;
-                Err(TransferFault::Refused(refusal))
-            }
             Err(fault) => {
-                self.reset();
+                if !fault.is_refusal() {
+                    self.reset();
+                    return Err(fault);
+                }
+                self.drain()?;
                 Err(fault)
             }
         }

@@ -1,6 +1,7 @@
 //! Why a request got no reply.
 
 ghost use Rattle.std.specs.Prelude.{◌≡◌};
+ghost use Rattle.droid_tree_connection.specs.TransferFaults.{is_refusal};
 
 use droid_frame::Refusal;
 use std::alloc::AllocError;
@@ -28,6 +29,18 @@ pub enum TransferFault {
     /// The service has no place for another unfinished file, and the time that may be waited is over.
     #[error("the service has no place for another unfinished file")]
     Busy,
+}
+
+impl TransferFault {
+    /// Returns whether a piece was refused.
+    pub(crate) fn is_refusal(self) -> bool
+        ensures { result ≡ is_refusal self }
+    {
+        match self {
+            TransferFault::Refused(_) => true,
+            _ => false,
+        }
+    }
 }
 
 impl From<AllocError> for TransferFault {

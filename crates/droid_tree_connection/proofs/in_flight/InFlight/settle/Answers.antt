@@ -1,7 +1,8 @@
-use Rattle.std.proofs.Common.{◌≡◌, ◌+◌, ◌-◌, ◌<◌, List, Contains, drop, take, length, refl, ap, subst, ◌∙◌, length-drop, arith}
+use Rattle.std.proofs.Common.{◌≡◌, ◌+◌, ◌-◌, ◌<◌, ℕ, List, Contains, drop, take, length, refl, ap, subst, ◌∙◌, length-drop, arith}
 use Rattle.std.proofs.lemmas.List.{drop-drop}
 use Rattle.std.proofs.lemmas.Result.{err_from_is_err_and}
 use Rattle.droid_frame.specs.types.frame.Frame.{Frame}
+use Rattle.droid_tree_connection.specs.Calls.{Settles}
 use Rattle.droid_tree_connection.specs.Events.{facts_after}
 use Rattle.droid_tree_connection.proofs.Counting.{in_rest}
 use Rattle.droid_tree_connection.proofs.Waiting.{fails_on, next_in, settles_more, settles_none}
@@ -33,3 +34,8 @@ returns-in_err-settle_first-clause-failed g c =
         (λ frame there. in_rest c.loop.counter waiting frame (subst (λ (l : List Frame). Contains l frame) left there))
         (λ frame there. next_in c.loop.counter c.args.count waiting (omega arith) frame (subst (λ (l : List Frame). Contains (take 1 l) frame) left there))
         (c.in_err-settle_first.ensures.failed known (facts_after facts settles.goes.events) settles.stands_on))
+
+pub returns-clause-settled : goal.returns-clause-settled
+returns-clause-settled g c = λ known facts on.
+    let all : c.loop.counter ≡ c.args.count = omega arith in
+    subst (λ (n : ℕ). Settles g.C.Connection.does known (take n c.args.self.now.waiting.items) facts c.args.self.now c.loop.self) all (c.loop.invariant.settles known facts on)

@@ -3,6 +3,7 @@ use Rattle.std.proofs.lemmas.List.Elements.{Contains-append_right}
 use Rattle.std.proofs.lemmas.Bool.{false≢true}
 use Rattle.droid_frame.specs.types.frame.Frame.{Frame}
 use Rattle.droid_tree_connection.specs.Stages.{AreIn}
+use Rattle.droid_tree_connection.specs.declared.known_requests.Known.{Known}
 use Rattle.droid_tree_connection.proofs.Waiting.{takes_counts, takes_goes}
 use Rattle.droid_tree_connection.proofs.in_flight.InFlight.take_front.Goals as goal
 
@@ -12,7 +13,7 @@ returns-clause-first g c = sym c.receive.ensures.same ∙ c.in-Some.ensures.item
 pub returns-clause-taken : goal.returns-clause-taken
 returns-clause-taken g c = λ known facts on.
     let old = c.args.self.now in
-    let answer = record { request = c.in-Some.oldest; reply = c.in_ok-came.came } in
+    let answer : Known = record { request = c.in-Some.oldest; reply = c.in_ok-came.came } in
     let rest = c.pop_front.new.self.items in
     let hears = c.in_ok-came.ensures.heard known facts on in
     let first : old.waiting.items ≡ c.in-Some.oldest ∷ rest = sym c.receive.ensures.same ∙ c.in-Some.ensures.items in
@@ -35,7 +36,7 @@ returns-in_default-clause-stopped g c = λ known facts on.
 pub returns-then-not-is_to-clause-stopped : goal.returns-then-not-is_to-clause-stopped
 returns-then-not-is_to-clause-stopped g c = λ known facts on.
     let old = c.args.self.now in
-    let answer = record { request = c.in-Some.oldest; reply = c.in_ok-came.came } in
+    let answer : Known = record { request = c.in-Some.oldest; reply = c.in_ok-came.came } in
     let rest = c.pop_front.new.self.items in
     let hears = c.in_ok-came.ensures.heard known facts on in
     let first : old.waiting.items ≡ c.in-Some.oldest ∷ rest = sym c.receive.ensures.same ∙ c.in-Some.ensures.items in
