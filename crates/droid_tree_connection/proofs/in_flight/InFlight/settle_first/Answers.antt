@@ -25,7 +25,7 @@ pub returns-clause-failed : goal.returns-clause-failed
 returns-clause-failed g c = λ known facts on.
     let takes = c.in_ok-answer.ensures.taken known facts on in
     refused_first g.C.Connection.does known facts c.in_ok-answer.answer c.in-Err.fault c.args.self.now c.take.new.self c.drain.new.self takes c.in_ok-answer.ensures.first c.in_ok-answer.ensures.to c.in-Err.ensures.fault
-    (sym c.is_refusal.ensures ∙ c.if-not-is_refusal.false) (c.in_ok-drain.ensures.drained known (facts_after facts takes.goes.events) takes.stands_on) c.drain.ensures.none
+    (sym c.is_refusal.ensures ∙ c.if-not-is_refusal.false) (c.in_ok-drain-in-Err.ensures.drained known (facts_after facts takes.goes.events) takes.stands_on) c.drain.ensures.none
 
 pub returns-in_err-drain-in-Err-clause-failed : goal.returns-in_err-drain-in-Err-clause-failed
 returns-in_err-drain-in-Err-clause-failed g c =
