@@ -1,14 +1,13 @@
 -- Which frames in flight count as written, and what they count on.
-use Rattle.std.proofs.Common.{◌≡◌, ◌<◌, ℕ, suc, zero, ◌+◌, Bool, true, false, cond, List, [], ◌∷◌, ◌++◌, Contains, take, drop, length, get_or, Option, Some, None, inl, inr, refl, sym, ap, subst, ◌∙◌, append-nil, add-one, arith}
+use Rattle.std.proofs.Common.{◌≡◌, ◌<◌, ℕ, suc, zero, ◌+◌, Bool, true, false, cond, List, [], ◌∷◌, ◌++◌, Contains, take, drop, length, get_or, Some, inl, inr, refl, sym, ap, subst, ◌∙◌, add-one, arith}
 use Rattle.std.proofs.lemmas.List.{take_more, take-append-drop}
 use Rattle.std.proofs.lemmas.List.Elements.{Contains-append_left, Contains-append_right, Contains-push, Contains-push_cases}
 use Rattle.droid_frame.specs.types.frame.Frame.{Frame}
 use Rattle.droid_frame.specs.types.reply.Reply.{Reply}
 use Rattle.droid_frame.specs.types.reply.Reply.TheVariants.{Made, Node, Taken, Finished, Abandoned, Progress, Part, Refused}
 use Rattle.droid_tree_connection.specs.Events.{Fact, Written, Received}
-use Rattle.droid_tree_connection.specs.Stages.{AreIn, CountsOn, HasFirst, Stands, counted}
-use Rattle.droid_tree_connection.specs.Vouching.{IsKnown, IsRepeated, IsVouched, adds_node, remember_as}
-use Rattle.droid_tree_connection.specs.declared.connection_steps.Stage.{Stage}
+use Rattle.droid_tree_connection.specs.Stages.{AreIn, CountsOn, HasFirst, counted}
+use Rattle.droid_tree_connection.specs.Vouching.{IsRepeated, IsVouched, adds_node, remember_as}
 use Rattle.droid_tree_connection.specs.declared.connection_steps.Stage.TheVariants.{Nowhere, First, Answered, All}
 use Rattle.droid_tree_connection.specs.declared.known_requests.Known.{Known}
 use Rattle.droid_tree_connection.specs.declared.known_requests.KnownRequests.{KnownRequests}

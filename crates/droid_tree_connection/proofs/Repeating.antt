@@ -1,16 +1,16 @@
 -- A known request that was written again.
-use Rattle.std.proofs.Common.{◌≡◌, ◌++◌, ◌∷◌, [], true, List, Contains, Option, Some, inl, inr, refl, sym, subst}
+use Rattle.std.proofs.Common.{◌≡◌, ◌++◌, ◌∷◌, [], true, List, Contains, Some, inl, inr, refl, sym, subst}
 use Rattle.std.proofs.lemmas.List.Elements.{Contains-append_left, Contains-push}
 use Rattle.droid_frame.specs.types.frame.Frame.{Frame}
 use Rattle.droid_tree_connection.specs.Events.{Event, Fact, Written, Received, facts_after}
-use Rattle.droid_tree_connection.specs.Moves.{Goes, Repeats}
+use Rattle.droid_tree_connection.specs.Moves.{Repeats}
 use Rattle.droid_tree_connection.specs.TransferFaults.{Explains, IsLost, IsRestarted}
 use Rattle.droid_tree_connection.specs.Vouching.{IsRepeated, IsVouched}
 use Rattle.droid_tree_connection.specs.declared.known_requests.Known.{Known}
 use Rattle.droid_tree_connection.specs.declared.known_requests.KnownRequests.{KnownRequests}
 use Rattle.droid_tree_connection.specs.declared.transfer_fault.TransferFault.{TransferFault}
 use Rattle.droid_tree_connection.specs.declared.transfer_fault.TransferFault.TheVariants.{Memory, Broken, Stranger, Restarted, Refused, Busy}
-use Rattle.droid_tree_connection.proofs.Going.{facts_append, goes_on}
+use Rattle.droid_tree_connection.proofs.Going.{facts_append}
 
 pub kept_both : (facts : List Fact) (request came : Frame) (fact : Fact) → Contains facts fact → Contains ((facts ++ Written request ∷ []) ++ Received came ∷ []) fact
 kept_both facts request came fact there = Contains-append_left (facts ++ Written request ∷ []) (Received came ∷ []) fact (Contains-append_left facts (Written request ∷ []) fact there)

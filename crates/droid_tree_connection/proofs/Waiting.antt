@@ -1,16 +1,15 @@
 -- The frames in flight, and the replies to them.
-use Rattle.std.proofs.Common.{◌≡◌, ◌<◌, ◌≤◌, ℕ, ◌+◌, ◌-◌, Bool, true, List, [], ◌∷◌, ◌++◌, Contains, take, drop, length, inl, inr, refl, sym, ap, subst, ◌∙◌, append-nil, append_assoc, length-append, length-drop, arith}
+use Rattle.std.proofs.Common.{◌≡◌, ◌<◌, ◌≤◌, ℕ, ◌+◌, ◌-◌, true, List, [], ◌∷◌, ◌++◌, Contains, take, drop, length, inl, inr, sym, ap, subst, ◌∙◌, length-append, length-drop, arith}
 use Rattle.std.specs.List.{AllByRecursion}
-use Rattle.std.proofs.lemmas.List.{drop-drop, drop_at, take-append-drop, take-take, take_at}
+use Rattle.std.proofs.lemmas.List.{drop_at, take-append-drop, take-take, take_at}
 use Rattle.std.proofs.lemmas.List.Elements.{Contains-append_left, Contains-append_right, Contains-push, Contains-push_cases}
 use Rattle.droid_frame.specs.types.frame.Frame.{Frame}
-use Rattle.droid_frame.specs.types.refusal.Refusal.{Refusal}
 use Rattle.droid_frame.specs.types.reply.Reply.{Reply}
 use Rattle.droid_frame.specs.types.reply.Reply.TheVariants as replies
 use Rattle.droid_frame.specs.Replies.{SpellsReply, reply_bytes, reply_kind}
 use Rattle.droid_tree_connection.specs.Answering.{IsAnswered, IsReplyTo, IsTaken, IsTo}
 use Rattle.droid_tree_connection.specs.Chains.{GoesOver}
-use Rattle.droid_tree_connection.specs.Calls.{EndsAll, Fails, Hears, IsAmong, Puts, Sends, Settles, Takes, Tries, Waited, Waits}
+use Rattle.droid_tree_connection.specs.Calls.{Fails, Hears, IsAmong, Puts, Sends, Settles, Takes, Tries, Waited}
 use Rattle.droid_tree_connection.specs.Events.{Event, Came, Lost, Paused, Started, EndsIn, Fact, Written, Received, facts_after}
 use Rattle.droid_tree_connection.specs.Moves.{Goes, Moves, ReadsNothing, Stops}
 use Rattle.droid_tree_connection.specs.Stages.{AreIn, CountsOn, HasFirst, StandsOn, counted}
@@ -24,7 +23,7 @@ use Rattle.droid_tree_connection.specs.declared.known_requests.KnownRequests.{Kn
 use Rattle.droid_tree_connection.specs.declared.transfer_fault.TransferFault.{TransferFault}
 use Rattle.droid_tree_connection.specs.declared.transfer_fault.TransferFault.TheVariants.{Memory, Broken, Stranger, Restarted, Refused, Busy}
 use Rattle.droid_tree_connection.proofs.Counting.{counts_nowhere, in_front, in_rest, take_on, vouched_known, vouched_more}
-use Rattle.droid_tree_connection.proofs.Going.{all_append, all_taken_after, all_taken_before, answered_after, answered_before, ends_after, explains_after, explains_before, facts_append, goes_in, goes_none, goes_on, goes_one, moves_on, stops_on}
+use Rattle.droid_tree_connection.proofs.Going.{all_append, all_taken_after, all_taken_before, answered_after, ends_after, explains_after, explains_before, facts_append, goes_in, goes_none, goes_on, goes_one, moves_on, stops_on}
 
 -- the next frame is among the first so many
 pub next_in : (place count : ℕ) (xs : List Frame) → place < count → AreIn (take 1 (drop place xs)) (take count xs)
@@ -96,8 +95,7 @@ module _ {C : Type 0} (does : C → Event → C → Type 0) (known : KnownReques
       → ((then : List Fact) → StandsOn known then paused → Tries does known then paused new) → (later : Tries does known facts old new) × (count + 1 ≤ length later.goes.events)
   tries_again count facts old now paused new tries many same waited again =
       let rested : Tries does known facts old paused = tries_paused facts old now paused tries same waited in
-      let last = again (facts_after facts (tries.goes.events ++ Paused ∷ [])) rested.stands_on in
-      (
+      let last = again (facts_after facts (tries.goes.events ++ Paused ∷ [])) rested.stands_on in (
         tries_on facts old paused new rested last.goes last.stands_on (λ frame there. subst (λ (l : List Frame). Contains l frame) (waited.same_waiting ∙ same) there),
         omega (arith, many, length-append (tries.goes.events ++ Paused ∷ []) last.goes.events, length-append tries.goes.events (Paused ∷ [])),
       )

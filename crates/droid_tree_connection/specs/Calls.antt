@@ -1,10 +1,10 @@
 -- What the calls of `InFlight` do. Each speaks of the requests that are known and the facts that stand before it, so
 -- that calls compose without a history: a fresh `InFlight` begins with `nothing_known` and no facts.
-use Rattle.std.specs.Prelude.{◌≡◌, ◌⊎◌, ℕ, ◌≤◌, List, [], ◌∷◌, ◌++◌, Contains, length}
+use Rattle.std.specs.Prelude.{◌≡◌, ◌⊎◌, ◌≤◌, List, [], ◌∷◌, ◌++◌, Contains, length}
 use Rattle.std.specs.List.{AllByRecursion}
 use Rattle.droid_frame.specs.types.frame.Frame.{Frame}
 use Rattle.droid_frame.specs.types.reply.Reply.{Reply}
-use Rattle.droid_tree_connection.specs.Answering.{IsAnswered, IsTaken, IsTo}
+use Rattle.droid_tree_connection.specs.Answering.{IsAnswered, IsTaken}
 use Rattle.droid_tree_connection.specs.Events.{Event, Came, Fact, Written, facts_after}
 use Rattle.droid_tree_connection.specs.Moves.{Goes, Moves, Stops}
 use Rattle.droid_tree_connection.specs.Stages.{AreIn, HasFirst, Stands, StandsOn, counted}

@@ -12,7 +12,9 @@ use std::alloc::Global;
 
 /// The kinds of CreateProfile, AddFolder and AddFile.
 const CREATE_PROFILE: u8 = 1;
+
 const ADD_FOLDER: u8 = 2;
+
 const ADD_FILE: u8 = 3;
 
 /// A request that the service accepted, and its reply. The service keeps the reply, and repeats it when the request

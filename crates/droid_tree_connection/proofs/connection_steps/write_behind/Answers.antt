@@ -1,4 +1,4 @@
-use Rattle.std.proofs.Common.{◌≡◌, ◌++◌, ◌∷◌, [], List, ℕ, Bool, nat_eq, length, inr, refl, sym, ap, ◌∙◌, arith}
+use Rattle.std.proofs.Common.{◌≡◌, ◌++◌, ◌∷◌, [], List, ℕ, nat_eq, length, inr, refl, sym, ap, ◌∙◌, arith}
 use Rattle.std.proofs.lemmas.Bool.{false≢true}
 use Rattle.droid_frame.specs.types.frame.Frame.{Frame}
 use Rattle.droid_tree_connection.specs.Events.{Cut, Sent}
@@ -26,7 +26,7 @@ returns-else-is_empty g c =
     (λ known facts counts. moves_none g.C.Connection.does known (λ other. other ≡ c.args.frame.now) facts First (waiting.items ++ c.args.frame.now ∷ []) _
     (counts_behind known waiting.items (c.args.frame.now ∷ []) facts
     (λ none. let empty : waiting.len ≡ 0 = omega (arith, waiting.ok.0, ap (λ (l : List Frame). length l) none) in
-        false≢true (sym c.if-is_empty.false ∙ (c.is_empty.ensures ∙ ap (λ (n : ℕ). nat_eq n 0) empty)))
+    false≢true (sym c.if-is_empty.false ∙ (c.is_empty.ensures ∙ ap (λ (n : ℕ). nat_eq n 0) empty)))
     counts))
 
 pub returns-in-Answered : goal.returns-in-Answered

@@ -1,11 +1,11 @@
-use Rattle.std.proofs.Common.{◌≡◌, ◌+◌, ◌++◌, ◌∷◌, [], List, Contains, take, length, inr, refl, sym, subst, arith}
+use Rattle.std.proofs.Common.{◌≡◌, ◌+◌, ◌++◌, ◌∷◌, [], List, Contains, take, inr, refl, subst, arith}
 use Rattle.std.proofs.lemmas.List.{take_all}
 use Rattle.droid_frame.specs.types.frame.Frame.{Frame}
 use Rattle.droid_tree_connection.specs.Events.{Cut, Sent, facts_after}
 use Rattle.droid_tree_connection.specs.Moves.{Moves}
 use Rattle.droid_tree_connection.specs.declared.connection_steps.Stage.TheVariants.{Nowhere, All}
 use Rattle.droid_tree_connection.proofs.Counting.{among, counts_fewer, counts_none, counts_nowhere, counts_sent, first_all, one_more}
-use Rattle.droid_tree_connection.proofs.Going.{goes_none, moves_none, moves_on, moves_one}
+use Rattle.droid_tree_connection.proofs.Going.{moves_none, moves_on, moves_one}
 use Rattle.droid_tree_connection.proofs.connection_steps.write_waiting.Goals as goal
 
 pub loop-index-init : goal.loop-index-init

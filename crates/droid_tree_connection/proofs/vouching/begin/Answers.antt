@@ -1,13 +1,13 @@
-use Rattle.std.proofs.Common.{◌≡◌, [], List, Contains}
+use Rattle.std.proofs.Common.{[], Contains}
 use Rattle.std.proofs.lemmas.Result.{err_from_is_err_and}
-use Rattle.droid_tree_connection.specs.Events.{Joined, Alone, Fact, facts_after}
+use Rattle.droid_tree_connection.specs.Events.{Joined, Alone}
 use Rattle.droid_tree_connection.specs.declared.connection_steps.Stage.TheVariants.{Nowhere}
 use Rattle.droid_tree_connection.proofs.Counting.{counts_nowhere}
 use Rattle.droid_tree_connection.proofs.Going.{goes_one, moves_on, moves_one, stops_on}
 use Rattle.droid_tree_connection.proofs.vouching.begin.Goals as goal
 
 pub returns-in_err-stage-in-Ok-clause-stopped : goal.returns-in_err-stage-in-Ok-clause-stopped
-returns-in_err-stage-in-Ok-clause-stopped g c = 
+returns-in_err-stage-in-Ok-clause-stopped g c =
     let passed = err_from_is_err_and c.from_residual.result c.from_residual.ensures.1 in
     let known = c.args.known.now in
     let waiting = c.args.waiting.now.items in

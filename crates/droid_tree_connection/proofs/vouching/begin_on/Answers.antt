@@ -1,8 +1,6 @@
-use Rattle.std.proofs.Common.{◌≡◌, ◌++◌, [], Bool, true, false, List, Contains, inl, inr, sym, subst}
+use Rattle.std.proofs.Common.{◌++◌, Contains, inl, inr}
 use Rattle.std.proofs.lemmas.Result.{err_from_is_err_and}
-use Rattle.droid_tree_connection.specs.Events.{Fact, facts_after}
-use Rattle.droid_tree_connection.specs.Moves.{Repeats}
-use Rattle.droid_tree_connection.specs.declared.connection_steps.Stage.TheVariants.{Nowhere}
+use Rattle.droid_tree_connection.specs.Events.{facts_after}
 use Rattle.droid_tree_connection.proofs.Counting.{counts_nowhere}
 use Rattle.droid_tree_connection.proofs.Going.{goes_on, moves_on, stops_on}
 use Rattle.droid_tree_connection.proofs.Repeating.{vouched_both}
@@ -16,13 +14,13 @@ returns-then-not-stands-clause-moves g c = λ facts.
     record { goes = first.goes; counts = counts_nowhere known waiting (facts_after facts first.goes.events) }
 
 pub returns-in_err-vouched-clause-stopped : goal.returns-in_err-vouched-clause-stopped
-returns-in_err-vouched-clause-stopped g c = 
+returns-in_err-vouched-clause-stopped g c =
     let passed = err_from_is_err_and c.from_residual-in_err-vouched.result c.from_residual-in_err-vouched.ensures.1 in
     let known = c.args.known.now in
     let waiting = c.args.waiting.now.items in
     rw (passed.1, passed.2)
     (λ facts. let first = c.in_ok-stands.ensures.repeated known waiting facts (λ one is. inl is) in
-        stops_on g.C.Connection.does known (Contains waiting) _ facts _ _ _ first.goes (c.in_err-vouched.ensures.stopped known waiting (facts_after facts first.goes.events) (λ one is. inr is)))
+    stops_on g.C.Connection.does known (Contains waiting) _ facts _ _ _ first.goes (c.in_err-vouched.ensures.stopped known waiting (facts_after facts first.goes.events) (λ one is. inr is)))
 
 pub returns-then-not-vouched-clause-moves : goal.returns-then-not-vouched-clause-moves
 returns-then-not-vouched-clause-moves g c = λ facts.

@@ -1,9 +1,6 @@
-use Rattle.std.proofs.Common.{◌≡◌, ◌++◌, ◌∷◌, [], List, Contains, Option, Some, None, inl, refl, sym, ◌∙◌, subst}
+use Rattle.std.proofs.Common.{◌≡◌, ◌++◌, ◌∷◌, [], Contains, None, inl, refl, sym, ◌∙◌}
 use Rattle.std.proofs.lemmas.Bool.{false≢true}
-use Rattle.droid_frame.specs.types.frame.Frame.{Frame}
-use Rattle.droid_tree_connection.specs.Events.{Cut, Sent, Came, Lost, Fact, Written}
-use Rattle.droid_tree_connection.specs.Vouching.{IsRepeated}
-use Rattle.droid_tree_connection.specs.declared.known_requests.Known.{Known}
+use Rattle.droid_tree_connection.specs.Events.{Cut, Sent, Came, Lost, Written}
 use Rattle.droid_tree_connection.proofs.Going.{goes_none, goes_on, goes_one}
 use Rattle.droid_tree_connection.proofs.Repeating.{explains_lost, kept_both, repeated_now}
 use Rattle.droid_tree_connection.proofs.vouching.repeat.Goals as goal

@@ -1,4 +1,4 @@
-use Rattle.std.proofs.Common.{◌≡◌, [], Contains, inr, refl}
+use Rattle.std.proofs.Common.{[], Contains, inr, refl}
 use Rattle.droid_tree_connection.specs.Events.{Cut, Sent}
 use Rattle.droid_tree_connection.specs.declared.connection_steps.Stage.TheVariants.{Nowhere, First, Answered}
 use Rattle.droid_tree_connection.proofs.Counting.{among, counts_answered, counts_first, counts_nowhere}

@@ -1,4 +1,4 @@
-use Rattle.std.proofs.Common.{◌≡◌, ◌-◌, ◌+◌, ◌++◌, ◌∷◌, List, [], Contains, drop, take, length, refl, ap, length-drop, arith}
+use Rattle.std.proofs.Common.{◌≡◌, ◌-◌, ◌++◌, List, [], Contains, take, length, refl, ap, length-drop, arith}
 use Rattle.std.proofs.lemmas.List.{nil_from_length}
 use Rattle.std.proofs.lemmas.Result.{err_from_is_err_and}
 use Rattle.droid_frame.specs.types.frame.Frame.{Frame}
@@ -25,9 +25,9 @@ returns-in_err-settle-clause-failed g c =
     let due : count ≡ length sent.waiting.items - 1 = omega (arith, c.saturating_sub-count.ensures, c.len.ensures, sent.waiting.ok.0) in
     rw (passed.1, passed.2)
     (λ known facts on. let sends = c.in_ok-send.ensures.sent known facts on in
-        fails_on g.C.Connection.does known (Contains sent.waiting.items) (IsAmong old.waiting.items frame) (take count sent.waiting.items) old.waiting.items _ facts old sent _ sends.goes
-        (among_sent g.C.Connection.does known count frame facts old sent due sends) (pieces_sent g.C.Connection.does known count frame facts old sent due sends)
-        (c.in_err-settle.ensures.failed known (facts_after facts sends.goes.events) sends.stands_on))
+    fails_on g.C.Connection.does known (Contains sent.waiting.items) (IsAmong old.waiting.items frame) (take count sent.waiting.items) old.waiting.items _ facts old sent _ sends.goes
+    (among_sent g.C.Connection.does known count frame facts old sent due sends) (pieces_sent g.C.Connection.does known count frame facts old sent due sends)
+    (c.in_err-settle.ensures.failed known (facts_after facts sends.goes.events) sends.stands_on))
 
 pub returns-in_err-answer-clause-failed : goal.returns-in_err-answer-clause-failed
 returns-in_err-answer-clause-failed g c =
@@ -41,11 +41,11 @@ returns-in_err-answer-clause-failed g c =
     let due : count ≡ length sent.waiting.items - 1 = omega (arith, c.saturating_sub-count.ensures, c.len.ensures, sent.waiting.ok.0) in
     rw (passed.1, passed.2)
     (λ known facts on. let sends = c.in_ok-send.ensures.sent known facts on in
-        let settles = c.in_ok-settle.ensures.settled known (facts_after facts sends.goes.events) sends.stands_on in
-        fails_on g.C.Connection.does known (Contains settled.waiting.items) (IsAmong old.waiting.items frame) [] old.waiting.items _ facts old settled _
-        (both_goes g.C.Connection.does known count frame facts old sent due sends settled settles left)
-        (among_settled g.C.Connection.does known count frame facts old sent due sends settled settles left) (none_in old.waiting.items)
-        (c.in_err-answer.ensures.failed known (facts_after facts (sends.goes.events ++ settles.goes.events)) (both_stand g.C.Connection.does known count frame facts old sent due sends settled settles left)))
+    let settles = c.in_ok-settle.ensures.settled known (facts_after facts sends.goes.events) sends.stands_on in
+    fails_on g.C.Connection.does known (Contains settled.waiting.items) (IsAmong old.waiting.items frame) [] old.waiting.items _ facts old settled _
+    (both_goes g.C.Connection.does known count frame facts old sent due sends settled settles left)
+    (among_settled g.C.Connection.does known count frame facts old sent due sends settled settles left) (none_in old.waiting.items)
+    (c.in_err-answer.ensures.failed known (facts_after facts (sends.goes.events ++ settles.goes.events)) (both_stand g.C.Connection.does known count frame facts old sent due sends settled settles left)))
 
 pub returns-in_err-reply-clause-failed : goal.returns-in_err-reply-clause-failed
 returns-in_err-reply-clause-failed g c =
@@ -63,11 +63,11 @@ returns-in_err-reply-clause-failed g c =
     nil_from_length last.waiting.items (omega (arith, due, c.in_ok-send.ensures.some, ap (λ (l : List Frame). length l) left, ap (λ (l : List Frame). length l) first, length-drop count sent.waiting.items)) in
     rw (passed.1, passed.2)
     (λ known facts on. let sends = c.in_ok-send.ensures.sent known facts on in
-        let settles = c.in_ok-settle.ensures.settled known (facts_after facts sends.goes.events) sends.stands_on in
-        let both = both_stand g.C.Connection.does known count frame facts old sent due sends settled settles left in
-        let takes = c.in_ok-answer.ensures.taken known (facts_after facts (sends.goes.events ++ settles.goes.events)) both in
-        now_fails g.C.Connection.does known count frame facts old sent due sends settled settles left c.in_ok-answer.answer last takes first c.in_ok-answer.ensures.to _ _ c.in_err-reply.ensures.fault c.in_err-reply.ensures.same refl refl refl
-        nothing)
+    let settles = c.in_ok-settle.ensures.settled known (facts_after facts sends.goes.events) sends.stands_on in
+    let both = both_stand g.C.Connection.does known count frame facts old sent due sends settled settles left in
+    let takes = c.in_ok-answer.ensures.taken known (facts_after facts (sends.goes.events ++ settles.goes.events)) both in
+    now_fails g.C.Connection.does known count frame facts old sent due sends settled settles left c.in_ok-answer.answer last takes first c.in_ok-answer.ensures.to _ _ c.in_err-reply.ensures.fault c.in_err-reply.ensures.same refl refl refl
+    nothing)
 
 pub returns-in_err-reply-clause-none : goal.returns-in_err-reply-clause-none
 returns-in_err-reply-clause-none g c =

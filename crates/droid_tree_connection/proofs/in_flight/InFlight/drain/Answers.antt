@@ -1,4 +1,4 @@
-use Rattle.std.proofs.Common.{◌≡◌, ◌+◌, ◌∷◌, [], List, Contains, length, refl, sym, ap, subst, arith}
+use Rattle.std.proofs.Common.{◌∷◌, [], List, Contains, length, sym, ap, subst, arith}
 use Rattle.std.proofs.lemmas.List.{nil_from_length}
 use Rattle.std.proofs.lemmas.List.Elements.{Contains-append_right}
 use Rattle.std.proofs.lemmas.Result.{err_from_is_err_and}
@@ -36,5 +36,5 @@ returns-in_err-take-clause-failed g c =
     let passed = err_from_is_err_and c.from_residual.result c.from_residual.ensures.1 in
     rw (passed.1, passed.2)
     (λ known facts on. let tries = c.loop.invariant.tries known facts on in
-        fails_on g.C.Connection.does known (Contains c.loop.self.waiting.items) (Contains c.args.self.now.waiting.items) [] [] _ facts _ _ _ tries.goes c.loop.invariant.within (λ frame there. there)
-        (c.in_err-take.ensures.failed known (facts_after facts tries.goes.events) tries.stands_on))
+    fails_on g.C.Connection.does known (Contains c.loop.self.waiting.items) (Contains c.args.self.now.waiting.items) [] [] _ facts _ _ _ tries.goes c.loop.invariant.within (λ frame there. there)
+    (c.in_err-take.ensures.failed known (facts_after facts tries.goes.events) tries.stands_on))

@@ -1,4 +1,4 @@
-use Rattle.std.proofs.Common.{◌≡◌, ◌++◌, List, Contains, sym, subst}
+use Rattle.std.proofs.Common.{◌++◌, Contains, sym, subst}
 use Rattle.droid_tree_connection.specs.Events.{facts_after}
 use Rattle.droid_tree_connection.specs.Moves.{Moves}
 use Rattle.droid_tree_connection.specs.Stages.{CountsOn}
@@ -29,7 +29,7 @@ returns-in-None-clause-read g c = λ known facts on.
     let old = c.args.self.now in
     let waiting = old.waiting.items in
     let moves = subst (λ (k : KnownRequests). Moves g.C.Connection.does k (Contains waiting) facts c.in_ok-stage.stage waiting old.connection c.write_ahead.new.connection) on.same
-        (c.in_ok-stage.ensures.moves facts (subst (λ (k : KnownRequests). CountsOn old.stage k waiting facts) (sym on.same) on.counts)) in
+    (c.in_ok-stage.ensures.moves facts (subst (λ (k : KnownRequests). CountsOn old.stage k waiting facts) (sym on.same) on.counts)) in
     let nothing = reads_nothing g.C.Connection.does known (Contains waiting) (facts_after facts moves.goes.events) _ _ c.in-None.ensures in
     record {
       goes = goes_on g.C.Connection.does known (Contains waiting) facts _ _ _ moves.goes nothing;

@@ -1,6 +1,5 @@
-use Rattle.std.proofs.Common.{◌≡◌, ◌++◌, ◌∷◌, [], Contains, ◌∙◌}
+use Rattle.std.proofs.Common.{◌++◌, ◌∷◌, [], ◌∙◌}
 use Rattle.std.proofs.lemmas.Result.{err_from_is_err_and}
-use Rattle.droid_tree_connection.specs.Calls.{Tries}
 use Rattle.droid_tree_connection.specs.Events.{Started, facts_after}
 use Rattle.droid_tree_connection.proofs.Waiting.{hears_on, stops_later, tries_started}
 use Rattle.droid_tree_connection.proofs.in_flight.InFlight.receive.Goals as goal
@@ -26,9 +25,9 @@ returns-in_err-frame-clause-stopped g c =
     let passed = err_from_is_err_and c.from_residual-in_err-frame.result c.from_residual-in_err-frame.ensures.1 in
     rw (passed.1, passed.2)
     (λ known facts on. let tries = rw c.in-None.is at c.in_ok-first.ensures.read known facts on in
-        let rested = tries_started g.C.Connection.does known facts _ _ _ tries c.read_once.ensures.same c.start_wait.ensures in
-        stops_later g.C.Connection.does known _ facts _ _ _ rested (c.start_wait.ensures.same_waiting ∙ c.read_once.ensures.same)
-        (c.in_err-frame.ensures.stopped known (facts_after facts (tries.goes.events ++ Started ∷ [])) rested.stands_on))
+    let rested = tries_started g.C.Connection.does known facts _ _ _ tries c.read_once.ensures.same c.start_wait.ensures in
+    stops_later g.C.Connection.does known _ facts _ _ _ rested (c.start_wait.ensures.same_waiting ∙ c.read_once.ensures.same)
+    (c.in_err-frame.ensures.stopped known (facts_after facts (tries.goes.events ++ Started ∷ [])) rested.stands_on))
 
 pub returns-in_err-frame-clause-same : goal.returns-in_err-frame-clause-same
 returns-in_err-frame-clause-same g c = c.receive_later.ensures.same ∙ (c.start_wait.ensures.same_waiting ∙ c.read_once.ensures.same)

@@ -1,4 +1,4 @@
-use Rattle.std.proofs.Common.{◌≡◌, ◌≤◌, ◌-◌, ◌^◌, ◌++◌, ◌∷◌, [], Contains, length, inl, inr, refl, ◌∙◌, arith}
+use Rattle.std.proofs.Common.{◌≤◌, ◌++◌, ◌∷◌, [], Contains, length, inl, inr, refl, ◌∙◌, arith}
 use Rattle.std.proofs.lemmas.Result.{err_from_is_err_and}
 use Rattle.droid_tree_connection.specs.Events.{Expired, Paused, facts_after}
 use Rattle.droid_tree_connection.proofs.Going.{goes_on, goes_one}
@@ -51,9 +51,9 @@ returns-in_err-read-clause-stopped g c =
     let passed = err_from_is_err_and c.from_residual.result c.from_residual.ensures.1 in
     rw (passed.1, passed.2)
     (λ known facts on. let tries = c.loop.invariant.tries known facts on in
-        let rested = tries_paused g.C.Connection.does known facts _ _ _ tries.0 c.loop.invariant.same c.if-not-pause.ensures in
-        stops_later g.C.Connection.does known _ facts _ _ _ rested (c.if-not-pause.ensures.same_waiting ∙ c.loop.invariant.same)
-        (c.in_err-read.ensures.stopped known (facts_after facts (tries.0.goes.events ++ Paused ∷ [])) rested.stands_on))
+    let rested = tries_paused g.C.Connection.does known facts _ _ _ tries.0 c.loop.invariant.same c.if-not-pause.ensures in
+    stops_later g.C.Connection.does known _ facts _ _ _ rested (c.if-not-pause.ensures.same_waiting ∙ c.loop.invariant.same)
+    (c.in_err-read.ensures.stopped known (facts_after facts (tries.0.goes.events ++ Paused ∷ [])) rested.stands_on))
 
 pub returns-in_err-read-clause-same : goal.returns-in_err-read-clause-same
 returns-in_err-read-clause-same g c = c.read_once.ensures.same ∙ (c.if-not-pause.ensures.same_waiting ∙ c.loop.invariant.same)

@@ -1,6 +1,5 @@
-use Rattle.std.proofs.Common.{◌≡◌, ◌-◌, List, [], Contains, drop, take, length, inl, inr, arith}
+use Rattle.std.proofs.Common.{◌≡◌, [], Contains, take, inl, inr, arith}
 use Rattle.std.proofs.lemmas.Result.{err_from_is_err_and}
-use Rattle.droid_frame.specs.types.frame.Frame.{Frame}
 use Rattle.droid_tree_connection.specs.Calls.{IsAmong}
 use Rattle.droid_tree_connection.specs.Events.{facts_after}
 use Rattle.droid_tree_connection.proofs.Counting.{in_front, none_in}
@@ -27,9 +26,9 @@ returns-in_err-put-clause-failed g c =
     let frame = c.args.frame in
     rw (passed.1, passed.2)
     (λ known facts on. let settles = c.in_ok-settle.ensures.settled known facts on in
-        fails_on g.C.Connection.does known (λ other. other ≡ frame) (IsAmong waiting frame) [] waiting _ facts _ _ _
-        (goes_in g.C.Connection.does known (Contains waiting) (IsAmong waiting frame) facts _ _ (λ other there. inl there) settles.goes) (λ other same. inr same) (none_in waiting)
-        (c.in_err-put.ensures.failed known (facts_after facts settles.goes.events) settles.stands_on))
+    fails_on g.C.Connection.does known (λ other. other ≡ frame) (IsAmong waiting frame) [] waiting _ facts _ _ _
+    (goes_in g.C.Connection.does known (Contains waiting) (IsAmong waiting frame) facts _ _ (λ other there. inl there) settles.goes) (λ other same. inr same) (none_in waiting)
+    (c.in_err-put.ensures.failed known (facts_after facts settles.goes.events) settles.stands_on))
 
 pub returns-clause-sent : goal.returns-clause-sent
 returns-clause-sent g c = λ known facts on.

@@ -1,4 +1,4 @@
-use Rattle.std.proofs.Common.{◌≡◌, ◌+◌, ◌-◌, ◌<◌, ℕ, List, Contains, drop, take, length, refl, ap, subst, ◌∙◌, length-drop, arith}
+use Rattle.std.proofs.Common.{◌≡◌, ℕ, List, Contains, drop, take, length, refl, ap, subst, ◌∙◌, length-drop, arith}
 use Rattle.std.proofs.lemmas.List.{drop-drop}
 use Rattle.std.proofs.lemmas.Result.{err_from_is_err_and}
 use Rattle.droid_frame.specs.types.frame.Frame.{Frame}
@@ -30,10 +30,10 @@ returns-in_err-settle_first-clause-failed g c =
     let left = c.loop.invariant.left in
     rw (passed.1, passed.2)
     (λ known facts on. let settles = c.loop.invariant.settles known facts on in
-        fails_on g.C.Connection.does known (Contains now) (Contains waiting) (take 1 now) (take c.args.count waiting) _ facts _ _ _ settles.goes
-        (λ frame there. in_rest c.loop.counter waiting frame (subst (λ (l : List Frame). Contains l frame) left there))
-        (λ frame there. next_in c.loop.counter c.args.count waiting (omega arith) frame (subst (λ (l : List Frame). Contains (take 1 l) frame) left there))
-        (c.in_err-settle_first.ensures.failed known (facts_after facts settles.goes.events) settles.stands_on))
+    fails_on g.C.Connection.does known (Contains now) (Contains waiting) (take 1 now) (take c.args.count waiting) _ facts _ _ _ settles.goes
+    (λ frame there. in_rest c.loop.counter waiting frame (subst (λ (l : List Frame). Contains l frame) left there))
+    (λ frame there. next_in c.loop.counter c.args.count waiting (omega arith) frame (subst (λ (l : List Frame). Contains (take 1 l) frame) left there))
+    (c.in_err-settle_first.ensures.failed known (facts_after facts settles.goes.events) settles.stands_on))
 
 pub returns-clause-settled : goal.returns-clause-settled
 returns-clause-settled g c = λ known facts on.

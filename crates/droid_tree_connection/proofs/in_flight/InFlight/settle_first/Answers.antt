@@ -1,4 +1,4 @@
-use Rattle.std.proofs.Common.{◌≡◌, ◌∷◌, [], List, Contains, drop, take, refl, sym, ap, subst, ◌∙◌}
+use Rattle.std.proofs.Common.{◌∷◌, [], List, Contains, drop, take, sym, ap, subst, ◌∙◌}
 use Rattle.std.proofs.lemmas.List.Elements.{Contains-append_right, Contains-push}
 use Rattle.std.proofs.lemmas.Result.{err_from_is_err_and}
 use Rattle.droid_frame.specs.types.frame.Frame.{Frame}
@@ -35,9 +35,9 @@ returns-in_err-drain-in-Err-clause-failed g c =
     let request = c.in_ok-answer.answer.request in
     rw (passed.1, passed.2)
     (λ known facts on. let takes = c.in_ok-answer.ensures.taken known facts on in
-        fails_on g.C.Connection.does known (Contains c.take.new.self.waiting.items) (Contains waiting) [] (take 1 waiting) _ facts c.args.self.now c.take.new.self _ takes.goes
-        (λ frame there. subst (λ (l : List Frame). Contains l frame) (sym first) (Contains-append_right (request ∷ []) c.take.new.self.waiting.items frame there)) (none_in (take 1 waiting))
-        (c.in_err-drain-in-Err.ensures.failed known (facts_after facts takes.goes.events) takes.stands_on))
+    fails_on g.C.Connection.does known (Contains c.take.new.self.waiting.items) (Contains waiting) [] (take 1 waiting) _ facts c.args.self.now c.take.new.self _ takes.goes
+    (λ frame there. subst (λ (l : List Frame). Contains l frame) (sym first) (Contains-append_right (request ∷ []) c.take.new.self.waiting.items frame there)) (none_in (take 1 waiting))
+    (c.in_err-drain-in-Err.ensures.failed known (facts_after facts takes.goes.events) takes.stands_on))
 
 pub returns-then-not-is_refusal-clause-failed : goal.returns-then-not-is_refusal-clause-failed
 returns-then-not-is_refusal-clause-failed g c = λ known facts on.
