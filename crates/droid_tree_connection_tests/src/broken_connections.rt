@@ -64,7 +64,7 @@ fn profile_lost_at_each_step(rt: HostRuntime) -> Result<(), Fail> {
         assert!(rt; outcome == Err(TransferFault::Restarted), "{breaks_at}");
         assert!(rt; in_flight.waiting.is_empty(), "{breaks_at}");
         let written = last_connection(in_flight.connection.log.as_slice());
-        assert!(rt; written == &[0, 1], "{breaks_at}");
+        assert!(rt; written == [0, 1].as_slice(), "{breaks_at}");
     }
     Ok(())
 }
@@ -77,7 +77,7 @@ fn node_lost_at_each_step(rt: HostRuntime) -> Result<(), Fail> {
         let (outcome, in_flight) = broken(alloc, breaks_at, Loss::Node);
         assert!(rt; outcome == Err(TransferFault::Restarted), "{breaks_at}");
         let written = last_connection(in_flight.connection.log.as_slice());
-        assert!(rt; written == &[0, 1, 2], "{breaks_at}");
+        assert!(rt; written == [0, 1, 2].as_slice(), "{breaks_at}");
     }
     Ok(())
 }
@@ -93,7 +93,7 @@ fn silent_service(rt: HostRuntime) -> Result<(), Fail> {
     assert!(rt; in_flight.waiting.is_empty());
     assert!(rt; in_flight.connection.pauses == 0);
     assert!(rt; in_flight.connection.starts == 1);
-    assert!(rt; in_flight.connection.log.as_slice() == &[0, 1, 0, 1, 0, 1, 0, 1, 0, 1, 0, 1]);
+    assert!(rt; in_flight.connection.log.as_slice() == [0, 1, 0, 1, 0, 1, 0, 1, 0, 1, 0, 1].as_slice());
     Ok(())
 }
 
@@ -107,7 +107,7 @@ fn short_connections(rt: HostRuntime) -> Result<(), Fail> {
     let mut in_flight = InFlight::new(alloc, desk);
     assert!(rt; sent(&mut in_flight) == Ok(true));
     let written = last_connection(in_flight.connection.log.as_slice());
-    assert!(rt; written == &[0, 1, 2, 6]);
+    assert!(rt; written == [0, 1, 2, 6].as_slice());
     Ok(())
 }
 
@@ -122,6 +122,6 @@ fn refused_piece(rt: HostRuntime) -> Result<(), Fail> {
     assert!(rt; in_flight.waiting.is_empty());
     let reply = in_flight.ask(request(alloc, 6, 7));
     assert!(rt; matches!(&reply, Ok(Reply::Abandoned)));
-    assert!(rt; in_flight.connection.log.as_slice() == &[0, 1, 2, 3, 4, 5, 6, 7]);
+    assert!(rt; in_flight.connection.log.as_slice() == [0, 1, 2, 3, 4, 5, 6, 7].as_slice());
     Ok(())
 }
