@@ -1,0 +1,6 @@
+pub mod EntriesTaken
+pub mod EntryTaken
+pub mod FaultPassed
+pub mod FolderVisited
+pub mod ListItems
+pub mod TreeSubmitted
