@@ -4,3 +4,4 @@ pub mod FaultPassed
 pub mod FolderVisited
 pub mod ListItems
 pub mod TreeSubmitted
+pub mod WholeTree

@@ -22,6 +22,7 @@ use Rattle.droid_tree_upload.specs.declared.submission_fault.SubmissionFault.{Su
 use Rattle.droid_tree_upload.specs.declared.submission_fault.SubmissionFault.TheVariants as faults
 use Rattle.droid_tree_upload.specs.declared.upload.Upload.{Upload}
 use Rattle.droid_tree_submission.proofs.ListItems.{all_append, given_more, passed_more}
+use Rattle.droid_tree_submission.proofs.WholeTree.{tree_complete}
 use Rattle.droid_tree_upload.proofs.Early.{just_ends, memory_ends, over_more, over_one, part_ends}
 
 -- a list that loses nothing with its first item is empty
@@ -153,6 +154,7 @@ module _ (options : Options) (profile : ℕ) where
       happened = front.happened;
       whole_is = front.whole_is;
       nodes_are = front.nodes_are;
+      complete = λ is. tree_complete options profile front.visits found.nodes.items (sym front.whole_is ∙ is) front.visited front.nodes_are;
     }
 
 module _ {T C W : Type 0} (does : Upload T C W → Deed → Upload T C W → Type 0) where
