@@ -14,7 +14,6 @@ use Rattle.droid_tree_submission.specs.Submissions.{AreBegun, AreOfFront, EachFo
 use Rattle.droid_tree_submission.specs.declared.found.Found.{Found}
 use Rattle.droid_tree_submission.specs.declared.node.Node.{Node}
 use Rattle.droid_tree_submission.specs.declared.tree_submission.Options.{Options}
-use Rattle.droid_tree_submission.specs.declared.tree_submission.Submitted.{Submitted}
 use Rattle.droid_tree_upload.specs.Calls.{Answered}
 use Rattle.droid_tree_upload.specs.Deeds.{Deed, Called}
 use Rattle.droid_tree_upload.specs.Fronts.{EndsAsking, EndsEarly, Front, ManyFolders}

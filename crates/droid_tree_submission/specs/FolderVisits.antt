@@ -1,5 +1,5 @@
 -- What is done in one folder of a tree that is submitted (this project's own).
-use Rattle.std.specs.Prelude.{◌≡◌, ℕ, ◌==◌, ◌&&◌, Bool, List, [], ◌∷◌, ◌++◌, length, map, Option, Some, None, is_some}
+use Rattle.std.specs.Prelude.{ℕ, ◌==◌, ◌&&◌, Bool, List, [], ◌∷◌, ◌++◌, length, map, Option, Some, None, is_some}
 use Rattle.std.specs.List.{flat_map, list_all, AllByRecursion}
 use Rattle.droid_tree.specs.Heard.{Left}
 use Rattle.droid_tree.specs.Listings.{AreInOrder, AreRepeated, AreThose}

@@ -1,4 +1,3 @@
-use Rattle.std.proofs.Common.{◌∷◌, []}
 use Rattle.droid_tree_submission.specs.SubmissionSteps.{AreOfFirst}
 use Rattle.droid_tree_upload.specs.Deeds.{Does}
 use Rattle.droid_tree_upload.specs.Fronts.{EndsEarly}

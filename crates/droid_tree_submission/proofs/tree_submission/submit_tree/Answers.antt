@@ -1,4 +1,4 @@
-use Rattle.std.proofs.Common.{refl, sym, ◌∙◌}
+use Rattle.std.proofs.Common.{refl, ◌∙◌}
 use Rattle.droid_tree_submission.specs.Submissions.{AreOfFront}
 use Rattle.droid_tree_upload.specs.Deeds.{Does}
 use Rattle.droid_tree_upload.specs.Fronts.{EndsEarly}
