@@ -1,5 +1,5 @@
 -- Folders one after the other, and how a submission ends early.
-use Rattle.std.proofs.Common.{◌≡◌, inl, ℕ, ◌&&◌, Bool, true, List, [], ◌∷◌, ◌++◌, length, map, drop, length-drop, refl, sym, ap, subst, ◌∙◌, append_assoc, append-nil, arith}
+use Rattle.std.proofs.Common.{◌≡◌, inl, ℕ, ◌+◌, ◌≤◌, ◌&&◌, Bool, true, List, [], ◌∷◌, ◌++◌, length, map, drop, length-append, length-drop, refl, sym, ap, subst, ◌∙◌, append_assoc, append-nil, arith}
 use Rattle.std.specs.List.{flat_map, list_all, AllByRecursion}
 use Rattle.std.proofs.lemmas.List.{map-append}
 use Rattle.droid_frame.specs.types.reply.Reply.TheVariants as replies
@@ -20,6 +20,7 @@ use Rattle.droid_tree_upload.specs.Fronts.{EndsAsking, EndsEarly, Front, ManyFol
 use Rattle.droid_tree_upload.specs.declared.submission_fault.SubmissionFault.{SubmissionFault}
 use Rattle.droid_tree_upload.specs.declared.submission_fault.SubmissionFault.TheVariants as faults
 use Rattle.droid_tree_upload.specs.declared.upload.Upload.{Upload}
+use Rattle.droid_tree_submission.proofs.FoldersListed.{listings_of_tree}
 use Rattle.droid_tree_submission.proofs.ListItems.{all_append, given_more, passed_more}
 use Rattle.droid_tree_submission.proofs.WholeTree.{tree_complete}
 use Rattle.droid_tree_upload.proofs.Early.{just_ends, memory_ends, over_more, over_one, part_ends}
@@ -29,9 +30,10 @@ pub none_left : (pending : List PendingFolder) → pending ≡ drop 1 pending �
 none_left [] none = refl
 none_left (folder ∷ pending) none = absurd (omega (arith, ap length none, length-drop 1 (folder ∷ pending)))
 
--- the submission so far: these folders were visited, and the pending ones were found
-pub record Submitting {S : Type 0} (does : S → Deed → S → Type 0) (options : Options) (profile : ℕ) (whole : Bool) (found : Found) (old now : S) : Type 0 where
+-- the submission so far, after so many turns: these folders were visited, and the pending ones were found
+pub record Submitting {S : Type 0} (does : S → Deed → S → Type 0) (options : Options) (profile turns : ℕ) (whole : Bool) (found : Found) (old now : S) : Type 0 where
   pub visits : List Visit
+  pub counted : length visits ≡ turns
   pub each_folder : EachFolderOnce visits found.pending.items
   pub visited : AllByRecursion (IsVisitIn options profile) visits
   pub happened : GoesOver does old (deeds_of_tree options profile visits) now
@@ -80,8 +82,8 @@ module _ (options : Options) (profile : ℕ) where
     abbrev made : Deed
     made = Called (Answered 0 (profile_request options) (replies.Made profile))
 
-    pub begun : (found : Found) (old now : Upload T C W) → found.pending.items ≡ top ∷ [] → found.nodes.items ≡ [] → does old made now → Submitting does options profile true found old now
-    begun found old now only none called = record { visits = []; each_folder = only; visited = tt; happened = over_one does old now made called; whole_is = refl; nodes_are = none }
+    pub begun : (found : Found) (old now : Upload T C W) → found.pending.items ≡ top ∷ [] → found.nodes.items ≡ [] → does old made now → Submitting does options profile 0 true found old now
+    begun found old now only none called = record { visits = []; counted = refl; each_folder = only; visited = tt; happened = over_one does old now made called; whole_is = refl; nodes_are = none }
 
     -- no memory was left for the list of pending folders
     pub begun_ends : (old now : Upload T C W) → does old made now → EndsEarly does (AreOfFront options) faults.Memory old now
@@ -91,13 +93,14 @@ module _ (options : Options) (profile : ℕ) where
 
     -- ---- one folder more
 
-    module _ (folder : PendingFolder) (left : List PendingFolder) (found : Found) (whole : Bool) (old now new : Upload T C W) (front : Submitting does options profile whole found old now) (popped : found.pending.items ≡ folder ∷ left) where
+    module _ (folder : PendingFolder) (left : List PendingFolder) (found : Found) (turns : ℕ) (whole : Bool) (old now new : Upload T C W) (front : Submitting does options profile turns whole found old now) (popped : found.pending.items ≡ folder ∷ left) where
       pub more_visited : (found_now found_after : Found) (taken both : Bool) → found_now.pending.items ≡ left → found_now.nodes.items ≡ found.nodes.items
-          → TakesVisit does (into_of options profile folder) folder taken now new found_now found_after → both ≡ (whole && taken) → Submitting does options profile both found_after old new
+          → TakesVisit does (into_of options profile folder) folder taken now new found_now found_after → both ≡ (whole && taken) → Submitting does options profile (turns + 1) both found_after old new
       more_visited found_now found_after taken both left_is same next is =
           let its : folder ≡ next.visit.folder = sym next.its in
           record {
             visits = front.visits ++ next.visit ∷ [];
+            counted = omega (arith, length-append front.visits (next.visit ∷ []), front.counted);
             each_folder = folders_more front.visits next.visit folder found.pending.items left found_after.pending.items front.each_folder popped next.its
                 (next.pending ∙ ap (λ (l : List PendingFolder). l ++ subfolders_of_visit next.visit) left_is);
             visited = all_append (IsVisitIn options profile) front.visits (next.visit ∷ []) front.visited (subst (λ (f : PendingFolder). IsVisit (into_of options profile f) next.visit) its next.is_visit, tt);
@@ -130,8 +133,9 @@ module _ (options : Options) (profile : ℕ) where
 
     -- ---- the end
 
-    pub folders_end : (found : Found) (whole : Bool) (old now : Upload T C W) → Submitting does options profile whole found old now → EndsEarly does (AreOfFront options) faults.Folders old now
-    folders_end found whole old now front =
+    -- as many folders were visited as a profile can't have
+    pub folders_end : (found : Found) (turns : ℕ) (whole : Bool) (old now : Upload T C W) → Submitting does options profile turns whole found old now → 100002 ≤ turns → EndsEarly does (AreOfFront options) faults.Folders old now
+    folders_end found turns whole old now front many =
         let deeds : List Deed = deeds_of_tree options profile front.visits in
         record {
           deeds = deeds;
@@ -141,12 +145,12 @@ module _ (options : Options) (profile : ℕ) where
           stands = inl refl;
           are = record { profile = profile; visits = front.visits; pending = found.pending.items; each_folder = front.each_folder; begun = all_begun front.visits front.visited; are = refl };
           front = Front [] (sym (append-nil deeds));
-          explained = ManyFolders refl;
+          explained = ManyFolders refl (omega (arith, many, front.counted, listings_of_tree options profile front.visits));
         }
 
-    pub submitted : (found : Found) (whole : Bool) (old now : Upload T C W) → Submitting does options profile whole found old now → found.pending.items ≡ []
+    pub submitted : (found : Found) (turns : ℕ) (whole : Bool) (old now : Upload T C W) → Submitting does options profile turns whole found old now → found.pending.items ≡ []
         → SubmitsTree does options (record { profile = profile; whole = whole; nodes = found.nodes }) old now
-    submitted found whole old now front none = record {
+    submitted found turns whole old now front none = record {
       visits = front.visits;
       each_folder = subst (λ (l : List PendingFolder). EachFolderOnce front.visits l) none front.each_folder;
       visited = front.visited;

@@ -42,9 +42,10 @@ pub fn submit_tree<T: Tree, C: Client, W: Watcher>(
     upload: &mut Upload<T, C, W>,
     options: Options,
 ) -> Result<Submitted, SubmissionFault>
-    // What was read, requested and reported is exactly what a tree like this one needs, and the nodes are those of it.
+    // What was read, requested and reported is, in order, exactly that of the tree as it was listed. The nodes are those
+    // that are in the profile now.
     ensures submitted { IfOk result (λ submitted. SubmitsTree (Does T.observes C.calls W.hears) options submitted upload.old upload.new) }
-    // Otherwise it is the front of that, and the fault is that of the last request.
+    // After an error it is the front of such a list, and its last call explains the fault.
     ensures ended { IfErr result (λ fault. EndsEarly (Does T.observes C.calls W.hears) (AreOfFront options) fault upload.old upload.new) }
 {
     let profile = create_profile(upload, options.scan_limit, options.match_all, options.hash)?;

@@ -1,4 +1,4 @@
-use Rattle.std.proofs.Common.{refl, ◌∙◌}
+use Rattle.std.proofs.Common.{arith, refl, ◌∙◌}
 use Rattle.droid_tree_submission.specs.Submissions.{AreOfFront}
 use Rattle.droid_tree_upload.specs.Deeds.{Does}
 use Rattle.droid_tree_upload.specs.Fronts.{EndsEarly}
@@ -22,18 +22,19 @@ loop-init g c = begun c.args.options c.in_ok-profile.profile (Does g.T.Tree.obse
 
 pub loop-preserved : goal.loop-preserved
 loop-preserved g c =
-    more_visited c.args.options c.in_ok-profile.profile (Does g.T.Tree.observes g.C.Client.calls g.W.Watcher.hears) c.in-Some.folder _ c.loop.found c.loop.whole c.args.upload.now c.loop.upload c.visit_folder.new.upload c.loop.invariant c.in-Some.ensures.items
+    more_visited c.args.options c.in_ok-profile.profile (Does g.T.Tree.observes g.C.Client.calls g.W.Watcher.hears) c.in-Some.folder _ c.loop.found c.loop.counter c.loop.whole c.args.upload.now c.loop.upload c.visit_folder.new.upload c.loop.invariant c.in-Some.ensures.items
     _ c.visit_folder.new.found c.in_ok-taken.taken _ refl refl c.in_ok-taken.ensures.visited c.both-whole.ensures
 
 pub returns-in_err-taken-clause-ended : goal.returns-in_err-taken-clause-ended
 returns-in_err-taken-clause-ended g c =
     if_err_same c.from_residual-in_err-taken.result c.in_err-taken.field-0.0 (λ fault. EndsEarly (Does g.T.Tree.observes g.C.Client.calls g.W.Watcher.hears) (AreOfFront c.args.options) fault c.args.upload.now c.visit_folder.new.upload) c.from_residual-in_err-taken.ensures.1
-    (visit_ends c.args.options c.in_ok-profile.profile (Does g.T.Tree.observes g.C.Client.calls g.W.Watcher.hears) c.in-Some.folder _ c.loop.found c.loop.whole c.args.upload.now c.loop.upload c.visit_folder.new.upload c.loop.invariant c.in-Some.ensures.items
+    (visit_ends c.args.options c.in_ok-profile.profile (Does g.T.Tree.observes g.C.Client.calls g.W.Watcher.hears) c.in-Some.folder _ c.loop.found c.loop.counter c.loop.whole c.args.upload.now c.loop.upload c.visit_folder.new.upload c.loop.invariant c.in-Some.ensures.items
     c.in_err-taken.field-0.0 c.in_err-taken.ensures.ended)
 
 pub returns-in_default-clause-submitted : goal.returns-in_default-clause-submitted
 returns-in_default-clause-submitted g c =
-    submitted c.args.options c.in_ok-profile.profile (Does g.T.Tree.observes g.C.Client.calls g.W.Watcher.hears) c.loop.found c.loop.whole c.args.upload.now c.loop.upload c.loop.invariant (none_left c.loop.found.pending.items (c.in_default.ensures.items ∙ c.in_default.ensures.rest))
+    submitted c.args.options c.in_ok-profile.profile (Does g.T.Tree.observes g.C.Client.calls g.W.Watcher.hears) c.loop.found c.loop.counter c.loop.whole c.args.upload.now c.loop.upload c.loop.invariant (none_left c.loop.found.pending.items (c.in_default.ensures.items ∙ c.in_default.ensures.rest))
 
 pub returns-clause-ended : goal.returns-clause-ended
-returns-clause-ended g c = folders_end c.args.options c.in_ok-profile.profile (Does g.T.Tree.observes g.C.Client.calls g.W.Watcher.hears) c.loop.found c.loop.whole c.args.upload.now c.loop.upload c.loop.invariant
+returns-clause-ended g c =
+    folders_end c.args.options c.in_ok-profile.profile (Does g.T.Tree.observes g.C.Client.calls g.W.Watcher.hears) c.loop.found c.loop.counter c.loop.whole c.args.upload.now c.loop.upload c.loop.invariant (omega (arith, c.loop-test.false))
