@@ -1,5 +1,7 @@
 -- Runs that ended early, in the middle of longer ones.
-use Rattle.std.proofs.Common.{◌≡◌, ◌⊎◌, inl, inr, ℕ, true, false, List, [], ◌∷◌, ◌++◌, refl, sym, ap, subst, ◌∙◌, append_assoc}
+use Rattle.std.proofs.Common.{◌≡◌, ◌⊎◌, inl, inr, ℕ, ◌+◌, arith, true, false, List, [], ◌∷◌, ◌++◌, refl, sym, ap, subst, ◌∙◌, append_assoc}
+use Rattle.std.specs.Prelude.{cond, count_by}
+use Rattle.std.proofs.lemmas.List.Sums.{sum_by-append}
 use Rattle.droid_frame.specs.types.refusal.Refusal.TheVariants as refusals
 use Rattle.droid_frame.specs.types.reply.Reply.{Reply}
 use Rattle.droid_frame.specs.types.request.Request.{Request}
@@ -8,7 +10,7 @@ use Rattle.droid_tree.specs.Observation.{GoesOver}
 use Rattle.droid_tree_upload.specs.Calls.{Call, Answered, Failed, Sent}
 use Rattle.droid_tree_upload.specs.Deeds.{Deed, Called}
 use Rattle.droid_tree_upload.specs.Faults.{IsAfterCall, IsAfterLastAttempt, IsAfterRead, IsEnd, MayBeOfOther, asks_for_more, fault_of_client, fault_of_reply, goes_on}
-use Rattle.droid_tree_upload.specs.Fronts.{AreJust, AsksInVain, Unsent, Unfit, Unanswered, EndsEarly, Explains, NoMemory, Long, ManyFolders, ByCall, IsFront, Front, Last, Stands}
+use Rattle.droid_tree_upload.specs.Fronts.{AreJust, AsksInVain, Unsent, Unfit, Unanswered, EndsEarly, Explains, NoMemory, Long, ManyFolders, ByCall, IsFront, Front, Last, Stands, is_listing}
 use Rattle.droid_tree_upload.specs.declared.submission_fault.SubmissionFault.{SubmissionFault}
 use Rattle.droid_tree_upload.specs.declared.submission_fault.SubmissionFault.TheVariants as faults
 use Rattle.droid_tree_upload.specs.declared.upload.Upload.{Upload}
@@ -59,7 +61,9 @@ end_within done before (Failed attempt request fault) is_end = λ reused. other_
 explained_within : (fault : SubmissionFault) (done deeds whole rest : List Deed) → Explains fault deeds whole → Explains fault (done ++ deeds) (done ++ (whole ++ rest))
 explained_within fault done deeds whole rest (NoMemory is) = NoMemory is
 explained_within fault done deeds whole rest (Long call more is cut unfit) = Long call (more ++ rest) is (rw cut (simp append_assoc)) unfit
-explained_within fault done deeds whole rest (ManyFolders is) = ManyFolders is
+explained_within fault done deeds whole rest (ManyFolders is many) =
+    let counted : count_by is_listing (done ++ deeds) ≡ count_by is_listing done + count_by is_listing deeds = sum_by-append (λ (deed : Deed). cond (is_listing deed) 1 0) done deeds in
+    ManyFolders is (omega (arith, many, counted))
 explained_within fault done deeds whole rest (ByCall before call cut is_end is) = ByCall (done ++ before) call (rw cut (simp append_assoc)) (end_within done before call is_end) is
 
 module _ {T C W : Type 0} (does : Upload T C W → Deed → Upload T C W → Type 0) where

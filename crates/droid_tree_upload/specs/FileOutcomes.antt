@@ -50,9 +50,8 @@ same_hash one other = (hash_kind_number (hash_value_kind one) == hash_kind_numbe
 
 -- the reply that finished a file has another hash than the bytes that were read; without a hash nothing is compared
 abbrev pub has_other_hash : HashValue → Reply → Bool
-has_other_hash values.Nothing found = false
-has_other_hash read (replies.Finished method mismatch hash puids) = not (same_hash read hash)
-has_other_hash read found = false
+has_other_hash read (replies.Finished method mismatch hash puids) = not (hash_kind_number (hash_value_kind read) == 0) && not (same_hash read hash)
+has_other_hash read _ = false
 
 -- what the watcher learns of a finished file
 abbrev pub heard_of_end : List ℕ → HashValue → Reply → Heard
@@ -67,13 +66,13 @@ hash_of_held kind size = cond (size == 0) (hash kind []) values.Nothing
 
 -- ---- deeds
 
-module _ (into : Destination) (path : List ℕ) (entry : FolderEntry) where
+-- a file was abandoned, since the service has other bytes of it
+abbrev pub changed_deeds : ℕ → ℕ → List ℕ → Reply → List Deed
+changed_deeds profile number path left = Called (Answered 0 (Abandon profile number) left) ∷ Informed (Left path (reasons.Refused refusals.NumberReused)) ∷ []
+
+module _ (into : Destination) (entry : FolderEntry) where
   abbrev pub file_request : Request
   file_request = AddFile into.profile into.folder entry.modified entry.len into.piece_size entry.name
-
-  -- the end of an empty file is seen first
-  abbrev pub empty_deeds : List Deed
-  empty_deeds = cond (entry.len == 0) (Observed (Read path entry 0 1 []) ∷ []) []
 
   -- each of these nodes was found abandoned, and the file was added again under the next attempt
   abbrev pub gone_deeds : ℕ → List ℕ → List Deed
@@ -81,9 +80,14 @@ module _ (into : Destination) (path : List ℕ) (entry : FolderEntry) where
   gone_deeds attempt (number ∷ gone) =
       Called (Answered attempt file_request (replies.Node number)) ∷ Called (Answered 0 (Finish into.profile number) (replies.Refused refusals.NoSuchNode)) ∷ gone_deeds (suc attempt) gone
 
+-- the end of an empty file is seen first
+abbrev pub empty_deeds : List ℕ → FolderEntry → List Deed
+empty_deeds path entry = cond (entry.len == 0) (Observed (Read path entry 0 1 []) ∷ []) []
+
+module _ (into : Destination) (path : List ℕ) (entry : FolderEntry) where
   -- the file was added, and this was replied
   abbrev pub added_deeds : List ℕ → Reply → List Deed
-  added_deeds gone reply = empty_deeds ++ (gone_deeds 0 gone ++ Called (Answered (length gone) file_request reply) ∷ [])
+  added_deeds gone reply = empty_deeds path entry ++ (gone_deeds into entry 0 gone ++ Called (Answered (length gone) (file_request into entry) reply) ∷ [])
 
   -- the file was added, lacks the piece `first`, and its pieces were read
   abbrev pub begun_deeds : List ℕ → ℕ → ℕ → Reading → List Deed
@@ -91,10 +95,6 @@ module _ (into : Destination) (path : List ℕ) (entry : FolderEntry) where
       added_deeds gone (replies.Node number)
       ++ (Called (Answered 0 (Finish into.profile number) (replies.Refused (refusals.Incomplete first)))
       ∷ Informed (Held path (begin_of into.piece_size entry.len first)) ∷ reading_deeds into.profile number first path entry reading)
-
-  -- the file was abandoned, since the service has other bytes of it
-  abbrev pub changed_deeds : ℕ → Reply → List Deed
-  changed_deeds number left = Called (Answered 0 (Abandon into.profile number) left) ∷ Informed (Left path (reasons.Refused refusals.NumberReused)) ∷ []
 
   abbrev pub deeds_of_file : FileOutcome → List Deed
   deeds_of_file (UnreadFile stop) = Observed (observed_of_stop path entry 0 stop) ∷ Informed (Left path (reason_of stop)) ∷ []
@@ -107,13 +107,13 @@ module _ (into : Destination) (path : List ℕ) (entry : FolderEntry) where
       ++ Called (Answered 0 (Finish into.profile number) found) ∷ Informed (heard_of_end path (hash into.hash (joined pieces)) found) ∷ []
   deeds_of_file (DroppedFile gone number first pieces stop left) =
       begun_deeds gone number first (ReadPart pieces stop) ++ Called (Answered 0 (Abandon into.profile number) left) ∷ Informed (Left path (reason_of stop)) ∷ []
-  deeds_of_file (ChangedPiece gone number first pieces bytes left) = begun_deeds gone number first (ReadOther pieces bytes) ++ changed_deeds number left
+  deeds_of_file (ChangedPiece gone number first pieces bytes left) = begun_deeds gone number first (ReadOther pieces bytes) ++ changed_deeds into.profile number path left
   deeds_of_file (ChangedEnd gone number first pieces left) =
       begun_deeds gone number first (ReadAll pieces)
-      ++ Called (Failed 0 (Finish into.profile number) (client_faults.Piece refusals.NumberReused)) ∷ changed_deeds number left
+      ++ Called (Failed 0 (Finish into.profile number) (client_faults.Piece refusals.NumberReused)) ∷ changed_deeds into.profile number path left
   deeds_of_file (ChangedStop gone number first pieces stop left) =
       begun_deeds gone number first (ReadPart pieces stop)
-      ++ Called (Failed 0 (Abandon into.profile number) (client_faults.Piece refusals.NumberReused)) ∷ changed_deeds number left
+      ++ Called (Failed 0 (Abandon into.profile number) (client_faults.Piece refusals.NumberReused)) ∷ changed_deeds into.profile number path left
 
 -- this may come of the entry; a node that was added has a number, which is of use
 module _ (into : Destination) (entry : FolderEntry) where

@@ -1,11 +1,11 @@
 -- What stands after a run that ended early (this project's own).
-use Rattle.std.specs.Prelude.{◌≡◌, ◌⊎◌, ℕ, List, [], ◌∷◌, ◌++◌}
+use Rattle.std.specs.Prelude.{◌≡◌, ◌⊎◌, ℕ, ◌≤◌, Bool, true, false, count_by, List, [], ◌∷◌, ◌++◌}
 use Rattle.droid_frame.specs.Bodies.{Fits}
 use Rattle.droid_frame.specs.types.reply.Reply.{Reply}
 use Rattle.droid_frame.specs.types.request.Request.{Request}
-use Rattle.droid_tree.specs.Observation.{GoesOver}
+use Rattle.droid_tree.specs.Observation.{Listed, Unlisted, GoesOver}
 use Rattle.droid_tree_upload.specs.Calls.{Call, Answered, Failed, SameRequest, request_of}
-use Rattle.droid_tree_upload.specs.Deeds.{Deed, Called}
+use Rattle.droid_tree_upload.specs.Deeds.{Deed, Observed, Called}
 use Rattle.droid_tree_upload.specs.Faults.{IsEnd, fault_of_call, fault_of_client}
 use Rattle.droid_tree_upload.specs.declared.client_fault.ClientFault.{ClientFault}
 use Rattle.droid_tree_upload.specs.declared.submission_fault.SubmissionFault.{SubmissionFault}
@@ -17,13 +17,19 @@ pub data IsFront (deeds whole : List Deed) : Type 0 where
   Front : (rest : List Deed) → whole ≡ deeds ++ rest → IsFront deeds whole
   Last : (front rest : List Deed) (expected call : Call) → SameRequest expected call → whole ≡ front ++ Called expected ∷ rest → deeds ≡ front ++ Called call ∷ [] → IsFront deeds whole
 
+-- a folder was listed, or could not be
+abbrev pub is_listing : Deed → Bool
+is_listing (Observed (Listed path entries)) = true
+is_listing (Observed (Unlisted path)) = true
+is_listing _ = false
+
 -- Why a run of these deeds, the first of a whole, ended with this fault: memory ran out; the next call's request is too
--- long for a frame; there are too many folders; or by its last deed, a call that gives this fault. So nothing was
--- asked, read or reported after the fault.
+-- long for a frame; more folders were listed than a profile can have; or by its last deed, a call that gives this fault.
+-- So nothing was asked, read or reported after the fault.
 pub data Explains (fault : SubmissionFault) (deeds whole : List Deed) : Type 0 where
   NoMemory : fault ≡ faults.Memory → Explains fault deeds whole
   Long : (call : Call) (rest : List Deed) → fault ≡ faults.TooLong → whole ≡ deeds ++ Called call ∷ rest → ¬ (Fits 2 (request_of call)) → Explains fault deeds whole
-  ManyFolders : fault ≡ faults.Folders → Explains fault deeds whole
+  ManyFolders : fault ≡ faults.Folders → 100002 ≤ count_by is_listing deeds → Explains fault deeds whole
   ByCall : (before : List Deed) (call : Call) → deeds ≡ before ++ Called call ∷ [] → IsEnd before call → fault ≡ fault_of_call call → Explains fault deeds whole
 
 -- the run stands where its deeds led; if memory ran out, nothing is said of the tree's own state

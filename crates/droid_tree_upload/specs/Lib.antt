@@ -4,3 +4,4 @@ pub mod Faults
 pub mod FileOutcomes
 pub mod Fronts
 pub mod Pieces
+pub mod Steps

@@ -6,7 +6,11 @@
 
 mod client;
 mod client_fault;
+mod file_ending;
+mod file_opening;
+mod file_pieces;
 mod file_upload;
+mod reports;
 mod submission_fault;
 mod upload;
 mod upload_requests;
