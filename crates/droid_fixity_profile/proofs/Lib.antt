@@ -1,0 +1,3 @@
+mod EmptyReports
+mod ExportedItems
+mod SameInventories
