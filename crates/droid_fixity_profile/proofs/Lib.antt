@@ -1,3 +1,4 @@
 mod EmptyReports
 mod ExportedItems
+mod PassedFaults
 mod SameInventories

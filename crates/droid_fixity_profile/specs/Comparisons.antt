@@ -13,7 +13,7 @@ use Rattle.droid_fixity_profile.specs.declared.seen.Seen.{Seen}
 abbrev pub fault_of : ListFault → SeeFault
 fault_of list.Memory = faults.Memory
 fault_of list.Header = faults.List list.Header
-fault_of (list.Record record) = faults.List (list.Record record)
+fault_of (list.Record number) = faults.List (list.Record number)
 
 -- these items, no path twice, in the order of their paths
 pub record IsInventory (items inventory : List Item) : Type 0 where
