@@ -28,10 +28,9 @@ use Rattle.droid_export.specs.Text.{chosen_rows, shown_rows}
 use Rattle.droid_fixity.specs.declared.item.Item.{Item}
 use Rattle.droid_fixity_lists.specs.Fields.{digest_of, is_path, kind_of, md5_of, moment_of, sha256_of}
 use Rattle.droid_fixity_lists.specs.Fields as read
-use Rattle.droid_fixity_lists.specs.Profiles.{Draft, after, field_or, is_whole, item_by, items_from, nothing_read, parts_of, profile_of, repeats, same_column, shared_columns, taken, with_item, with_row}
+use Rattle.droid_fixity_lists.specs.Profiles.{Draft, after, field_or, is_whole, items_from, nothing_read, parts_of, profile_of, repeats, same_column, shared_columns, taken, with_item, with_row}
 use Rattle.droid_fixity_lists.specs.Profiles as profiles
 use Rattle.droid_fixity_lists.specs.declared.fault.ListFault.{ListFault}
-use Rattle.droid_fixity_lists.specs.declared.row.Parts.{Parts}
 use Rattle.droid_fixity_lists.proofs.Numbers.{decimal_read}
 use Rattle.droid_fixity_profile.specs.Exports.{AreRecordsOf, HasKind, IsRecordOf, item_of_record, items_of}
 use Rattle.droid_fixity_profile.specs.Nodes.{hash_of, length_of}
@@ -76,27 +75,20 @@ hash_read digest File (values.Sha256 bytes) value has =
 
 -- ---- a row
 
--- what a row says, by its fields
-parts_read : (digest : HashKind) (texts : List (List ℕ)) (kind : NodeKind) (size : Option ℕ) (modified : Option (List ℕ)) (hash : HashValue)
-    → kind_of (field_or texts 8) ≡ Some kind → read.length_of kind (field_or texts 7) ≡ Some size → moment_of (field_or texts 10) ≡ Some modified
+-- the item of a row, by its fields
+item_by_fields : (digest : HashKind) (texts : List (List ℕ)) (kind : NodeKind) (size : Option ℕ) (modified : Option (List ℕ)) (hash : HashValue)
+    → is_whole texts ≡ true → kind_of (field_or texts 8) ≡ Some kind → read.length_of kind (field_or texts 7) ≡ Some size → moment_of (field_or texts 10) ≡ Some modified
     → read.hash_of digest kind (field_or texts 12) ≡ Some hash
-    → parts_of digest texts ≡ Some (record { kind = kind; length = size; modified = modified; hash = hash })
+    → profiles.item_of digest texts ≡ Some (record { path = field_or texts 3; kind = kind; length = size; modified = modified; hash = hash })
 unfolding parts_of
-parts_read digest texts kind size modified hash k s m h = rw (k, s, m, h) refl
-
-item_read_by : (whole : Bool) (path : List ℕ) (parts : Option Parts) (these : Parts) → whole ≡ true → parts ≡ Some these
-    → cond whole (item_by path parts) None ≡ Some (record { path = path; kind = these.kind; length = these.length; modified = these.modified; hash = these.hash })
-item_read_by whole path parts these w p = rw (w, p) refl
+item_by_fields digest texts kind size modified hash w k s m h = rw (w, k, s, m, h) refl
 
 -- the item of each row of a record
 item_read : (digest : HashKind) (node : Record) (format : Shown) → IsRecordOf digest node → profiles.item_of digest (fields (row node format)) ≡ Some (item_of_record node)
 unfolding row
 item_read digest node format is =
-    item_read_by (is_whole (fields (row node format))) node.path (parts_of digest (fields (row node format)))
-    (record { kind = node.kind; length = length_of node.kind node.size; modified = Some (moment_text node.modified); hash = hash_of node.kind node.hash })
-    is.path
-    (parts_read digest (fields (row node format)) node.kind (length_of node.kind node.size) (Some (moment_text node.modified)) (hash_of node.kind node.hash)
-    (kind_read node.kind) (length_read node.kind node.size is.size) (moment_read node.modified) (hash_read digest node.kind node.hash is.value is.kind))
+    item_by_fields digest (fields (row node format)) node.kind (length_of node.kind node.size) (Some (moment_text node.modified)) (hash_of node.kind node.hash)
+    is.path (kind_read node.kind) (length_read node.kind node.size is.size) (moment_read node.modified) (hash_read digest node.kind node.hash is.value is.kind)
 
 -- ---- rows that repeat the row before them
 
@@ -202,6 +194,7 @@ records_read : (digest : HashKind) (registry : Contents) (criteria : Filter) (no
     → IsDistinct bytes_eq (map (λ node. node.path) nodes)
     → (records : ℕ) (items : List Item) (last : Option (List (List ℕ))) → AllByRecursion (IsApart last) (map (λ node. node.path) nodes)
     → AreRead digest registry (filter (meets criteria) nodes) records items last
+unfolding IsDistinct
 records_read digest registry criteria [] each distinct records items last apart = ap (λ (all : List Item). Ok all) (sym (append-nil items))
 records_read digest registry criteria (node ∷ nodes) each distinct records items last apart =
     record_read digest registry (meets criteria node) node (filter (meets criteria) nodes) (map (λ it. it.path) nodes) each.0

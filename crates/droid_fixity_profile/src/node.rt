@@ -48,6 +48,7 @@ fn is_moment(modified: &i64) -> bool
 }
 
 /// Returns the text of a moment.
+#[tactic(auto, using(crate::proofs::MomentLengths::moment_length))]
 fn moment_of(alloc: Global, modified: &i64) -> Result<[u8; 19], AllocError>
     requires { IsMoment modified.now }
     ensures { IfOk result (λ text. text ≡ moments.moment_text modified.now) }
