@@ -127,7 +127,9 @@ fn repeats(last: Option<&ByteRecord>, row: &ByteRecord) -> bool
 fn are_same(last: &ByteRecord, row: &ByteRecord) -> bool
     ensures { result ≡ profiles.are_same (fields_of last.now) (fields_of row.now) }
 {
-    SHARED_COLUMNS.iter().all(|column| has_same(last, row, *column))
+    SHARED_COLUMNS
+        .iter()
+        .all(|column| has_same(last, row, *column))
 }
 
 /// Returns whether two rows have the same bytes in a column.

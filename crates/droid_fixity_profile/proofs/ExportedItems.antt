@@ -8,6 +8,7 @@ use Rattle.std.specs.Str.{bytes_eq}
 use Rattle.std.proofs.lemmas.List.{map-append}
 use Rattle.std.proofs.lemmas.List.Folds.{list_all_at}
 use Rattle.std.proofs.lemmas.Slice.Eq.{bytes_eq-Decides}
+use Rattle.csv.specs.Records.{field_at}
 use Rattle.hex.specs.Hex.{encode_lower, encode_with, lower_digits}
 use Rattle.hex.proofs.HexLemmas.{decode_sized-encode_lower, length-encode_with}
 use Rattle.droid_frame.specs.Fields.{IsBytes}
@@ -85,7 +86,7 @@ item_by_fields digest texts kind size modified hash w k s m h = rw (w, k, s, m, 
 
 -- the item of each row of a record
 item_read : (digest : HashKind) (node : Record) (format : Shown) → IsRecordOf digest node → profiles.item_of digest (fields (row node format)) ≡ Some (item_of_record node)
-unfolding row
+unfolding row field_at
 item_read digest node format is =
     item_by_fields digest (fields (row node format)) node.kind (length_of node.kind node.size) (Some (moment_text node.modified)) (hash_of node.kind node.hash)
     is.path (kind_read node.kind) (length_read node.kind node.size is.size) (moment_read node.modified) (hash_read digest node.kind node.hash is.value is.kind)
@@ -100,7 +101,7 @@ same_columns last texts (column ∷ columns) all =
 
 -- two rows of one record differ in the columns of the format alone
 next_repeats : (node : Record) (before format : Shown) → repeats (Some (fields (row node before))) (fields (row node format)) ≡ true
-unfolding row
+unfolding row field_at
 next_repeats node before format =
     same_columns (fields (row node before)) (fields (row node format)) shared_columns
     (refl, (refl, (refl, (refl, (refl, (refl, (refl, (refl, (refl, (refl, (refl, (refl, (refl, (refl, tt))))))))))))))
@@ -114,7 +115,7 @@ IsApart None path = ⊤
 IsApart (Some last) path = bytes_eq (field_or last 3) path ≡ false
 
 first_is_new : (last : Option (List (List ℕ))) (node : Record) (format : Shown) → IsApart last node.path → repeats last (fields (row node format)) ≡ false
-unfolding row
+unfolding row field_at
 first_is_new None node format apart = refl
 first_is_new (Some last) node format apart = other_path last (fields (row node format)) apart
 
@@ -182,7 +183,7 @@ record_read : (digest : HashKind) (registry : Contents) (chosen : Bool) (node : 
     → ((records : ℕ) (items : List Item) (last : Option (List (List ℕ))) → AllByRecursion (IsApart last) paths → AreRead digest registry kept records items last)
     → (records : ℕ) (items : List Item) (last : Option (List (List ℕ))) → IsApart last node.path → AllByRecursion (IsApart last) paths
     → AllByRecursion (λ path. bytes_eq node.path path ≡ false) paths → AreRead digest registry (cond chosen (node ∷ kept) kept) records items last
-unfolding row
+unfolding row field_at
 record_read digest registry false node kept paths is on records items last apart others later = on records items last others
 record_read digest registry true node kept paths is on records items last apart others later =
     ap (items_from (draft_at digest records items last)) (map-append fields (rows registry node) (flat_map (rows registry) kept))

@@ -139,7 +139,12 @@ fn found(alloc: Global, case: u8) -> Result<Vec<Item>, AllocError> {
 fn text_of(alloc: Global, items: Vec<Item>, csv: &[u8]) -> Result<String, Fail> {
     match see_profile(alloc, items, csv) {
         Ok(seen) => {
-            lines(alloc, seen.listed.as_slice(), seen.found.as_slice(), seen.differences.as_slice())
+            lines(
+                alloc,
+                seen.listed.as_slice(),
+                seen.found.as_slice(),
+                seen.differences.as_slice(),
+            )
         }
         Err(fault) => fault_text(alloc, fault),
     }

@@ -18,7 +18,14 @@ pub(crate) type Node = (u8, &'static str, bool, u64, i64, bool);
 /// Makes the item of a node.
 pub(crate) fn item_of(alloc: Global, node: &Node) -> Result<Option<Item>, AllocError> {
     let (_, path, is_file, size, modified, has_hash) = *node;
-    item_of_node(alloc, path, kind_of(is_file), size, modified, hash_of(has_hash))
+    item_of_node(
+        alloc,
+        path,
+        kind_of(is_file),
+        size,
+        modified,
+        hash_of(has_hash),
+    )
 }
 
 fn hash_of(has_hash: bool) -> HashValue {

@@ -31,7 +31,9 @@ fn example_of_fixity(rt: HostRuntime) -> Result<(), Fail> {
 #[test]
 fn example_of_lists(rt: HostRuntime) -> Result<(), Fail> {
     let alloc = rt.alloc();
-    let csv = format!(in alloc; "{NAMES}1,,u,/letter.txt,letter.txt,,Done,5,File,txt,,false,,0,,,,\n")?;
+    let csv = format!(in alloc;
+        "{NAMES}1,,u,/letter.txt,letter.txt,,Done,5,File,txt,,false,,0,,,,\n"
+    )?;
     let items = read_profile(alloc, csv.as_bytes())?;
     assert!(rt; items.len() == 1 && items[0].length == Some(5));
     Ok(())
@@ -40,7 +42,14 @@ fn example_of_lists(rt: HostRuntime) -> Result<(), Fail> {
 #[test]
 fn example_of_a_profile(rt: HostRuntime) -> Result<(), Fail> {
     let alloc = rt.alloc();
-    let letter = item_of_node(alloc, "/letter.txt", NodeKind::File, 5, 0, HashValue::Nothing)?;
+    let letter = item_of_node(
+        alloc,
+        "/letter.txt",
+        NodeKind::File,
+        5,
+        0,
+        HashValue::Nothing,
+    )?;
     let mut submitted = Vec::new(alloc);
     if let Some(letter) = letter {
         submitted.push(letter)?;

@@ -84,7 +84,12 @@ pub(crate) fn report(alloc: Global, rows: &[Row], case: u8) -> Result<String, Fa
         Err(twice) => return twice_text(alloc, twice.path.as_slice()),
     };
     let report = compare(alloc, &listed, &found)?;
-    lines(alloc, listed.as_slice(), found.as_slice(), report.as_slice())
+    lines(
+        alloc,
+        listed.as_slice(),
+        found.as_slice(),
+        report.as_slice(),
+    )
 }
 
 /// Returns a report as lines of text.
