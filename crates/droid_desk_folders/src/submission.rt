@@ -22,6 +22,9 @@ use std::time::Clock;
 /// How often an export is begun, if other requests come between its parts.
 const BEGINNINGS: u32 = 100;
 
+/// The number of the first request.
+const FIRST: u64 = 1;
+
 /// A sender over connections to a port of this machine.
 type PortSender<'a, R> = Sender<Streams<Loopback<'a, R>, Noted<TcpStream>>>;
 
@@ -34,14 +37,7 @@ where
     if !is_folder(rt, options.folder) {
         return SubmissionEnding::NoFolder;
     }
-    let Destination {
-        port,
-        client,
-        first,
-    } = options.to;
-    if first >= 1 << 61 {
-        return SubmissionEnding::Fault(SubmissionFault::Sending(TransferFault::NumbersUsedUp));
-    }
+    let Destination { port, client, .. } = options.to;
     if let Some(path) = options.export
         && let Err(fault) = see_output(rt, path)
     {
@@ -51,7 +47,7 @@ where
         opener: Loopback::new(rt, port),
         stream: None,
     };
-    let mut sender = Sender::new(rt.alloc(), streams, client, first);
+    let mut sender = Sender::new(rt.alloc(), streams, client, FIRST);
     let verbosity = verbosity_of(options.quiet, on_terminal);
     let ending = submit_by(rt, &mut sender, options, verbosity);
     match sender.in_flight.connection.opener.failed() {
