@@ -32,8 +32,8 @@ pub const SKIPPED_HELP: &str =
 pub const SUBMIT_HELP: &str = "\
 The folder becomes one profile of the service. You can give the same command again after any
 interruption, and over a folder in any state: what is in the profile is not sent again, finished
-files are not even read, and what was skipped for a passing reason is tried again. This works because
-the number of each request is made from what the request asks and from the submission's name.
+files are not even read, and what was skipped is tried again. This works because the number of each
+request is made from what the request asks and from the submission's name.
 
 The profile keeps what was submitted. A folder or file that has changed since then is skipped, a
 folder with everything inside it; a folder also changes when an entry is added to it or removed from

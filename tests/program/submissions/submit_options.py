@@ -68,11 +68,8 @@ class Options(InFolder):
 
     def test_wrong(self):
         """The command ends before it looks at the folder."""
-        for words in (
-            ["--wait", "-1"], ["--wait", "86401"], ["--wait", "x"], ["--wait"],
-            ["--timeout", "0"], ["--timeout", "86401"], ["--timeout"],
-            ["--name", ""], ["--name"], ["--skipped"], ["--first", "1"],
-        ):
+        numbers = [["--wait", number] for number in ("-1", "86401", "x", "")] + [["--timeout", number] for number in ("0", "86401")]
+        for words in (*numbers, ["--wait"], ["--timeout"], ["--name"], ["--name", ""], ["--skipped"], ["--first", "1"]):
             with self.subTest(words=words):
                 status, err = submit(self.top + b"/none", 1, 7, *words)
                 self.assertEqual((status, err[:7]), (2, b"error: "))
