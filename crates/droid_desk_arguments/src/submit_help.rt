@@ -48,8 +48,9 @@ pauses between tries, for 0.05 to 2 seconds, longer each time. On each new conne
 that the service still has the profile. It sends up to sixteen requests ahead of their replies.
 
 At the end the client reads the profile's CSV, even without --export, and compares it with the
-folder. Standard error has what was skipped, what differs, what is in the profile and not in the
-folder, and the progress, as by `profile`. Each FILE is complete, or as it was before.
+folder. Standard output has the profile's number. Standard error has what was skipped, what differs,
+what is in the profile and not in the folder, and the progress, as by `profile`. Each FILE is
+complete, or as it was before; it must lie outside DIR.
 
 Exit status:
 
@@ -60,7 +61,7 @@ Exit status:
        Socket     nobody listened on the port within --wait
        Broken     the connection broke, and could not be made again within --wait
        Stranger   a frame came that does not reply to the request
-       Reply      a reply came that does not fit the request
+       Reply      a reply came that does not fit the request, or a CSV that is no profile
        Restarted  the service lost what it had: run the command again, and it starts anew
        Busy       64 files of other submissions are unfinished, and no place came free within --wait
        Options    the submission had another --hash, --limit or --match-all: the message names it
@@ -70,7 +71,7 @@ Exit status:
        Folders    new folders appeared meanwhile: run the command again
        Disturbed  other requests came between the parts of the CSV, a hundred times
        Write      a FILE could not be written
-       Output     a FILE could not be created or replaced
+       Output     a FILE lies inside DIR, or could not be created or replaced
        Memory     memory ran out, here or in the service
      or by another refusal of a request, such as NoSuchProfile, NoSuchNode, NotAFolder, NumberReused,
      Store or Malformed; `droid_desk script --help` lists all refusals
