@@ -23,7 +23,7 @@ ALONE = ["droid_desk_bench"]
 BELOW_HEADS = {
     "droid_lines_send": ["droid_wire_client"],
     "droid_core_tests": ["droid_lines_script"],
-    "droid_desk_folders": ["droid_tree_disk", "droid_tree_local", "droid_tree_remote"],
+    "droid_desk_folders": ["droid_tree_disk", "droid_tree_local", "droid_tree_remote", "droid_tree_walk"],
     "droid_desk_service": ["droid_lines_script", "droid_lines_send", "droid_pronom_common"],
 }
 # what tests share

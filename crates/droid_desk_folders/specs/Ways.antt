@@ -6,7 +6,7 @@ use Rattle.droid_tree.specs.Counts.{CountsTree}
 use Rattle.droid_tree.specs.Heard.{Heard}
 use Rattle.droid_tree.specs.Observation.{Observation}
 use Rattle.droid_tree.specs.declared.tree_size.Counted.{Counted}
-use Rattle.droid_tree.specs.declared.tree_walk.Options.{Options}
+use Rattle.droid_tree_walk.specs.declared.tree_walk.Options.{Options}
 
 -- the tree was counted, and has no more folders and files than the limit; then it was walked from there, nothing was
 -- skipped, and the export of what came was written

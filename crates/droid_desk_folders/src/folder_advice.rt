@@ -70,7 +70,6 @@ pub(crate) fn walk_advice(fault: WalkFault) -> &'static str {
         WalkFault::Exchange | WalkFault::Reply | WalkFault::TooLong => {
             "this is a mistake in droid_desk"
         }
-        WalkFault::Names => "a folder lists one name twice: check the file system",
         WalkFault::Folders => "new folders appeared while it was read: run it again",
         WalkFault::Entries => "too large: take its subfolders one by one",
         WalkFault::Bytes =>

@@ -9,11 +9,12 @@ use crate::submission_ending::SubmissionEnding;
 use droid_desk_arguments::{Destination, SubmitOptions};
 use droid_desk_progress::{Reporter, Verbosity};
 use droid_frame::Noted;
-use droid_tree::{NODE_LIMIT, Options, WalkFault, Walked, count};
+use droid_tree::{NODE_LIMIT, WalkFault, count};
 use droid_tree_disk::{Folder, Output, OutputFault, System, is_folder};
 use droid_tree_remote::{
     DownloadFault, Sender, Streams, SubmissionFault, TransferFault, export, submit,
 };
+use droid_tree_walk::{Options, Walked};
 use std::fs::{File, Files};
 use std::io::ErrorKind;
 use std::net::{Net, TcpListener, TcpStream};

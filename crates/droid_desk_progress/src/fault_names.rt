@@ -14,7 +14,6 @@ pub fn walk_fault_name(fault: WalkFault) -> &'static str
         WalkFault::Exchange => "Exchange",
         WalkFault::Reply => "Reply",
         WalkFault::TooLong => "TooLong",
-        WalkFault::Names => "Names",
         WalkFault::Folders => "Folders",
         WalkFault::Entries => "Entries: there are more than 100,000 folders and files",
         WalkFault::Bytes => "Bytes",

@@ -20,6 +20,6 @@ mod totals;
 mod verbosity;
 
 pub use fault_names::walk_fault_name;
-pub use path_text::Shown;
+pub use path_text::{Shown, cause};
 pub use reporter::Reporter;
 pub use verbosity::Verbosity;

@@ -65,19 +65,22 @@ impl Display for SkippedLine<'_> {
 
 /// Returns why an entry was skipped, in words.
 #[tactic(auto, unfolding(crate::specs::Paths::cause_text))]
-fn cause(why: Skipped) -> &'static str
+pub fn cause(why: Skipped) -> &'static str
     ensures { result.now ≡ cause_text why }
 {
     match why {
         Skipped::Kind => "neither a folder nor a regular file, or it can't be looked at",
         Skipped::Name => "its name is no UTF-8",
+        Skipped::SameName => "same name: its folder lists the name twice",
         Skipped::Unreadable => "it could not be opened or read",
-        Skipped::Changed => "its length changed while it was read",
+        Skipped::Changed => "it changed while it was read",
+        Skipped::OtherHash => "its hash in the profile is another",
         Skipped::Refused(Refusal::BadName) => "its name is too long or can't be in a profile",
         Skipped::Refused(Refusal::PathTooLong) => "its path is longer than 4,096 bytes",
         Skipped::Refused(Refusal::TooLarge) => "it is too large",
         Skipped::Refused(Refusal::BadOption) => "its moment is out of range",
         Skipped::Refused(Refusal::LimitReached(_)) => "the profile has no place for more",
+        Skipped::Refused(Refusal::NameTaken | Refusal::NumberReused) => "changed since it was submitted",
         Skipped::Refused(_) => "it was refused",
     }
 }

@@ -1,7 +1,4 @@
-pub mod Entries
-pub mod Full
+pub mod FileReads
 pub mod Runs
-pub mod Sending
-pub mod Taking
+pub mod Splitting
 pub mod Tallies
-pub mod Visiting

@@ -3,19 +3,19 @@ use Rattle.std.proofs.Common.{◌≡◌, ◌⊎◌, ℕ, ◌+◌, ◌<◌, ◌�
 use Rattle.std.specs.Prelude.{IsPermutation, IsUtf8}
 use Rattle.std.specs.List.{flat_map, count_by, AllByRecursion}
 use Rattle.std.proofs.lemmas.List.{map-append, take_more, take_all}
+use Rattle.std.proofs.lemmas.List.Elements.{All-nil}
 use Rattle.std.proofs.lemmas.List.Sums.{sum_by-append}
-use Rattle.droid_tree.specs.Counts.{Item, AFolder, AFile, NoNode, Adds, Listing, IsItem, IsListing, CountsItem, CountsItems, CountsFolder, CountsTooMany, CountsTree, bytes_in, entry_in, folders_in, is_file, is_folder, is_no_node, is_unread, items_in, path_of_item, paths_of, observed_of_listing}
-use Rattle.droid_tree.specs.Steps.{ListsInOrder}
+use Rattle.droid_tree.specs.Counts.{Item, AFolder, AFile, NoNode, Adds, CountedFolder, IsItem, IsCounted, CountsItem, CountsItems, CountsFolder, CountsTooMany, CountsTree, bytes_in, entry_in, folders_in, is_file, is_folder, is_no_node, is_unread, items_in, path_of_item, paths_of, observed_of_counted, repeated_in}
+use Rattle.droid_tree.specs.Listings.{AreInOrder, AreRepeated, HasNameOf, ListsInOrder}
 use Rattle.droid_tree.specs.Observation.{Observation, Unlisted, GoesOver}
-use Rattle.droid_tree.specs.Visits.{AreInOrder, below}
+use Rattle.droid_tree.specs.Paths.{below}
 use Rattle.droid_tree.specs.declared.tree_size.Counted.{Counted}
 use Rattle.droid_tree.specs.declared.folder_entry.FolderEntry.{FolderEntry}
 use Rattle.droid_tree.specs.declared.folder_entry.EntryKind.TheVariants as kinds
 use Rattle.droid_tree.specs.declared.skipped.Skipped.{Skipped}
 use Rattle.droid_tree.specs.declared.skipped.Skipped.TheVariants as reasons
 use Rattle.droid_tree.specs.declared.pending_folder.PendingFolder.{PendingFolder}
-use Rattle.droid_tree.proofs.Entries.{given_more}
-use Rattle.droid_tree.proofs.Runs.{over_one, over_more, all_more}
+use Rattle.droid_tree.proofs.Runs.{given_more, over_one, over_more, all_more}
 
 one_sum : {A : Type 0} (f : A → ℕ) (xs : List A) (x : A) → sum_by f (xs ++ x ∷ []) ≡ sum_by f xs + f x
 one_sum f xs x = sum_by-append f xs (x ∷ []) ∙ omega arith
@@ -108,32 +108,34 @@ module _ (path : List ℕ) where
 
 module _ {T : Type 0} (observes : T → Observation → T → Type 0) where
   module _ (path : List ℕ) (before after : Counted) (tree tree_after : T) (waiting waiting_after : List PendingFolder) where
-    pub counts_listed : (at : List ℕ) (entries found : List FolderEntry) → at ≡ path → ListsInOrder observes at found tree tree_after → entries ≡ found → CountsItems path entries before after waiting waiting_after
+    pub counts_listed : (at : List ℕ) (entries found repeated : List FolderEntry) (count : ℕ) (now : Counted) → at ≡ path → ListsInOrder observes at found repeated tree tree_after → entries ≡ found
+        → count ≡ length repeated → now ≡ record before { skipped = before.skipped + count } → CountsItems path entries now after waiting waiting_after
         → CountsFolder observes path before after tree tree_after waiting waiting_after
-    counts_listed at entries found here lists same counted =
+    counts_listed at entries found repeated count now here lists same all left counted =
         let are : found ≡ map entry_in counted.items = sym (counted.its ∙ same) in
         record {
-          listing = record { path = at; observed = Some lists.listed; items = counted.items };
+          listing = record { path = at; observed = Some lists.listed; items = counted.items; repeated = repeated };
           its = here;
           is_listing = record {
-            same = subst (λ (l : List FolderEntry). IsPermutation lists.listed l) are lists.same;
+            same = subst (λ (l : List FolderEntry). IsPermutation lists.listed (l ++ repeated)) are lists.same;
             in_order = subst AreInOrder are lists.in_order;
+            are_repeated = subst (λ (l : List FolderEntry). AreRepeated l repeated) are lists.are_repeated;
             items = counted.are_items;
           };
           observed = lists.observed;
-          folders = counted.adds.folders;
-          files = counted.adds.files;
-          bytes = counted.adds.bytes;
-          skipped = omega (arith, counted.adds.skipped);
+          folders = counted.adds.folders ∙ ap (λ (c : Counted). c.folders + count_by is_folder counted.items) left;
+          files = counted.adds.files ∙ ap (λ (c : Counted). c.files + count_by is_file counted.items) left;
+          bytes = counted.adds.bytes ∙ ap (λ (c : Counted). c.bytes + sum_by bytes_in counted.items) left;
+          skipped = omega (arith, counted.adds.skipped, ap (λ (c : Counted). c.skipped) left, all);
           pending = counted.pending ∙ ap (λ (p : List ℕ). paths_of waiting ++ flat_map (path_of_item p) counted.items) (sym here);
         }
 
     pub counts_unread : (at : List ℕ) (why : Skipped) → at ≡ path → (why ≡ reasons.Unreadable) × observes tree (Unlisted at) tree_after → after ≡ record before { skipped = before.skipped + 1 } → waiting_after ≡ waiting
         → CountsFolder observes path before after tree tree_after waiting waiting_after
     counts_unread at why here unread added still = record {
-      listing = record { path = at; observed = None; items = [] };
+      listing = record { path = at; observed = None; items = []; repeated = [] };
       its = here;
-      is_listing = record { same = refl; in_order = λ k first second one two. absurd cc; items = tt };
+      is_listing = record { same = (refl, refl); in_order = λ k first second one two. absurd cc; are_repeated = All-nil (HasNameOf []); items = tt };
       observed = unread.1;
       folders = ap (λ (c : Counted). c.folders) added ∙ omega arith;
       files = ap (λ (c : Counted). c.files) added ∙ omega arith;
@@ -144,17 +146,17 @@ module _ {T : Type 0} (observes : T → Observation → T → Type 0) where
 
   -- the listings so far, and the folders that are still to be listed
   pub record CountingTree (counted : Counted) (waiting : List PendingFolder) (tree tree_now : T) : Type 0 where
-    pub listings : List Listing
-    pub are : AllByRecursion IsListing listings
-    pub observed : GoesOver observes tree (map observed_of_listing listings) tree_now
+    pub listings : List CountedFolder
+    pub are : AllByRecursion IsCounted listings
+    pub observed : GoesOver observes tree (map observed_of_counted listings) tree_now
     pub places : map (λ listing. listing.path) listings ++ paths_of waiting ≡ [] ∷ flat_map folders_in listings
     pub folders : counted.folders ≡ count_by is_folder (items_in listings)
     pub files : counted.files ≡ count_by is_file (items_in listings)
     pub bytes : counted.bytes ≡ sum_by bytes_in (items_in listings)
-    pub skipped : counted.skipped ≡ count_by is_no_node (items_in listings) + count_by is_unread listings
+    pub skipped : counted.skipped ≡ count_by is_no_node (items_in listings) + (repeated_in listings + count_by is_unread listings)
 
-  items_more : (f : Item → ℕ) (listings : List Listing) (listing : Listing) → sum_by f (items_in (listings ++ listing ∷ [])) ≡ sum_by f (items_in listings) + sum_by f listing.items
-  items_more f listings listing = ap (sum_by f) (given_more (λ (l : Listing). l.items) listings listing) ∙ sum_by-append f (items_in listings) listing.items
+  items_more : (f : Item → ℕ) (listings : List CountedFolder) (listing : CountedFolder) → sum_by f (items_in (listings ++ listing ∷ [])) ≡ sum_by f (items_in listings) + sum_by f listing.items
+  items_more f listings listing = ap (sum_by f) (given_more (λ (l : CountedFolder). l.items) listings listing) ∙ sum_by-append f (items_in listings) listing.items
 
   pub count_begun : (counted : Counted) (waiting : List PendingFolder) (top : PendingFolder) (tree : T) → waiting ≡ top ∷ [] → top.path ≡ [] → counted.folders ≡ 0 → counted.files ≡ 0 → counted.bytes ≡ 0 → counted.skipped ≡ 0
       → CountingTree counted waiting tree tree
@@ -165,18 +167,18 @@ module _ {T : Type 0} (observes : T → Observation → T → Type 0) where
       → CountingTree before waiting tree tree_now → waiting ≡ folder ∷ left → CountsFolder observes folder.path before after tree_now tree_after left waiting_after
       → CountingTree after waiting_after tree tree_after
   count_more folder before after waiting left waiting_after tree tree_now tree_after front popped next =
-      let here : List (List ℕ) = map (λ (l : Listing). l.path) front.listings in
+      let here : List (List ℕ) = map (λ (l : CountedFolder). l.path) front.listings in
       let found : List (List ℕ) = folders_in next.listing in
-      let pushed : map (λ (l : Listing). l.path) (front.listings ++ next.listing ∷ []) ≡ here ++ folder.path ∷ [] =
-      map-append (λ (l : Listing). l.path) front.listings (next.listing ∷ []) ∙ ap (λ (p : List ℕ). here ++ p ∷ []) next.its in
+      let pushed : map (λ (l : CountedFolder). l.path) (front.listings ++ next.listing ∷ []) ≡ here ++ folder.path ∷ [] =
+      map-append (λ (l : CountedFolder). l.path) front.listings (next.listing ∷ []) ∙ ap (λ (p : List ℕ). here ++ p ∷ []) next.its in
       let regrouped : (here ++ folder.path ∷ []) ++ (paths_of left ++ found) ≡ (here ++ (folder.path ∷ paths_of left)) ++ found =
       append_assoc here (folder.path ∷ []) (paths_of left ++ found) ∙ sym (append_assoc here (folder.path ∷ paths_of left) found) in
       record {
         listings = front.listings ++ next.listing ∷ [];
-        are = all_more IsListing front.listings next.listing front.are next.is_listing;
-        observed = subst (λ (l : List Observation). GoesOver observes tree l tree_after) (sym (map-append observed_of_listing front.listings (next.listing ∷ [])))
-            (over_more observes tree tree_now tree_after (map observed_of_listing front.listings) (observed_of_listing next.listing ∷ []) front.observed (over_one observes tree_now tree_after _ next.observed));
-        places = ap (λ (l : List (List ℕ)). map (λ (l : Listing). l.path) (front.listings ++ next.listing ∷ []) ++ l) next.pending
+        are = all_more IsCounted front.listings next.listing front.are next.is_listing;
+        observed = subst (λ (l : List Observation). GoesOver observes tree l tree_after) (sym (map-append observed_of_counted front.listings (next.listing ∷ [])))
+            (over_more observes tree tree_now tree_after (map observed_of_counted front.listings) (observed_of_counted next.listing ∷ []) front.observed (over_one observes tree_now tree_after _ next.observed));
+        places = ap (λ (l : List (List ℕ)). map (λ (l : CountedFolder). l.path) (front.listings ++ next.listing ∷ []) ++ l) next.pending
             ∙ (ap (λ (l : List (List ℕ)). l ++ (paths_of left ++ found)) pushed
             ∙ (regrouped
             ∙ (ap (λ (l : List PendingFolder). (here ++ paths_of l) ++ found) (sym popped)
@@ -185,7 +187,7 @@ module _ {T : Type 0} (observes : T → Observation → T → Type 0) where
         folders = omega (arith, front.folders, next.folders, items_more (λ (i : Item). cond (is_folder i) 1 0) front.listings next.listing);
         files = omega (arith, front.files, next.files, items_more (λ (i : Item). cond (is_file i) 1 0) front.listings next.listing);
         bytes = omega (arith, front.bytes, next.bytes, items_more bytes_in front.listings next.listing);
-        skipped = omega (arith, front.skipped, next.skipped, items_more (λ (i : Item). cond (is_no_node i) 1 0) front.listings next.listing, sum_by-append (λ (l : Listing). cond (is_unread l) 1 0) front.listings (next.listing ∷ []));
+        skipped = omega (arith, front.skipped, next.skipped, items_more (λ (i : Item). cond (is_no_node i) 1 0) front.listings next.listing, one_sum (λ (l : CountedFolder). length l.repeated) front.listings next.listing, sum_by-append (λ (l : CountedFolder). cond (is_unread l) 1 0) front.listings (next.listing ∷ []));
       }
 
   pub count_too_many : (counted : Counted) (waiting : List PendingFolder) (tree tree_now : T) (limit : ℕ) → CountingTree counted waiting tree tree_now → limit < counted.folders + counted.files → CountsTooMany observes limit tree tree_now
@@ -203,7 +205,7 @@ module _ {T : Type 0} (observes : T → Observation → T → Type 0) where
     listings = front.listings;
     are = front.are;
     observed = front.observed;
-    each_folder = sym (append-nil (map (λ (l : Listing). l.path) front.listings)) ∙ (ap (λ (l : List PendingFolder). map (λ (l : Listing). l.path) front.listings ++ paths_of l) (sym none) ∙ front.places);
+    each_folder = sym (append-nil (map (λ (l : CountedFolder). l.path) front.listings)) ∙ (ap (λ (l : List PendingFolder). map (λ (l : CountedFolder). l.path) front.listings ++ paths_of l) (sym none) ∙ front.places);
     folders = front.folders;
     files = front.files;
     bytes = front.bytes;

@@ -1,8 +1,9 @@
 -- How much there is in a tree (this project's own).
-use Rattle.std.specs.Prelude.{◌≡◌, ◌⊎◌, ℕ, ◌+◌, ◌<◌, Bool, true, false, List, [], ◌∷◌, ◌++◌, map, sum_by, Option, Some, None, IsUtf8}
+use Rattle.std.specs.Prelude.{◌≡◌, ◌⊎◌, ℕ, ◌+◌, ◌<◌, Bool, true, false, List, [], ◌∷◌, ◌++◌, length, map, sum_by, Option, Some, None, IsUtf8}
 use Rattle.std.specs.List.{flat_map, count_by, AllByRecursion}
 use Rattle.droid_tree.specs.Observation.{Observation, GoesOver}
-use Rattle.droid_tree.specs.Visits.{AreInOrder, AreThose, below, observed_of_folder}
+use Rattle.droid_tree.specs.Listings.{AreInOrder, AreRepeated, AreThose, observed_of_folder}
+use Rattle.droid_tree.specs.Paths.{below}
 use Rattle.droid_tree.specs.declared.tree_size.Counted.{Counted}
 use Rattle.droid_tree.specs.declared.folder_entry.FolderEntry.{FolderEntry}
 use Rattle.droid_tree.specs.declared.folder_entry.EntryKind.TheVariants as kinds
@@ -47,52 +48,59 @@ abbrev pub path_of_item : List ℕ → Item → List (List ℕ)
 path_of_item path (AFolder entry) = below path entry.name ∷ []
 path_of_item path _ = []
 
--- a folder's path, the entries that the tree returned if the folder is readable, and what each entry counts as
-pub record Listing : Type 0 where
+-- a folder's path, the entries that the tree returned if the folder is readable, what each of them counts as, and those
+-- that have the name of another one
+pub record CountedFolder : Type 0 where
   pub path : List ℕ
   pub observed : Option (List FolderEntry)
   pub items : List Item
+  pub repeated : List FolderEntry
 
 -- the entries are those that the tree returned, sorted by name
-pub record IsListing (listing : Listing) : Type 0 where
-  pub same : AreThose listing.observed (map entry_in listing.items)
-  pub in_order : AreInOrder (map entry_in listing.items)
-  pub items : AllByRecursion IsItem listing.items
+pub record IsCounted (folder : CountedFolder) : Type 0 where
+  pub same : AreThose folder.observed (map entry_in folder.items) folder.repeated
+  pub in_order : AreInOrder (map entry_in folder.items)
+  pub are_repeated : AreRepeated (map entry_in folder.items) folder.repeated
+  pub items : AllByRecursion IsItem folder.items
 
 abbrev pub is_unread_by : Option (List FolderEntry) → Bool
 is_unread_by None = true
 is_unread_by (Some observed) = false
 
-abbrev pub is_unread : Listing → Bool
-is_unread listing = is_unread_by listing.observed
+abbrev pub is_unread : CountedFolder → Bool
+is_unread folder = is_unread_by folder.observed
 
-abbrev pub observed_of_listing : Listing → Observation
-observed_of_listing listing = observed_of_folder listing.path listing.observed
+abbrev pub observed_of_counted : CountedFolder → Observation
+observed_of_counted folder = observed_of_folder folder.path folder.observed
 
-abbrev pub folders_in : Listing → List (List ℕ)
-folders_in listing = flat_map (path_of_item listing.path) listing.items
+abbrev pub folders_in : CountedFolder → List (List ℕ)
+folders_in folder = flat_map (path_of_item folder.path) folder.items
 
-abbrev pub items_in : List Listing → List Item
-items_in listings = flat_map (λ listing. listing.items) listings
+abbrev pub items_in : List CountedFolder → List Item
+items_in folders = flat_map (λ folder. folder.items) folders
+
+-- how many entries of these folders have the name of another one
+abbrev pub repeated_in : List CountedFolder → ℕ
+repeated_in folders = sum_by (λ folder. length folder.repeated) folders
 
 -- The top was listed, and then each folder that was found, once, in the order of a walk. The numbers are those of what
 -- was listed: folders, files, their bytes, skipped entries, and unreadable folders.
 pub record CountsTree {T : Type 0} (observes : T → Observation → T → Type 0) (counted : Counted) (tree tree_after : T) : Type 0 where
-  pub listings : List Listing
-  pub are : AllByRecursion IsListing listings
-  pub observed : GoesOver observes tree (map observed_of_listing listings) tree_after
+  pub listings : List CountedFolder
+  pub are : AllByRecursion IsCounted listings
+  pub observed : GoesOver observes tree (map observed_of_counted listings) tree_after
   pub each_folder : map (λ listing. listing.path) listings ≡ [] ∷ flat_map folders_in listings
   pub folders : counted.folders ≡ count_by is_folder (items_in listings)
   pub files : counted.files ≡ count_by is_file (items_in listings)
   pub bytes : counted.bytes ≡ sum_by bytes_in (items_in listings)
-  pub skipped : counted.skipped ≡ count_by is_no_node (items_in listings) + count_by is_unread listings
+  pub skipped : counted.skipped ≡ count_by is_no_node (items_in listings) + (repeated_in listings + count_by is_unread listings)
 
 -- Folders were listed, the top first, each once, in the order of a walk, but not yet all that were found. What was
 -- listed has more folders and files than the limit.
 pub record CountsTooMany {T : Type 0} (observes : T → Observation → T → Type 0) (limit : ℕ) (tree tree_after : T) : Type 0 where
-  pub listings : List Listing
-  pub are : AllByRecursion IsListing listings
-  pub observed : GoesOver observes tree (map observed_of_listing listings) tree_after
+  pub listings : List CountedFolder
+  pub are : AllByRecursion IsCounted listings
+  pub observed : GoesOver observes tree (map observed_of_counted listings) tree_after
   pub unlisted : List (List ℕ)
   pub each_folder : map (λ listing. listing.path) listings ++ unlisted ≡ [] ∷ flat_map folders_in listings
   pub too_many : limit < count_by is_folder (items_in listings) + count_by is_file (items_in listings)
@@ -124,12 +132,12 @@ pub record CountsItems (path : List ℕ) (entries : List FolderEntry) (before af
   pub pending : paths_of waiting_after ≡ paths_of waiting ++ flat_map (path_of_item path) items
 
 pub record CountsFolder {T : Type 0} (observes : T → Observation → T → Type 0) (path : List ℕ) (before after : Counted) (tree tree_after : T) (waiting waiting_after : List PendingFolder) : Type 0 where
-  pub listing : Listing
+  pub listing : CountedFolder
   pub its : listing.path ≡ path
-  pub is_listing : IsListing listing
-  pub observed : observes tree (observed_of_listing listing) tree_after
+  pub is_listing : IsCounted listing
+  pub observed : observes tree (observed_of_counted listing) tree_after
   pub folders : after.folders ≡ before.folders + count_by is_folder listing.items
   pub files : after.files ≡ before.files + count_by is_file listing.items
   pub bytes : after.bytes ≡ before.bytes + sum_by bytes_in listing.items
-  pub skipped : after.skipped ≡ before.skipped + (count_by is_no_node listing.items + count_by is_unread (listing ∷ []))
+  pub skipped : after.skipped ≡ before.skipped + (count_by is_no_node listing.items + (length listing.repeated + count_by is_unread (listing ∷ [])))
   pub pending : paths_of waiting_after ≡ paths_of waiting ++ folders_in listing

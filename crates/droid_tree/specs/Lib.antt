@@ -1,8 +1,7 @@
-pub mod Asked
 pub mod Counts
 pub mod Heard
-pub mod Order
-pub mod Steps
+pub mod Listings
 pub mod Observation
-pub mod Visits
-pub mod Walks
+pub mod Order
+pub mod Paths
+pub mod Reading

@@ -1,23 +1,25 @@
--- What a tree returns during a walk (this project's own).
+-- What a tree returns when it is read (this project's own). Each read names the entry as the folder listed it.
 use Rattle.std.specs.Prelude.{◌≡◌, ℕ, ◌≤◌, List, [], ◌∷◌, ◌++◌, length}
 use Rattle.droid_tree.specs.declared.folder_entry.FolderEntry.{FolderEntry}
 
 pub data Observation : Type 0 where
   -- the folder has these entries
   Listed : (path : List ℕ) (entries : List FolderEntry) → Observation
-  -- `wanted` bytes of the file were asked for from offset `from`, and these came
-  Read : (path : List ℕ) (from wanted : ℕ) (bytes : List ℕ) → Observation
   -- the folder could not be read
   Unlisted : (path : List ℕ) → Observation
+  -- `wanted` bytes of the file were asked for from offset `from`, and these came
+  Read : (path : List ℕ) (entry : FolderEntry) (from wanted : ℕ) (bytes : List ℕ) → Observation
   -- `wanted` bytes of the file were asked for from offset `from`, and could not be read
-  Unread : (path : List ℕ) (from wanted : ℕ) → Observation
+  Unread : (path : List ℕ) (entry : FolderEntry) (from wanted : ℕ) → Observation
+  -- `wanted` bytes of the file were asked for from offset `from`, and another file was at its path
+  Exchanged : (path : List ℕ) (entry : FolderEntry) (from wanted : ℕ) → Observation
 
 -- the tree returned bytes of a file, and they were appended to the buffer
-pub record BytesCame {T : Type 0} (observes : T → Observation → T → Type 0) (tree : T) (path : List ℕ) (from wanted : ℕ) (before after : List ℕ) (tree_after : T) : Type 0 where
+pub record BytesCame {T : Type 0} (observes : T → Observation → T → Type 0) (tree : T) (path : List ℕ) (entry : FolderEntry) (from wanted : ℕ) (before after : List ℕ) (tree_after : T) : Type 0 where
   pub bytes : List ℕ
   pub added : after ≡ before ++ bytes
   pub within : length bytes ≤ wanted
-  pub observed : observes tree (Read path from wanted bytes) tree_after
+  pub observed : observes tree (Read path entry from wanted bytes) tree_after
 
 -- a list of steps, each from the state that the step before left
 abbrev pub GoesOver : {S A : Type 0} → (S → A → S → Type 0) → S → List A → S → Type 0

@@ -2,7 +2,6 @@
 
 ghost use Rattle.std.specs.Prelude.{◌≡◌};
 
-use crate::exchange::ExchangeFault;
 use std::alloc::AllocError;
 use thiserror::Error;
 
@@ -15,6 +14,9 @@ pub enum TreeFault {
     /// The folder or file could not be opened or read.
     #[error("it could not be read")]
     Unreadable,
+    /// Another file is at the path than the one that the folder listed.
+    #[error("it is not the file that was listed")]
+    Changed,
 }
 
 /// Why a walk ended early.
@@ -32,9 +34,6 @@ pub enum WalkFault {
     /// A request is too long for a frame.
     #[error("a request is too long")]
     TooLong,
-    /// A folder has two entries of one name.
-    #[error("a folder has two entries of one name")]
-    Names,
     /// There are more folders than a profile can have.
     #[error("there are too many folders")]
     Folders,
@@ -53,15 +52,5 @@ impl From<AllocError> for WalkFault {
 
     fn from(_error: AllocError) -> WalkFault {
         WalkFault::Memory
-    }
-}
-
-impl From<ExchangeFault> for WalkFault {
-    ghost use Rattle.droid_tree.specs.declared.fault.WalkFault.TheVariants.{Exchange};
-
-    ghost from_gives = { λ _ fault. fault ≡ Exchange };
-
-    fn from(_fault: ExchangeFault) -> WalkFault {
-        WalkFault::Exchange
     }
 }

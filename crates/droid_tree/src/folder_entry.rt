@@ -24,4 +24,8 @@ pub struct FolderEntry {
     pub modified: i64,
     /// The length in bytes, if it is a file.
     pub len: u64,
+    /// The number of the device that it lies on.
+    pub device: u64,
+    /// Its number on this device. Device and inode tell a file from every other.
+    pub inode: u64,
 }

@@ -1,31 +1,26 @@
-//! Walks over a tree of folders and files and submits it to a service.
+//! A tree of folders and files, as it is read.
 //!
-//! The caller supplies both: a [`Tree`] to read and an [`Exchange`] to send requests to. So the proofs hold for any
-//! file system or tree in memory, and for any service, in this process or remote.
+//! The caller supplies the [`Tree`]: on a disk or in memory. This crate lists its folders in order, reads its files
+//! piece by piece and counts what is in it. Nothing of a service is in it.
 #![tactic(auto)]
 
-mod exchange;
 mod fault;
-mod files;
 mod folder_entry;
-mod folders;
 mod listing;
 mod order;
 mod pending_folder;
 mod pieces;
-mod service_requests;
 mod skipped;
 mod tree;
 mod tree_size;
-mod tree_walk;
 mod watcher;
 
-pub use exchange::{Exchange, ExchangeFault};
 pub use fault::{TreeFault, WalkFault};
 pub use folder_entry::{EntryKind, FolderEntry};
-pub use service_requests::ask;
-pub use skipped::Skipped;
+pub use listing::{Listing, name_of, read_folder};
+pub use pending_folder::{NODE_LIMIT, PendingFolder, TURNS, add_pending, only_the_top, path_below};
+pub use pieces::{begin_of, next_len, read_piece, see_end};
+pub use skipped::{Skipped, unread};
 pub use tree::Tree;
-pub use tree_size::{Counted, NODE_LIMIT, count};
-pub use tree_walk::{Options, Walked, walk, walk_on};
+pub use tree_size::{Counted, count};
 pub use watcher::Watcher;

@@ -1,58 +1,67 @@
 //! Sorts a folder's entries by name.
 
-ghost use Rattle.std.specs.Prelude.{◌≡◌, ◌≢◌, ◌+◌, ◌<◌, IfErr, IfOk, IsTrue, IsPermutation, length, slice_get};
+ghost use Rattle.std.specs.Prelude.{◌≡◌, ◌↔◌, ◌-◌, ◌++◌, [], ◌∷◌, List, Some, false, IfOk, IsTrue, OnOk, length, slice_get};
+ghost use Rattle.droid_tree.specs.Listings.{AreSorted, IsBeforeNone, Splits};
 ghost use Rattle.droid_tree.specs.Order.{IsBefore};
-ghost use Rattle.droid_tree.specs.Visits.{AreInOrder};
-ghost use Rattle.droid_tree.specs.declared.fault.WalkFault.TheVariants.{Entries};
+ghost use Rattle.droid_tree.specs.declared.folder_entry.FolderEntry.{FolderEntry};
 
-use crate::fault::WalkFault;
 use crate::folder_entry::FolderEntry;
+use crate::listing::Listing;
+use std::alloc::{AllocError, Global};
 use std::cmp::Ordering;
 
-/// Sorts entries by the bytes of their names. Two entries of one name are an error.
-pub(crate) fn in_order(entries: Vec<FolderEntry>) -> Result<Vec<FolderEntry>, WalkFault>
-    ensures same { IfOk result (λ sorted. IsPermutation entries.items sorted.items) }
-    ensures in_order { IfOk result (λ sorted. AreInOrder sorted.items) }
-    ensures other { IfErr result (λ fault. fault ≢ Entries) }
+/// Sorts entries by the bytes of their names, and sets apart those that have the name of another one.
+pub(crate) fn in_order(alloc: Global, entries: Vec<FolderEntry>) -> Result<Listing, AllocError>
+    ensures { IfOk result (λ listing. Splits entries.items listing.entries.items listing.repeated.items) }
 {
     let mut sorted = entries;
     sorted.sort_by(|first, second| first.name.as_slice().cmp(second.name.as_slice()))?;
-    if are_in_order(sorted.as_slice()) {
-        Ok(sorted)
-    } else {
-        Err(WalkFault::Names)
-    }
+    let listing = split(alloc, sorted)?;
+    Ok(listing)
 }
 
-/// Returns whether each name comes before the next.
-fn are_in_order(entries: &[FolderEntry]) -> bool
-    ensures { IsTrue result → AreInOrder entries.now }
+/// Sets apart the entries that have the name of the one before them.
+fn split(alloc: Global, sorted: Vec<FolderEntry>) -> Result<Listing, AllocError>
+    requires { AreSorted sorted.items }
+    ensures { IfOk result (λ listing. Splits sorted.items listing.entries.items listing.repeated.items) }
 {
-    for index in 1..entries.len() {
-        if !is_before_next(entries, index - 1) {
-            return false;
-        }
+    let mut listing = Listing {
+        entries: Vec::new(alloc),
+        repeated: Vec::new(alloc),
+    };
+    for entry in sorted {
+        put(&mut listing, entry)?;
     }
-    true
+    Ok(listing)
 }
 
-/// Returns whether the name at this index comes before the next.
-fn is_before_next(entries: &[FolderEntry], index: usize) -> bool
-    requires { index + 1 < length entries.now }
-    ensures { IsTrue result → (first second : FolderEntry) → slice_get entries.now index ≡ Some first → slice_get entries.now (index + 1) ≡ Some second → IsBefore first.name second.name }
+/// Appends the next of sorted entries: to the repeated ones if the last entry has its name.
+fn put(listing: &mut Listing, entry: FolderEntry) -> Result<(), AllocError>
+    ensures { OnOk result ((all : List FolderEntry) → Splits all listing.old.entries.items listing.old.repeated.items → IsBeforeNone all entry →
+        Splits (all ++ entry ∷ []) listing.new.entries.items listing.new.repeated.items) }
 {
-    let Some(first) = entries.get(index) else {
-        return false;
-    };
-    let Some(second) = entries.get(index + 1) else {
-        return false;
-    };
-    is_before(first, second)
+    if comes_next(listing.entries.as_slice(), &entry) {
+        listing.entries.push(entry)?;
+        return Ok(());
+    }
+    listing.repeated.push(entry)?;
+    Ok(())
+}
+
+/// Returns whether the name of the last entry comes before this one's, or there is no entry.
+fn comes_next(entries: &[FolderEntry], entry: &FolderEntry) -> bool
+    ensures next { IsTrue result → (last : FolderEntry) → slice_get entries.now (length entries.now - 1) ≡ Some last → IsBefore last.name entry.now.name }
+    ensures repeated { result ≡ false → (last : FolderEntry) × (slice_get entries.now (length entries.now - 1) ≡ Some last) × ¬ (IsBefore last.name entry.now.name) }
+{
+    match entries.last() {
+        Some(last) => is_before(last, entry),
+        None => true,
+    }
 }
 
 /// Returns whether the first name comes before the second.
 fn is_before(first: &FolderEntry, second: &FolderEntry) -> bool
-    ensures { IsTrue result → IsBefore first.now.name second.now.name }
+    ensures { IsTrue result ↔ IsBefore first.now.name second.now.name }
 {
     match first.name.as_slice().cmp(second.name.as_slice()) {
         Ordering::Less => true,

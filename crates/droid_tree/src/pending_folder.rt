@@ -1,11 +1,18 @@
-//! A folder that the walk still has to visit.
+//! Folders that a walk still has to visit.
 
 ghost use Rattle.std.specs.Prelude.{◌≡◌, ◌++◌, [], ◌∷◌, IfOk, OnOk};
-ghost use Rattle.droid_tree.specs.Visits.{below};
+ghost use Rattle.droid_tree.specs.Paths.{below, top};
 
 use droid_frame::Text;
 use std::alloc::{AllocError, Global};
 use std::collections::VecDeque;
+
+/// How many folders and files a profile can have.
+pub const NODE_LIMIT: u64 = 100_000;
+
+/// How many turns a walk makes at most: one for each folder of a full profile, one for the top, and one that finds no
+/// more.
+pub const TURNS: u64 = NODE_LIMIT + 2;
 
 /// A folder that the walk still has to visit.
 #[derive(Drop)]
@@ -17,7 +24,7 @@ pub struct PendingFolder {
 }
 
 /// Returns the path of an entry of this folder.
-pub(crate) fn path_below(alloc: Global, path: &str, name: &str) -> Result<Text, AllocError>
+pub fn path_below(alloc: Global, path: &str, name: &str) -> Result<Text, AllocError>
     ensures { IfOk result (λ text. text ≡ below path.now name.now) }
 {
     let joined = format!(in alloc; "{path}/{name}")?;
@@ -25,7 +32,7 @@ pub(crate) fn path_below(alloc: Global, path: &str, name: &str) -> Result<Text, 
 }
 
 /// Appends a folder to those that the walk still has to visit.
-pub(crate) fn add_pending(
+pub fn add_pending(
     pending: &mut VecDeque<PendingFolder>,
     path: Text,
     number: u32,
@@ -34,4 +41,14 @@ pub(crate) fn add_pending(
 {
     pending.push_back(PendingFolder { path, number })?;
     Ok(())
+}
+
+/// Returns the list of pending folders with the top alone.
+pub fn only_the_top(alloc: Global) -> Result<VecDeque<PendingFolder>, AllocError>
+    ensures { IfOk result (λ pending. pending.items ≡ top ∷ []) }
+{
+    let mut pending = VecDeque::new(alloc);
+    let path = Text::from(String::new(alloc));
+    add_pending(&mut pending, path, 0)?;
+    Ok(pending)
 }

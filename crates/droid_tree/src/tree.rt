@@ -1,8 +1,8 @@
 //! The trait for reading a tree.
 
-ghost use Rattle.std.specs.Prelude.{◌≡◌, IfErr, IfOk, OnOk};
-ghost use Rattle.droid_tree.specs.Observation.{Observation, Listed, Unlisted, Unread, BytesCame};
-ghost use Rattle.droid_tree.specs.declared.fault.TreeFault.TheVariants.{Unreadable};
+ghost use Rattle.std.specs.Prelude.{◌≡◌, ◌≢◌, IfErr, IfOk, OnOk};
+ghost use Rattle.droid_tree.specs.Observation.{Observation, Listed, Unlisted, Unread, Exchanged, BytesCame};
+ghost use Rattle.droid_tree.specs.declared.fault.TreeFault.TheVariants as faults;
 
 use crate::fault::TreeFault;
 use crate::folder_entry::FolderEntry;
@@ -14,19 +14,22 @@ pub trait Tree {
     /// Relates the state before a call, what the call returned, and the state after it.
     ghost observes: { Self → Observation → Self → Type 0 };
 
-    /// Returns the entries of a folder, in any order.
+    /// Returns the entries of a folder, in any order. A name may be there twice.
     fn entries(&mut self, alloc: Global, path: &str) -> Result<Vec<FolderEntry>, TreeFault>
         ensures listed { IfOk result (λ entries. observes self.old (Listed path.now entries.items) self.new) }
-        ensures unlisted { IfErr result (λ fault. fault ≡ Unreadable → observes self.old (Unlisted path.now) self.new) };
+        ensures unlisted { IfErr result (λ fault. fault ≢ faults.Memory → observes self.old (Unlisted path.now) self.new) };
 
     /// Appends up to `wanted` bytes of a file, starting at offset `from`. Appends fewer only if the file ends before.
+    /// `entry` is the file as its folder listed it. Fails with `Changed` if another file is at the path.
     fn read(
         &mut self,
         path: &str,
+        entry: &FolderEntry,
         from: u64,
         wanted: u32,
         bytes: &mut Vec<u8>,
     ) -> Result<(), TreeFault>
-        ensures came { OnOk result (BytesCame observes self.old path.now from wanted bytes.old.items bytes.new.items self.new) }
-        ensures unread { IfErr result (λ fault. fault ≡ Unreadable → observes self.old (Unread path.now from wanted) self.new) };
+        ensures came { OnOk result (BytesCame observes self.old path.now entry.now from wanted bytes.old.items bytes.new.items self.new) }
+        ensures unread { IfErr result (λ fault. fault ≡ faults.Unreadable → observes self.old (Unread path.now entry.now from wanted) self.new) }
+        ensures exchanged { IfErr result (λ fault. fault ≡ faults.Changed → observes self.old (Exchanged path.now entry.now from wanted) self.new) };
 }

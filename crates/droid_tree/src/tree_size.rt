@@ -7,14 +7,10 @@ ghost use Rattle.droid_tree.specs.declared.fault.WalkFault.TheVariants.{Entries}
 use crate::fault::WalkFault;
 use crate::folder_entry::{EntryKind, FolderEntry};
 use crate::listing::{name_of, read_folder};
-use crate::pending_folder::{PendingFolder, add_pending, path_below};
+use crate::pending_folder::{PendingFolder, TURNS, add_pending, only_the_top, path_below};
 use crate::tree::Tree;
-use crate::tree_walk::{TURNS, only_the_top};
 use std::alloc::Global;
 use std::collections::VecDeque;
-
-/// How many folders and files a profile can have.
-pub const NODE_LIMIT: u64 = 100_000;
 
 /// How much there is in a tree, not counting its top.
 #[derive(Clone, Copy, Debug)]
@@ -25,8 +21,8 @@ pub struct Counted {
     pub files: u64,
     /// The lengths of all files together, in bytes.
     pub bytes: u64,
-    /// How many entries and folders a walk skips: entries of other types, entries whose names are not valid UTF-8, and
-    /// unreadable folders.
+    /// How many entries and folders a walk skips: entries of other types, entries whose names are not valid UTF-8 or
+    /// are the name of another entry, and unreadable folders.
     pub skipped: u64,
 }
 
@@ -68,13 +64,15 @@ fn count_folder<T: Tree>(
     ensures other { IfErr result (λ fault. fault ≢ Entries) }
 {
     match read_folder(alloc, tree, folder.path.as_str())? {
-        Ok(entries) => {
-            let entries = entries.as_slice();
-            let after = count_entries(alloc, folder, entries, before, pending)?;
+        Ok(listing) => {
+            let repeated = listing.repeated.len() as u64;
+            let now = some_skipped(before, repeated)?;
+            let entries = listing.entries.as_slice();
+            let after = count_entries(alloc, folder, entries, now, pending)?;
             Ok(after)
         }
         Err(_) => {
-            let after = one_skipped(before)?;
+            let after = some_skipped(before, 1)?;
             Ok(after)
         }
     }
@@ -110,7 +108,7 @@ fn count_entry(
     ensures other { IfErr result (λ fault. fault ≢ Entries) }
 {
     let Some(name) = name_of(entry) else {
-        let after = one_skipped(before)?;
+        let after = some_skipped(before, 1)?;
         return Ok(after);
     };
     match entry.kind {
@@ -125,7 +123,7 @@ fn count_entry(
             Ok(after)
         }
         EntryKind::Other => {
-            let after = one_skipped(before)?;
+            let after = some_skipped(before, 1)?;
             Ok(after)
         }
     }
@@ -157,16 +155,16 @@ fn one_file(before: Counted, len: u64) -> Result<Counted, WalkFault>
     })
 }
 
-/// Counts one more skipped entry.
-fn one_skipped(before: Counted) -> Result<Counted, WalkFault>
-    ensures counted { IfOk result (λ after. after ≡ record before { skipped = before.skipped + 1 }) }
+/// Counts more skipped entries.
+fn some_skipped(before: Counted, count: u64) -> Result<Counted, WalkFault>
+    ensures counted { IfOk result (λ after. after ≡ record before { skipped = before.skipped + count }) }
     ensures other { IfErr result (λ fault. fault ≢ Entries) }
 {
     Ok(Counted {
         folders: before.folders,
         files: before.files,
         bytes: before.bytes,
-        skipped: sum_of(before.skipped, 1)?,
+        skipped: sum_of(before.skipped, count)?,
     })
 }
 

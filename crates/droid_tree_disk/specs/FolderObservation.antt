@@ -3,7 +3,7 @@ use Rattle.std.specs.Prelude.{◌≡◌, ◌≢◌, ◌⊎◌, ℕ, List, [], �
 use Rattle.std.specs.Str.{IsUtf8}
 use Rattle.droid_tree.specs.Observation as tree
 use Rattle.droid_tree.specs.Observation.{GoesOver}
-use Rattle.droid_tree.specs.Visits.{below}
+use Rattle.droid_tree.specs.Paths.{below}
 use Rattle.droid_tree.specs.declared.folder_entry.FolderEntry.{FolderEntry}
 use Rattle.droid_tree.specs.declared.folder_entry.EntryKind.TheVariants as kinds
 use Rattle.droid_tree_disk.specs.Said.{Said, Names, NoNames, Looked, Opened, NotOpened, Gave, GaveNone}
@@ -13,7 +13,8 @@ use Rattle.droid_tree_disk.specs.declared.disk.FileMetadata.{FileMetadata}
 
 -- an entry has the metadata that were found; without metadata it is neither a folder nor a file
 abbrev pub Shows : Option FileMetadata → FolderEntry → Type 0
-Shows (Some found) entry = (entry.kind ≡ found.kind) × (entry.modified ≡ found.modified) × (entry.len ≡ found.len)
+Shows (Some found) entry =
+    (entry.kind ≡ found.kind) × (entry.modified ≡ found.modified) × (entry.len ≡ found.len) × (entry.device ≡ found.device) × (entry.inode ≡ found.inode)
 Shows None entry = entry.kind ≡ kinds.Other
 
 -- the file system was asked for the metadata of a name that is UTF-8; of another name nothing was asked
@@ -34,21 +35,20 @@ pub record ListsAll {D : Type 0} (says : D → Said → D → Type 0) (path fold
 
 -- ---- the bytes of a file
 
--- both are regular files, and the same one
-pub record IsSameFile (first second : FileMetadata) : Type 0 where
-  pub first_kind : first.kind ≡ kinds.File
-  pub second_kind : second.kind ≡ kinds.File
-  pub device : first.device ≡ second.device
-  pub node : first.node ≡ second.node
+-- it is a regular file, and the one that its folder listed as this entry
+pub record IsFileOf (entry : FolderEntry) (found : FileMetadata) : Type 0 where
+  pub kind : found.kind ≡ kinds.File
+  pub device : found.device ≡ entry.device
+  pub inode : found.inode ≡ entry.inode
 
--- a regular file is at this path, and it is the file that was opened
-pub record OpensAt {D : Type 0} (says : D → Said → D → Type 0) (path : List ℕ) (disk disk_after : D) : Type 0 where
+-- the entry's file is at this path, and it is the file that was opened
+pub record OpensAt {D : Type 0} (says : D → Said → D → Type 0) (path : List ℕ) (entry : FolderEntry) (found : FileMetadata) (disk disk_after : D) : Type 0 where
   pub there : FileMetadata
-  pub found : FileMetadata
+  pub is_there : IsFileOf entry there
   pub middle : D
   pub looked : says disk (Looked path (Some there)) middle
   pub opened : says middle (Opened path found) disk_after
-  pub same : IsSameFile there found
+  pub is_found : IsFileOf entry found
 
 -- something is at this path that is no regular file, and it was not opened
 pub record FindsNoFile {D : Type 0} (says : D → Said → D → Type 0) (path : List ℕ) (disk disk_after : D) : Type 0 where
@@ -56,42 +56,56 @@ pub record FindsNoFile {D : Type 0} (says : D → Said → D → Type 0) (path :
   pub looked : says disk (Looked path (Some there)) disk_after
   pub kind : there.kind ≢ kinds.File
 
--- a regular file is at this path, and it can't be opened
-pub record OpenFails {D : Type 0} (says : D → Said → D → Type 0) (path : List ℕ) (disk disk_after : D) : Type 0 where
+-- the entry's file is at this path, and it can't be opened
+pub record OpenFails {D : Type 0} (says : D → Said → D → Type 0) (path : List ℕ) (entry : FolderEntry) (disk disk_after : D) : Type 0 where
   pub there : FileMetadata
-  pub is_file : there.kind ≡ kinds.File
+  pub is_there : IsFileOf entry there
   pub middle : D
   pub looked : says disk (Looked path (Some there)) middle
   pub failed : says middle (NotOpened path) disk_after
 
--- a regular file is at this path, and what was opened is no regular file, or another one
-pub record OpensOther {D : Type 0} (says : D → Said → D → Type 0) (path : List ℕ) (disk disk_after : D) : Type 0 where
+-- no file could be opened by this path: nothing was found, or no regular file, which is then not opened (a pipe would
+-- wait for ever, a device may do anything); or the file can't be opened
+abbrev pub OpensNone : {D : Type 0} → (D → Said → D → Type 0) → List ℕ → FolderEntry → D → D → Type 0
+OpensNone says path entry disk disk_after =
+    says disk (Looked path None) disk_after ⊎ (FindsNoFile says path disk disk_after ⊎ OpenFails says path entry disk disk_after)
+
+-- another regular file than the entry's is at this path, and it was not opened
+pub record FindsOther {D : Type 0} (says : D → Said → D → Type 0) (path : List ℕ) (entry : FolderEntry) (disk disk_after : D) : Type 0 where
   pub there : FileMetadata
+  pub looked : says disk (Looked path (Some there)) disk_after
   pub is_file : there.kind ≡ kinds.File
+  pub other : IsFileOf entry there → ⊥
+
+-- the entry's file is at this path, and what was opened is no regular file, or another one
+pub record OpensOther {D : Type 0} (says : D → Said → D → Type 0) (path : List ℕ) (entry : FolderEntry) (disk disk_after : D) : Type 0 where
+  pub there : FileMetadata
+  pub is_there : IsFileOf entry there
   pub found : FileMetadata
   pub middle : D
   pub looked : says disk (Looked path (Some there)) middle
   pub opened : says middle (Opened path found) disk_after
-  pub other : IsSameFile there found → ⊥
+  pub other : IsFileOf entry found → ⊥
 
--- no file could be opened by this path: nothing was found, or no regular file, which is then not opened (a pipe would
--- wait for ever, a device may do anything); or the file can't be opened, or another one was opened
-abbrev pub OpensNone : {D : Type 0} → (D → Said → D → Type 0) → List ℕ → D → D → Type 0
-OpensNone says path disk disk_after =
-    says disk (Looked path None) disk_after
-    ⊎ (FindsNoFile says path disk disk_after ⊎ (OpenFails says path disk disk_after ⊎ OpensOther says path disk disk_after))
+-- another file is at this path than the entry's, or was put there before it was opened
+abbrev pub IsExchanged : {D : Type 0} → (D → Said → D → Type 0) → List ℕ → FolderEntry → D → D → Type 0
+IsExchanged says path entry disk disk_after = FindsOther says path entry disk disk_after ⊎ OpensOther says path entry disk disk_after
 
--- a file that was opened by this path, now or before, returned these bytes
-pub record ReadsAt {D : Type 0} (says : D → Said → D → Type 0) (path : List ℕ) (from wanted : ℕ) (bytes : List ℕ) (disk disk_after : D) : Type 0 where
+-- the entry's file, opened by this path now or before, returned these bytes
+pub record ReadsAt {D : Type 0} (says : D → Said → D → Type 0) (path : List ℕ) (entry : FolderEntry) (from wanted : ℕ) (bytes : List ℕ) (disk disk_after : D) : Type 0 where
+  pub found : FileMetadata
+  pub its : IsFileOf entry found
   pub middle : D
-  pub opened : OpensAt says path disk middle ⊎ (middle ≡ disk)
-  pub gave : says middle (Gave path from wanted bytes) disk_after
+  pub opened : OpensAt says path entry found disk middle ⊎ (middle ≡ disk)
+  pub gave : says middle (Gave path found from wanted bytes) disk_after
 
--- a file that was opened by this path, now or before, could not be read at offset `from`
-pub record ReadFails {D : Type 0} (says : D → Said → D → Type 0) (path : List ℕ) (from wanted : ℕ) (disk disk_after : D) : Type 0 where
+-- the entry's file, opened by this path now or before, could not be read at offset `from`
+pub record ReadFails {D : Type 0} (says : D → Said → D → Type 0) (path : List ℕ) (entry : FolderEntry) (from wanted : ℕ) (disk disk_after : D) : Type 0 where
+  pub found : FileMetadata
+  pub its : IsFileOf entry found
   pub middle : D
-  pub opened : OpensAt says path disk middle ⊎ (middle ≡ disk)
-  pub failed : says middle (GaveNone path from wanted) disk_after
+  pub opened : OpensAt says path entry found disk middle ⊎ (middle ≡ disk)
+  pub failed : says middle (GaveNone path found from wanted) disk_after
 
 -- ---- the tree
 
@@ -101,10 +115,11 @@ folder_path top [] = top ++ 47 ∷ []
 folder_path top path = top ++ path
 
 -- What the folder at the path `top` returns as a tree. It reports a folder or a file as unreadable only if the file
--- system failed, or if no regular file or another file was opened.
+-- system failed or no regular file is there, and a file as exchanged only if it found another one than it listed.
 abbrev pub ObservesBelow : {D : Type 0} → (D → Said → D → Type 0) → List ℕ → D → tree.Observation → D → Type 0
 ObservesBelow says top disk (tree.Listed path entries) disk_after = ListsAll says (folder_path top path) (top ++ path) entries disk disk_after
-ObservesBelow says top disk (tree.Read path from wanted bytes) disk_after = ReadsAt says (top ++ path) from wanted bytes disk disk_after
 ObservesBelow says top disk (tree.Unlisted path) disk_after = says disk (NoNames (folder_path top path)) disk_after
-ObservesBelow says top disk (tree.Unread path from wanted) disk_after =
-    OpensNone says (top ++ path) disk disk_after ⊎ ReadFails says (top ++ path) from wanted disk disk_after
+ObservesBelow says top disk (tree.Read path entry from wanted bytes) disk_after = ReadsAt says (top ++ path) entry from wanted bytes disk disk_after
+ObservesBelow says top disk (tree.Unread path entry from wanted) disk_after =
+    OpensNone says (top ++ path) entry disk disk_after ⊎ ReadFails says (top ++ path) entry from wanted disk disk_after
+ObservesBelow says top disk (tree.Exchanged path entry from wanted) disk_after = IsExchanged says (top ++ path) entry disk disk_after

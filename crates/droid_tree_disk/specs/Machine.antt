@@ -31,8 +31,8 @@ MaySay (Looked path None) = Unit {0}
 MaySay (Looked path (Some found)) = IsOfSome found
 MaySay (Opened path found) = IsOfSome found
 MaySay (NotOpened path) = Unit {0}
-MaySay (Gave path from wanted bytes) = length bytes ≤ wanted
-MaySay (GaveNone path from wanted) = Unit {0}
+MaySay (Gave path found from wanted bytes) = length bytes ≤ wanted
+MaySay (GaveNone path found from wanted) = Unit {0}
 
 -- at most `wanted` bytes were appended
 pub record AddsBytes (wanted : ℕ) (before after : List ℕ) : Type 0 where

@@ -13,7 +13,9 @@ pub data Said : Type 0 where
   Opened : (path : List ℕ) (found : FileMetadata) → Said
   -- the file at this path could not be opened
   NotOpened : (path : List ℕ) → Said
-  -- `wanted` bytes of the open file were asked for from offset `from`, and these came
-  Gave : (path : List ℕ) (from wanted : ℕ) (bytes : List ℕ) → Said
-  -- `wanted` bytes of the open file were asked for from offset `from`, and could not be read
-  GaveNone : (path : List ℕ) (from wanted : ℕ) → Said
+  -- `wanted` bytes of the file that was opened by this path, and had these metadata then, were asked for from offset
+  -- `from`, and these came
+  Gave : (path : List ℕ) (found : FileMetadata) (from wanted : ℕ) (bytes : List ℕ) → Said
+  -- `wanted` bytes of the file that was opened by this path, and had these metadata then, were asked for from offset
+  -- `from`, and could not be read
+  GaveNone : (path : List ℕ) (found : FileMetadata) (from wanted : ℕ) → Said

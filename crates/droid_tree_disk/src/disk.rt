@@ -1,6 +1,6 @@
 //! The file system calls that reading a tree needs.
 
-ghost use Rattle.std.specs.Prelude.{◌≡◌, ℕ, List, IfErr, IfOk, IsTrue, OnOk};
+ghost use Rattle.std.specs.Prelude.{◌≡◌, ◌≢◌, ℕ, List, IfErr, IfOk, IsTrue, OnOk};
 
 use droid_frame::Blob;
 use droid_tree::{EntryKind, TreeFault};
@@ -17,8 +17,8 @@ pub struct FileMetadata {
     pub len: u64,
     /// The device.
     pub device: u64,
-    /// The number on that device (inode).
-    pub node: u64,
+    /// The number on that device.
+    pub inode: u64,
 }
 
 /// A file system.
@@ -26,7 +26,7 @@ pub trait Disk {
     ghost use Rattle.droid_tree_disk.specs.Said.{Said, Names, NoNames, Looked, Opened, NotOpened, GaveNone};
     ghost use Rattle.droid_tree_disk.specs.Given.{Gives};
     ghost use Rattle.droid_tree_disk.specs.declared.disk.FileMetadata.{FileMetadata};
-    ghost use Rattle.droid_tree.specs.declared.fault.TreeFault.TheVariants.{Unreadable};
+    ghost use Rattle.droid_tree.specs.declared.fault.TreeFault.TheVariants.{Memory, Unreadable, Changed};
 
     /// A file that is open for reading.
     type File: Drop;
@@ -44,7 +44,7 @@ pub trait Disk {
     /// ends in `/`.
     fn names(&mut self, alloc: Global, path: &str) -> Result<Vec<Blob>, TreeFault>
         ensures says { IfOk result (λ names. says self.old (Names path.now names.items) self.new) }
-        ensures failed { IfErr result (λ fault. fault ≡ Unreadable → says self.old (NoNames path.now) self.new) };
+        ensures failed { IfErr result (λ fault. fault ≢ Memory → says self.old (NoNames path.now) self.new) };
 
     /// Returns the metadata of a path, or `None` if there are none. Does not follow links.
     fn look(&mut self, path: &str) -> Option<FileMetadata>
@@ -54,7 +54,8 @@ pub trait Disk {
     fn open(&mut self, alloc: Global, path: &str) -> Result<Self::File, TreeFault>
         ensures says { IfOk result (λ file. says self.old (Opened path.now (metadata_of file)) self.new) }
         ensures path { IfOk result (λ file. path_of file ≡ path.now) }
-        ensures failed { IfErr result (λ fault. fault ≡ Unreadable → says self.old (NotOpened path.now) self.new) };
+        ensures failed { IfErr result (λ fault. fault ≡ Unreadable → says self.old (NotOpened path.now) self.new) }
+        ensures known { IfErr result (λ fault. fault ≢ Changed) };
 
     /// Returns the metadata of an open file, taken when it was opened.
     fn metadata(file: &Self::File) -> FileMetadata
@@ -73,6 +74,7 @@ pub trait Disk {
         wanted: u32,
         bytes: &mut Vec<u8>,
     ) -> Result<(), TreeFault>
-        ensures gave { OnOk result (Gives says self.old (path_of file.now) from wanted bytes.old.items bytes.new.items self.new) }
-        ensures failed { IfErr result (λ fault. fault ≡ Unreadable → says self.old (GaveNone (path_of file.now) from wanted) self.new) };
+        ensures gave { OnOk result (Gives says self.old (path_of file.now) (metadata_of file.now) from wanted bytes.old.items bytes.new.items self.new) }
+        ensures failed { IfErr result (λ fault. fault ≡ Unreadable → says self.old (GaveNone (path_of file.now) (metadata_of file.now) from wanted) self.new) }
+        ensures known { IfErr result (λ fault. fault ≢ Changed) };
 }

@@ -1,8 +1,8 @@
 //! Lists the entries of a folder with their metadata.
 
-ghost use Rattle.std.specs.Prelude.{◌≡◌, ◌++◌, ◌∷◌, [], IfErr, IfOk, OnOk};
-ghost use Rattle.droid_tree.specs.Visits.{below};
-ghost use Rattle.droid_tree.specs.declared.fault.TreeFault.TheVariants.{Memory, Unreadable};
+ghost use Rattle.std.specs.Prelude.{◌≡◌, ◌≢◌, ◌++◌, ◌∷◌, [], IfErr, IfOk, OnOk};
+ghost use Rattle.droid_tree.specs.Paths.{below};
+ghost use Rattle.droid_tree.specs.declared.fault.TreeFault.TheVariants.{Memory};
 ghost use Rattle.droid_tree_disk.specs.Said.{NoNames};
 ghost use Rattle.droid_tree_disk.specs.FolderObservation.{ListsAll, LooksAt, SaysOfText, Shows};
 
@@ -19,7 +19,7 @@ pub(crate) fn list<D: Disk>(
     folder: &str,
 ) -> Result<Vec<FolderEntry>, TreeFault>
     ensures listed { IfOk result (λ entries. ListsAll D.says path.now folder.now entries.items disk.old disk.new) }
-    ensures failed { IfErr result (λ fault. fault ≡ Unreadable → D.says disk.old (NoNames path.now) disk.new) }
+    ensures failed { IfErr result (λ fault. fault ≢ Memory → D.says disk.old (NoNames path.now) disk.new) }
 {
     let names = disk.names(alloc, path)?;
     let mut entries = Vec::new(alloc);
@@ -69,12 +69,16 @@ fn entry_with(name: Blob, found: Option<FileMetadata>) -> FolderEntry
             kind: found.kind,
             modified: found.modified,
             len: found.len,
+            device: found.device,
+            inode: found.inode,
         },
         None => FolderEntry {
             name,
             kind: EntryKind::Other,
             modified: 0,
             len: 0,
+            device: 0,
+            inode: 0,
         },
     }
 }

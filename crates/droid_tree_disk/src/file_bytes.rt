@@ -1,6 +1,7 @@
 //! Reads bytes of an open file into a buffer.
 
-ghost use Rattle.std.specs.Prelude.{◌≡◌, ◌≤◌, ◌+◌, IfOk, OnOk, length, take};
+ghost use Rattle.std.specs.Prelude.{◌≡◌, ◌≢◌, ◌≤◌, ◌+◌, IfErr, IfOk, OnOk, length, take};
+ghost use Rattle.droid_tree.specs.declared.fault.TreeFault.TheVariants.{Changed};
 ghost use Rattle.droid_tree_disk.specs.Machine.{AddsBytes};
 
 use droid_tree::TreeFault;
@@ -18,7 +19,8 @@ pub(crate) fn add_bytes(
     wanted: u32,
     bytes: &mut Vec<u8>,
 ) -> Result<(), TreeFault>
-    ensures { OnOk result (AddsBytes wanted bytes.old.items bytes.new.items) }
+    ensures added { OnOk result (AddsBytes wanted bytes.old.items bytes.new.items) }
+    ensures known { IfErr result (λ fault. fault ≢ Changed) }
 {
     let before = bytes.len();
     let Some(after) = before.checked_add(wanted as usize) else {
@@ -35,7 +37,8 @@ pub(crate) fn add_bytes(
 /// Fills a buffer with bytes of a file, starting at offset `from`. Returns how many bytes came: fewer if the file ends
 /// before.
 fn fill(file: &File, from: u64, buffer: &mut [u8]) -> Result<usize, TreeFault>
-    ensures { IfOk result (λ count. count ≤ length buffer.new) }
+    ensures within { IfOk result (λ count. count ≤ length buffer.new) }
+    ensures known { IfErr result (λ fault. fault ≢ Changed) }
 {
     let mut filled = 0;
     while filled < buffer.len() {
@@ -49,7 +52,9 @@ fn fill(file: &File, from: u64, buffer: &mut [u8]) -> Result<usize, TreeFault>
 }
 
 /// Returns the offset after `count` more bytes.
-fn place_after(from: u64, count: usize) -> Result<u64, TreeFault> {
+fn place_after(from: u64, count: usize) -> Result<u64, TreeFault>
+    ensures { IfErr result (λ fault. fault ≢ Changed) }
+{
     match from.checked_add(count as u64) {
         Some(place) => Ok(place),
         None => Err(TreeFault::Unreadable),
@@ -58,7 +63,8 @@ fn place_after(from: u64, count: usize) -> Result<u64, TreeFault> {
 
 /// Reads once. Tries again if the read was interrupted.
 fn read_some(file: &File, from: u64, buffer: &mut [u8]) -> Result<usize, TreeFault>
-    ensures { IfOk result (λ count. count ≤ length buffer.new) }
+    ensures within { IfOk result (λ count. count ≤ length buffer.new) }
+    ensures known { IfErr result (λ fault. fault ≢ Changed) }
 {
     for _ in 0..TURNS {
         match file.read_at(buffer, from) {

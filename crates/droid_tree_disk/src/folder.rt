@@ -1,8 +1,8 @@
 //! A folder of a file system, as a tree.
 
-ghost use Rattle.std.specs.Prelude.{◌≡◌, ◌⊎◌, ◌++◌, IfErr, IfOk, IsFalse, IsTrue};
-ghost use Rattle.droid_tree.specs.declared.fault.TreeFault.TheVariants.{Memory, Unreadable};
-ghost use Rattle.droid_tree_disk.specs.FolderObservation.{IsSameFile, OpensAt, OpensNone, ObservesBelow, folder_path};
+ghost use Rattle.std.specs.Prelude.{◌≡◌, ◌≢◌, ◌⊎◌, ◌++◌, IfErr, IfOk, IsFalse, IsTrue};
+ghost use Rattle.droid_tree.specs.declared.fault.TreeFault.TheVariants.{Memory, Unreadable, Changed};
+ghost use Rattle.droid_tree_disk.specs.FolderObservation.{IsExchanged, IsFileOf, OpensAt, OpensNone, ObservesBelow, folder_path};
 ghost use Rattle.droid_tree_disk.specs.Tops.{IsWithoutSlashes};
 
 use crate::disk::{Disk, FileMetadata};
@@ -51,6 +51,7 @@ impl<D: Disk + Drop> Tree for Folder<D> {
     fn read(
         &mut self,
         path: &str,
+        entry: &FolderEntry,
         from: u64,
         wanted: u32,
         bytes: &mut Vec<u8>,
@@ -58,7 +59,7 @@ impl<D: Disk + Drop> Tree for Folder<D> {
         let alloc = *bytes.allocator();
         let place = kept(place_of(alloc, self.top.as_str(), path))?;
         let held = self.open.take();
-        let file = file_at(alloc, &mut self.disk, held, place.as_str())?;
+        let file = file_at(alloc, &mut self.disk, held, place.as_str(), entry)?;
         self.disk.read_at(&file, from, wanted, bytes)?;
         self.open = Some(file);
         Ok(())
@@ -84,7 +85,7 @@ fn kept(path: Result<Text, AllocError>) -> Result<Text, TreeFault>
 }
 
 /// Returns the path of something below the top.
-fn place_of(alloc: Global, top: &str, path: &str) -> Result<Text, AllocError>
+pub(crate) fn place_of(alloc: Global, top: &str, path: &str) -> Result<Text, AllocError>
     ensures { IfOk result (λ text. text ≡ top.now ++ path.now) }
 {
     let joined = format!(in alloc; "{top}{path}")?;
@@ -101,32 +102,53 @@ fn folder_at(alloc: Global, top: &str, path: &str) -> Result<Text, AllocError>
     place_of(alloc, top, path)
 }
 
-/// Returns the open file if it was opened by this path, and otherwise opens the file.
+/// Returns the open file if it is that of this entry and was opened by this path, and otherwise opens the file.
 fn file_at<D: Disk>(
     alloc: Global,
     disk: &mut D,
     held: Option<D::File>,
     path: &str,
+    entry: &FolderEntry,
 ) -> Result<D::File, TreeFault>
     ensures path { IfOk result (λ file. D.path_of file ≡ path.now) }
-    ensures opened { IfOk result (λ file. OpensAt D.says path.now disk.old disk.new ⊎ (disk.new ≡ disk.old)) }
-    ensures failed { IfErr result (λ fault. fault ≡ Unreadable → OpensNone D.says path.now disk.old disk.new) }
+    ensures its { IfOk result (λ file. IsFileOf entry.now (D.metadata_of file)) }
+    ensures opened { IfOk result (λ file. OpensAt D.says path.now entry.now (D.metadata_of file) disk.old disk.new ⊎ (disk.new ≡ disk.old)) }
+    ensures failed { IfErr result (λ fault. fault ≡ Unreadable → OpensNone D.says path.now entry.now disk.old disk.new) }
+    ensures other { IfErr result (λ fault. fault ≡ Changed → IsExchanged D.says path.now entry.now disk.old disk.new) }
 {
     let Some(file) = held else {
-        return open_at(alloc, disk, path);
+        return open_at(alloc, disk, path, entry);
     };
-    if D::is_at(&file, path) {
+    if is_open_for::<D>(&file, path, entry) {
         return Ok(file);
     }
-    open_at(alloc, disk, path)
+    open_at(alloc, disk, path, entry)
 }
 
-/// Opens a regular file. Opens nothing else, such as a pipe or a link. Fails if another file was opened than the one that
-/// was there.
-fn open_at<D: Disk>(alloc: Global, disk: &mut D, path: &str) -> Result<D::File, TreeFault>
+/// Returns whether an open file is that of this entry, and was opened by this path.
+fn is_open_for<D: Disk>(file: &D::File, path: &str, entry: &FolderEntry) -> bool
+    ensures path { IsTrue result → D.path_of file.now ≡ path.now }
+    ensures its { IsTrue result → IsFileOf entry.now (D.metadata_of file.now) }
+{
+    if !D::is_at(file, path) {
+        return false;
+    }
+    is_file_of(D::metadata(file), entry)
+}
+
+/// Opens the regular file of an entry. Opens nothing else, such as a pipe or a link. Fails with `Changed` if another
+/// regular file is at the path, or was opened.
+fn open_at<D: Disk>(
+    alloc: Global,
+    disk: &mut D,
+    path: &str,
+    entry: &FolderEntry,
+) -> Result<D::File, TreeFault>
     ensures path { IfOk result (λ file. D.path_of file ≡ path.now) }
-    ensures opened { IfOk result (λ file. OpensAt D.says path.now disk.old disk.new) }
-    ensures failed { IfErr result (λ fault. fault ≡ Unreadable → OpensNone D.says path.now disk.old disk.new) }
+    ensures its { IfOk result (λ file. IsFileOf entry.now (D.metadata_of file)) }
+    ensures opened { IfOk result (λ file. OpensAt D.says path.now entry.now (D.metadata_of file) disk.old disk.new) }
+    ensures failed { IfErr result (λ fault. fault ≡ Unreadable → OpensNone D.says path.now entry.now disk.old disk.new) }
+    ensures other { IfErr result (λ fault. fault ≡ Changed → IsExchanged D.says path.now entry.now disk.old disk.new) }
 {
     let Some(there) = disk.look(path) else {
         return Err(TreeFault::Unreadable);
@@ -134,29 +156,29 @@ fn open_at<D: Disk>(alloc: Global, disk: &mut D, path: &str) -> Result<D::File, 
     if !is_file(there) {
         return Err(TreeFault::Unreadable);
     }
+    if !is_file_of(there, entry) {
+        return Err(TreeFault::Changed);
+    }
     let file = disk.open(alloc, path)?;
-    if is_same_file(there, D::metadata(&file)) {
+    if is_file_of(D::metadata(&file), entry) {
         Ok(file)
     } else {
-        Err(TreeFault::Unreadable)
+        Err(TreeFault::Changed)
     }
 }
 
-/// Returns whether both are regular files, and the same one.
-fn is_same_file(first: FileMetadata, second: FileMetadata) -> bool
-    ensures same { IsTrue result → IsSameFile first second }
-    ensures other { IsFalse result → IsSameFile first second → ⊥ }
+/// Returns whether it is a regular file, and the one that was listed as this entry.
+fn is_file_of(found: FileMetadata, entry: &FolderEntry) -> bool
+    ensures same { IsTrue result → IsFileOf entry.now found }
+    ensures other { IsFalse result → IsFileOf entry.now found → ⊥ }
 {
-    if !is_file(first) {
+    if !is_file(found) {
         return false;
     }
-    if !is_file(second) {
+    if found.device != entry.device {
         return false;
     }
-    if first.device != second.device {
-        return false;
-    }
-    first.node == second.node
+    found.inode == entry.inode
 }
 
 /// Returns whether it is a regular file.

@@ -1,22 +1,26 @@
 //! The file system of this machine.
 
-ghost use Rattle.std.specs.Prelude.{◌≡◌, IfOk};
+ghost use Rattle.std.specs.Prelude.{◌≡◌, ◌≢◌, IfErr, IfOk, IfSome};
 ghost use Rattle.std.specs.Fs.{file_type};
+ghost use Rattle.droid_tree.specs.declared.fault.TreeFault.TheVariants.{Changed};
 ghost use Rattle.droid_tree_disk.specs.Machine.{IsMetadataOf, IsKindOf, IsOfSome, MaySay};
 
 use crate::disk::{Disk, FileMetadata};
 use crate::file_bytes::add_bytes;
 use crate::names::read_names;
+use crate::open_folder::OpenFolder;
 use droid_frame::{Blob, Text};
 use droid_tree::{EntryKind, TreeFault};
 use std::alloc::Global;
 use std::fs::{self, File, Files, Metadata, OpenFile};
 use std::os::unix::fs::MetadataExt;
 
-/// The file system of this machine.
+/// The file system of this machine. The folder that was listed last stays open, and what lies in it is reached through
+/// it where the machine has `/proc`.
 #[derive(Drop)]
 pub struct System<'a, R> {
     runtime: &'a R,
+    listed: Option<OpenFolder>,
 }
 
 /// An open file of this machine.
@@ -30,30 +34,43 @@ pub struct Opened {
 impl<'a, R: Files<File = File>> System<'a, R> {
     /// Returns the file system that this runtime reaches.
     pub fn new(runtime: &'a R) -> System<'a, R> {
-        System { runtime }
+        System {
+            runtime,
+            listed: None,
+        }
+    }
+
+    /// Returns the path of something through the folder that was listed last, if it lies in it.
+    fn place(&self, path: &str) -> Option<Text> {
+        match &self.listed {
+            Some(folder) => folder.place(path),
+            None => None,
+        }
     }
 }
 
 impl<R: Files<File = File>> Disk for System<'_, R> {
     type File = Opened;
 
-    ghost says = { λ old said new. (new ≡ old) × MaySay said };
+    ghost says = { λ old said new. (new.runtime ≡ old.runtime) × MaySay said };
 
     ghost path_of = { λ opened. opened.path };
 
     ghost metadata_of = { λ opened. opened.metadata };
 
     fn names(&mut self, alloc: Global, path: &str) -> Result<Vec<Blob>, TreeFault> {
-        match self.runtime.open_dir(path) {
-            Ok(dir) => read_names(alloc, dir),
-            Err(_) => Err(TreeFault::Unreadable),
-        }
+        self.listed = None;
+        let Some((folder, names)) = names_through(self.runtime, alloc, path) else {
+            return names_at(self.runtime, alloc, path);
+        };
+        self.listed = Some(folder);
+        Ok(names)
     }
 
     fn look(&mut self, path: &str) -> Option<FileMetadata> {
-        match fs::symlink_metadata(self.runtime, path) {
-            Ok(metadata) => Some(metadata_from(&metadata)),
-            Err(_) => None,
+        match self.place(path) {
+            Some(place) => look_at(self.runtime, place.as_str()),
+            None => look_at(self.runtime, path),
         }
     }
 
@@ -61,9 +78,9 @@ impl<R: Files<File = File>> Disk for System<'_, R> {
         let Ok(path_kept) = Text::copy_of(alloc, path) else {
             return Err(TreeFault::Memory);
         };
-        match fs::open(self.runtime, path) {
-            Ok(file) => with_metadata(file, path_kept),
-            Err(_) => Err(TreeFault::Unreadable),
+        match self.place(path) {
+            Some(place) => open_by(self.runtime, place.as_str(), path_kept),
+            None => open_by(self.runtime, path, path_kept),
         }
     }
 
@@ -86,10 +103,57 @@ impl<R: Files<File = File>> Disk for System<'_, R> {
     }
 }
 
+/// Opens a folder, and returns it with the names that are read through it. Returns `None` if the folder can't be read so,
+/// as where the machine has no `/proc`.
+fn names_through<R: Files<File = File>>(
+    rt: &R,
+    alloc: Global,
+    path: &str,
+) -> Option<(OpenFolder, Vec<Blob>)> {
+    let Some(folder) = OpenFolder::open(rt, alloc, path) else {
+        return None;
+    };
+    match names_at(rt, alloc, folder.through()) {
+        Ok(names) => Some((folder, names)),
+        Err(_) => None,
+    }
+}
+
+/// Returns the names in the folder at this path.
+fn names_at<R: Files>(rt: &R, alloc: Global, path: &str) -> Result<Vec<Blob>, TreeFault> {
+    match rt.open_dir(path) {
+        Ok(dir) => read_names(alloc, dir),
+        Err(_) => Err(TreeFault::Unreadable),
+    }
+}
+
+/// Returns the metadata of this path, or `None` if there are none.
+fn look_at<R: Files>(rt: &R, path: &str) -> Option<FileMetadata>
+    ensures { IfSome result IsOfSome }
+{
+    match fs::symlink_metadata(rt, path) {
+        Ok(metadata) => Some(metadata_from(&metadata)),
+        Err(_) => None,
+    }
+}
+
+/// Opens the file at this place, which has this path.
+fn open_by<R: Files<File = File>>(rt: &R, place: &str, path: Text) -> Result<Opened, TreeFault>
+    ensures path { IfOk result (λ opened. opened.path ≡ path) }
+    ensures found { IfOk result (λ opened. IsOfSome opened.metadata) }
+    ensures known { IfErr result (λ fault. fault ≢ Changed) }
+{
+    match fs::open(rt, place) {
+        Ok(file) => with_metadata(file, path),
+        Err(_) => Err(TreeFault::Unreadable),
+    }
+}
+
 /// Returns the open file with its metadata.
 fn with_metadata(file: File, path: Text) -> Result<Opened, TreeFault>
     ensures path { IfOk result (λ opened. opened.path ≡ path) }
     ensures found { IfOk result (λ opened. IsOfSome opened.metadata) }
+    ensures known { IfErr result (λ fault. fault ≢ Changed) }
 {
     match file.metadata() {
         Ok(metadata) => Ok(Opened {
@@ -110,7 +174,7 @@ fn metadata_from(metadata: &Metadata) -> FileMetadata
         modified: metadata.mtime(),
         len: metadata.len(),
         device: metadata.dev(),
-        node: metadata.ino(),
+        inode: metadata.ino(),
     }
 }
 

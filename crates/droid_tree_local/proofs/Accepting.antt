@@ -21,7 +21,7 @@ use Rattle.droid_core.specs.Setting.{Setting}
 use Rattle.droid_core.specs.Verdicts.{is_refused}
 use Rattle.droid_core.specs.MemoryFaults.{is_out_of_memory, is_out_of_memory_of}
 use Rattle.droid_core.specs.World.{Content, Node, Folder, File, Abandoned, Profile, World, empty_world, world_with, numbered, node_at, unless_abandoned}
-use Rattle.droid_tree.specs.declared.tree_walk.Options.{Options}
+use Rattle.droid_tree_walk.specs.declared.tree_walk.Options.{Options}
 use Rattle.droid_tree_local.specs.Answering.{At, Answers, Holds, everything, profile_with, text_of}
 use Rattle.droid_tree_local.specs.Making.{IsRefusedAt}
 use Rattle.droid_tree_local.specs.declared.own_service.Own.{Own}

@@ -5,7 +5,7 @@ use Rattle.std.proofs.lemmas.Bool.Decides.{eqb_tells}
 use Rattle.std.proofs.Common.{inl, inr}
 use Rattle.droid_assembly.specs.Pieces as pieces
 use Rattle.droid_assembly.specs.Pieces.{bytes_at, file_bytes}
-use Rattle.droid_tree.specs.Visits.{Sent, bytes_of}
+use Rattle.droid_tree_walk.specs.Visits.{Sent, bytes_of}
 
 -- the pieces with their indices
 abbrev pub indexed : ℕ → List Sent → List pieces.Piece

@@ -12,9 +12,9 @@ use Rattle.droid_core.specs.MemoryFaults.{is_out_of_memory}
 use Rattle.droid_core.specs.World.{Content, Node, Folder, File, Abandoned, empty_world}
 use Rattle.droid_tree.specs.Observation.{Observation, GoesOver}
 use Rattle.droid_tree.specs.Heard.{Heard}
-use Rattle.droid_tree.specs.Visits.{Sent, Kid, Subfolder, WholeFile, OtherKind, NoText, RefusedFolder, RefusedFile, DroppedFile, WholeRest, DroppedRest, Visit, IsKid, IsOutcome, IsVisit, IsVisited, IsFinished, pieces_from, asked_of_kid, asked_of_visit}
-use Rattle.droid_tree.specs.Walks.{Walks, WalksWhole}
-use Rattle.droid_tree.specs.declared.tree_walk.Options.{Options}
+use Rattle.droid_tree_walk.specs.Visits.{Sent, Kid, Subfolder, WholeFile, OtherKind, NoText, RefusedFolder, RefusedFile, DroppedFile, WholeRest, DroppedRest, Visit, IsKid, IsOutcome, IsVisit, IsVisited, IsFinished, pieces_from, asked_of_kid, asked_of_visit}
+use Rattle.droid_tree_walk.specs.Walks.{Walks, WalksWhole}
+use Rattle.droid_tree_walk.specs.declared.tree_walk.Options.{Options}
 use Rattle.droid_tree_local.specs.Answering.{At, Answers, Holds, text_of}
 use Rattle.droid_tree_local.specs.Making.{Makes, MakesOf}
 use Rattle.droid_tree_local.specs.Nodes.{Lying, AreNodes, IsNodeOf, all_kids, number_of}

@@ -7,7 +7,7 @@ use Rattle.droid_frame.specs.types.reply.Reply.TheVariants as replies
 use Rattle.droid_frame.specs.types.request.Request.TheVariants.{Export}
 use Rattle.droid_core.specs.Setting.{Setting}
 use Rattle.droid_core.specs.World.{Node}
-use Rattle.droid_tree.specs.declared.tree_walk.Options.{Options}
+use Rattle.droid_tree_walk.specs.declared.tree_walk.Options.{Options}
 use Rattle.droid_tree_local.specs.Answering.{Answers, Holds, everything, text_of}
 use Rattle.droid_tree_local.specs.declared.own_service.Own.{Own}
 use Rattle.droid_tree_local.proofs.Accepting.{part_reported}

@@ -8,8 +8,8 @@ use Rattle.droid_core.specs.Standing.{StandsFor}
 use Rattle.droid_core.specs.MemoryFaults.{is_out_of_memory}
 use Rattle.droid_core.specs.World.{Node, Profile, World}
 use Rattle.droid_frame.specs.types.filter.Filter.{Filter}
-use Rattle.droid_tree.specs.Asked.{Asked}
-use Rattle.droid_tree.specs.declared.tree_walk.Options.{Options}
+use Rattle.droid_tree_walk.specs.Asked.{Asked}
+use Rattle.droid_tree_walk.specs.declared.tree_walk.Options.{Options}
 use Rattle.droid_tree_local.specs.declared.own_service.Own.{Own}
 
 -- the service stands for this world, and the number of the next request and all greater numbers are unused

@@ -6,9 +6,9 @@ use Rattle.droid_frame.specs.types.request.Request.TheVariants.{AddFolder, AddFi
 use Rattle.droid_core.specs.Judging.{Refuses, judge}
 use Rattle.droid_core.specs.Setting.{Setting}
 use Rattle.droid_core.specs.World.{Node, Folder, Abandoned, World}
-use Rattle.droid_tree.specs.Visits.{Kid, Subfolder, WholeFile, OtherKind, NoText, RefusedFolder, RefusedFile, DroppedFile, WholeRest, DroppedRest, Sent}
+use Rattle.droid_tree_walk.specs.Visits.{Kid, Subfolder, WholeFile, OtherKind, NoText, RefusedFolder, RefusedFile, DroppedFile, WholeRest, DroppedRest, Sent}
 use Rattle.droid_tree.specs.declared.folder_entry.FolderEntry.{FolderEntry}
-use Rattle.droid_tree.specs.declared.tree_walk.Options.{Options}
+use Rattle.droid_tree_walk.specs.declared.tree_walk.Options.{Options}
 use Rattle.droid_tree_local.specs.Answering.{profile_with}
 use Rattle.droid_tree_local.specs.Nodes.{Lying, IsFileOf}
 

@@ -3,8 +3,8 @@ use Rattle.std.specs.Prelude.{◌≡◌, ℕ, ◌+◌, true, List, [], ◌∷◌
 use Rattle.std.specs.List.{flat_map}
 use Rattle.droid_core.specs.Files as files
 use Rattle.droid_core.specs.World.{Content, Node, Folder, File}
-use Rattle.droid_tree.specs.Visits as tree
-use Rattle.droid_tree.specs.Visits.{Kid, Subfolder, WholeFile, DroppedFile, Sent, Visit}
+use Rattle.droid_tree_walk.specs.Visits as tree
+use Rattle.droid_tree_walk.specs.Visits.{Kid, Subfolder, WholeFile, DroppedFile, Sent, Visit}
 use Rattle.droid_tree.specs.declared.folder_entry.FolderEntry.{FolderEntry}
 
 -- an entry, and the number of its folder

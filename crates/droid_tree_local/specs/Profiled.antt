@@ -6,9 +6,9 @@ use Rattle.droid_core.specs.Setting.{Setting}
 use Rattle.droid_core.specs.World.{Node}
 use Rattle.droid_tree.specs.Heard.{Heard}
 use Rattle.droid_tree.specs.Observation.{Observation, GoesOver}
-use Rattle.droid_tree.specs.Visits.{Visit, IsVisit, IsVisited, is_full, observed_of_visit, heard_of_visit}
-use Rattle.droid_tree.specs.Walks.{EachFolderOnce}
-use Rattle.droid_tree.specs.declared.tree_walk.Options.{Options}
+use Rattle.droid_tree_walk.specs.Visits.{Visit, IsVisit, IsVisited, is_full, observed_of_visit, heard_of_visit}
+use Rattle.droid_tree_walk.specs.Walks.{EachFolderOnce}
+use Rattle.droid_tree_walk.specs.declared.tree_walk.Options.{Options}
 use Rattle.droid_tree_local.specs.Answering.{text_of}
 use Rattle.droid_tree_local.specs.Making.{Makes}
 use Rattle.droid_tree_local.specs.Nodes.{AreNodes, all_kids}

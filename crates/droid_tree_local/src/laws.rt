@@ -4,7 +4,7 @@ ghost use Rattle.std.specs.Prelude.{◌≡◌, ℕ, List, Some};
 ghost use Rattle.droid_core.specs.Records.{record_of};
 ghost use Rattle.droid_core.specs.Setting.{Setting};
 ghost use Rattle.droid_core.specs.World.{Node, Profile};
-ghost use Rattle.droid_tree.specs.Visits.{Sent, bytes_of};
+ghost use Rattle.droid_tree_walk.specs.Visits.{Sent, bytes_of};
 ghost use Rattle.droid_tree.specs.declared.folder_entry.FolderEntry.{FolderEntry};
 ghost use Rattle.droid_tree_local.specs.Nodes.{IsFileOf};
 ghost use Rattle.droid_tree_local.specs.Shown.{shown_file};

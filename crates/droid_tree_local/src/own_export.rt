@@ -6,7 +6,7 @@ ghost use Rattle.droid_core.specs.Setting.{Setting};
 ghost use Rattle.droid_core.specs.World.{Node};
 ghost use Rattle.droid_frame.specs.types.reply.Reply.TheVariants as replies;
 ghost use Rattle.droid_frame.specs.types.request.Request.TheVariants as requests;
-ghost use Rattle.droid_tree.specs.declared.tree_walk.Options.{Options};
+ghost use Rattle.droid_tree_walk.specs.declared.tree_walk.Options.{Options};
 ghost use Rattle.droid_tree_local.specs.Answering.{Answers, Holds, everything, text_of};
 ghost use Rattle.droid_tree_local.specs.Faults.{IsPastWalk};
 
@@ -15,7 +15,8 @@ use crate::own_service::Own;
 use droid_frame::{
     Blob, Criteria, Filter, PART_LIMIT, Refusal, Reply, Request, SteadyWrite, WriteState, write_all,
 };
-use droid_tree::{WalkFault, ask};
+use droid_tree::WalkFault;
+use droid_tree_walk::ask;
 use std::alloc::Global;
 
 /// A part of an export.

@@ -5,7 +5,7 @@ ghost use Rattle.droid_tree_local.specs.Answering.{Answers};
 
 use droid_core::Service;
 use droid_frame::{Blob, Frame, NUMBER_LIMIT, Reply};
-use droid_tree::{Exchange, ExchangeFault};
+use droid_tree_walk::{Exchange, ExchangeFault};
 
 /// The only client of the service.
 const CLIENT: u32 = 1;

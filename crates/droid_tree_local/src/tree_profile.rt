@@ -12,7 +12,8 @@ use crate::own_export::export;
 use crate::own_service::Own;
 use droid_core::Service;
 use droid_frame::SteadyWrite;
-use droid_tree::{Options, Tree, Watcher, walk};
+use droid_tree::{Tree, Watcher};
+use droid_tree_walk::{Options, walk};
 use std::alloc::Global;
 
 /// Submits everything in a tree to a new service and writes the export. Returns whether nothing was skipped; the

@@ -6,10 +6,10 @@ use Rattle.droid_frame.specs.types.reply.Reply.{Reply}
 use Rattle.droid_frame.specs.types.reply.Reply.TheVariants as replies
 use Rattle.droid_frame.specs.types.request.Request.{Request}
 use Rattle.droid_frame.specs.types.request.Request.TheVariants.{CreateProfile, AddFolder, AddFile, Piece, Finish, Abandon, Status, Export}
-use Rattle.droid_tree.specs.Asked.{Asked}
-use Rattle.droid_tree.specs.Visits.{Kid, Subfolder, WholeFile, OtherKind, NoText, RefusedFolder, RefusedFile, DroppedFile, WholeRest, DroppedRest, Sent, Visit, asked_of_kid, asked_of_visit, pieces_from, first_missing}
-use Rattle.droid_tree.specs.Walks.{asked_of_tree}
-use Rattle.droid_tree.specs.declared.tree_walk.Options.{Options}
+use Rattle.droid_tree_walk.specs.Asked.{Asked}
+use Rattle.droid_tree_walk.specs.Visits.{Kid, Subfolder, WholeFile, OtherKind, NoText, RefusedFolder, RefusedFile, DroppedFile, WholeRest, DroppedRest, Sent, Visit, asked_of_kid, asked_of_visit, pieces_from, first_missing}
+use Rattle.droid_tree_walk.specs.Walks.{asked_of_tree}
+use Rattle.droid_tree_walk.specs.declared.tree_walk.Options.{Options}
 use Rattle.droid_tree_remote.specs.Numbering.{AreNumbered, after, number_of, request_at}
 use Rattle.droid_tree_remote.specs.Submits.{IsOneOf}
 use Rattle.droid_tree_remote.specs.declared.numbers.Numbers.{Numbers}

@@ -5,11 +5,11 @@ use Rattle.droid_frame.specs.types.frame.Frame.{Frame}
 use Rattle.droid_frame.specs.types.reply.Reply.{Reply}
 use Rattle.droid_frame.specs.types.reply.Reply.TheVariants as replies
 use Rattle.droid_frame.specs.types.request.Request.TheVariants.{CreateProfile, AddFile, Piece, Finish, Abandon, Status}
-use Rattle.droid_tree.specs.Asked.{Asked}
-use Rattle.droid_tree.specs.Visits.{Kid, Subfolder, WholeFile, OtherKind, NoText, RefusedFolder, RefusedFile, DroppedFile, WholeRest, DroppedRest, Sent, Visit, asked_of_kid, asked_of_visit, pieces_from, first_missing}
-use Rattle.droid_tree.specs.Walks.{asked_of_tree}
+use Rattle.droid_tree_walk.specs.Asked.{Asked}
+use Rattle.droid_tree_walk.specs.Visits.{Kid, Subfolder, WholeFile, OtherKind, NoText, RefusedFolder, RefusedFile, DroppedFile, WholeRest, DroppedRest, Sent, Visit, asked_of_kid, asked_of_visit, pieces_from, first_missing}
+use Rattle.droid_tree_walk.specs.Walks.{asked_of_tree}
 use Rattle.droid_tree.specs.declared.pending_folder.PendingFolder.{PendingFolder}
-use Rattle.droid_tree.specs.declared.tree_walk.Options.{Options}
+use Rattle.droid_tree_walk.specs.declared.tree_walk.Options.{Options}
 use Rattle.droid_tree_remote.specs.Numbering.{after, behind}
 use Rattle.droid_tree_remote.specs.Runs.{AreFilled, AreFilledVisits, IsFilled}
 use Rattle.droid_tree_remote.specs.Submits.{IsOneOf}

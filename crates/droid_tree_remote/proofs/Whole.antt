@@ -3,7 +3,7 @@ use Rattle.std.proofs.Common.{◌≡◌, ◌⊎◌, ℕ, ◌<◌, ◌^◌, List,
 use Rattle.std.specs.List.{AllByRecursion}
 use Rattle.droid_frame.specs.types.frame.Frame.{Frame}
 use Rattle.droid_frame.specs.types.reply.Reply.{Reply}
-use Rattle.droid_tree.specs.Asked.{Asked}
+use Rattle.droid_tree_walk.specs.Asked.{Asked}
 use Rattle.droid_tree.specs.Observation.{GoesOver}
 use Rattle.droid_tree.proofs.Runs.{over_more}
 use Rattle.droid_tree_remote.specs.Asks.{Asks, AsksNext, IsNew}

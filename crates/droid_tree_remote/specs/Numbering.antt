@@ -5,8 +5,8 @@ use Rattle.droid_frame.specs.types.reply.Reply.{Reply}
 use Rattle.droid_frame.specs.types.request.Request.{Request}
 use Rattle.droid_frame.specs.types.request.Request.TheVariants.{AddFile, Status}
 use Rattle.droid_frame.specs.Bodies.{request_kind, request_body}
-use Rattle.droid_tree.specs.Asked.{Asked}
-use Rattle.droid_tree.specs.Visits.{first_missing}
+use Rattle.droid_tree_walk.specs.Asked.{Asked}
+use Rattle.droid_tree_walk.specs.Visits.{first_missing}
 use Rattle.droid_tree_remote.specs.declared.numbers.Numbers.{Numbers}
 
 -- the frame of a client's request under this number, in version 2

@@ -1,9 +1,9 @@
 -- Several runs of one submission (this project's own).
 use Rattle.std.specs.Prelude.{◌≡◌, ◌⊎◌, ℕ, List, [], ◌∷◌, ◌++◌, length}
 use Rattle.droid_frame.specs.types.frame.Frame.{Frame}
-use Rattle.droid_tree.specs.Visits.{Kid, WholeFile, DroppedFile, WholeRest, DroppedRest, Sent, Visit, first_missing}
-use Rattle.droid_tree.specs.Walks.{asked_of_tree}
-use Rattle.droid_tree.specs.declared.tree_walk.Options.{Options}
+use Rattle.droid_tree_walk.specs.Visits.{Kid, WholeFile, DroppedFile, WholeRest, DroppedRest, Sent, Visit, first_missing}
+use Rattle.droid_tree_walk.specs.Walks.{asked_of_tree}
+use Rattle.droid_tree_walk.specs.declared.tree_walk.Options.{Options}
 use Rattle.droid_tree_remote.specs.Numbering.{AreNumbered}
 use Rattle.droid_tree_remote.specs.Submits.{IsOneOf}
 use Rattle.droid_tree_remote.specs.declared.numbers.Numbers.{Numbers}

@@ -3,12 +3,12 @@ use Rattle.std.specs.Prelude.{◌≡◌, ◌⊎◌, ℕ, Bool, true, List, [], �
 use Rattle.std.specs.List.{flat_map, list_all, AllByRecursion}
 use Rattle.droid_frame.specs.types.frame.Frame.{Frame}
 use Rattle.droid_frame.specs.types.reply.Reply.{Reply}
-use Rattle.droid_tree.specs.Asked.{Asked}
+use Rattle.droid_tree_walk.specs.Asked.{Asked}
 use Rattle.droid_tree.specs.Heard.{Heard}
 use Rattle.droid_tree.specs.Observation.{Observation, GoesOver}
-use Rattle.droid_tree.specs.Visits.{Visit, MayVisit, is_full, observed_of_visit, heard_of_visit}
-use Rattle.droid_tree.specs.Walks.{EachFolderOnce, asked_of_tree}
-use Rattle.droid_tree.specs.declared.tree_walk.Options.{Options}
+use Rattle.droid_tree_walk.specs.Visits.{Visit, MayVisit, is_full, observed_of_visit, heard_of_visit}
+use Rattle.droid_tree_walk.specs.Walks.{EachFolderOnce, asked_of_tree}
+use Rattle.droid_tree_walk.specs.declared.tree_walk.Options.{Options}
 use Rattle.droid_tree_remote.specs.Events.{Event, WritesOnly, IsAnswered, IsTaken}
 use Rattle.droid_tree_remote.specs.Numbering.{AreNumbered, after, number_of, request_at}
 use Rattle.droid_tree_remote.specs.declared.numbers.Numbers.{Numbers}

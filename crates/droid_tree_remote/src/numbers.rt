@@ -1,7 +1,7 @@
 //! The numbers of a client's requests.
 
 ghost use Rattle.std.specs.Prelude.{◌≡◌, ◌<◌, ◌^◌, IfOk};
-ghost use Rattle.droid_tree.specs.Visits.{first_missing};
+ghost use Rattle.droid_tree_walk.specs.Visits.{first_missing};
 ghost use Rattle.droid_tree_remote.specs.Numbering.{after_by, number_by};
 
 use crate::fault::TransferFault;

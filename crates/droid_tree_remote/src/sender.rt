@@ -10,7 +10,7 @@ use crate::fault::TransferFault;
 use crate::in_flight::InFlight;
 use crate::numbers::{COMMAND_NUMBERS_END, Numbers, number_of, numbers_after};
 use droid_frame::{Blob, Frame, Refusal, Reply};
-use droid_tree::{Exchange, ExchangeFault};
+use droid_tree_walk::{Exchange, ExchangeFault};
 use std::alloc::Global;
 
 /// The kind of a Piece request.

@@ -7,7 +7,8 @@ ghost use Rattle.droid_tree_remote.specs.Submits.{SubmitsTree};
 use crate::connection::Connection;
 use crate::fault::{SubmissionFault, TransferFault};
 use crate::sender::Sender;
-use droid_tree::{Options, Tree, WalkFault, Walked, Watcher, walk_on};
+use droid_tree::{Tree, WalkFault, Watcher};
+use droid_tree_walk::{Options, Walked, walk_on};
 use std::alloc::Global;
 
 /// Creates a profile and submits everything in the tree to it, over a connection that may break. The watcher is informed of

@@ -1,26 +1,27 @@
 //! The texts of the errors of trees, walks and profiles.
 
 use droid_frame::WriteFault;
-use droid_tree::{ExchangeFault, TreeFault, WalkFault};
+use droid_tree::{TreeFault, WalkFault};
 use droid_tree_local::ProfileFault;
+use droid_tree_walk::ExchangeFault;
 use std::alloc::Global;
 use std::fmt::Display;
 use std::process::Abort;
 use std::test::Fail;
 
-const TREE_FAULTS: [(TreeFault, &str); 2] = [
+const TREE_FAULTS: [(TreeFault, &str); 3] = [
     (TreeFault::Memory, "out of memory"),
     (TreeFault::Unreadable, "it could not be read"),
+    (TreeFault::Changed, "it is not the file that was listed"),
 ];
 
 const EXCHANGE_FAULT: [(ExchangeFault, &str); 1] = [(ExchangeFault, "no reply came")];
 
-const WALK_FAULTS: [(WalkFault, &str); 8] = [
+const WALK_FAULTS: [(WalkFault, &str); 7] = [
     (WalkFault::Memory, "out of memory"),
     (WalkFault::Exchange, "no reply came"),
     (WalkFault::Reply, "a reply was not to the request"),
     (WalkFault::TooLong, "a request is too long"),
-    (WalkFault::Names, "a folder has two entries of one name"),
     (WalkFault::Folders, "there are too many folders"),
     (WalkFault::Entries, "there are too many folders and files"),
     (WalkFault::Bytes, "the files are too long together"),
@@ -28,7 +29,7 @@ const WALK_FAULTS: [(WalkFault, &str); 8] = [
 
 const PROFILE_FAULTS: [(ProfileFault, &str); 3] = [
     (
-        ProfileFault::Walk(WalkFault::Names),
+        ProfileFault::Walk(WalkFault::Folders),
         "the tree could not be walked",
     ),
     (

@@ -12,17 +12,24 @@ use std::alloc::{AllocError, Global};
 /// unreadable.
 pub type Row<'a> = (&'a str, &'a [u8], EntryKind, u64, Option<&'a [u8]>);
 
-/// A tree of such rows. A folder lists its entries in the order of the rows.
+/// A tree of such rows. A folder lists its entries in the order of the rows. The inode of an entry is the index of its
+/// row.
 #[derive(Drop)]
 pub struct MemoryTree<'a> {
     pub rows: &'a [Row<'a>],
     /// How many bytes were read.
     pub read: u64,
+    /// The path of a file whose place another file takes once its folder was listed.
+    pub exchanged: Option<&'a str>,
 }
 
 impl<'a> MemoryTree<'a> {
     pub fn of(rows: &'a [Row<'a>]) -> MemoryTree<'a> {
-        MemoryTree { rows, read: 0 }
+        MemoryTree {
+            rows,
+            read: 0,
+            exchanged: None,
+        }
     }
 }
 
@@ -42,14 +49,19 @@ impl Tree for MemoryTree<'_> {
     fn read(
         &mut self,
         path: &str,
+        entry: &FolderEntry,
         from: u64,
         wanted: u32,
         bytes: &mut Vec<u8>,
     ) -> Result<(), TreeFault>
-        ensures came { OnOk result (BytesCame (λ old observed new. Unit {0}) self.old path.now from wanted bytes.old.items bytes.new.items self.new) }
+        ensures came { OnOk result (BytesCame (λ old observed new. Unit {0}) self.old path.now entry.now from wanted bytes.old.items bytes.new.items self.new) }
         ensures unread { IfErr result (λ fault. fault ≡ faults.Unreadable → Unit {0}) }
+        ensures exchanged { IfErr result (λ fault. fault ≡ faults.Changed → Unit {0}) }
     {
-        let Some(all) = bytes_of(self.rows, path) else {
+        if inode_now(self.exchanged, path, entry.inode) != entry.inode {
+            return Err(TreeFault::Changed);
+        }
+        let Some(all) = bytes_of(self.rows, entry.inode) else {
             return Err(TreeFault::Unreadable);
         };
         let part = cut(all, from, wanted);
@@ -89,24 +101,32 @@ fn is_path_of(row: &Row, path: &str) -> bool {
     }
 }
 
-fn bytes_of<'a>(rows: &'a [Row<'a>], path: &str) -> Option<&'a [u8]> {
-    for row in rows {
-        if is_path_of(row, path) {
-            return row.4;
-        }
+/// Returns the inode of what is at a path that was listed with this inode.
+fn inode_now(exchanged: Option<&str>, path: &str, listed: u64) -> u64 {
+    if exchanged == Some(path) {
+        return listed.wrapping_add(1_000);
     }
-    None
+    listed
+}
+
+fn bytes_of<'a>(rows: &'a [Row<'a>], inode: u64) -> Option<&'a [u8]> {
+    match rows.get(inode as usize) {
+        Some(row) => row.4,
+        None => None,
+    }
 }
 
 fn entries_below(alloc: Global, rows: &[Row], path: &str) -> Result<Vec<FolderEntry>, AllocError> {
     let mut entries = Vec::new(alloc);
-    for row in rows {
+    for (index, row) in rows.iter().enumerate() {
         if row.0 == path {
             let entry = FolderEntry {
                 name: Blob::copy_of(alloc, row.1)?,
                 kind: row.2,
                 modified: 0,
                 len: row.3,
+                device: 1,
+                inode: index as u64,
             };
             entries.push(entry)?;
         }

@@ -41,9 +41,11 @@ impl Watcher for NotingWatcher {
         let word: &[u8] = match why {
             Skipped::Kind => b" kind\n",
             Skipped::Name => b" name\n",
+            Skipped::SameName => b" same name\n",
             Skipped::Refused(_) => b" refused\n",
             Skipped::Unreadable => b" unreadable\n",
             Skipped::Changed => b" changed\n",
+            Skipped::OtherHash => b" other hash\n",
         };
         let _ = self.skipped.extend_from_slice(path);
         let _ = self.skipped.extend_from_slice(word);

@@ -7,8 +7,9 @@ use crate::sample_service::LIMITS;
 use droid_core::Service;
 use droid_frame::{HashKind, Noted};
 use droid_pronom::Registry;
-use droid_tree::{EntryKind, Options};
+use droid_tree::EntryKind;
 use droid_tree_local::profile;
+use droid_tree_walk::Options;
 use std::test::Fail;
 
 #[test]

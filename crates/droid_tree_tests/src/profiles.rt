@@ -4,8 +4,9 @@ use crate::memory_tree::{MemoryTree, Row};
 use crate::noting_watcher::NotingWatcher;
 use crate::sample_service::sample_service;
 use droid_frame::{HashKind, Noted};
-use droid_tree::{EntryKind, Options};
+use droid_tree::EntryKind;
 use droid_tree_local::profile;
+use droid_tree_walk::Options;
 use std::test::Fail;
 
 const OPTIONS: Options = Options {

@@ -102,7 +102,7 @@ class Skipped(InFolder):
             self.assertEqual(len(read(out)), 1)
             return
         self.assertEqual((status, read(out)), (5, []))
-        self.assertEqual(self.reported(err), {b"/grows.bin": b"its length changed while it was read"})
+        self.assertEqual(self.reported(err), {b"/grows.bin": b"it changed while it was read"})
 
     def test_files_of_the_kernel(self):
         # files whose size is given as 0, and that have bytes

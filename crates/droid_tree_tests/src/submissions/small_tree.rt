@@ -2,7 +2,8 @@
 
 use crate::memory_tree::Row;
 use droid_frame::HashKind;
-use droid_tree::{EntryKind, Options};
+use droid_tree::EntryKind;
+use droid_tree_walk::Options;
 
 pub const OPTIONS: Options = Options {
     scan_limit: 65_536,

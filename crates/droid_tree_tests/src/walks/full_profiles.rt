@@ -3,7 +3,8 @@
 use crate::noting_watcher::NotingWatcher;
 use crate::walks::noting_service::{NotingService, OPTIONS};
 use droid_frame::Blob;
-use droid_tree::{EntryKind, FolderEntry, Tree, TreeFault, WalkFault, count, walk};
+use droid_tree::{EntryKind, FolderEntry, Tree, TreeFault, WalkFault, count};
+use droid_tree_walk::walk;
 use std::alloc::{AllocError, Global};
 use std::test::Fail;
 
@@ -27,6 +28,7 @@ impl Tree for ManyFolders {
     fn read(
         &mut self,
         _path: &str,
+        _entry: &FolderEntry,
         _from: u64,
         _wanted: u32,
         _bytes: &mut Vec<u8>,
@@ -43,6 +45,8 @@ fn folders(alloc: Global, count: u32) -> Result<Vec<FolderEntry>, AllocError> {
             kind: EntryKind::Folder,
             modified: 0,
             len: 0,
+            device: 1,
+            inode: u64::from(place),
         };
         entries.push(entry)?;
     }

@@ -1,7 +1,7 @@
 //! A service that notes its requests.
 
 use droid_frame::{Blob, HashKind, HashValue, Limit, Method, Refusal, Reply, Texts};
-use droid_tree::{Exchange, ExchangeFault, Options};
+use droid_tree_walk::{Exchange, ExchangeFault, Options};
 use std::alloc::{AllocError, Global};
 
 /// A walk in pieces of four bytes.

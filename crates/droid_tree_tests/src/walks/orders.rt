@@ -3,7 +3,8 @@
 use crate::memory_tree::{MemoryTree, Row};
 use crate::noting_watcher::NotingWatcher;
 use crate::walks::noting_service::{NotingService, OPTIONS};
-use droid_tree::{EntryKind, WalkFault, walk};
+use droid_tree::{EntryKind, count};
+use droid_tree_walk::walk;
 use std::test::Fail;
 
 /// The names have different lengths, so that the requests show their order.
@@ -16,9 +17,11 @@ const ROWS: [Row; 6] = [
     ("/Zz", b"inside", EntryKind::Folder, 0, Some(b"")),
 ];
 
-const TWICE: [Row; 2] = [
-    ("", b"same", EntryKind::File, 0, Some(b"")),
-    ("", b"same", EntryKind::File, 0, Some(b"")),
+const TWICE: [Row; 4] = [
+    ("", b"same", EntryKind::File, 1, Some(b"a")),
+    ("", b"then", EntryKind::Folder, 0, Some(b"")),
+    ("", b"same", EntryKind::File, 2, Some(b"bc")),
+    ("", b"same", EntryKind::Folder, 0, Some(b"")),
 ];
 
 #[test]
@@ -41,7 +44,12 @@ fn a_name_that_stands_twice(rt: HostRuntime) -> Result<(), Fail> {
     let mut tree = MemoryTree::of(&TWICE);
     let mut service = NotingService::new(alloc);
     let mut watcher = NotingWatcher::new(alloc);
-    let walked = walk(alloc, &mut tree, &mut service, &mut watcher, OPTIONS);
-    assert!(rt; matches!(&walked, Err(WalkFault::Names)));
+    let walked = walk(alloc, &mut tree, &mut service, &mut watcher, OPTIONS)?;
+    assert!(rt; !walked.whole && watcher.files == 1 && watcher.folders == 1);
+    assert!(rt; watcher.skipped.as_slice() == b"/same same name\n/same same name\n".as_slice());
+    assert!(rt; service.notes.as_slice() == b"1:6 3:32 4:13 5:8 2:20 ".as_slice());
+    let counted = count(alloc, &mut tree, 2)?;
+    assert!(rt; counted.folders == 1 && counted.files == 1);
+    assert!(rt; counted.bytes == 1 && counted.skipped == 2);
     Ok(())
 }

@@ -3,7 +3,8 @@
 use crate::memory_tree::{MemoryTree, Row};
 use crate::noting_watcher::NotingWatcher;
 use crate::walks::noting_service::{NotingService, OPTIONS};
-use droid_tree::{EntryKind, walk, walk_on};
+use droid_tree::EntryKind;
+use droid_tree_walk::{walk, walk_on};
 use std::test::Fail;
 
 /// The bytes of one file, and the requests: CreateProfile has 6 bytes, AddFile 28 and the name, Piece 12 and the piece,

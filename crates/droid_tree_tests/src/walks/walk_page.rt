@@ -1,9 +1,10 @@
-//! The example of the page of `droid_tree` (crates/droid_tree/README.md), word for word.
+//! The example of the page of `droid_tree_walk` (crates/droid_tree_walk/README.md), word for word.
 
 use crate::memory_tree::{MemoryTree, Row};
 use crate::noting_watcher::NotingWatcher;
 use crate::walks::noting_service::{NotingService, OPTIONS};
-use droid_tree::{EntryKind, walk};
+use droid_tree::EntryKind;
+use droid_tree_walk::walk;
 use std::test::Fail;
 
 #[test]

@@ -1,7 +1,7 @@
 use Rattle.std.proofs.Common.{refl, sym, ◌∙◌, arith}
 use Rattle.std.proofs.lemmas.Result.{err_from_is_err_and}
 use Rattle.droid_tree.proofs.Tallies.{count_begun, count_more, count_done, count_too_many}
-use Rattle.droid_tree.proofs.Visiting.{none_left}
+use Rattle.droid_tree.proofs.Runs.{none_left}
 use Rattle.droid_tree.proofs.tree_size.count.Goals as goal
 
 pub loop-init : goal.loop-init

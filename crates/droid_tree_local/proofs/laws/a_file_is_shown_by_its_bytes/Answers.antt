@@ -1,7 +1,7 @@
 use Rattle.std.proofs.Common.{◌≡◌, Bool, true, false, cond, List, ℕ, Option, Some, None, refl, ap, ◌∙◌}
 use Rattle.droid_frame.specs.types.record.Record.{Record}
 use Rattle.droid_core.specs.Records.{record_of}
-use Rattle.droid_tree.specs.Visits.{bytes_of}
+use Rattle.droid_tree_walk.specs.Visits.{bytes_of}
 use Rattle.droid_tree_local.specs.Shown.{shown_file}
 use Rattle.droid_tree_local.proofs.laws.a_file_is_shown_by_its_bytes.Goals as goal
 

@@ -1,7 +1,7 @@
 use Rattle.std.proofs.Common.{◌≡◌, List}
 use Rattle.droid_core.specs.Setting.{Setting}
 use Rattle.droid_core.specs.World.{Node}
-use Rattle.droid_tree.specs.declared.tree_walk.Options.{Options}
+use Rattle.droid_tree_walk.specs.declared.tree_walk.Options.{Options}
 use Rattle.droid_tree_local.specs.Answering.{Holds}
 use Rattle.droid_tree_local.proofs.Parts.{Writing}
 use Rattle.droid_tree_local.proofs.own_export.export.Given as goal

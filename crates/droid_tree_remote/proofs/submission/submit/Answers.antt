@@ -1,5 +1,5 @@
 use Rattle.std.proofs.Common.{[], refl}
-use Rattle.droid_tree.specs.Walks.{asked_of_tree}
+use Rattle.droid_tree_walk.specs.Walks.{asked_of_tree}
 use Rattle.droid_tree_remote.proofs.Whole.{all_done, asked_all, submitting_none}
 use Rattle.droid_tree_remote.proofs.submission.submit.Goals as goal
 

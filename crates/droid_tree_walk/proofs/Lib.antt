@@ -1,0 +1,5 @@
+pub mod Entries
+pub mod Full
+pub mod Sending
+pub mod Taking
+pub mod Visiting

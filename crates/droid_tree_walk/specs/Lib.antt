@@ -1,0 +1,4 @@
+pub mod Asked
+pub mod Steps
+pub mod Visits
+pub mod Walks
