@@ -1,0 +1,9 @@
+pub mod Additions
+pub mod Behind
+pub mod Early
+pub mod FileEndings
+pub mod Openings
+pub mod Passing
+pub mod PieceBodies
+pub mod PieceLists
+pub mod PieceSteps

@@ -1,0 +1,7 @@
+pub mod Calls
+pub mod Deeds
+pub mod Faults
+pub mod FileOutcomes
+pub mod Fronts
+pub mod Pieces
+pub mod Steps

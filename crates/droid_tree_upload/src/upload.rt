@@ -1,0 +1,41 @@
+//! What an upload works with.
+
+use droid_frame::{HashKind, HashValue};
+use std::alloc::Global;
+
+/// All that an upload works with: a tree, a client and a watcher.
+#[derive(Drop)]
+pub struct Upload<T, C, W> {
+    /// The allocator.
+    pub alloc: Global,
+    /// The tree that is read.
+    pub tree: T,
+    /// The client of the service.
+    pub client: C,
+    /// Is informed of each step.
+    pub watcher: W,
+}
+
+/// The folder of a profile that gets a file, and how the file is sent.
+#[derive(Clone, Copy, Debug)]
+pub struct Destination {
+    /// The number of the profile.
+    pub profile: u32,
+    /// The number of the folder, or 0 for the top.
+    pub folder: u32,
+    /// How many bytes each piece has, except the last.
+    pub piece_size: u32,
+    /// The kind of the profile's hashes.
+    pub hash: HashKind,
+}
+
+/// What came of a file.
+#[derive(Clone, Copy, Debug, PartialEq, Eq)]
+pub enum Uploaded {
+    /// It is in the profile. This is the hash of its bytes as they were read, or `Nothing` if they were not read now.
+    Taken(HashValue),
+    /// It is in the profile, with another hash than the bytes have that were read.
+    Differs,
+    /// It was skipped, and the watcher knows why.
+    Skipped,
+}
