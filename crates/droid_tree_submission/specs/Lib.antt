@@ -1,0 +1,4 @@
+pub mod Kids
+pub mod FolderVisits
+pub mod Submissions
+pub mod SubmissionSteps
