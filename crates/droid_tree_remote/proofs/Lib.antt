@@ -1,3 +1,4 @@
+pub mod Handing
 pub mod Pausing
 pub mod Conversing
 pub mod Parts

@@ -32,6 +32,7 @@ pub fn options_of<C: Connection>(
     // In any case only such profiles were asked for.
     ensures tries { Wherever sender.old.in_flight (λ known facts.
         Tries sender.old.client sender.old.name options C.does known facts sender.old.in_flight sender.new.in_flight) }
+    ensures same { sender.new ≡ record sender.old { in_flight = sender.new.in_flight } }
 {
     if let Some(fault) = sender.stopped {
         return Err(fault);
@@ -82,8 +83,7 @@ fn is_made<C: Connection>(
         AsksPair sender.old.client sender.old.name C.does options made known facts sender.old.in_flight sender.new.in_flight)) }
     ensures stays { Wherever sender.old.in_flight (λ known facts.
         StaysHere C.does known (profile_frame sender.old.client sender.old.name options) facts sender.old.in_flight sender.new.in_flight) }
-    ensures same_client { sender.new.client ≡ sender.old.client }
-    ensures same_name { sender.new.name ≡ sender.old.name }
+    ensures same { sender.new ≡ record sender.old { in_flight = sender.new.in_flight } }
 {
     let request = Request::CreateProfile {
         scan_limit: options.scan_limit,

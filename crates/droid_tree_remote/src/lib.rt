@@ -15,7 +15,7 @@ mod remote_submission;
 mod sender;
 
 pub use droid_tree_connection::{
-    Broken, Connection, InFlight, Known, KnownRequests, Stage, TransferFault,
+    Broken, Connection, InFlight, Known, KnownRequests, Open, Stage, Streams, TransferFault,
 };
 pub use droid_tree_submission::{Node, Options, Submitted};
 pub use droid_tree_upload::{Client, ClientFault, SubmissionFault, Upload};

@@ -39,6 +39,7 @@ pub fn export<C: Connection, O: SteadyWrite>(
     // In any case only parts were asked for, and what was written is the front of parts of one export.
     ensures downloads { sender.old.in_flight.waiting.items ≡ [] → Wherever sender.old.in_flight (λ known facts.
         Downloads sender.old.client sender.old.name profile C.does known facts sender.old.in_flight sender.new.in_flight (O.contents writer.old) (O.contents writer.new)) }
+    ensures same { sender.new ≡ record sender.old { in_flight = sender.new.in_flight } }
 {
     let first = ask_part(sender, profile, 0)?;
     let mut from = write_part(writer, 0, &first)?;
@@ -93,8 +94,7 @@ fn ask_part<C: Connection>(
         (replies.Part part.as_of part.total part.bytes) facts sender.old.in_flight sender.new.in_flight)) }
     ensures missed { OnErr result (sender.old.in_flight.waiting.items ≡ [] → Wherever sender.old.in_flight (λ known facts.
         OnlyAsks sender.old.client sender.old.name profile C.does known facts sender.old.in_flight sender.new.in_flight)) }
-    ensures same_client { sender.new.client ≡ sender.old.client }
-    ensures same_name { sender.new.name ≡ sender.old.name }
+    ensures same { sender.new ≡ record sender.old { in_flight = sender.new.in_flight } }
 {
     let reply = ask_reply(sender, profile, from)?;
     let part = part_of(reply)?;
@@ -111,8 +111,7 @@ fn ask_reply<C: Connection>(
         reply facts sender.old.in_flight sender.new.in_flight)) }
     ensures missed { OnErr result (sender.old.in_flight.waiting.items ≡ [] → Wherever sender.old.in_flight (λ known facts.
         OnlyAsks sender.old.client sender.old.name profile C.does known facts sender.old.in_flight sender.new.in_flight)) }
-    ensures same_client { sender.new.client ≡ sender.old.client }
-    ensures same_name { sender.new.name ≡ sender.old.name }
+    ensures same { sender.new ≡ record sender.old { in_flight = sender.new.in_flight } }
 {
     if let Some(fault) = sender.stopped {
         return Err(fault);

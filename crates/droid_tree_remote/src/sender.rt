@@ -68,8 +68,9 @@ impl<C: Connection> Client for Sender<C> {
     ghost calls = { CallsSender C.does };
 
     fn ask(&mut self, attempt: u32, kind: u8, body: Blob) -> Result<Reply, ClientFault> {
-        if self.stopped.is_some() {
-            return Err(ClientFault::Ended);
+        match self.stopped {
+            Some(_) => return Err(ClientFault::Ended),
+            None => {}
         }
         let Some(frame) = numbered_frame(self.client, self.name.as_str(), attempt, kind, body)
         else {
@@ -85,8 +86,9 @@ impl<C: Connection> Client for Sender<C> {
     }
 
     fn send(&mut self, body: Blob) -> Result<(), ClientFault> {
-        if self.stopped.is_some() {
-            return Err(ClientFault::Ended);
+        match self.stopped {
+            Some(_) => return Err(ClientFault::Ended),
+            None => {}
         }
         let Some(frame) = numbered_frame(self.client, self.name.as_str(), 0, PIECE, body) else {
             return Err(ClientFault::Ended);

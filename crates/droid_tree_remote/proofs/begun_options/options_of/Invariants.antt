@@ -5,7 +5,6 @@ use Rattle.droid_tree_remote.proofs.begun_options.options_of.Given as goal
 
 abbrev pub invariant-loop-turn : goal.invariant-loop-turn
 invariant-loop-turn g l = record {
-  same_client : l.sender.client ≡ l.fn.sender.client;
-  same_name : l.sender.name ≡ l.fn.sender.name;
+  same : l.sender ≡ record l.fn.sender { in_flight = l.sender.in_flight };
   refuses : Wherever l.fn.sender.in_flight (λ known facts. Refuses l.fn.sender.client l.fn.sender.name l.options g.C.Connection.does l.turn known facts l.fn.sender.in_flight l.sender.in_flight);
 }

@@ -5,8 +5,7 @@ use Rattle.droid_tree_remote.proofs.remote_export.export.Given as goal
 
 abbrev pub invariant-loop : goal.invariant-loop
 invariant-loop g l = record {
-  same_client : l.sender.client ≡ l.fn.sender.client;
-  same_name : l.sender.name ≡ l.fn.sender.name;
+  same : l.sender ≡ record l.fn.sender { in_flight = l.sender.in_flight };
   front : l.fn.sender.in_flight.waiting.items ≡ [] → Wherever l.fn.sender.in_flight (λ known facts.
       ExportsFront l.fn.sender.client l.fn.sender.name l.profile g.C.Connection.does l.first.as_of l.first.total l.from known facts l.fn.sender.in_flight l.sender.in_flight (g.O.Write.contents l.fn.writer) (g.O.Write.contents l.writer));
 }
