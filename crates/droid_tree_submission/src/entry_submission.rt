@@ -8,8 +8,8 @@ ghost use Rattle.droid_tree_submission.specs.SubmissionSteps.{AreOfFirst, TakesK
 ghost use Rattle.droid_tree_upload.specs.Deeds.{Does};
 ghost use Rattle.droid_tree_upload.specs.Fronts.{EndsEarly};
 
-use crate::found::{Found, find_file, find_folder};
-use crate::reports::{report, report_below, report_folder};
+use crate::found::{Found, add_file_node, add_folder_node};
+use crate::watcher_reports::{report, report_below, report_folder};
 use droid_frame::Text;
 use droid_tree::{
     EntryKind, FolderEntry, PendingFolder, Skipped, Tree, Watcher, name_of, path_below,
@@ -68,7 +68,7 @@ fn submit_folder<T: Tree, C: Client, W: Watcher>(
     match add_folder(upload, into.profile, into.folder, entry.modified, name)? {
         Ok(number) => {
             report_folder(upload, path.as_str());
-            find_folder(upload.alloc, found, path, number, entry)?;
+            add_folder_node(upload.alloc, found, path, number, entry)?;
             Ok(true)
         }
         Err(refusal) => {
@@ -96,6 +96,6 @@ fn submit_file<T: Tree, C: Client, W: Watcher>(
         EndsEarly (Does T.observes C.calls W.hears) (AreOfFirst into folder.path (entry.now ∷ [])) fault upload.old upload.new) }
 {
     let uploaded = upload_file(upload, into, path.as_str(), name, entry)?;
-    let taken = find_file(found, path, entry, uploaded)?;
+    let taken = add_file_node(found, path, entry, uploaded)?;
     Ok(taken)
 }

@@ -11,7 +11,7 @@ ghost use Rattle.droid_tree_upload.specs.declared.submission_fault.SubmissionFau
 
 use crate::entry_submission::submit_entry;
 use crate::found::Found;
-use crate::reports::{report, report_below};
+use crate::watcher_reports::{report, report_below};
 use droid_tree::{FolderEntry, Listing, PendingFolder, Skipped, Tree, Watcher, read_folder};
 use droid_tree_upload::{Client, Destination, SubmissionFault, Upload};
 

@@ -19,8 +19,8 @@ pub(crate) struct Found {
     pub nodes: Vec<Node>,
 }
 
-/// Adds a folder that is in the profile. It is pending now.
-pub(crate) fn find_folder(
+/// Adds the node of a folder that is in the profile, and the folder to those that are pending.
+pub(crate) fn add_folder_node(
     alloc: Global,
     found: &mut Found,
     path: Text,
@@ -42,8 +42,8 @@ pub(crate) fn find_folder(
     Ok(())
 }
 
-/// Adds a file if it is in the profile. Returns whether it is there as it is in the tree.
-pub(crate) fn find_file(
+/// Adds the node of a file if it is in the profile. Returns whether it is there as it is in the tree.
+pub(crate) fn add_file_node(
     found: &mut Found,
     path: Text,
     entry: &FolderEntry,
@@ -55,19 +55,19 @@ pub(crate) fn find_file(
 {
     match uploaded {
         Uploaded::Taken(hash) => {
-            push_file(found, path, entry, hash)?;
+            push_file_node(found, path, entry, hash)?;
             Ok(true)
         }
         Uploaded::Differs => {
-            push_file(found, path, entry, HashValue::Nothing)?;
+            push_file_node(found, path, entry, HashValue::Nothing)?;
             Ok(false)
         }
         Uploaded::Skipped => Ok(false),
     }
 }
 
-/// Adds a file that is in the profile.
-fn push_file(
+/// Adds the node of a file that is in the profile.
+fn push_file_node(
     found: &mut Found,
     path: Text,
     entry: &FolderEntry,

@@ -8,8 +8,8 @@ mod entry_submission;
 mod folder_visit;
 mod found;
 mod node;
-mod reports;
 mod tree_submission;
+mod watcher_reports;
 
 pub use node::Node;
 pub use tree_submission::{Options, Submitted, submit_tree};

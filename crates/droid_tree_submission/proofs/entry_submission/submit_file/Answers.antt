@@ -24,5 +24,5 @@ returns-in_err-taken-clause-ended g c =
 pub returns-clause-taken : goal.returns-clause-taken
 returns-clause-taken g c = λ folder here.
     let came = subst (λ (p : List ℕ). Uploads (Does g.T.Tree.observes g.C.Client.calls g.W.Watcher.hears) c.args.into p c.args.entry.now c.in_ok-uploaded.uploaded c.args.upload.now c.upload_file.new.upload) c.as_str.ensures.value c.in_ok-uploaded.ensures.came in
-    file_taken (Does g.T.Tree.observes g.C.Client.calls g.W.Watcher.hears) c.args.into folder c.args.entry.now (subst IsUtf8 c.requires.named c.utf8.name) c.requires.kind c.args.path here c.args.upload.now c.upload_file.new.upload c.in_ok-uploaded.uploaded c.in_ok-taken.taken c.args.found.now c.find_file.new.found
+    file_taken (Does g.T.Tree.observes g.C.Client.calls g.W.Watcher.hears) c.args.into folder c.args.entry.now (subst IsUtf8 c.requires.named c.utf8.name) c.requires.kind c.args.path here c.args.upload.now c.upload_file.new.upload c.in_ok-uploaded.uploaded c.in_ok-taken.taken c.args.found.now c.add_file_node.new.found
     came c.in_ok-taken.ensures.taken c.in_ok-taken.ensures.pending c.in_ok-taken.ensures.nodes
