@@ -26,6 +26,8 @@ use Rattle.droid_tree_connection.proofs.Chaining.{over_more}
 use Rattle.droid_tree_connection.proofs.Going.{all_append, all_in, answered_after, answered_before, goes_none, nothing_in, taken_after, taken_before}
 use Rattle.droid_tree_upload.specs.Calls.{Call, Answered, Sent, Failed}
 use Rattle.droid_tree_upload.specs.Deeds.{Deed, Does, Observed, Called, Informed}
+use Rattle.droid_tree_upload.specs.Fronts as fronts
+use Rattle.droid_tree_upload.specs.declared.submission_fault.SubmissionFault.{SubmissionFault}
 use Rattle.droid_tree_upload.specs.declared.client_fault.ClientFault.{ClientFault}
 use Rattle.droid_tree_upload.specs.declared.upload.Upload.{Upload}
 use Rattle.droid_tree_remote.specs.Conversations.{AreAwaited, AreDone, Converses, IsDone, IsOfDeeds, WritesOnly, frame_of_call, known_after, known_behind}
@@ -264,15 +266,15 @@ module _ (client : ℕ) (name : List ℕ) (at_end : Bool) where
 
     module _ (deeds : List Deed) (known : KnownRequests) (facts : List Fact) (old new : InFlight C) (rest : Talks deeds known facts old new) where
       observed_on : (observation : Observation) → Talks (Observed observation ∷ deeds) known facts old new
-      observed_on observation = talks_on (Observed observation) deeds known facts (λ frame. ⊥) old old new (goes_none does known (λ frame. ⊥) facts old) rest (λ frame never. absurd never)
+      observed_on observation = talks_on (Observed observation) deeds known facts (λ frame. ⊥) old old new (goes_none does known (λ frame. ⊥) facts old.connection) rest (λ frame never. absurd never)
           (λ frame is. later deeds known facts old old new (Observed observation) frame is) tt (λ awaited frame there. rest.settled awaited frame there)
 
       informed_on : (heard : Heard) → Talks (Informed heard ∷ deeds) known facts old new
-      informed_on heard = talks_on (Informed heard) deeds known facts (λ frame. ⊥) old old new (goes_none does known (λ frame. ⊥) facts old) rest (λ frame never. absurd never)
+      informed_on heard = talks_on (Informed heard) deeds known facts (λ frame. ⊥) old old new (goes_none does known (λ frame. ⊥) facts old.connection) rest (λ frame never. absurd never)
           (λ frame is. later deeds known facts old old new (Informed heard) frame is) tt (λ awaited frame there. rest.settled awaited frame there)
 
       failed_on : (attempt : ℕ) (request : Request) (why : ClientFault) → Talks (Called (Failed attempt request why) ∷ deeds) known facts old new
-      failed_on attempt request why = talks_on (Called (Failed attempt request why)) deeds known facts (λ frame. ⊥) old old new (goes_none does known (λ frame. ⊥) facts old) rest (λ frame never. absurd never)
+      failed_on attempt request why = talks_on (Called (Failed attempt request why)) deeds known facts (λ frame. ⊥) old old new (goes_none does known (λ frame. ⊥) facts old.connection) rest (λ frame never. absurd never)
           (λ frame is. later deeds known facts old old new (Called (Failed attempt request why)) frame is) tt (λ never. absurd never)
 
     -- ---- of senders
@@ -366,7 +368,7 @@ module _ (client : ℕ) (name : List ℕ) {C : Type 0} (does : C → Event → C
 
   pub ends_nowhere : (old new : InFlight C) → new ≡ old → StandsOn known facts old → Finishes client name false does known facts old new
   ends_nowhere old new same stands = subst (λ (i : InFlight C). Finishes client name false does known facts old i) (sym same)
-      (record { goes = goes_none does known (Contains old.waiting.items) facts old; taken = λ never frame there. absurd cc; stands_on = stands })
+      (record { goes = goes_none does known (Contains old.waiting.items) facts old.connection; taken = λ never frame there. absurd cc; stands_on = stands })
 
   pub ends_failing : (fault : TransferFault) (old new : InFlight C) → Fails does known (Contains old.waiting.items) old.waiting.items fault facts old new → Finishes client name false does known facts old new
   ends_failing fault old new fails = record { goes = fails.stops.goes; taken = λ never frame there. absurd cc; stands_on = fails.stands_on }
@@ -374,3 +376,8 @@ module _ (client : ℕ) (name : List ℕ) {C : Type 0} (does : C → Event → C
   pub ends_unsettled : (fault : TransferFault) (old new : Sender C) → FailsToSettle does fault old new → StandsOn known facts old.in_flight → Finishes client name false does known facts old.in_flight new.in_flight
   ends_unsettled fault old new (HadStoppedBefore stopped same) stands = ends_nowhere old.in_flight new.in_flight (ap (λ (s : Sender C). s.in_flight) same) stands
   ends_unsettled fault old new (NotAllCame going same fails) stands = ends_failing fault old.in_flight new.in_flight (fails known facts stands)
+
+-- where a run ended early, its client is where its deeds led
+pub stands_client : {T C W : Type 0} (fault : SubmissionFault) (reached new : Upload T (Sender C) W) → fronts.Stands fault reached new → new.client ≡ reached.client
+stands_client {T} {C} {W} fault reached new (inl same) = ap (λ (u : Upload T (Sender C) W). u.client) same
+stands_client {T} {C} {W} fault reached new (inr memory) = ap (λ (u : Upload T (Sender C) W). u.client) memory.1

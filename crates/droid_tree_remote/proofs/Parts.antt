@@ -38,7 +38,7 @@ module _ (client : ℕ) (name : List ℕ) (profile : ℕ) where
         (are.0, parts_last events as_of total (from + length first) last parts part (omega (arith, place, length-append first (joined parts))) are.1 is)
 
   -- the reply to such a request makes nothing known
-  same_known : (known : KnownRequests) (from : ℕ) (reply : Reply) → remember known (part_frame client name profile from) reply ≡ known
+  pub same_known : (known : KnownRequests) (from : ℕ) (reply : Reply) → remember known (part_frame client name profile from) reply ≡ known
   same_known known from (replies.Made number) = refl
   same_known known from (replies.Node number) = refl
   same_known known from (replies.Taken held) = refl
@@ -48,7 +48,7 @@ module _ (client : ℕ) (name : List ℕ) (profile : ℕ) where
   same_known known from (replies.Part as_of total bytes) = refl
   same_known known from (replies.Refused refusal) = refl
 
-  among_parts : (waiting : List Frame) (from : ℕ) (frame : Frame) → waiting ≡ [] → IsAmong waiting (part_frame client name profile from) frame → IsPartFrame client name profile frame
+  pub among_parts : (waiting : List Frame) (from : ℕ) (frame : Frame) → waiting ≡ [] → IsAmong waiting (part_frame client name profile from) frame → IsPartFrame client name profile frame
   among_parts waiting from frame none (inl there) = absurd (nothing_in waiting frame none there)
   among_parts waiting from frame none (inr is) = (from, is)
 
@@ -87,7 +87,7 @@ module _ (client : ℕ) (name : List ℕ) (profile : ℕ) where
     Front facts as_of total from old new written written_after = ExportsFront client name profile does as_of total from known facts old new written written_after
 
     -- nothing came yet
-    pub front_none : (facts : List Fact) (as_of total : ℕ) (old : InFlight C) (written : Option (List ℕ)) → old.waiting.items ≡ [] → StandsOn known facts old → Front facts as_of total 0 old old written written
+    abbrev pub front_none : (facts : List Fact) (as_of total : ℕ) (old : InFlight C) (written : Option (List ℕ)) → old.waiting.items ≡ [] → StandsOn known facts old → Front facts as_of total 0 old old written written
     front_none facts as_of total old written none stands = record { parts = []; counted = refl; asks = asks_none facts old none stands; came = tt; wrote = Appends-nil written }
 
     module _ (facts : List Fact) (as_of total from : ℕ) (old now new : InFlight C) (written written_now written_after : Option (List ℕ)) (front : Front facts as_of total from old now written written_now) where
@@ -169,3 +169,14 @@ same_part as_of as_of_too total total_too part same = ap (λ (n : ℕ). replies.
 
 pub same_frame : (client client_now : ℕ) (name name_now : List ℕ) (profile from : ℕ) → client_now ≡ client → name_now ≡ name → part_frame client_now name_now profile from ≡ part_frame client name profile from
 same_frame client client_now name name_now profile from same named = ap (λ (c : ℕ). part_frame c name_now profile from) same ∙ ap (λ (n : List ℕ). part_frame client n profile from) named
+
+-- a part was asked for by a sender that is the same, but for what is in flight
+pub its_waits : {C : Type 0} (does : C → Event → C → Type 0) (known : KnownRequests) (facts : List Fact) (client client_now : ℕ) (name name_now : List ℕ) (profile from : ℕ) (reply : Reply) (old new : InFlight C) → client_now ≡ client → name_now ≡ name
+    → Waits does known (part_frame client_now name_now profile from) reply facts old new → Waits does known (part_frame client name profile from) reply facts old new
+its_waits does known facts client client_now name name_now profile from reply old new same named waits =
+    subst (λ (f : Frame). Waits does known f reply facts old new) (same_frame client client_now name name_now profile from same named) waits
+
+pub its_asks : {C : Type 0} (does : C → Event → C → Type 0) (known : KnownRequests) (facts : List Fact) (client client_now : ℕ) (name name_now : List ℕ) (profile : ℕ) (old new : InFlight C) → client_now ≡ client → name_now ≡ name
+    → OnlyAsks client_now name_now profile does known facts old new → OnlyAsks client name profile does known facts old new
+its_asks does known facts client client_now name name_now profile old new same named asks =
+    subst (λ (n : List ℕ). OnlyAsks client n profile does known facts old new) named (subst (λ (c : ℕ). OnlyAsks c name_now profile does known facts old new) same asks)

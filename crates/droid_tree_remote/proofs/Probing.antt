@@ -1,5 +1,5 @@
 -- Frame after frame on one connection.
-use Rattle.std.proofs.Common.{◌≡◌, ◌⊎◌, ℕ, zero, suc, ◌+◌, ◌<◌, Bool, true, false, List, [], ◌∷◌, ◌++◌, Contains, Option, Some, None, inl, inr, refl, sym, ap, subst, ◌∙◌, append_assoc, arith}
+use Rattle.std.proofs.Common.{◌≡◌, ◌⊎◌, ℕ, zero, suc, ◌+◌, ◌<◌, ◌≤◌, Bool, true, false, List, [], ◌∷◌, ◌++◌, Contains, Option, Some, None, inl, inr, refl, sym, ap, subst, ◌∙◌, append_assoc, arith}
 use Rattle.std.specs.List.{AllByRecursion}
 use Rattle.std.proofs.lemmas.List.Elements.{Contains-append_left, Contains-push}
 use Rattle.droid_frame.specs.types.frame.Frame.{Frame}
@@ -29,12 +29,12 @@ module _ {C : Type 0} (does : C → Event → C → Type 0) (known : KnownReques
   }
 
   -- a frame was written or read
-  stands_here : (fact : Fact) (old new : InFlight C) → StandsOn known facts old → new ≡ record old { connection = new.connection } → StandsOn known (facts ++ fact ∷ []) new
+  pub stands_here : (fact : Fact) (old new : InFlight C) → StandsOn known facts old → new ≡ record old { connection = new.connection } → StandsOn known (facts ++ fact ∷ []) new
   stands_here fact old new stands same = subst (λ (i : InFlight C). StandsOn known (facts ++ fact ∷ []) i) (sym same)
       (record { same = stands.same; counts = counts_more old.stage old.waiting.items fact stands.counts })
 
   -- the connection broke
-  stands_nowhere : (old new : InFlight C) → StandsOn known facts old → new ≡ record old { connection = new.connection; stage = Nowhere } → StandsOn known [] new
+  pub stands_nowhere : (old new : InFlight C) → StandsOn known facts old → new ≡ record old { connection = new.connection; stage = Nowhere } → StandsOn known [] new
   stands_nowhere old new stands same = subst (λ (i : InFlight C). StandsOn known [] i) (sym same) (record { same = stands.same; counts = counts_nowhere known old.waiting.items [] })
 
   abbrev pub stays_none : (old : InFlight C) → StandsOn known facts old → StaysHere does known frame facts old old
@@ -55,14 +55,14 @@ module _ {C : Type 0} (does : C → Event → C → Type 0) (known : KnownReques
     stands_on = stands_nowhere old new stands same;
   }
 
-  abbrev stays_read : (came : Frame) (old new : InFlight C) → StandsOn known facts old → ReadsHere does came old new → StaysHere does known frame facts old new
+  abbrev pub stays_read : (came : Frame) (old new : InFlight C) → StandsOn known facts old → ReadsHere does came old new → StaysHere does known frame facts old new
   stays_read came old new stands reads = record {
     goes = goes_one does known (λ other. other ≡ frame) facts old.connection new.connection (Came came) reads.read tt;
     same_waiting = ap (λ (i : InFlight C). i.waiting.items) reads.same;
     stands_on = stands_here (Received came) old new stands reads.same;
   }
 
-  abbrev stays_unread : (old new : InFlight C) → StandsOn known facts old → ReadsNotHere does old new → StaysHere does known frame facts old new
+  abbrev pub stays_unread : (old new : InFlight C) → StandsOn known facts old → ReadsNotHere does old new → StaysHere does known frame facts old new
   stays_unread old new stands reads = record {
     goes = goes_one does known (λ other. other ≡ frame) facts old.connection new.connection Lost reads.lost tt;
     same_waiting = ap (λ (i : InFlight C). i.waiting.items) reads.same;
@@ -118,7 +118,7 @@ module _ (client : ℕ) (name : List ℕ) (options : Options) {C : Type 0} (does
   of_pair : (turn : ℕ) (frame : Frame) → frame ≡ its turn → IsOfPair client name options frame
   of_pair turn frame is = (turn, is)
 
-  pub tries_none : (old : InFlight C) → StandsOn known facts old → Tries client name options does known facts old old
+  abbrev pub tries_none : (old : InFlight C) → StandsOn known facts old → Tries client name options does known facts old old
   tries_none old stands = record { goes = goes_none does known (IsOfPair client name options) facts old.connection; same_waiting = refl; stands_on = stands }
 
   pub refuses_none : (old : InFlight C) → StandsOn known facts old → Refuses client name options does 0 known facts old old
@@ -183,5 +183,21 @@ module _ (client : ℕ) (name : List ℕ) (options : Options) {C : Type 0} (does
       }
 
   -- it refused all pairs
-  pub finds_none : (turns : ℕ) (old new : InFlight C) → turns ≡ 6 → Refuses client name options does turns known facts old new → Finds client name options does None known facts old new
+  pub finds_none : (turns : ℕ) (old new : InFlight C) → 6 ≤ turns → Refuses client name options does turns known facts old new → Finds client name options does None known facts old new
   finds_none turns old new all refuses = record { tries = refuses.tries; here = refuses.here; found_is = λ turn below. refuses.refused turn (omega (arith, all, below)) }
+
+-- ---- a sender that is the same, but for what is in flight
+
+pub same_profile : (client client_now : ℕ) (name name_now : List ℕ) (options : Options) → client_now ≡ client → name_now ≡ name → profile_frame client_now name_now options ≡ profile_frame client name options
+same_profile client client_now name name_now options same named =
+    ap (λ (c : ℕ). profile_frame c name_now options) same ∙ ap (λ (n : List ℕ). profile_frame client n options) named
+
+pub its_stays : {C : Type 0} (does : C → Event → C → Type 0) (known : KnownRequests) (facts : List Fact) (client client_now : ℕ) (name name_now : List ℕ) (options : Options) (old new : InFlight C) → client_now ≡ client → name_now ≡ name
+    → StaysHere does known (profile_frame client_now name_now options) facts old new → StaysHere does known (profile_frame client name options) facts old new
+its_stays does known facts client client_now name name_now options old new same named stays =
+    subst (λ (f : Frame). StaysHere does known f facts old new) (same_profile client client_now name name_now options same named) stays
+
+pub its_answers : {C : Type 0} (does : C → Event → C → Type 0) (known : KnownRequests) (facts : List Fact) (client client_now : ℕ) (name name_now : List ℕ) (options : Options) (reply : Reply) (old new : InFlight C) → client_now ≡ client → name_now ≡ name
+    → AnswersHere does known (profile_frame client_now name_now options) reply facts old new → AnswersHere does known (profile_frame client name options) reply facts old new
+its_answers does known facts client client_now name name_now options reply old new same named answers =
+    subst (λ (f : Frame). AnswersHere does known f reply facts old new) (same_profile client client_now name name_now options same named) answers

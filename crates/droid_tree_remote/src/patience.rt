@@ -20,8 +20,9 @@ pub(crate) fn ask_patiently<C: Connection>(
     ensures missed { IfErr result (λ fault. Wherever in_flight.old (λ known facts. Misses C.does known frame fault facts in_flight.old in_flight.new)) }
 {
     let first = ask_once(in_flight, &frame)?;
-    if let Some(reply) = first {
-        return Ok(reply);
+    match first {
+        Some(reply) => return Ok(reply),
+        None => {}
     }
     in_flight.start_wait();
     for _ in 0..u64::MAX {
@@ -29,8 +30,9 @@ pub(crate) fn ask_patiently<C: Connection>(
             return Err(TransferFault::Busy);
         }
         let again = ask_once(in_flight, &frame)?;
-        if let Some(reply) = again {
-            return Ok(reply);
+        match again {
+            Some(reply) => return Ok(reply),
+            None => {}
         }
     }
     Err(TransferFault::Busy)

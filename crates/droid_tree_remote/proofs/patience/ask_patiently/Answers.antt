@@ -17,7 +17,7 @@ returns-in_err-first-clause-missed g c =
 
 pub loop-init : goal.loop-init
 loop-init g c = λ known facts stands.
-    let full = c.in_ok-first.ensures.answered in
+    let full = rw c.in-None.is at c.in_ok-first.ensures.answered in
     pausing_first g.C.Connection.does known c.args.frame facts full.reply c.args.in_flight.now c.ask_once.new.in_flight c.start_wait.new.self full.busy (full.waits known facts stands) c.start_wait.ensures
 
 pub returns-then-not-pause-clause-missed : goal.returns-then-not-pause-clause-missed
@@ -35,19 +35,20 @@ returns-in_err-again-clause-missed g c =
     let paused = pausing_paused does known c.args.frame facts c.loop.counter old c.loop.in_flight c.pause.new.self (c.loop.invariant known facts stands) c.if-not-pause.ensures in
     pausing_missed does known c.args.frame facts (c.loop.counter + 1) old c.pause.new.self new paused fault (c.in_err-again.ensures.missed known (facts_after facts paused.goes.events) paused.stands_on))
 
-pub returns-in-Some-2-clause-answered : goal.returns-in-Some-2-clause-answered
-returns-in-Some-2-clause-answered g c = λ known facts stands.
+pub returns-in-Some-again-clause-answered : goal.returns-in-Some-again-clause-answered
+returns-in-Some-again-clause-answered g c = λ known facts stands.
     let does = g.C.Connection.does in
     let old = c.args.in_flight.now in
     let paused = pausing_paused does known c.args.frame facts c.loop.counter old c.loop.in_flight c.pause.new.self (c.loop.invariant known facts stands) c.if-not-pause.ensures in
-    pausing_answered does known c.args.frame facts (c.loop.counter + 1) old c.pause.new.self c.ask_once-in-loop.new.in_flight paused c.in-Some-2.reply (c.in-Some-2.ensures.answered.waits known (facts_after facts paused.goes.events) paused.stands_on)
+    let place = rw c.in-Some-again.is at c.in_ok-again.ensures.answered in
+    pausing_answered does known c.args.frame facts (c.loop.counter + 1) old c.pause.new.self c.ask_once-in-loop.new.in_flight paused c.in-Some-again.reply (place.waits known (facts_after facts paused.goes.events) paused.stands_on)
 
 pub loop-preserved : goal.loop-preserved
 loop-preserved g c = λ known facts stands.
     let does = g.C.Connection.does in
     let old = c.args.in_flight.now in
     let paused = pausing_paused does known c.args.frame facts c.loop.counter old c.loop.in_flight c.pause.new.self (c.loop.invariant known facts stands) c.if-not-pause.ensures in
-    let full = c.in_ok-again.ensures.answered in
+    let full = rw c.in-None-again.is at c.in_ok-again.ensures.answered in
     pausing_again does known c.args.frame facts (c.loop.counter + 1) old c.pause.new.self c.ask_once-in-loop.new.in_flight paused full.reply full.busy (full.waits known (facts_after facts paused.goes.events) paused.stands_on)
 
 pub returns-clause-missed : goal.returns-clause-missed
