@@ -93,10 +93,7 @@ fn pair_of(options: Options, match_all: bool, hash: HashKind) -> Options
 
 /// Asks for a profile with these options, under the number of the submission's profile. Returns whether it was made; if
 /// not, the number stands for other options.
-fn is_made<C: Connection>(
-    sender: &mut Sender<C>,
-    options: Options,
-) -> Result<bool, TransferFault>
+fn is_made<C: Connection>(sender: &mut Sender<C>, options: Options) -> Result<bool, TransferFault>
     ensures asked { IfOk result (λ made. Wherever sender.old.in_flight (λ known facts.
         AsksPair sender.old.client sender.old.name C.does options made known facts sender.old.in_flight sender.new.in_flight)) }
     ensures stays { Wherever sender.old.in_flight (λ known facts.

@@ -22,7 +22,7 @@ returns-in_err-made-clause-tries g c = λ known facts stands.
     let before = c.loop-turn.invariant.refuses known facts stands in
     let then = facts_after facts before.tries.goes.events in
     let stays = its_stays does known then old.client now.client old.name now.name c.with_pair-tried.result now.in_flight new.in_flight (ap (λ s. s.client) same) (ap (λ s. s.name) same)
-        (c.is_made.ensures.stays known then before.tries.stands_on) in
+    (c.is_made.ensures.stays known then before.tries.stands_on) in
     tries_on old.client old.name c.args.options does known facts c.loop-turn.turn old.in_flight now.in_flight new.in_flight before
     (subst (λ (o : Options). StaysHere does known (profile_frame old.client old.name o) then now.in_flight new.in_flight) c.with_pair-tried.ensures stays)
 
@@ -55,7 +55,7 @@ returns-then-made-clause-tries g c = λ known facts stands.
     let before = c.loop-turn.invariant.refuses known facts stands in
     let then = facts_after facts before.tries.goes.events in
     let stays = its_stays does known then old.client now.client old.name now.name c.with_pair-tried.result now.in_flight new.in_flight (ap (λ s. s.client) same) (ap (λ s. s.name) same)
-        (c.is_made.ensures.stays known then before.tries.stands_on) in
+    (c.is_made.ensures.stays known then before.tries.stands_on) in
     tries_on old.client old.name c.args.options does known facts c.loop-turn.turn old.in_flight now.in_flight new.in_flight before
     (subst (λ (o : Options). StaysHere does known (profile_frame old.client old.name o) then now.in_flight new.in_flight) c.with_pair-tried.ensures stays)
 

@@ -59,7 +59,7 @@ returns-in_err-part-clause-downloads g c = λ none known facts stands.
     let front = c.loop.invariant.front none known facts stands in
     let then = facts_after facts front.asks.goes.events in
     let missed = its_asks does known then old.client now.client old.name now.name c.args.profile now.in_flight new.in_flight (ap (λ s. s.client) same) (ap (λ s. s.name) same)
-        (c.in_err-part.ensures.missed front.asks.none known then front.asks.stands_on) in
+    (c.in_err-part.ensures.missed front.asks.none known then front.asks.stands_on) in
     front_missed old.client old.name c.args.profile does known facts first.as_of first.total c.loop.from old.in_flight now.in_flight new.in_flight _ _ (g.O.Write.contents c.loop.writer) front missed
 
 pub returns-in_err-part-clause-same : goal.returns-in_err-part-clause-same
@@ -77,9 +77,9 @@ returns-in_err-from-2-clause-downloads g c = λ none known facts stands.
     let front = c.loop.invariant.front none known facts stands in
     let then = facts_after facts front.asks.goes.events in
     let waits = its_waits does known then old.client now.client old.name now.name c.args.profile c.loop.from (replies.Part part.as_of part.total part.bytes) now.in_flight new.in_flight (ap (λ s. s.client) same) (ap (λ s. s.name) same)
-        (c.in_ok-part.ensures.came known then front.asks.stands_on) in
+    (c.in_ok-part.ensures.came known then front.asks.stands_on) in
     let of_one = subst (λ (r : Reply). Waits does known (part_frame old.client old.name c.args.profile c.loop.from) r then now.in_flight new.in_flight)
-        (same_part first.as_of part.as_of first.total part.total part.bytes (c.are_of_one.ensures c.if-are_of_one.true)) waits in
+    (same_part first.as_of part.as_of first.total part.total part.bytes (c.are_of_one.ensures c.if-are_of_one.true)) waits in
     let unwritten = c.in_err-from-2.ensures.front in
     front_unwritten old.client old.name c.args.profile does known facts first.as_of first.total c.loop.from old.in_flight now.in_flight new.in_flight _ _ (g.O.Write.contents c.write_part-then-are_of_one.new.writer) front part.bytes of_one unwritten.0 unwritten.1
 
@@ -100,9 +100,9 @@ loop-preserved g c = record {
       let front = c.loop.invariant.front none known facts stands in
       let then = facts_after facts front.asks.goes.events in
       let waits = its_waits does known then old.client now.client old.name now.name c.args.profile c.loop.from (replies.Part part.as_of part.total part.bytes) now.in_flight new.in_flight (ap (λ s. s.client) same) (ap (λ s. s.name) same)
-          (c.in_ok-part.ensures.came known then front.asks.stands_on) in
+      (c.in_ok-part.ensures.came known then front.asks.stands_on) in
       let of_one = subst (λ (r : Reply). Waits does known (part_frame old.client old.name c.args.profile c.loop.from) r then now.in_flight new.in_flight)
-          (same_part first.as_of part.as_of first.total part.total part.bytes (c.are_of_one.ensures c.if-are_of_one.true)) waits in
+      (same_part first.as_of part.as_of first.total part.total part.bytes (c.are_of_one.ensures c.if-are_of_one.true)) waits in
       front_more old.client old.name c.args.profile does known facts first.as_of first.total c.loop.from old.in_flight now.in_flight new.in_flight _ _ (g.O.Write.contents c.write_part-then-are_of_one.new.writer) front part.bytes of_one
       c.in_ok-from-2.from c.in_ok-from-2.ensures.wrote c.in_ok-from-2.ensures.after;
 }
@@ -120,7 +120,7 @@ returns-else-are_of_one-clause-downloads g c = λ none known facts stands.
     let then = facts_after facts front.asks.goes.events in
     let reply = replies.Part part.as_of part.total part.bytes in
     let waits = its_waits does known then old.client now.client old.name now.name c.args.profile c.loop.from reply now.in_flight new.in_flight (ap (λ s. s.client) same) (ap (λ s. s.name) same)
-        (c.in_ok-part.ensures.came known then front.asks.stands_on) in
+    (c.in_ok-part.ensures.came known then front.asks.stands_on) in
     front_missed old.client old.name c.args.profile does known facts first.as_of first.total c.loop.from old.in_flight now.in_flight new.in_flight _ _ (g.O.Write.contents c.loop.writer) front
     (asks_waits old.client old.name c.args.profile does known then c.loop.from reply now.in_flight new.in_flight front.asks.none waits)
 
