@@ -1,6 +1,6 @@
 //! Finds out with which options a submission was begun.
 
-ghost use Rattle.std.specs.Prelude.{◌≡◌, IfOk, MatchResult};
+ghost use Rattle.std.specs.Prelude.{◌≡◌, IfOk, IsSome, MatchResult};
 ghost use Rattle.droid_tree_connection.specs.Answering.{IsReplyTo};
 ghost use Rattle.droid_tree_connection.specs.Calls.{Wherever};
 ghost use Rattle.droid_tree_remote.specs.Probes.{AnswersHere, AsksPair, Finds, IsVerdict, ReadsHere, ReadsNotHere, StaysHere, Tries, WritesHere, WritesNotHere, profile_frame, with_pair};
@@ -33,10 +33,28 @@ pub fn options_of<C: Connection>(
     ensures tries { Wherever sender.old.in_flight (λ known facts.
         Tries sender.old.client sender.old.name options C.does known facts sender.old.in_flight sender.new.in_flight) }
     ensures same { sender.new ≡ record sender.old { in_flight = sender.new.in_flight } }
+    // A sender that was stopped writes nothing.
+    ensures stopped { IsSome sender.old.stopped → sender.new ≡ sender.old }
 {
-    if let Some(fault) = sender.stopped {
-        return Err(fault);
+    match sender.stopped {
+        Some(fault) => return Err(fault),
+        None => {}
     }
+    let found = try_pairs(sender, options)?;
+    Ok(found)
+}
+
+/// Asks for a profile with each pair, one after the other, until one is made. Returns its options.
+fn try_pairs<C: Connection>(
+    sender: &mut Sender<C>,
+    options: Options,
+) -> Result<Option<Options>, TransferFault>
+    ensures found { IfOk result (λ found. Wherever sender.old.in_flight (λ known facts.
+        Finds sender.old.client sender.old.name options C.does found known facts sender.old.in_flight sender.new.in_flight)) }
+    ensures tries { Wherever sender.old.in_flight (λ known facts.
+        Tries sender.old.client sender.old.name options C.does known facts sender.old.in_flight sender.new.in_flight) }
+    ensures same { sender.new ≡ record sender.old { in_flight = sender.new.in_flight } }
+{
     for turn in 0..PAIRS {
         let tried = with_pair(turn, options);
         let made = is_made(sender, tried)?;
@@ -75,10 +93,7 @@ fn pair_of(options: Options, match_all: bool, hash: HashKind) -> Options
 
 /// Asks for a profile with these options, under the number of the submission's profile. Returns whether it was made; if
 /// not, the number stands for other options.
-fn is_made<C: Connection>(
-    sender: &mut Sender<C>,
-    options: Options,
-) -> Result<bool, TransferFault>
+fn is_made<C: Connection>(sender: &mut Sender<C>, options: Options) -> Result<bool, TransferFault>
     ensures asked { IfOk result (λ made. Wherever sender.old.in_flight (λ known facts.
         AsksPair sender.old.client sender.old.name C.does options made known facts sender.old.in_flight sender.new.in_flight)) }
     ensures stays { Wherever sender.old.in_flight (λ known facts.

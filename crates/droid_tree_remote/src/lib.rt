@@ -14,13 +14,12 @@ mod remote_fault;
 mod remote_submission;
 mod sender;
 
+pub use begun_options::options_of;
 pub use droid_tree_connection::{
     Broken, Connection, InFlight, Known, KnownRequests, Open, Stage, Streams, TransferFault,
 };
 pub use droid_tree_submission::{Node, Options, Submitted};
 pub use droid_tree_upload::{Client, ClientFault, SubmissionFault, Upload};
-
-pub use begun_options::options_of;
 pub use remote_export::export;
 pub use remote_fault::{DownloadFault, RemoteFault};
 pub use remote_submission::submit;

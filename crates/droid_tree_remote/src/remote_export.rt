@@ -1,6 +1,6 @@
 //! Reads the export of a profile in parts.
 
-ghost use Rattle.std.specs.Prelude.{◌≡◌, ◌+◌, ℕ, [], IfErr, IfOk, IsTrue, OnErr, OnOk, length, take};
+ghost use Rattle.std.specs.Prelude.{◌≡◌, ◌+◌, ℕ, [], IfOk, IsSome, IsTrue, OnErr, OnOk, length, take};
 ghost use Rattle.std.specs.Io.KnownBytes.{Appends};
 ghost use Rattle.droid_frame.specs.types.reply.Reply.TheVariants as replies;
 ghost use Rattle.droid_tree_connection.specs.Calls.{Waits, Wherever};
@@ -37,6 +37,28 @@ pub fn export<C: Connection, O: SteadyWrite>(
     ensures whole { IfOk result (λ one. IsTrue one → sender.old.in_flight.waiting.items ≡ [] → Wherever sender.old.in_flight (λ known facts.
         Exports sender.old.client sender.old.name profile C.does known facts sender.old.in_flight sender.new.in_flight (O.contents writer.old) (O.contents writer.new))) }
     // In any case only parts were asked for, and what was written is the front of parts of one export.
+    ensures downloads { sender.old.in_flight.waiting.items ≡ [] → Wherever sender.old.in_flight (λ known facts.
+        Downloads sender.old.client sender.old.name profile C.does known facts sender.old.in_flight sender.new.in_flight (O.contents writer.old) (O.contents writer.new)) }
+    ensures same { sender.new ≡ record sender.old { in_flight = sender.new.in_flight } }
+    // A sender that was stopped writes nothing.
+    ensures stopped { IsSome sender.old.stopped → sender.new ≡ sender.old }
+{
+    match sender.stopped {
+        Some(fault) => return Err(DownloadFault::Sending(fault)),
+        None => {}
+    }
+    let one = download(sender, profile, writer)?;
+    Ok(one)
+}
+
+/// Reads the parts of an export, one after the other, and writes them. Returns whether all are of one export.
+fn download<C: Connection, O: SteadyWrite>(
+    sender: &mut Sender<C>,
+    profile: u32,
+    writer: &mut O,
+) -> Result<bool, DownloadFault>
+    ensures whole { IfOk result (λ one. IsTrue one → sender.old.in_flight.waiting.items ≡ [] → Wherever sender.old.in_flight (λ known facts.
+        Exports sender.old.client sender.old.name profile C.does known facts sender.old.in_flight sender.new.in_flight (O.contents writer.old) (O.contents writer.new))) }
     ensures downloads { sender.old.in_flight.waiting.items ≡ [] → Wherever sender.old.in_flight (λ known facts.
         Downloads sender.old.client sender.old.name profile C.does known facts sender.old.in_flight sender.new.in_flight (O.contents writer.old) (O.contents writer.new)) }
     ensures same { sender.new ≡ record sender.old { in_flight = sender.new.in_flight } }
@@ -113,9 +135,6 @@ fn ask_reply<C: Connection>(
         OnlyAsks sender.old.client sender.old.name profile C.does known facts sender.old.in_flight sender.new.in_flight)) }
     ensures same { sender.new ≡ record sender.old { in_flight = sender.new.in_flight } }
 {
-    if let Some(fault) = sender.stopped {
-        return Err(fault);
-    }
     let alloc = sender.in_flight.alloc;
     let request = part_request(alloc, profile, from);
     let frame = frame_of(alloc, sender.client, sender.name.as_str(), &request)?;

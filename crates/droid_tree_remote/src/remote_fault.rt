@@ -20,10 +20,7 @@ pub enum RemoteFault {
 }
 
 /// Returns the fault of a walk that ended early. If no reply came, the sender says why.
-pub(crate) fn remote_fault_of(
-    stopped: Option<TransferFault>,
-    fault: SubmissionFault,
-) -> RemoteFault
+pub(crate) fn remote_fault_of(stopped: Option<TransferFault>, fault: SubmissionFault) -> RemoteFault
     ensures { result ≡ remote_fault_of stopped fault }
 {
     match (stopped, fault) {

@@ -7,10 +7,6 @@ use Rattle.droid_tree_remote.proofs.Handing.{on_err}
 use Rattle.droid_tree_remote.proofs.Parts.{asks_fails, asks_none}
 use Rattle.droid_tree_remote.proofs.remote_export.ask_reply.Goals as goal
 
-pub returns-in-Some-clause-missed : goal.returns-in-Some-clause-missed
-returns-in-Some-clause-missed g c = λ none known facts stands.
-    asks_none c.args.sender.now.client c.args.sender.now.name c.args.profile g.C.Connection.does known facts c.args.sender.now.in_flight none stands
-
 pub returns-in_err-frame-clause-missed : goal.returns-in_err-frame-clause-missed
 returns-in_err-frame-clause-missed g c = on_err c.from_residual.result _ (λ none known facts stands.
     asks_none c.args.sender.now.client c.args.sender.now.name c.args.profile g.C.Connection.does known facts c.args.sender.now.in_flight none stands)

@@ -1,7 +1,7 @@
 use Rattle.std.proofs.Common.{◌≡◌}
 use Rattle.droid_tree_connection.specs.Calls.{Wherever}
 use Rattle.droid_tree_remote.specs.Probes.{Refuses}
-use Rattle.droid_tree_remote.proofs.begun_options.options_of.Given as goal
+use Rattle.droid_tree_remote.proofs.begun_options.try_pairs.Given as goal
 
 abbrev pub invariant-loop-turn : goal.invariant-loop-turn
 invariant-loop-turn g l = record {

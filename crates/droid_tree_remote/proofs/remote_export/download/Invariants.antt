@@ -1,7 +1,7 @@
 use Rattle.std.proofs.Common.{◌≡◌, []}
 use Rattle.droid_tree_connection.specs.Calls.{Wherever}
 use Rattle.droid_tree_remote.specs.Exports.{ExportsFront}
-use Rattle.droid_tree_remote.proofs.remote_export.export.Given as goal
+use Rattle.droid_tree_remote.proofs.remote_export.download.Given as goal
 
 abbrev pub invariant-loop : goal.invariant-loop
 invariant-loop g l = record {
