@@ -1,3 +1,3 @@
 mod Names
-mod Numbers
+pub mod Numbers
 mod Reading

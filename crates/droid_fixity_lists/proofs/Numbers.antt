@@ -1,12 +1,14 @@
--- What `parse` gives for decimal digits is the number that they stand for.
-use Rattle.std.proofs.Common.{◌≡◌, ℕ, zero, suc, ◌^◌, ◌<◌, ◌&&◌, Bool, true, false, cond, List, [], ◌∷◌, get_or, length, ltb, Some, None, Result, Ok, Err, refl, sym, arith, rules}
+-- What `parse` gives for decimal digits is the number that they stand for, and the text of a number is read as it.
+use Rattle.std.proofs.Common.{◌≡◌, ◌∙◌, ℕ, zero, suc, ◌^◌, ◌<◌, ◌&&◌, Bool, true, false, cond, List, [], ◌∷◌, get_or, length, ltb, Some, None, Result, Ok, Err, refl, sym, ap, arith, rules}
 use Rattle.std.specs.Char.{is_ascii_digit}
 use Rattle.std.specs.List.{list_all}
+use Rattle.std.specs.Fmt.{decimal}
 use Rattle.std.specs.Result.{OkIff, result_ok}
 use Rattle.std.specs.Str.{IsAscii, IsUtf8}
 use Rattle.std.specs.Str.Parse.{ParsesUnsigned, digits_value}
 use Rattle.std.proofs.lemmas.Bool.{lt-ltb, ltb-true}
 use Rattle.std.proofs.lemmas.Bool.Decides.{nat_tests}
+use Rattle.std.proofs.lemmas.Fmt.{decimal_is_IsNumeral, digits_decimal, digits_value-decimal}
 use Rattle.std.proofs.lemmas.Str.{IsUtf8-from_ascii}
 use Rattle.std.proofs.lemmas.Str.Parse.{IsDigitsTest, IsNumeralModel, numerals_by_value, parse_digits}
 use Rattle.droid_fixity_lists.specs.Fields.{number_of}
@@ -62,3 +64,14 @@ digits_ascii (b ∷ text) all = λ i.
 
 pub digits_utf8 : (text : List ℕ) → list_all is_ascii_digit text ≡ true → IsUtf8 text
 digits_utf8 text all = IsUtf8-from_ascii text (digits_ascii text all)
+
+-- ---- the text of a number is read as the number
+
+pub decimal_read : (n : ℕ) → n < 2 ^ 64 → number_of (decimal n) ≡ Some n
+decimal_read n below =
+    let all = digits_decimal digits n below in
+    let value = digits_value-decimal digits n below in
+    let some = (decimal_is_IsNumeral n below).0.0 in
+    three_true (list_all is_ascii_digit (decimal n)) (ltb 0 (length (decimal n))) (ltb (digits_value 10 (decimal n)) (2 ^ 64)) (digits_value 10 (decimal n))
+    all (lt-ltb 0 (length (decimal n)) some) (lt-ltb (digits_value 10 (decimal n)) (2 ^ 64) (rw value below))
+    ∙ ap Some value

@@ -1,6 +1,8 @@
 -- For proofs: what the calls that read a profile promise, in the code's own types.
 use Rattle.std.specs.Prelude.{◌≡◌, ◌≢◌, List, Vec, Result, Ok, Err, ⊤}
+use Rattle.std.specs.Option.{option_map}
 use Rattle.std.specs.declared.alloc.Global.{Global}
+use Rattle.csv.specs.Records.{fields_of}
 use Rattle.csv.specs.declared.error.ErrorKind.{ErrorKind}
 use Rattle.csv.specs.declared.error.ErrorKind.TheVariants as csv
 use Rattle.droid_fixity.specs.declared.item.Item.{Item}
@@ -11,7 +13,7 @@ use Rattle.droid_fixity_lists.specs.declared.fault.ListFault.TheVariants as faul
 
 -- the contents of the code's draft
 abbrev pub draft_of : inside.Draft → Draft
-draft_of draft = record { digest = draft.digest; records = draft.records; items = draft.items.items }
+draft_of draft = record { digest = draft.digest; records = draft.records; items = draft.items.items; last = option_map fields_of draft.last }
 
 -- a call gave what was expected, unless memory ran out
 abbrev pub Gives : Result (Vec Item Global) ListFault → Result (List Item) ListFault → Type 0

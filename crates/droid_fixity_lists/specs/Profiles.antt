@@ -1,12 +1,11 @@
 -- Which items the records of a profile's CSV are (docs/CSV.md).
-use Rattle.std.specs.Prelude.{ℕ, ◌+◌, ◌-◌, ◌==◌, ◌&&◌, not, Bool, false, List, [], ◌∷◌, ◌++◌, length, Option, Some, None, Result, Ok, Err, codes, slice_get, if◌then◌else◌}
-use Rattle.std.specs.List.{flat_map}
-use Rattle.std.specs.Option.{option_map_or, unwrap_or}
+use Rattle.std.specs.Prelude.{ℕ, ◌+◌, ◌==◌, ◌&&◌, Bool, false, List, [], ◌∷◌, ◌++◌, length, Option, Some, None, Result, Ok, Err, codes, if◌then◌else◌}
+use Rattle.std.specs.List.{flat_map, list_all}
+use Rattle.std.specs.Option.{unwrap_or}
 use Rattle.std.specs.Str.{bytes_eq}
 use Rattle.csv.specs.Records.{field_at}
 use Rattle.droid_frame.specs.types.hash_kind.HashKind.{HashKind}
 use Rattle.droid_frame.specs.types.hash_kind.HashKind.TheVariants.{Nothing, Md5, Sha256}
-use Rattle.droid_fixity.specs.Items.{changes_between, is_any, other_moment}
 use Rattle.droid_fixity.specs.declared.item.Item.{Item}
 use Rattle.droid_fixity_lists.specs.Fields.{hash_of, is_path, kind_of, length_of, moment_of}
 use Rattle.droid_fixity_lists.specs.declared.fault.ListFault.{ListFault}
@@ -66,36 +65,48 @@ item_of digest row = if is_whole row then item_by (field_or row 3) (parts_of dig
 
 -- ---- records
 
--- Whether an item repeats another: it has its path, and nothing differs. A file with several formats has a row for each.
-abbrev pub repeats : Item → Item → Bool
-repeats last item = bytes_eq last.path item.path && not (is_any (changes_between last item)) && not (other_moment last.modified item.modified)
+-- the columns that all rows of a file share: all but PUID, MIME_TYPE, FORMAT_NAME and FORMAT_VERSION, which come last
+abbrev pub shared_columns : List ℕ
+shared_columns = 0 ∷ 1 ∷ 2 ∷ 3 ∷ 4 ∷ 5 ∷ 6 ∷ 7 ∷ 8 ∷ 9 ∷ 10 ∷ 11 ∷ 12 ∷ 13 ∷ []
 
--- whether an item repeats the last of these
-abbrev pub repeats_last : List Item → Item → Bool
-repeats_last items item = option_map_or (λ last. repeats last item) (slice_get items (length items - 1)) false
+-- whether two rows have the same bytes in a column
+abbrev pub same_column : List (List ℕ) → List (List ℕ) → ℕ → Bool
+same_column last row column = bytes_eq (field_or last column) (field_or row column)
 
--- the items with one more, which is taken once
-abbrev pub with_item : List Item → Item → List Item
-with_item items item = if repeats_last items item then items else items ++ item ∷ []
+-- whether two rows have the same bytes in each column that all rows of a file share
+abbrev pub are_same : List (List ℕ) → List (List ℕ) → Bool
+are_same last row = list_all (same_column last row) shared_columns
 
--- what was read so far: the kind of hash that the header says, if there was one, the number of records, and the items
+-- Whether a row repeats the row before it, if there was one. A file with several formats has a row for each.
+abbrev pub repeats : Option (List (List ℕ)) → List (List ℕ) → Bool
+repeats None row = false
+repeats (Some last) row = are_same last row
+
+-- the items with one more, unless its row repeats the row before it
+abbrev pub with_item : List Item → Item → Bool → List Item
+with_item items item repeated = if repeated then items else items ++ item ∷ []
+
+-- what was read so far: the kind of hash that the header says, if there was one, the number of records, the items, and
+-- the last row, if there was one
 pub record Draft : Type 0 where
   pub digest : Option HashKind
   pub records : ℕ
   pub items : List Item
+  pub last : Option (List (List ℕ))
 
 -- the draft after the header, and after a row
 abbrev pub with_header : Option HashKind → Result Draft ListFault
 with_header None = Err faults.Header
-with_header (Some digest) = Ok (record { digest = Some digest; records = 1; items = [] })
+with_header (Some digest) = Ok (record { digest = Some digest; records = 1; items = []; last = None })
 
-abbrev pub with_row : Draft → Option Item → Result Draft ListFault
-with_row draft None = Err (faults.Record (draft.records + 1))
-with_row draft (Some item) = Ok (record { digest = draft.digest; records = draft.records + 1; items = with_item draft.items item })
+abbrev pub with_row : Draft → List (List ℕ) → Option Item → Result Draft ListFault
+with_row draft row None = Err (faults.Record (draft.records + 1))
+with_row draft row (Some item) =
+    Ok (record { digest = draft.digest; records = draft.records + 1; items = with_item draft.items item (repeats draft.last row); last = Some row })
 
 abbrev pub taken_by : Draft → Option HashKind → List (List ℕ) → Result Draft ListFault
 taken_by draft None fields = with_header (digest_of_header fields)
-taken_by draft (Some digest) fields = with_row draft (item_of digest fields)
+taken_by draft (Some digest) fields = with_row draft fields (item_of digest fields)
 
 -- the draft after one more record
 abbrev pub taken : Draft → List (List ℕ) → Result Draft ListFault
@@ -116,7 +127,7 @@ items_from draft [] = finished draft.digest draft.items
 items_from draft (fields ∷ records) = after (taken draft fields) (λ next. items_from next records)
 
 abbrev pub nothing_read : Draft
-nothing_read = record { digest = None; records = 0; items = [] }
+nothing_read = record { digest = None; records = 0; items = []; last = None }
 
 -- the items of a profile's records, or the first fault
 abbrev pub profile_of : List (List (List ℕ)) → Result (List Item) ListFault

@@ -1,12 +1,13 @@
 //! A list that is being read.
 
 ghost use Rattle.std.specs.Prelude.{◌≡◌, OnOk};
+ghost use Rattle.std.specs.Option.{option_copied, option_map};
 ghost use Rattle.csv.specs.Records.{fields_of};
 ghost use Rattle.droid_fixity_lists.specs.Profiles as profiles;
 
 use crate::fault::ListFault;
 use crate::header::digest_of_header;
-use crate::row::item_of;
+use crate::row::{field, item_of};
 use csv::ByteRecord;
 use droid_fixity::Item;
 use droid_frame::HashKind;
@@ -18,6 +19,7 @@ pub(crate) struct Draft {
     digest: Option<HashKind>,
     records: u64,
     items: Vec<Item>,
+    last: Option<ByteRecord>,
 }
 
 impl Draft {
@@ -32,16 +34,17 @@ impl Draft {
             digest: None,
             records: 0,
             items: Vec::new(alloc),
+            last: None,
         }
     }
 
     /// Adds a record: the header first, then the rows.
-    pub(crate) fn take(&mut self, alloc: Global, row: &ByteRecord) -> Result<(), ListFault>
-        ensures { Leaves result (draft_of self.new) (taken (draft_of self.old) (fields_of row.now)) }
+    pub(crate) fn take(&mut self, alloc: Global, row: ByteRecord) -> Result<(), ListFault>
+        ensures { Leaves result (draft_of self.new) (taken (draft_of self.old) (fields_of row)) }
     {
         match self.digest {
             Some(digest) => self.take_row(alloc, digest, row),
-            None => self.take_header(alloc, row),
+            None => self.take_header(alloc, &row),
         }
     }
 
@@ -53,6 +56,7 @@ impl Draft {
                 self.digest = Some(digest);
                 self.records = 1;
                 self.items = Vec::new(alloc);
+                self.last = None;
                 Ok(())
             }
             None => Err(ListFault::Header),
@@ -63,18 +67,20 @@ impl Draft {
         &mut self,
         alloc: Global,
         digest: HashKind,
-        row: &ByteRecord,
+        row: ByteRecord,
     ) -> Result<(), ListFault>
-        ensures { Leaves result (draft_of self.new) (profiles.with_row (draft_of self.old) (profiles.item_of digest (fields_of row.now))) }
+        ensures { Leaves result (draft_of self.new) (profiles.with_row (draft_of self.old) (fields_of row) (profiles.item_of digest (fields_of row))) }
     {
         // No memory holds that many records.
         let Some(record) = self.records.checked_add(1) else {
             return Err(ListFault::Memory);
         };
-        match item_of(alloc, digest, row)? {
+        match item_of(alloc, digest, &row)? {
             Some(item) => {
-                note_item(&mut self.items, item)?;
+                let repeated = repeats(self.last.as_ref(), &row);
+                note_item(&mut self.items, item, repeated)?;
                 self.records = record;
+                self.last = Some(row);
                 Ok(())
             }
             None => Err(ListFault::Record { record }),
@@ -93,32 +99,42 @@ impl Draft {
     }
 }
 
-/// Adds an item, unless it repeats the last.
-fn note_item(items: &mut Vec<Item>, item: Item) -> Result<(), AllocError>
-    ensures { OnOk result (items.new.items ≡ profiles.with_item items.old.items item) }
+/// Adds an item, unless its row repeats the row before it.
+fn note_item(items: &mut Vec<Item>, item: Item, repeated: bool) -> Result<(), AllocError>
+    ensures { OnOk result (items.new.items ≡ profiles.with_item items.old.items item repeated) }
 {
-    if repeats_last(items.as_slice(), &item) {
+    if repeated {
         return Ok(());
     }
     items.push(item)?;
     Ok(())
 }
 
-/// Returns whether an item repeats the last of these.
-fn repeats_last(items: &[Item], item: &Item) -> bool
-    ensures { result ≡ profiles.repeats_last items.now item.now }
+/// The columns that all rows of a file share: all but PUID, MIME_TYPE, FORMAT_NAME and FORMAT_VERSION, which come last.
+const SHARED_COLUMNS: [usize; 14] = [0, 1, 2, 3, 4, 5, 6, 7, 8, 9, 10, 11, 12, 13];
+
+/// Returns whether a row repeats the row before it, if there was one.
+fn repeats(last: Option<&ByteRecord>, row: &ByteRecord) -> bool
+    ensures { result ≡ profiles.repeats (option_map fields_of (option_copied last.entry)) (fields_of row.now) }
 {
-    match items.get(items.len().saturating_sub(1)) {
-        Some(last) => repeats(last, item),
+    match last {
+        Some(last) => are_same(last, row),
         None => false,
     }
 }
 
-/// Returns whether an item has the path of another, and nothing differs.
-fn repeats(last: &Item, item: &Item) -> bool
-    ensures { result ≡ profiles.repeats last.now item.now }
+/// Returns whether two rows have the same bytes in each column that all rows of a file share.
+fn are_same(last: &ByteRecord, row: &ByteRecord) -> bool
+    ensures { result ≡ profiles.are_same (fields_of last.now) (fields_of row.now) }
 {
-    last.path.as_slice() == item.path.as_slice()
-        && !last.changes_to(item).is_any()
-        && !last.has_other_moment(item)
+    SHARED_COLUMNS
+        .iter()
+        .all(|column| has_same(last, row, *column))
+}
+
+/// Returns whether two rows have the same bytes in a column.
+fn has_same(last: &ByteRecord, row: &ByteRecord, column: usize) -> bool
+    ensures { result ≡ profiles.same_column (fields_of last.now) (fields_of row.now) column }
+{
+    field(last, column) == field(row, column)
 }

@@ -15,8 +15,8 @@ use std::alloc::Global;
 
 /// Reads the CSV of a profile or of an export, with any of the three hash columns. docs/CSV.md describes it.
 ///
-/// A row that repeats the row before it, but for the columns on formats, is taken once. An error names the first
-/// malformed record. A field of a hash may be empty.
+/// A row whose columns are the same as those of the row before it, but for the last four, the format's, adds no item. An
+/// error names the first malformed record. A field of a hash may be empty.
 pub fn read_profile(alloc: Global, text: &[u8]) -> Result<Vec<Item>, ListFault>
     // The result is that of the records that `csv` reads, unless memory runs out.
     ensures { (records : List (List (List ℕ))) → AreRecords default_config st.StartRecord (strip_bom text.now) records → Gives result (profile_of records) }
@@ -31,7 +31,7 @@ pub fn read_profile(alloc: Global, text: &[u8]) -> Result<Vec<Item>, ListFault>
         match row {
             Err(error) => return Err(csv_fault(error)),
             Ok(row) => {
-                if let Err(fault) = draft.take(alloc, &row) {
+                if let Err(fault) = draft.take(alloc, row) {
                     return Err(fault);
                 }
             }

@@ -6,6 +6,14 @@ mod cases;
 #[cfg(test)]
 mod chance;
 #[cfg(test)]
+mod comparisons;
+#[cfg(test)]
+mod memory;
+#[cfg(test)]
+mod nodes;
+#[cfg(test)]
+mod page;
+#[cfg(test)]
 mod profiles;
 #[cfg(test)]
 mod reports;

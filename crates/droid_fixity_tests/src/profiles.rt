@@ -6,12 +6,13 @@ use droid_frame::NodeKind;
 use std::alloc::Global;
 use std::test::Fail;
 
-const NAMES: &str =
+/// The names of the columns of a profile with MD5 hashes.
+pub(crate) const NAMES: &str =
     "ID,PARENT_ID,URI,FILE_PATH,NAME,METHOD,STATUS,SIZE,TYPE,EXT,LAST_MODIFIED,EXTENSION_MISMATCH,MD5_HASH,FORMAT_COUNT,PUID,MIME_TYPE,FORMAT_NAME,FORMAT_VERSION\n";
 
 /// The rows after the names of the columns, and what is read: for each item its path, `d` or `f`, the length, the last
 /// digit of the moment and the last byte of the hash, or the fault.
-const ROWS: [(&str, &str); 24] = [
+const ROWS: [(&str, &str); 30] = [
     ("", ""),
     (
         "1,,file:/d/,/d,d,,Done,,Folder,,2026-01-31T23:59:59,false,,,,,,\n",
@@ -31,10 +32,40 @@ const ROWS: [(&str, &str); 24] = [
         "1,,u,/a,a,,Done,5,File,,2026-01-31T23:59:51,false,,2,fmt/1,,,\n1,,u,/a,a,,Done,5,File,,2026-01-31T23:59:51,false,,2,fmt/2,,,\n2,,u,/b,b,,Done,6,File,,2026-01-31T23:59:52,false,,0,,,,\n",
         "/a f 5 1 -;/b f 6 2 -;",
     ),
+    // three formats, of which all columns differ
+    (
+        "1,,u,/a,a,Signature,Done,5,File,,2026-01-31T23:59:51,false,,3,fmt/1,m/a,A,1\n1,,u,/a,a,Signature,Done,5,File,,2026-01-31T23:59:51,false,,3,fmt/2,m/b,B,2\n1,,u,/a,a,Signature,Done,5,File,,2026-01-31T23:59:51,false,,3,,,,\n",
+        "/a f 5 1 -;",
+    ),
+    // a row that repeats a row, but not the row before it
+    (
+        "1,,u,/a,a,,Done,5,File,,,false,,0,,,,\n2,,u,/b,b,,Done,5,File,,,false,,0,,,,\n1,,u,/a,a,,Done,5,File,,,false,,0,,,,\n",
+        "/a f 5 - -;/b f 5 - -;/a f 5 - -;",
+    ),
     // one path with two lengths: both are kept, and no inventory takes them
     (
         "1,,u,/a,a,,Done,5,File,,2026-01-31T23:59:51,false,,0,,,,\n1,,u,/a,a,,Done,6,File,,2026-01-31T23:59:51,false,,0,,,,\n",
         "/a f 5 1 -;/a f 6 1 -;",
+    ),
+    // one path with a hash and without
+    (
+        "1,,u,/a,a,,Done,5,File,,2026-01-31T23:59:51,false,000102030405060708090a0b0c0d0e0f,0,,,,\n1,,u,/a,a,,Done,5,File,,2026-01-31T23:59:51,false,,0,,,,\n",
+        "/a f 5 1 15;/a f 5 1 -;",
+    ),
+    // one path with a moment and without
+    (
+        "1,,u,/a,a,,Done,5,File,,,false,,0,,,,\n1,,u,/a,a,,Done,5,File,,2026-01-31T23:59:51,false,,0,,,,\n",
+        "/a f 5 - -;/a f 5 1 -;",
+    ),
+    // one path with two IDs, and with two counts of formats
+    (
+        "1,,u,/a,a,,Done,5,File,,,false,,0,,,,\n2,,u,/a,a,,Done,5,File,,,false,,0,,,,\n2,,u,/a,a,,Done,5,File,,,false,,1,,,,\n",
+        "/a f 5 - -;/a f 5 - -;/a f 5 - -;",
+    ),
+    // the same hash with digits of another case
+    (
+        "1,,u,/a,a,,Done,5,File,,,false,000102030405060708090a0b0c0d0e0f,0,,,,\n1,,u,/a,a,,Done,5,File,,,false,000102030405060708090A0B0C0D0E0F,0,,,,\n",
+        "/a f 5 - 15;/a f 5 - 15;",
     ),
     // a name with a line feed, a quote and a comma; line ends of two bytes
     (

@@ -33,7 +33,7 @@ fn moment(digit: u8) -> Option<[u8; 19]> {
     Some(text)
 }
 
-fn kind_of(is_file: bool) -> NodeKind {
+pub(crate) fn kind_of(is_file: bool) -> NodeKind {
     if is_file {
         NodeKind::File
     } else {
@@ -84,10 +84,24 @@ pub(crate) fn report(alloc: Global, rows: &[Row], case: u8) -> Result<String, Fa
         Err(twice) => return twice_text(alloc, twice.path.as_slice()),
     };
     let report = compare(alloc, &listed, &found)?;
+    lines(
+        alloc,
+        listed.as_slice(),
+        found.as_slice(),
+        report.as_slice(),
+    )
+}
+
+/// Returns a report as lines of text.
+pub(crate) fn lines(
+    alloc: Global,
+    listed: &[Item],
+    found: &[Item],
+    report: &[Difference],
+) -> Result<String, Fail> {
     let mut text = String::new(alloc);
-    let report = report.as_slice();
     for difference in report {
-        let line = line(alloc, listed.as_slice(), found.as_slice(), *difference)?;
+        let line = line(alloc, listed, found, *difference)?;
         text.push_str(line.as_str())?;
     }
     Ok(text)

@@ -3,3 +3,5 @@
 
 #[cfg(test)]
 mod numbers;
+#[cfg(test)]
+mod page;

@@ -1,0 +1,5 @@
+mod EmptyReports
+mod ExportedItems
+mod MomentLengths
+mod PassedFaults
+mod SameInventories

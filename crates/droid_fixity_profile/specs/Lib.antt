@@ -1,0 +1,4 @@
+pub mod Agreement
+pub mod Comparisons
+pub mod Exports
+pub mod Nodes
