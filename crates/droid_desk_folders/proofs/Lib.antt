@@ -1,0 +1,4 @@
+pub mod Exporting
+pub mod Keeping
+pub mod Prefixes
+pub mod SkippedPaths
