@@ -1,10 +1,11 @@
 -- An export that is begun again until all its parts come.
-use Rattle.std.proofs.Common.{◌≡◌, ℕ, List, [], Some}
+use Rattle.std.proofs.Common.{◌≡◌, ℕ, List, [], Some, ap, subst}
 use Rattle.droid_tree_connection.specs.Events.{Event, Fact, facts_after}
 use Rattle.droid_tree_connection.specs.Stages.{StandsOn}
 use Rattle.droid_tree_connection.specs.declared.in_flight.InFlight.{InFlight}
 use Rattle.droid_tree_connection.specs.declared.known_requests.KnownRequests.{KnownRequests}
 use Rattle.droid_tree_remote.specs.Exports.{Exports, OnlyAsks}
+use Rattle.droid_tree_remote.specs.declared.sender.Sender.{Sender}
 use Rattle.droid_desk_folders.specs.ProfileComparisons.{Again, AsksParts, AtOnce, BeganBefore, More, NoMore, ReadsExport}
 
 module _ {C : Type 0} (does : C → Event → C → Type 0) (client : ℕ) (name : List ℕ) (profile : ℕ) (known : KnownRequests) (facts : List Fact) (old : InFlight C) where
@@ -31,3 +32,11 @@ module _ {C : Type 0} (does : C → Event → C → Type 0) (client : ℕ) (name
 
   pub none_asked : (now : InFlight C) → BeganBefore does client name profile known facts old now → AsksParts does client name profile known facts old now
   none_asked now before = before.asks_on now NoMore
+
+-- a sender of one client and name asks the same
+module _ {C : Type 0} (one other : Sender C) (same : one ≡ record other { in_flight = one.in_flight }) where
+  pub on_client : (P : ℕ → List ℕ → Type 0) → P one.client one.name → P other.client other.name
+  on_client P holds =
+      let client : one.client ≡ other.client = ap (λ (s : Sender C). s.client) same in
+      let name : one.name ≡ other.name = ap (λ (s : Sender C). s.name) same in
+      subst (λ (n : List ℕ). P other.client n) name (subst (λ (k : ℕ). P k one.name) client holds)

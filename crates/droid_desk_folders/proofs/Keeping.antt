@@ -1,5 +1,5 @@
 -- A recorder keeps exactly what was skipped, in order.
-use Rattle.std.proofs.Common.{◌≡◌, ◌∙◌, ◌×◌, Bool, true, List, [], ◌∷◌, ◌++◌, ap, sym, refl, append-nil, append-assoc}
+use Rattle.std.proofs.Common.{◌≡◌, ◌∙◌, true, List, [], ◌∷◌, ◌++◌, ap, sym, append-nil, append_assoc}
 use Rattle.std.specs.List.{flat_map}
 use Rattle.droid_tree.specs.Heard.{Heard}
 use Rattle.droid_tree.specs.Observation.{GoesOver, Observation}
@@ -31,4 +31,4 @@ module _ {T C W : Type 0} (observes : T → Observation → T → Type 0) (calls
   all_kept (deed ∷ deeds) old new goes all =
       let rest = all_kept deeds goes.0 new goes.2 all in
       let first = one_deed deed old goes.0 goes.1 rest.0 in
-      (first.0, rest.1 ∙ (ap (λ (front : List _). front ++ flat_map skipped_by deeds) first.1 ∙ append-assoc old.watcher.skipped.items (skipped_by deed) (flat_map skipped_by deeds)))
+      (first.0, rest.1 ∙ (ap (λ (front : List _). front ++ flat_map skipped_by deeds) first.1 ∙ append_assoc old.watcher.skipped.items (skipped_by deed) (flat_map skipped_by deeds)))

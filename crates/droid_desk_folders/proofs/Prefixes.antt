@@ -1,5 +1,5 @@
 -- Paths that begin with a folder.
-use Rattle.std.proofs.Common.{◌≡◌, ◌∙◌, ◌×◌, ◌⊎◌, ◌+◌, ◌++◌, ℕ, Bool, true, false, List, [], ◌∷◌, length, take, drop, Option, Some, None, IsTrue, nat_eq, append-nil, refl, sym, ap, subst, inl, inr}
+use Rattle.std.proofs.Common.{◌≡◌, ◌∙◌, ◌⊎◌, ◌++◌, ℕ, true, false, List, [], ◌∷◌, length, take, drop, Some, None, append-nil, refl, sym, ap, inl, inr}
 use Rattle.std.specs.List.{slice_get}
 use Rattle.std.specs.Str.{bytes_eq}
 use Rattle.std.proofs.Math.Seq.{take-append_seam, drop-append_seam, take-length}
@@ -25,9 +25,9 @@ whole path folder rest front is =
 
 -- no front
 pub not_in : (path folder : List ℕ) → bytes_eq (take (length folder) path) folder ≡ false → IsAtOrBelow path folder → ⊥
-not_in path folder no within =
+not_in path folder differs within =
     let is : bytes_eq (take (length folder) path) folder ≡ true = (bytes_eq-Decides (take (length folder) path) folder).1 (fronts path folder within) in
-    let bad : true ≡ false = sym is ∙ no in
+    let bad : true ≡ false = sym is ∙ differs in
     cc
 
 -- nothing follows

@@ -1,5 +1,5 @@
 -- Which paths a map holds, and whether it holds a path or a folder above it.
-use Rattle.std.proofs.Common.{◌≡◌, ◌∙◌, ◌<◌, ◌≤◌, ◌==◌, ◌&&◌, ◌||◌, ℕ, zero, suc, Bool, true, false, List, Option, Some, cond, get_or, length, take, refl, sym, ap, subst, arith}
+use Rattle.std.proofs.Common.{◌≡◌, ◌∙◌, ◌+◌, ◌<◌, ◌==◌, ◌&&◌, ◌||◌, ℕ, zero, suc, Bool, true, false, List, Option, Some, cond, length, take, refl, sym, ap, subst, arith}
 use Rattle.std.specs.Option.{is_some}
 use Rattle.std.proofs.Math.Bool.{or-true, or-false}
 use Rattle.std.proofs.Math.Seq.{take-length}
@@ -28,6 +28,9 @@ some_at test (suc n) k less passes = some_case test n k (k == n) refl less passe
 
 pub none_more : (test : ℕ → Bool) (n : ℕ) → some_below test n ≡ false → test n ≡ false → some_below test (suc n) ≡ false
 none_more test n none not = ap (λ (b : Bool). b || some_below test n) not ∙ none
+
+pub none_next : (test : ℕ → Bool) (n : ℕ) → some_below test n ≡ false → test n ≡ false → some_below test (n + 1) ≡ false
+none_next test n none not = let e : n + 1 ≡ suc n = omega arith in rw e (none_more test n none not)
 
 -- the whole path is one of its fronts
 whole_front : (held : List ℕ → Bool) (path : List ℕ) → holds_front held path (length path) ≡ held path

@@ -1,6 +1,5 @@
 -- Which options a submission was begun with, if they are others than those given now (this project's own).
-use Rattle.std.specs.Prelude.{ℕ, Bool, true, false, not, ◌&&◌, ◌||◌, List, ◌++◌, Option, Some, None, codes, if◌then◌else◌}
-use Rattle.droid_frame.specs.Hashes.{hash_kind_number}
+use Rattle.std.specs.Prelude.{ℕ, Bool, true, false, not, List, ◌++◌, Option, Some, None, codes}
 use Rattle.droid_frame.specs.types.hash_kind.HashKind.{HashKind}
 use Rattle.droid_frame.specs.types.hash_kind.HashKind.TheVariants as hashes
 use Rattle.droid_tree_submission.specs.declared.tree_submission.Options.{Options}

@@ -1,7 +1,5 @@
 -- The folders and files of a submission, as items that are compared with the profile (this project's own).
-use Rattle.std.specs.Prelude.{◌≡◌, ℕ, List, Result, Ok, Err, map, ⊤}
-use Rattle.std.specs.List.{AllByRecursion, Any}
-use Rattle.droid_export.specs.Moments.{IsMoment}
+use Rattle.std.specs.Prelude.{List, map}
 use Rattle.droid_fixity.specs.declared.item.Item.{Item}
 use Rattle.droid_fixity_profile.specs.Nodes.{item_of}
 use Rattle.droid_frame.specs.types.node_kind.NodeKind.{NodeKind}

@@ -1,6 +1,6 @@
 //! Compares the profile of a submission with what was submitted.
 
-ghost use Rattle.std.specs.Prelude.{◌≡◌, ℕ, List, [], Ok, Some, IfOk, IfSome, OnErr};
+ghost use Rattle.std.specs.Prelude.{◌≡◌, ℕ, List, [], Ok, Some, IfOk, IfSome};
 ghost use Rattle.csv.specs.Reading.{AreRecords, default_config, strip_bom};
 ghost use Rattle.csv.specs.declared.parser.State.TheVariants as st;
 ghost use Rattle.droid_fixity_lists.specs.Profiles.{profile_of};
@@ -56,8 +56,8 @@ pub(crate) fn read_export<C: Connection>(
 ) -> Result<Vec<u8>, ComparisonFault>
     ensures reads { IfOk result (λ csv. sender.old.in_flight.waiting.items ≡ [] → Wherever sender.old.in_flight (λ known facts.
         ReadsExport C.does sender.old.client sender.old.name profile known facts sender.old.in_flight sender.new.in_flight csv.items)) }
-    ensures asks { OnErr result (sender.old.in_flight.waiting.items ≡ [] → Wherever sender.old.in_flight (λ known facts.
-        AsksParts C.does sender.old.client sender.old.name profile known facts sender.old.in_flight sender.new.in_flight)) }
+    ensures asks { sender.old.in_flight.waiting.items ≡ [] → Wherever sender.old.in_flight (λ known facts.
+        AsksParts C.does sender.old.client sender.old.name profile known facts sender.old.in_flight sender.new.in_flight) }
     ensures same { sender.new ≡ record sender.old { in_flight = sender.new.in_flight } }
 {
     for _ in 0..BEGINNINGS {

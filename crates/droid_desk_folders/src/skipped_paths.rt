@@ -33,6 +33,7 @@ fn add_path<'a>(paths: &mut SkippedPaths<'a>, entry: &'a SkippedEntry) -> Result
 }
 
 /// Returns whether a path is among these, or a folder above it.
+#[tactic(auto, using(crate::proofs::SkippedPaths::none_next))]
 pub(crate) fn holds_above(paths: &SkippedPaths<'_>, path: &[u8]) -> bool
     ensures { result ≡ holds_above (is_held paths.now) path.now }
 {

@@ -1,4 +1,4 @@
-use Rattle.std.proofs.Common.{◌≡◌, ◌∙◌, ℕ, true, false, nat_eq, refl, ap}
+use Rattle.std.proofs.Common.{◌≡◌, ℕ, true, false, nat_eq, refl, ap}
 use Rattle.std.proofs.lemmas.Bool.{eqb-true}
 use Rattle.droid_desk_folders.proofs.Prefixes.{at_folder, below_folder, not_in, slash_follows}
 use Rattle.droid_desk_folders.proofs.places.is_at_or_below.Goals as goal

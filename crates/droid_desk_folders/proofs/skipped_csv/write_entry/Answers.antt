@@ -1,4 +1,3 @@
-use Rattle.std.proofs.Common.{◌≡◌}
 use Rattle.droid_desk_folders.proofs.skipped_csv.write_entry.Goals as goal
 
 pub returns : goal.returns

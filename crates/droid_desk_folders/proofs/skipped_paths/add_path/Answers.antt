@@ -1,4 +1,3 @@
-use Rattle.std.proofs.Common.{◌≡◌, List}
 use Rattle.std.specs.Str.{bytes_eq}
 use Rattle.std.proofs.lemmas.Map.Text.{btree_map_updates_str}
 use Rattle.droid_desk_folders.proofs.SkippedPaths.{held_more}
