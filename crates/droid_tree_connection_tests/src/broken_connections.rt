@@ -93,7 +93,9 @@ fn silent_service(rt: HostRuntime) -> Result<(), Fail> {
     assert!(rt; in_flight.waiting.is_empty());
     assert!(rt; in_flight.connection.pauses == 0);
     assert!(rt; in_flight.connection.starts == 1);
-    assert!(rt; in_flight.connection.log.as_slice() == [0, 1, 0, 1, 0, 1, 0, 1, 0, 1, 0, 1].as_slice());
+    assert!(rt;
+        in_flight.connection.log.as_slice() == [0, 1, 0, 1, 0, 1, 0, 1, 0, 1, 0, 1].as_slice()
+    );
     Ok(())
 }
 

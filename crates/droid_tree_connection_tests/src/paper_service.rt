@@ -1,6 +1,6 @@
 //! A service that only numbers what it is asked for, behind a connection that breaks.
 
-use droid_frame::{Blob, Frame, Refusal, Reply, reply_body};
+use droid_frame::{Blob, Frame, Reply};
 use droid_tree_connection::{Broken, Connection, InFlight, TransferFault};
 use std::alloc::{AllocError, Global};
 use std::collections::VecDeque;
@@ -91,46 +91,56 @@ impl PaperService {
         true
     }
 
-    /// Returns the reply to a request. A request that comes again gets the reply that it got before.
-    fn reply(&mut self, kind: u8, number: u64) -> Reply {
+    /// Returns the kind of the reply to a request, and its number. A request that comes again gets the reply that it
+    /// got before. The kinds are 129 for Made, 130 for Node, 131 for Taken, 133 for Abandoned and 136 for Refused, with
+    /// the reason 13 for BadPiece.
+    fn reply(&mut self, kind: u8, number: u64) -> (u8, u32) {
         if kind == 1 {
             if self.profile == 0 {
                 self.profiles = self.profiles.wrapping_add(1);
                 self.profile = self.profiles;
             }
-            return Reply::Made {
-                profile: self.profile,
-            };
+            return (129, self.profile);
         }
         if kind == 3 {
             if self.node == 0 {
                 self.nodes = self.nodes.wrapping_add(1);
                 self.node = self.nodes;
             }
-            return Reply::Node { id: self.node };
+            return (130, self.node);
         }
         if kind != 4 {
-            return Reply::Abandoned;
+            return (133, 0);
         }
         if number == self.refused {
-            return Reply::Refused(Refusal::BadPiece);
+            return (136, 13);
         }
-        Reply::Taken { held: 1 }
+        (131, 1)
     }
 
     /// Handles a request.
     fn handle(&mut self, frame: &Frame) -> Result<(), AllocError> {
-        let reply = self.reply(frame.kind, frame.number);
-        let body = reply_body(self.alloc, 2, &reply)?;
+        let (kind, value) = self.reply(frame.kind, frame.number);
+        let body = body_of(self.alloc, kind, value)?;
         self.log.push(frame.number)?;
         self.replies.push_back(Frame {
             version: 2,
-            kind: reply.kind(),
+            kind,
             client: frame.client,
             number: frame.number,
             body,
         })?;
         Ok(())
+    }
+}
+
+/// Returns the body of a reply: nothing for Abandoned, one byte for Refused, and four bytes for a number.
+fn body_of(alloc: Global, kind: u8, value: u32) -> Result<Blob, AllocError> {
+    let bytes = value.to_be_bytes();
+    match kind {
+        133 => Ok(Blob::from(Vec::new(alloc))),
+        136 => Blob::copy_of(alloc, &bytes[3..]),
+        _ => Blob::copy_of(alloc, &bytes),
     }
 }
 
@@ -205,7 +215,7 @@ pub fn sent(in_flight: &mut InFlight<PaperService>) -> Result<bool, TransferFaul
     in_flight.send(request(alloc, 4, 4))?;
     in_flight.send(request(alloc, 4, 5))?;
     let left = in_flight.ask(request(alloc, 6, 6))?;
-    let are_first =
-        matches!(&made, Reply::Made { profile: 1 }) && matches!(&node, Reply::Node { id: 1 });
+    let are_first = matches!(&made, Reply::Made { profile: 1 })
+        && matches!(&node, Reply::Node { id: 1 });
     Ok(are_first && matches!(&left, Reply::Abandoned))
 }
