@@ -1,4 +1,5 @@
 """The connection is cut, at random bytes and at each request. Every submission is completed, with the same text."""
+import itertools
 import unittest
 from concurrent.futures import ThreadPoolExecutor
 
@@ -9,10 +10,9 @@ from lib.trees import walk
 
 # so many services at a time, and so often each one's connections are cut at least
 SERVICES, CUTS = 5, 40
-# a piece and its reply have some 600 bytes
-MOST_FOR_PIECES = 3_000
-# the export has some 6,000 bytes, in one reply
-MOST_FOR_AN_EXPORT = 30_000
+# the first cuts of a submission come while pieces are sent: a piece and its reply have some 600 bytes, and all together
+# 25,000; the export has some 6,000 bytes, in one reply
+FIRST, MOST_FOR_PIECES, MOST_FOR_AN_EXPORT = 12, 3_000, 30_000
 
 
 class AtBytes(WithTree):
@@ -21,18 +21,20 @@ class AtBytes(WithTree):
         with ThreadPoolExecutor(SERVICES) as pool:
             self.assertGreaterEqual(sum(pool.map(self.cut_often, range(SERVICES))), SERVICES * CUTS)
 
-    def cut_often(self, seed):
+    def cut_often(self, number):
         """Submits to one service until its connections were cut often enough, and returns how often."""
         rows, _ = walk(self.top)
-        export = self.work + b"/%d.csv" % seed
+        export = self.work + b"/%d.csv" % number
         cut = client = 0
         with Serve.lasting() as service:
             while cut < CUTS:
                 client += 1
-                for most, words in ((MOST_FOR_PIECES, []), (MOST_FOR_AN_EXPORT, ["--export", export])):
-                    with Proxy(service.port, cuts_by(100 * seed + client, most)) as proxy:
-                        self.assertEqual(submit(self.top, proxy.port, client, *words), (0, b""), (seed, client))
-                    cut += proxy.count
+                seed = 100 * number + client
+                cuts = itertools.chain(itertools.islice(cuts_by(seed, MOST_FOR_PIECES), FIRST), cuts_by(seed, MOST_FOR_AN_EXPORT))
+                with Proxy(service.port, cuts) as proxy:
+                    self.assertEqual(submit(self.top, proxy.port, client, "--export", export), (0, b""), seed)
+                self.assertGreaterEqual(proxy.count, FIRST)
+                cut += proxy.count
                 with open(export, "rb") as text:
                     self.same(text.read(), rows)
         return cut
