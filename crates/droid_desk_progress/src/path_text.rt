@@ -80,7 +80,8 @@ pub fn cause(why: Skipped) -> &'static str
         Skipped::Refused(Refusal::TooLarge) => "it is too large",
         Skipped::Refused(Refusal::BadOption) => "its moment is out of range",
         Skipped::Refused(Refusal::LimitReached(_)) => "the profile has no place for more",
-        Skipped::Refused(Refusal::NameTaken | Refusal::NumberReused) => "changed since it was submitted",
+        Skipped::Refused(Refusal::NameTaken | Refusal::NumberReused) =>
+            "changed since it was submitted",
         Skipped::Refused(_) => "it was refused",
     }
 }
