@@ -86,8 +86,5 @@ fn with_slash(alloc: Global, path: &str) -> Option<Text> {
 
 /// Returns whether both are folders, and the same one.
 fn is_same_folder(first: &Metadata, second: &Metadata) -> bool {
-    first.is_dir()
-        && second.is_dir()
-        && first.dev() == second.dev()
-        && first.ino() == second.ino()
+    first.is_dir() && second.is_dir() && first.dev() == second.dev() && first.ino() == second.ino()
 }
