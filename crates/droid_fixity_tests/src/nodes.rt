@@ -85,8 +85,11 @@ fn text_of(alloc: Global, item: Option<Item>) -> Result<String, Fail> {
         None => format!(in alloc; "-")?,
     };
     let moment = match &item.modified {
-        Some(moment) => str::from_utf8(moment.as_slice())?,
-        None => "-",
+        Some(moment) => {
+            let text = str::from_utf8(moment.as_slice())?;
+            format!(in alloc; "{text}")?
+        }
+        None => format!(in alloc; "-")?,
     };
     let hash = match item.hash.as_slice().first() {
         Some(first) => format!(in alloc; "{first}")?,
