@@ -59,7 +59,7 @@ class Refused(WithSmallTree):
         return 5, b"left out: " + path + b": " + reason, b"left out in all: 1", b""
 
     def test_profile(self):
-        """(NumberReused is in submit_options)"""
+        """(submit_begun has more on NumberReused)"""
         self.each(
             lambda name: first_of(CREATE_PROFILE, refusal(name), 100),
             lambda name, err: self.fault_of("Options" if name == "NumberReused" else name, err),
