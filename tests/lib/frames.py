@@ -14,6 +14,14 @@ MADE, NODE, TAKEN, FINISHED, ABANDONED, PROGRESS, PART, REFUSED = range(129, 137
 # the numbers of hashes in frames
 NO_HASH, MD5, SHA256 = range(3)
 
+# the refusals (docs/SERVICE.md), numbered from 1; behind LimitReached stands the number of a limit
+REFUSALS = (
+    "Malformed NumberReused NoSuchProfile NoSuchNode NotAFolder NotAFile BadName PathTooLong NameTaken BadOption TooLarge "
+    "AlreadyFinished BadPiece PieceHeld TooFarAhead Incomplete LimitReached Memory Store"
+).split()
+CAUSES = {name: number for number, name in enumerate(REFUSALS, 1)}
+PROFILES, NODES, UNFINISHED = range(1, 4)
+
 SCAN_LIMIT = 65_536
 LARGEST_PART = MOST_PIECES = 1 << 20
 LARGEST_FILE = 1 << 40

@@ -60,21 +60,24 @@ pub record IsProfile (rows : List Row) (options : ProfileOptions) : Type 0 where
   pub output : option_map (λ path. path.now) options.output ≡ first_of (codes "output") rows
   pub quiet : IsFlag (one_of (codes "quiet") rows) options.quiet
 
--- where a submission goes
+-- where a submission goes, and how long it waits for the service
 pub record IsSentTo (rows : List Row) (to : Destination) : Type 0 where
   pub port : option_map number_of (one_of (codes "port") rows) ≡ Some to.port
   pub client : option_map number_of (one_of (codes "client") rows) ≡ Some to.client
-  pub first : IsNumberOr 64 1 (one_of (codes "first") rows) to.first
+  pub wait : IsNumberOr 32 60 (one_of (codes "wait") rows) to.wait
+  pub timeout : IsNumberOr 32 60 (one_of (codes "timeout") rows) to.timeout
 
 -- the options of `submit`
 pub record IsSubmit (rows : List Row) (options : SubmitOptions) : Type 0 where
   pub folder : Some options.folder.now ≡ first_of (codes "folder") rows
   pub destination : IsSentTo rows options.to
+  pub name : option_map (λ text. text.now) options.name ≡ first_of (codes "name") rows
   pub piece_size : IsNumberOr 32 262144 (one_of (codes "piece-size") rows) options.piece_size
   pub limit : IsNumberOr 32 65536 (one_of (codes "limit") rows) options.limit
   pub match_all : IsFlag (one_of (codes "match-all") rows) options.match_all
   pub hash : IsHash (first_of (codes "hash") rows) options.hash
   pub export : option_map (λ path. path.now) options.export ≡ first_of (codes "export") rows
+  pub skipped : option_map (λ path. path.now) options.skipped ≡ first_of (codes "skipped") rows
   pub quiet : IsFlag (one_of (codes "quiet") rows) options.quiet
 
 -- what the options of the command with this name ask for

@@ -2,7 +2,7 @@
 use Rattle.std.specs.Prelude.{ℕ, true, Some, codes}
 use Rattle.clap.specs.Words.{App, Rule, Text, new_app, new_rule, with_rule, with_subcommand}
 use Rattle.clap.specs.declared.builder.action.ArgAction.TheVariants.{Set, SetTrue}
-use Rattle.clap.specs.declared.builder.value_parser.ValueParser.TheVariants.{Unsigned}
+use Rattle.clap.specs.declared.builder.value_parser.ValueParser.TheVariants.{NonEmptyString, Unsigned}
 
 -- an option with one value: `--NAME VALUE`
 abbrev pub option_named : Text → Rule
@@ -51,14 +51,24 @@ hash_option = option_named (codes "hash")
 abbrev pub output_option : Rule
 output_option = option_named (codes "output")
 
-abbrev pub early_first_option : Rule
-early_first_option = number_named (codes "first") 0 2305843009213693951
+-- the submission's name: any text but the empty one
+abbrev pub name_option : Rule
+name_option = record (option_named (codes "name")) { parser = Some NonEmptyString }
+
+abbrev pub wait_option : Rule
+wait_option = number_named (codes "wait") 0 86400
+
+abbrev pub timeout_option : Rule
+timeout_option = number_named (codes "timeout") 1 86400
 
 abbrev pub piece_size_option : Rule
 piece_size_option = number_named (codes "piece-size") 1 4194304
 
 abbrev pub export_option : Rule
 export_option = option_named (codes "export")
+
+abbrev pub skipped_option : Rule
+skipped_option = option_named (codes "skipped")
 
 -- what is profiled, and by what
 abbrev pub profile_input : App
@@ -72,12 +82,17 @@ profile_command =
 abbrev pub submit_input : App
 submit_input = with_rule (with_rule (with_rule (new_app (codes "submit")) folder_word) port_option) client_option
 
-abbrev pub submit_numbers : App
-submit_numbers = with_rule (with_rule (with_rule submit_input early_first_option) piece_size_option) limit_option
+-- as which submission, and how long it waits
+abbrev pub submit_connection : App
+submit_connection = with_rule (with_rule (with_rule submit_input name_option) wait_option) timeout_option
+
+-- what is done with each file
+abbrev pub submit_files : App
+submit_files =
+    with_rule (with_rule (with_rule (with_rule submit_connection piece_size_option) limit_option) (flag_named (codes "match-all"))) hash_option
 
 abbrev pub submit_command : App
-submit_command =
-    with_rule (with_rule (with_rule (with_rule submit_numbers (flag_named (codes "match-all"))) hash_option) export_option) (flag_named (codes "quiet"))
+submit_command = with_rule (with_rule (with_rule submit_files export_option) skipped_option) (flag_named (codes "quiet"))
 
 abbrev pub everyday_flag : Rule
 everyday_flag = flag_named (codes "everyday")

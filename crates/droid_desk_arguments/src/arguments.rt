@@ -37,7 +37,7 @@ const CONNECTIONS: &str = "connections";
 
 pub(crate) const CLIENT: &str = "client";
 
-pub(crate) const FIRST: &str = "first";
+const FIRST: &str = "first";
 
 /// How many connections `serve` serves by default.
 const DEFAULT_CONNECTIONS: u32 = 1;

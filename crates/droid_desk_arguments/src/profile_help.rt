@@ -30,12 +30,12 @@ of their names.
 
 Symbolic links below DIR are never followed. What can't be profiled is skipped, and printed on
 standard error with its path and the reason: links, sockets and devices; names that are not UTF-8 or
-that a profile can't have; what can't be opened or read; and files whose length changes while they
-are read. Standard error also has the registry, if none was named, and the progress: every ten
-seconds, or on a terminal in one line that is updated. The summary at the end counts the files
-identified by signature, by extension and not at all, mismatches, the ten most frequent formats, what
-was skipped, bytes and seconds. Paths that are not UTF-8 or have control characters are printed with
-escapes.
+that a profile can't have; a name that a folder lists twice; what can't be opened or read; and files
+whose length changes, or that are replaced, while they are read. Standard error also has the
+registry, if none was named, and the progress: every ten seconds, or on a terminal in one line that
+is updated. The summary at the end counts the files identified by signature, by extension and not at
+all, mismatches, the ten most frequent formats, what was skipped, bytes and seconds. Paths that are
+not UTF-8 or have control characters are printed with escapes.
 
 FILE may be inside DIR: its old version is listed, the new one isn't.
 

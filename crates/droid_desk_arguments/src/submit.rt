@@ -4,18 +4,19 @@ ghost use Rattle.std.specs.Prelude.{◌≡◌, IfOk, IfSome, codes, false};
 ghost use Rattle.clap.specs.Words.{app_of, found_of, rows_of, rule_of};
 ghost use Rattle.clap.specs.declared.builder.command.Command.TheViews.{out-Command};
 ghost use Rattle.droid_desk_arguments.specs.Asking.{IsAskedBy, IsSentTo, IsSubmit};
-ghost use Rattle.droid_desk_arguments.specs.Commands.{early_first_option, piece_size_option, submit_command, submit_input, submit_numbers};
+ghost use Rattle.droid_desk_arguments.specs.Commands.{name_option, piece_size_option, submit_command, submit_connection, submit_files, submit_input, timeout_option, wait_option};
 
-use crate::arguments::{Asked, CLIENT, FIRST, PORT, client, number, port};
+use crate::arguments::{Asked, CLIENT, PORT, client, number, port};
 use crate::profile::{
     DEFAULT_LIMIT, FOLDER, HASH, LIMIT, MATCH_ALL, QUIET, flag, flag_of, folder, hash_of, limit,
     named,
 };
 use crate::profile_help::{HASH_HELP, MATCH_ALL_HELP, QUIET_HELP};
 use crate::submit_help::{
-    EXPORT_HELP, PIECE_SIZE_HELP, SUBMIT_ABOUT, SUBMIT_CLIENT_HELP, SUBMIT_FIRST_HELP,
-    SUBMIT_FOLDER_HELP, SUBMIT_HELP, SUBMIT_PORT_HELP,
+    EXPORT_HELP, NAME_HELP, PIECE_SIZE_HELP, SKIPPED_HELP, SUBMIT_ABOUT, SUBMIT_CLIENT_HELP,
+    SUBMIT_FOLDER_HELP, SUBMIT_HELP, SUBMIT_PORT_HELP, TIMEOUT_HELP, WAIT_HELP,
 };
+use clap::builder::ValueParser;
 use clap::{Arg, ArgMatches, Command};
 use droid_frame::HashKind;
 use std::alloc::{AllocError, Global};
@@ -23,28 +24,38 @@ use std::alloc::{AllocError, Global};
 // The names of the command and of its options.
 pub(crate) const SUBMIT: &str = "submit";
 
+const NAME: &str = "name";
+
+const WAIT: &str = "wait";
+
+const TIMEOUT: &str = "timeout";
+
 const PIECE_SIZE: &str = "piece-size";
 
 const EXPORT: &str = "export";
 
+const SKIPPED: &str = "skipped";
+
 /// How many bytes a piece has by default.
 const DEFAULT_PIECE_SIZE: u32 = 262_144;
 
-/// The number of the first request by default.
-const DEFAULT_FIRST: u64 = 1;
+/// For how many seconds connecting is tried by default.
+const DEFAULT_WAIT: u32 = 60;
 
-/// The largest number that the first request may have: those from 2^61 on are for queries.
-const LAST_FIRST: u64 = (1 << 61) - 1;
+/// How many seconds a reply may take by default.
+const DEFAULT_TIMEOUT: u32 = 60;
 
-/// The service that a submission goes to, and whose requests they are.
+/// The service that a submission goes to, whose requests they are, and how long to wait for the service.
 #[derive(Clone, Copy)]
 pub struct Destination {
     /// The port.
     pub port: u16,
     /// The client.
     pub client: u32,
-    /// The number of its first request.
-    pub first: u64,
+    /// For how many seconds connecting and reconnecting are tried: 0 to 86,400.
+    pub wait: u32,
+    /// How many seconds a reply may take before the connection counts as broken: 1 to 86,400.
+    pub timeout: u32,
 }
 
 /// The folder to submit, and how.
@@ -54,6 +65,8 @@ pub struct SubmitOptions<'a> {
     pub folder: &'a str,
     /// Where it goes.
     pub to: Destination,
+    /// The name of the submission, or `None` for the folder's absolute path.
+    pub name: Option<&'a str>,
     /// How many bytes each piece of a file has but the last: 1 to 4,194,304.
     pub piece_size: u32,
     /// How many bytes at each end of a file are searched for signatures: 1 to 65,536.
@@ -64,6 +77,8 @@ pub struct SubmitOptions<'a> {
     pub hash: HashKind,
     /// The path of the CSV file, or `None` for no CSV.
     pub export: Option<&'a str>,
+    /// The path of the file for what was skipped, or `None` for no such file.
+    pub skipped: Option<&'a str>,
     /// Whether neither progress nor the summary is printed.
     pub quiet: bool,
 }
@@ -80,21 +95,25 @@ fn submit_options<'a>(submit: &ArgMatches<'a>) -> Option<SubmitOptions<'a>>
 {
     let to = destination_of(submit)?;
     let folder = submit.get_str(FOLDER)?;
+    let name = submit.get_str(NAME);
     let piece_size = submit.get_one(PIECE_SIZE).unwrap_or(DEFAULT_PIECE_SIZE);
     let limit = submit.get_one(LIMIT).unwrap_or(DEFAULT_LIMIT);
     let match_all = flag_of(submit, MATCH_ALL);
     let hash_word = submit.get_str(HASH);
     let hash = hash_of(hash_word)?;
     let export = submit.get_str(EXPORT);
+    let skipped = submit.get_str(SKIPPED);
     let quiet = flag_of(submit, QUIET);
     Some(SubmitOptions {
         folder,
         to,
+        name,
         piece_size,
         limit,
         match_all,
         hash,
         export,
+        skipped,
         quiet,
     })
 }
@@ -104,11 +123,13 @@ fn destination_of(submit: &ArgMatches<'_>) -> Option<Destination>
 {
     let port = submit.get_one(PORT)?;
     let client = submit.get_one(CLIENT)?;
-    let first = submit.get_one(FIRST).unwrap_or(DEFAULT_FIRST);
+    let wait = submit.get_one(WAIT).unwrap_or(DEFAULT_WAIT);
+    let timeout = submit.get_one(TIMEOUT).unwrap_or(DEFAULT_TIMEOUT);
     Some(Destination {
         port,
         client,
-        first,
+        wait,
+        timeout,
     })
 }
 
@@ -116,22 +137,33 @@ pub(crate) fn submit<'a>(alloc: Global) -> Result<Command<'a>, AllocError>
     ensures shape { IfOk result (λ c. app_of c ≡ submit_command) }
     ensures local { IfOk result (λ c. (out-Command c).has_globals ≡ false) }
 {
-    numbers(alloc)?
-        .arg(flag(alloc, MATCH_ALL, MATCH_ALL_HELP))?
-        .arg(named(alloc, HASH, "HASH", HASH_HELP))?
+    files(alloc)?
         .arg(named(alloc, EXPORT, "FILE", EXPORT_HELP))?
+        .arg(named(alloc, SKIPPED, "FILE", SKIPPED_HELP))?
         .arg(flag(alloc, QUIET, QUIET_HELP))
 }
 
-/// Makes the command without its last options.
-fn numbers<'a>(alloc: Global) -> Result<Command<'a>, AllocError>
-    ensures shape { IfOk result (λ c. app_of c ≡ submit_numbers) }
+/// Makes the command without what is written and printed.
+fn files<'a>(alloc: Global) -> Result<Command<'a>, AllocError>
+    ensures shape { IfOk result (λ c. app_of c ≡ submit_files) }
+    ensures local { IfOk result (λ c. (out-Command c).has_globals ≡ false) }
+{
+    connection(alloc)?
+        .arg(piece_size(alloc))?
+        .arg(limit(alloc))?
+        .arg(flag(alloc, MATCH_ALL, MATCH_ALL_HELP))?
+        .arg(named(alloc, HASH, "HASH", HASH_HELP))
+}
+
+/// Makes the command with what names the submission, and how long it waits.
+fn connection<'a>(alloc: Global) -> Result<Command<'a>, AllocError>
+    ensures shape { IfOk result (λ c. app_of c ≡ submit_connection) }
     ensures local { IfOk result (λ c. (out-Command c).has_globals ≡ false) }
 {
     input(alloc)?
-        .arg(first(alloc))?
-        .arg(piece_size(alloc))?
-        .arg(limit(alloc))
+        .arg(name(alloc))?
+        .arg(wait(alloc))?
+        .arg(timeout(alloc))
 }
 
 /// Makes the command with its first options.
@@ -147,11 +179,25 @@ fn input<'a>(alloc: Global) -> Result<Command<'a>, AllocError>
         .arg(client(alloc, SUBMIT_CLIENT_HELP))
 }
 
-fn first<'a>(alloc: Global) -> Arg<'a>
-    ensures rule { rule_of result ≡ early_first_option }
+fn name<'a>(alloc: Global) -> Arg<'a>
+    ensures rule { rule_of result ≡ name_option }
     ensures local { result.global ≡ false }
 {
-    number(alloc, FIRST, "N", SUBMIT_FIRST_HELP, 0, LAST_FIRST)
+    named(alloc, NAME, "TEXT", NAME_HELP).value_parser(ValueParser::NonEmptyString)
+}
+
+fn wait<'a>(alloc: Global) -> Arg<'a>
+    ensures rule { rule_of result ≡ wait_option }
+    ensures local { result.global ≡ false }
+{
+    number(alloc, WAIT, "SECONDS", WAIT_HELP, 0, 86_400)
+}
+
+fn timeout<'a>(alloc: Global) -> Arg<'a>
+    ensures rule { rule_of result ≡ timeout_option }
+    ensures local { result.global ≡ false }
+{
+    number(alloc, TIMEOUT, "SECONDS", TIMEOUT_HELP, 1, 86_400)
 }
 
 fn piece_size<'a>(alloc: Global) -> Arg<'a>

@@ -10,47 +10,72 @@ pub const SUBMIT_PORT_HELP: &str =
     "Connect to this port of 127.0.0.1, where `serve` listens (1 to 65535)";
 
 pub const SUBMIT_CLIENT_HELP: &str =
-    "Your ID: new for each submission, the same to resume (0 to 4294967295)";
+    "Your ID: the same each time that you submit this folder (0 to 4294967295)";
 
-pub const SUBMIT_FIRST_HELP: &str =
-    "Number of the first request (0 to 2305843009213693951, default 1)";
+pub const NAME_HELP: &str =
+    "Name of the submission: the same each time (default: the absolute path of DIR)";
+
+pub const WAIT_HELP: &str =
+    "Try to connect or to reconnect for this many seconds (0 to 86400, default 60)";
+
+pub const TIMEOUT_HELP: &str =
+    "Reconnect if a reply takes longer than this many seconds (1 to 86400, default 60)";
 
 pub const PIECE_SIZE_HELP: &str =
     "Send files in pieces of this many bytes (1 to 4194304, default 262144)";
 
 pub const EXPORT_HELP: &str = "At the end write the profile's CSV to this file, never a part of it";
 
+pub const SKIPPED_HELP: &str =
+    "At the end write what was skipped to this file, as a CSV of paths and reasons, never a part of it";
+
 pub const SUBMIT_HELP: &str = "\
-The folder becomes one profile of the service. Its requests are numbered from the first number on, in
-the order of the walk: a folder before its contents, which are sorted by the bytes of their names. So
-the same command is the same submission: run it again to resume. What has arrived is neither read nor
-sent again.
+The folder becomes one profile of the service. You can give the same command again after any
+interruption, and over a folder in any state: what is in the profile is not sent again, finished
+files are not even read, and what was skipped is tried again. This works because the number of each
+request is made from what the request asks and from the submission's name.
 
-If the connection breaks, or nobody listens yet, the client connects again: up to ten times in a row
-without an answer. Between tries to connect it waits, from 0.05 to 2 seconds, longer each time. It
-sends up to sixteen requests ahead of their replies.
+The profile keeps what was submitted. A folder or file that has changed since then is skipped, a
+folder with everything inside it; a folder also changes when an entry is added to it or removed from
+it. Another --name makes another profile, of the folder as it is now. With another --piece-size than
+before, all files in the profile count as changed.
 
-Two submissions need two clients, or numbers that are far apart. If the folder or the options have
-changed since the folder was submitted, it is another submission: give it a new client or first
-number.
+Two submissions of one client need two names. Use the client for submissions only: `send` would take
+numbers that `submit` needs.
 
-What can't be submitted is skipped, and printed on standard error, and so is the progress, as by
-`profile`.
+If nobody listens yet, or the connection breaks, the client tries to connect for --wait seconds. It
+pauses between tries, for 0.05 to 2 seconds, longer each time. On each new connection it first checks
+that the service still has the profile. It sends up to sixteen requests ahead of their replies.
+
+At the end the client reads the profile's CSV, even without --export, and compares it with the
+folder. Standard output has the profile's number. Standard error has what was skipped, what differs,
+what is in the profile and not in the folder, and the progress, as by `profile`. Each FILE is
+complete, or as it was before; it must lie outside DIR.
 
 Exit status:
 
-  0  everything in the folder is in the profile
+  0  the service's profile is this folder: it has exactly the folders and files of DIR
   2  the command line is wrong
-  4  DIR is not a folder (Folder); could not connect (Socket), or lost the connection ten times
-     (Broken); a frame came that does not reply to the request (Stranger); the service refused a
-     request (Reply); memory ran out, here or in the service (Memory); the numbers below 2^61 are
-     used up (NumbersUsedUp); there are more than 100,000 folders and files, which is seen before
-     anything is sent (Entries); the files are too long together to be counted (Bytes); new folders
-     appeared meanwhile: run it again (Folders); other requests came between the parts of the CSV, a
-     hundred times (Disturbed); the CSV could not be written (Write); or FILE could not be created
-     or replaced (Output). FILE is as it was before
-  5  something was skipped; or the folder or the options have changed since the folder was
-     submitted (Changed), and nothing more was sent
+  4  the command ended early, by one of these faults:
+       Folder     DIR is not a folder
+       Socket     nobody listened on the port within --wait
+       Broken     the connection broke, and could not be made again within --wait
+       Stranger   a frame came that does not reply to the request
+       Reply      a reply came that does not fit the request, or a CSV that is no profile
+       Restarted  the service lost what it had: run the command again, and it starts anew
+       Busy       64 files of other submissions are unfinished, and no place came free within --wait
+       Options    the submission had another --hash, --limit or --match-all: the message names it
+       Profiles   the service has 64 profiles, and takes no more
+       Entries    DIR has more than 100,000 folders and files, which is seen before anything is sent
+       Bytes      the files are too long together to be counted
+       Folders    new folders appeared meanwhile: run the command again
+       Disturbed  other requests came between the parts of the CSV, a hundred times
+       Write      a FILE could not be written
+       Output     a FILE lies inside DIR, or could not be created or replaced
+       Memory     memory ran out, here or in the service
+     or by another refusal of a request, such as NoSuchProfile, NoSuchNode, NotAFolder, NumberReused,
+     Store or Malformed; `droid_desk script --help` lists all refusals
+  5  something was skipped, differs, or is in the profile and not in the folder
   6  there was no memory for the command line
 
 If several apply: the first of 2, 6, 4, 5. With 4 and 6 standard error says what happened and what
@@ -58,5 +83,5 @@ to do.
 
 Example:
 
-  droid_desk serve --port 4711 --everyday &
+  droid_desk serve --port 4711 --everyday --connections 100 &
   droid_desk submit --port 4711 --client 1 --export deposit.csv deposit";

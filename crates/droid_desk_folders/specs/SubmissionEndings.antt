@@ -1,39 +1,111 @@
 -- How the submission of a folder ends (this project's own).
-use Rattle.std.specs.Prelude.{ℕ, List, Option, Some, None, codes}
+use Rattle.std.specs.Prelude.{ℕ, Bool, true, false, List, Option, Some, None, codes}
+use Rattle.droid_frame.specs.types.refusal.Limit.TheVariants as limits
+use Rattle.droid_frame.specs.types.refusal.Refusal.{Refusal}
+use Rattle.droid_frame.specs.types.refusal.Refusal.TheVariants as refusals
+use Rattle.droid_tree_connection.specs.declared.transfer_fault.TransferFault.{TransferFault}
+use Rattle.droid_tree_connection.specs.declared.transfer_fault.TransferFault.TheVariants as sending
+use Rattle.droid_tree_disk.specs.declared.output.OutputFault.{OutputFault}
 use Rattle.droid_tree_disk.specs.declared.output.OutputFault.TheVariants as outputs
-use Rattle.droid_tree_remote.specs.declared.fault.DownloadFault.TheVariants as exporting
-use Rattle.droid_tree_remote.specs.declared.fault.TransferFault.{TransferFault}
-use Rattle.droid_tree_remote.specs.declared.fault.TransferFault.TheVariants as sending
-use Rattle.droid_tree_remote.specs.declared.fault.SubmissionFault.TheVariants as submitting
+use Rattle.droid_tree_remote.specs.declared.remote_fault.RemoteFault.{RemoteFault}
+use Rattle.droid_tree_remote.specs.declared.remote_fault.RemoteFault.TheVariants as submitting
+use Rattle.droid_tree_upload.specs.declared.submission_fault.SubmissionFault.{SubmissionFault}
+use Rattle.droid_tree_upload.specs.declared.submission_fault.SubmissionFault.TheVariants as walking
 use Rattle.droid_desk_progress.specs.Faults.{walk_fault_text}
+use Rattle.droid_desk_folders.specs.declared.check_fault.CheckFault.{CheckFault}
+use Rattle.droid_desk_folders.specs.declared.check_fault.CheckFault.TheVariants as checking
+use Rattle.droid_desk_folders.specs.declared.profile_comparison.ComparisonFault.{ComparisonFault}
+use Rattle.droid_desk_folders.specs.declared.profile_comparison.ComparisonFault.TheVariants as comparing
 use Rattle.droid_desk_folders.specs.declared.submission_ending.SubmissionEnding.{SubmissionEnding}
-use Rattle.droid_desk_folders.specs.declared.submission_ending.SubmissionEnding.TheVariants.{Whole, Partly, NoFolder, NoConnection, Fault, NoExport, Disturbed, NoOutput}
+use Rattle.droid_desk_folders.specs.declared.submission_ending.SubmissionEnding.TheVariants.{Whole, Partly, NoFolder, NoMemory, InFolder, NoOutput, Unwritten, NoConnection, Uncounted, Unsubmitted, OtherOptions, NoExport, Disturbed, Unchecked}
 
 -- the exit status
 abbrev pub status_of : SubmissionEnding → ℕ
 status_of Whole = 0
 status_of Partly = 5
-status_of (Fault (submitting.Sending sending.Changed)) = 5
 status_of _ = 4
 
+-- the ending, by whether the profile is the tree
+abbrev pub ending_of : Bool → SubmissionEnding
+ending_of true = Whole
+ending_of false = Partly
+
+-- the ending of a submission whose profile could not be compared
+abbrev pub uncompared : ComparisonFault → SubmissionEnding
+uncompared (comparing.NoExport fault) = NoExport fault
+uncompared comparing.Disturbed = Disturbed
+uncompared (comparing.Unchecked fault) = Unchecked fault
+
+-- the name of a refusal that ends a submission
+abbrev pub refusal_text : Refusal → List ℕ
+refusal_text refusals.Malformed = codes "Malformed"
+refusal_text refusals.NumberReused = codes "NumberReused"
+refusal_text refusals.NoSuchProfile = codes "NoSuchProfile"
+refusal_text refusals.NoSuchNode = codes "NoSuchNode"
+refusal_text refusals.NotAFolder = codes "NotAFolder"
+refusal_text refusals.NotAFile = codes "NotAFile"
+refusal_text refusals.BadName = codes "BadName"
+refusal_text refusals.PathTooLong = codes "PathTooLong"
+refusal_text refusals.NameTaken = codes "NameTaken"
+refusal_text refusals.BadOption = codes "BadOption"
+refusal_text refusals.TooLarge = codes "TooLarge"
+refusal_text refusals.AlreadyFinished = codes "AlreadyFinished"
+refusal_text refusals.BadPiece = codes "BadPiece"
+refusal_text refusals.PieceHeld = codes "PieceHeld"
+refusal_text (refusals.TooFarAhead missing) = codes "TooFarAhead"
+refusal_text (refusals.Incomplete missing) = codes "Incomplete"
+refusal_text (refusals.LimitReached limits.Profiles) = codes "Profiles"
+refusal_text (refusals.LimitReached limits.Nodes) = codes "Nodes"
+refusal_text (refusals.LimitReached limits.Unfinished) = codes "Busy"
+refusal_text refusals.Memory = codes "Memory"
+refusal_text refusals.Store = codes "Store"
+
 -- the name of a fault of sending
-abbrev pub send_fault_text : TransferFault → List ℕ
-send_fault_text sending.Memory = codes "Memory"
-send_fault_text sending.Broken = codes "Broken"
-send_fault_text sending.Stranger = codes "Stranger"
-send_fault_text sending.Changed = codes "Changed"
-send_fault_text sending.NumbersUsedUp = codes "NumbersUsedUp"
+abbrev pub transfer_text : TransferFault → List ℕ
+transfer_text sending.Memory = codes "Memory"
+transfer_text sending.Broken = codes "Broken"
+transfer_text sending.Stranger = codes "Stranger"
+transfer_text sending.Restarted = codes "Restarted"
+transfer_text (sending.Refused refusal) = refusal_text refusal
+transfer_text sending.Busy = codes "Busy"
+
+-- the name of a fault of the walk
+abbrev pub walking_text : SubmissionFault → List ℕ
+walking_text walking.Memory = codes "Memory"
+walking_text walking.Ended = codes "Broken"
+walking_text walking.Reply = codes "Reply"
+walking_text (walking.Refused refusal) = refusal_text refusal
+walking_text walking.TooLong = codes "TooLong"
+walking_text walking.Folders = codes "Folders"
+
+abbrev pub submitting_text : RemoteFault → List ℕ
+submitting_text (submitting.Walking fault) = walking_text fault
+submitting_text (submitting.Sending fault) = transfer_text fault
+
+-- the name of a fault of the comparison: all but out of memory are replies that cannot be right
+abbrev pub check_text : CheckFault → List ℕ
+check_text checking.Memory = codes "Memory"
+check_text checking.NoProfile = codes "Reply"
+check_text checking.SamePath = codes "Reply"
+check_text checking.Moment = codes "Reply"
+
+abbrev pub output_text : OutputFault → List ℕ
+output_text outputs.Memory = codes "Memory"
+output_text outputs.Refused = codes "Output"
 
 -- the name of the fault, if the ending is one
 abbrev pub fault_text : SubmissionEnding → Option (List ℕ)
 fault_text Whole = None
 fault_text Partly = None
 fault_text NoFolder = Some (codes "Folder")
+fault_text NoMemory = Some (codes "Memory")
+fault_text (InFolder file) = Some (codes "Output")
+fault_text (NoOutput file fault) = Some (output_text fault)
+fault_text (Unwritten file) = Some (codes "Write")
 fault_text (NoConnection cause) = Some (codes "Socket")
-fault_text (Fault (submitting.Sending fault)) = Some (send_fault_text fault)
-fault_text (Fault (submitting.Walking fault)) = Some (walk_fault_text fault)
-fault_text (NoExport (exporting.Sending fault)) = Some (send_fault_text fault)
-fault_text (NoExport (exporting.Writing error)) = Some (codes "Write")
+fault_text (Uncounted fault) = Some (walk_fault_text fault)
+fault_text (Unsubmitted fault) = Some (submitting_text fault)
+fault_text (OtherOptions begun) = Some (codes "Options")
+fault_text (NoExport fault) = Some (transfer_text fault)
 fault_text Disturbed = Some (codes "Disturbed")
-fault_text (NoOutput outputs.Memory) = Some (codes "Memory")
-fault_text (NoOutput outputs.Refused) = Some (codes "Output")
+fault_text (Unchecked fault) = Some (check_text fault)

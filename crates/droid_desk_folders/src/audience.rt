@@ -1,6 +1,7 @@
 //! Watchers that hear how much there is before a walk begins.
 
 ghost use Rattle.droid_tree.specs.declared.tree_size.Counted.{Counted};
+ghost use Rattle.droid_desk_progress.specs.Reporters.{ReporterExpects};
 
 use droid_desk_progress::Reporter;
 use droid_tree::{Counted, Watcher};
@@ -17,6 +18,8 @@ pub trait Audience: Watcher {
 }
 
 impl<R: Eprint + Clock> Audience for Reporter<'_, R> {
+    ghost expects = { λ old counted new. ReporterExpects old counted new };
+
     fn hear_count(&mut self, counted: Counted) {
         self.expect(counted);
     }

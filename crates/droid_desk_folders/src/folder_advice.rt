@@ -1,5 +1,6 @@
 //! Sentences that say what a fault of `profile` or `submit` means and what to do.
 
+use crate::places::folder_of;
 use droid_desk_progress::Shown;
 use droid_tree::WalkFault;
 use std::fs::{self, Files};
@@ -33,15 +34,6 @@ pub(crate) fn print_no_output<R: Files + Eprint>(rt: &R, path: &str) -> io::Resu
         None => eprintln!(rt;
             "{shown}: cannot be created: is its folder yours to write, and the disk not full?"
         ),
-    }
-}
-
-/// Returns the path of the folder that a file lies in.
-fn folder_of(path: &str) -> &str {
-    match path.rsplit_once("/") {
-        Some(("", _)) => "/",
-        Some((folder, _)) => folder,
-        None => ".",
     }
 }
 

@@ -1,189 +1,232 @@
 //! The submission of a folder of this machine to a service on a port.
 
-ghost use Rattle.std.specs.Prelude.{◌<◌, ◌^◌};
-
-use crate::changes::Changes;
+use crate::begun_options::begun_of;
+use crate::checked_submission::{CommandFault, submit_and_check};
+use crate::difference_line::DifferenceLine;
 use crate::folder_profile::verbosity_of;
 use crate::loopback::Loopback;
+use crate::output_files::{see_outputs, write_export, write_skipped};
+use crate::places::absolute_path;
+use crate::profile_comparison::{Compared, ComparisonFault};
+use crate::recorder::Recorder;
 use crate::submission_ending::SubmissionEnding;
-use droid_desk_arguments::{Destination, SubmitOptions};
+use crate::submit_settings::{connection_of, sender_of, submission_name, walk_options};
+use droid_desk_arguments::SubmitOptions;
 use droid_desk_progress::{Reporter, Verbosity};
-use droid_frame::Noted;
-use droid_tree::{NODE_LIMIT, WalkFault, count};
-use droid_tree_disk::{Folder, Output, OutputFault, System, is_folder};
+use droid_frame::{Noted, Refusal};
+use droid_tree::NODE_LIMIT;
+use droid_tree_disk::{Folder, System, is_folder};
 use droid_tree_remote::{
-    DownloadFault, Sender, Streams, SubmissionFault, TransferFault, export, submit,
+    Options, RemoteFault, Sender, Streams, SubmissionFault, TransferFault, Upload, options_of,
 };
-use droid_tree_walk::{Options, Walked};
+use std::alloc::AllocError;
 use std::fs::{File, Files};
-use std::io::ErrorKind;
 use std::net::{Net, TcpListener, TcpStream};
 use std::time::Clock;
-
-/// How often an export is begun, if other requests come between its parts.
-const BEGINNINGS: u32 = 100;
 
 /// A sender over connections to a port of this machine.
 type PortSender<'a, R> = Sender<Streams<Loopback<'a, R>, Noted<TcpStream>>>;
 
-/// Submits a folder, and writes its export if a file is named for it. What is skipped is printed on standard error.
+/// All that the submission of a folder works with.
+type FolderUpload<'a, R> = Upload<
+    Folder<System<'a, R>>,
+    PortSender<'a, R>,
+    Recorder<Reporter<'a, R>>,
+>;
+
+/// Submits a folder, compares the profile with it, and writes the files that are named. What is skipped, and what
+/// differs, is printed on standard error, and the profile's number on standard output.
 pub fn submit_folder<R>(rt: &R, options: SubmitOptions<'_>, on_terminal: bool) -> SubmissionEnding
 where
-    R: Files<File = File> + Clock + Eprint + AllocGlobal,
+    R: Files<File = File> + Clock + Print + Eprint + AllocGlobal,
     R: Net<Listener = TcpListener, Stream = TcpStream>,
 {
     if !is_folder(rt, options.folder) {
         return SubmissionEnding::NoFolder;
     }
-    let Destination {
-        port,
-        client,
-        first,
-    } = options.to;
-    if first >= 1 << 61 {
-        return SubmissionEnding::Fault(SubmissionFault::Sending(TransferFault::NumbersUsedUp));
-    }
-    if let Some(path) = options.export
-        && let Err(fault) = see_output(rt, path)
-    {
-        return SubmissionEnding::NoOutput(fault);
-    }
-    let streams = Streams {
-        opener: Loopback::new(rt, port),
-        stream: None,
+    let Ok(absolute) = absolute_path(rt, options.folder) else {
+        return SubmissionEnding::NoMemory;
     };
-    let mut sender = Sender::new(rt.alloc(), streams, client, first);
+    let absolute = absolute.as_str();
+    if let Err(ending) = see_outputs(rt, options, absolute) {
+        return ending;
+    }
     let verbosity = verbosity_of(options.quiet, on_terminal);
-    let ending = submit_by(rt, &mut sender, options, verbosity);
-    match sender.in_flight.connection.opener.failed() {
-        Some(cause) => unconnected(ending, cause),
-        None => ending,
+    match upload_of(rt, options, absolute, verbosity) {
+        Ok(upload) => submit_by(rt, upload, options),
+        Err(_) => SubmissionEnding::NoMemory,
     }
 }
 
-/// Replaces `Broken`, if the last try to connect failed: then there was nothing that could break.
-fn unconnected(ending: SubmissionEnding, cause: ErrorKind) -> SubmissionEnding {
-    match ending {
-        SubmissionEnding::Fault(SubmissionFault::Sending(TransferFault::Broken))
-        | SubmissionEnding::NoExport(DownloadFault::Sending(TransferFault::Broken)) => {
-            SubmissionEnding::NoConnection(cause)
-        }
-        ending => ending,
-    }
-}
-
-/// Checks that a file can be created at this path.
-fn see_output<R: Files<File = File> + AllocGlobal>(rt: &R, path: &str) -> Result<(), OutputFault> {
-    let output = Output::create(rt.alloc(), rt, path)?;
-    output.give_up();
-    Ok(())
-}
-
-/// Submits a folder that doesn't have too many folders and files.
-fn submit_by<R>(
-    rt: &R,
-    sender: &mut PortSender<'_, R>,
+/// Makes all that the submission works with. Connects to nothing yet.
+fn upload_of<'a, R>(
+    rt: &'a R,
     options: SubmitOptions<'_>,
+    absolute: &str,
     verbosity: Verbosity,
-) -> SubmissionEnding
+) -> Result<FolderUpload<'a, R>, AllocError>
 where
     R: Files<File = File> + Clock + Eprint + AllocGlobal,
     R: Net<Listener = TcpListener, Stream = TcpStream>,
 {
     let alloc = rt.alloc();
-    let Ok(mut tree) = Folder::new(alloc, System::new(rt), options.folder) else {
-        return SubmissionEnding::Fault(SubmissionFault::Walking(WalkFault::Memory));
+    let name = submission_name(alloc, options, absolute)?;
+    let tree = Folder::new(alloc, System::new(rt), options.folder)?;
+    let streams = Streams {
+        opener: Loopback::new(rt, connection_of(options.to, verbosity)),
+        stream: None,
     };
-    let mut reporter = Reporter::new(rt, alloc, verbosity);
-    match count(alloc, &mut tree, NODE_LIMIT) {
-        Ok(counted) => reporter.expect(counted),
-        Err(fault) => return SubmissionEnding::Fault(SubmissionFault::Walking(fault)),
-    }
-    let mut changes = Changes::new(rt, alloc, reporter);
-    let walked = submit(
+    let client = sender_of(alloc, streams, options, name);
+    let watcher = Recorder::new(alloc, Reporter::new(rt, alloc, verbosity));
+    Ok(Upload {
         alloc,
-        &mut tree,
-        sender,
-        &mut changes,
-        walk_options(options),
-    );
-    match walked {
-        Ok(walked) => {
-            changes.end();
-            exported(rt, sender, options, walked)
-        }
-        Err(fault) => {
-            changes.end_early(fault);
-            SubmissionEnding::Fault(fault)
-        }
-    }
+        tree,
+        client,
+        watcher,
+    })
 }
 
-fn walk_options(options: SubmitOptions<'_>) -> Options {
-    Options {
-        scan_limit: options.limit,
-        match_all: options.match_all,
-        hash: options.hash,
-        piece_size: options.piece_size,
-    }
-}
-
-/// Writes the export of what was submitted, if a file is named for it.
-fn exported<R>(
-    rt: &R,
-    sender: &mut PortSender<'_, R>,
+/// Submits the folder, and reports how its profile differs.
+fn submit_by<'a, R>(
+    rt: &'a R,
+    upload: FolderUpload<'a, R>,
     options: SubmitOptions<'_>,
-    walked: Walked,
 ) -> SubmissionEnding
 where
-    R: Files<File = File> + Clock + AllocGlobal,
+    R: Files<File = File> + Clock + Print + Eprint + AllocGlobal,
     R: Net<Listener = TcpListener, Stream = TcpStream>,
 {
-    if let Some(path) = options.export
-        && let Err(ended) = export_to(rt, sender, walked.profile, path)
-    {
-        return ended;
-    }
-    if walked.whole {
-        SubmissionEnding::Whole
-    } else {
-        SubmissionEnding::Partly
-    }
-}
-
-/// Writes the export of a profile to a file, which is put in its place once it is complete.
-fn export_to<R>(
-    rt: &R,
-    sender: &mut PortSender<'_, R>,
-    profile: u32,
-    path: &str,
-) -> Result<(), SubmissionEnding>
-where
-    R: Files<File = File> + Clock + AllocGlobal,
-    R: Net<Listener = TcpListener, Stream = TcpStream>,
-{
-    for _ in 0..BEGINNINGS {
-        let output = Output::create(rt.alloc(), rt, path);
-        let mut output = match output {
-            Ok(output) => output,
-            Err(fault) => return Err(SubmissionEnding::NoOutput(fault)),
-        };
-        match export(&mut sender.in_flight, sender.client, profile, &mut output) {
-            Ok(true) => return completed(output),
-            Ok(false) => output.give_up(),
-            Err(fault) => {
-                output.give_up();
-                return Err(SubmissionEnding::NoExport(fault));
-            }
+    let mut upload = upload;
+    match submit_and_check(&mut upload, walk_options(options), NODE_LIMIT) {
+        Ok(compared) => {
+            let Upload { watcher, .. } = upload;
+            let ending = end_compared(rt, &watcher, options, &compared);
+            watcher.watcher.end();
+            ending
+        }
+        Err(CommandFault::Uncounted(fault)) => SubmissionEnding::Uncounted(fault),
+        Err(CommandFault::Unsubmitted(fault)) => {
+            let Upload {
+                client,
+                watcher,
+                ..
+            } = upload;
+            watcher.watcher.end();
+            unsubmitted(client, walk_options(options), fault)
+        }
+        Err(CommandFault::Uncompared { profile, fault }) => {
+            let Upload { watcher, .. } = upload;
+            let ending = end_uncompared(rt, &watcher, options, profile, fault);
+            watcher.watcher.end();
+            ending
         }
     }
-    Err(SubmissionEnding::Disturbed)
 }
 
-/// Puts the file of the export in its place.
-fn completed<R: Files>(output: Output<'_, R>) -> Result<(), SubmissionEnding> {
-    match output.complete() {
-        Ok(()) => Ok(()),
-        Err(fault) => Err(SubmissionEnding::NoOutput(fault)),
+/// Prints the profile's number and how the profile differs, and writes the files.
+fn end_compared<R>(
+    rt: &R,
+    watcher: &Recorder<Reporter<'_, R>>,
+    options: SubmitOptions<'_>,
+    compared: &Compared,
+) -> SubmissionEnding
+where
+    R: Files<File = File> + Clock + Print + Eprint + AllocGlobal,
+{
+    watcher.watcher.clear();
+    print_profile(rt, compared.profile);
+    print_differences(rt, compared);
+    if let Err(ending) = write_skipped(rt, options.skipped, watcher.skipped.as_slice()) {
+        return ending;
+    }
+    if let Err(ending) = write_export(rt, options.export, compared.csv.as_slice()) {
+        return ending;
+    }
+    SubmissionEnding::of(compared.whole)
+}
+
+/// Prints the profile's number, and writes what was skipped, if that is known.
+fn end_uncompared<R>(
+    rt: &R,
+    watcher: &Recorder<Reporter<'_, R>>,
+    options: SubmitOptions<'_>,
+    profile: u32,
+    fault: ComparisonFault,
+) -> SubmissionEnding
+where
+    R: Files<File = File> + Clock + Print + Eprint + AllocGlobal,
+{
+    watcher.watcher.clear();
+    print_profile(rt, profile);
+    if watcher.has_all {
+        let _ = write_skipped(rt, options.skipped, watcher.skipped.as_slice());
+    }
+    SubmissionEnding::uncompared(fault)
+}
+
+fn print_profile<R: Print>(rt: &R, profile: u32) {
+    let _ = println!(rt; "profile {profile}");
+}
+
+/// Prints a line for each difference that was not reported as skipped.
+fn print_differences<R: Eprint>(rt: &R, compared: &Compared) {
+    for difference in compared.reported.as_slice() {
+        let line = DifferenceLine {
+            difference: *difference,
+            listed: compared.seen.listed.as_slice(),
+            found: compared.seen.found.as_slice(),
+        };
+        let _ = eprint!(rt; "{line}");
+    }
+}
+
+/// Returns how a submission ends that ended early.
+fn unsubmitted<R>(
+    client: PortSender<'_, R>,
+    options: Options,
+    fault: RemoteFault,
+) -> SubmissionEnding
+where
+    R: Clock + Eprint + Net<Listener = TcpListener, Stream = TcpStream>,
+{
+    match fault {
+        RemoteFault::Sending(TransferFault::Broken) => {
+            broken(&client.in_flight.connection.opener, fault)
+        }
+        RemoteFault::Walking(SubmissionFault::Refused(Refusal::NumberReused)) => {
+            with_other_options(client, options, fault)
+        }
+        _ => SubmissionEnding::Unsubmitted(fault),
+    }
+}
+
+/// Returns how a submission ends whose connection broke: if none was ever made, there was nothing that could break.
+fn broken<R>(opener: &Loopback<'_, R>, fault: RemoteFault) -> SubmissionEnding {
+    match opener.failed {
+        Some(cause) if !opener.has_joined => SubmissionEnding::NoConnection(cause),
+        _ => SubmissionEnding::Unsubmitted(fault),
+    }
+}
+
+/// Returns how a submission ends of which a number was used for another request. If that was the request for the
+/// profile, the submission was begun with other options.
+fn with_other_options<R>(
+    client: PortSender<'_, R>,
+    options: Options,
+    fault: RemoteFault,
+) -> SubmissionEnding
+where
+    R: Clock + Eprint + Net<Listener = TcpListener, Stream = TcpStream>,
+{
+    let mut client = client;
+    if client.in_flight.known.profile.is_some() {
+        return SubmissionEnding::Unsubmitted(fault);
+    }
+    let Ok(begun) = options_of(&mut client, options) else {
+        return SubmissionEnding::Unsubmitted(fault);
+    };
+    match begun_of(options, begun) {
+        Some(begun) => SubmissionEnding::OtherOptions(begun),
+        None => SubmissionEnding::Unsubmitted(fault),
     }
 }

@@ -1,8 +1,5 @@
-pub mod Going
-pub mod Counting
-pub mod Waiting
-pub mod Requests
-pub mod Whole
+pub mod Handing
+pub mod Pausing
+pub mod Conversing
 pub mod Parts
-pub mod Apart
-pub mod Filling
+pub mod Probing

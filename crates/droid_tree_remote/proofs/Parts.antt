@@ -1,90 +1,182 @@
--- Part after part.
-use Rattle.std.proofs.Common.{◌≡◌, ◌⊎◌, ℕ, ◌+◌, Option, List, [], ◌∷◌, ◌++◌, Contains, length, inl, inr, sym, ap, subst, ◌∙◌, length-append, append-nil, arith}
+-- Part after part of an export.
+use Rattle.std.proofs.Common.{◌≡◌, ℕ, ◌+◌, Option, List, [], ◌∷◌, ◌++◌, Contains, length, take, drop, inl, inr, refl, sym, ap, subst, ◌∙◌, length-append, append-nil, append_assoc, arith}
 use Rattle.std.specs.Io.KnownBytes.{Appends}
-use Rattle.std.proofs.KnownBytes.{Appends-trans}
+use Rattle.std.proofs.KnownBytes.{Appends-nil, Appends-trans}
 use Rattle.std.proofs.lemmas.Grind.{flat_map-append}
+use Rattle.std.proofs.lemmas.List.{take-append-drop}
 use Rattle.droid_frame.specs.types.frame.Frame.{Frame}
 use Rattle.droid_frame.specs.types.reply.Reply.{Reply}
 use Rattle.droid_frame.specs.types.reply.Reply.TheVariants as replies
-use Rattle.droid_tree.proofs.Runs.{over_more}
-use Rattle.droid_tree_remote.specs.Events.{Event, WritesOnly, IsAnswered, out_after}
-use Rattle.droid_tree_remote.specs.Exports.{ArePartsOf, Exports, ExportsFront, IsPartRequest, joined, part_request}
-use Rattle.droid_tree_remote.specs.Steps.{Waits}
-use Rattle.droid_tree_remote.specs.WrittenFrames.{out_of}
-use Rattle.droid_tree_remote.specs.declared.in_flight.InFlight.{InFlight}
-use Rattle.droid_tree_remote.proofs.Going.{all_append, only_in, answered_before, answered_after, none_in, nothing_in}
-use Rattle.droid_tree_remote.proofs.Whole.{none_out}
-
-parts_before : (before after : List Event) (client profile as_of total from : ℕ) (parts : List (List ℕ)) → ArePartsOf before client profile as_of total from parts → ArePartsOf (before ++ after) client profile as_of total from parts
-parts_before before after client profile as_of total from [] are = tt
-parts_before before after client profile as_of total from (part ∷ parts) are =
-    (answered_before [] before after _ _ are.0, parts_before before after client profile as_of total (from + length part) parts are.1)
-
-parts_last : (events : List Event) (client profile as_of total from last : ℕ) (parts : List (List ℕ)) (part : List ℕ) → last ≡ from + length (joined parts) → ArePartsOf events client profile as_of total from parts
-    → IsAnswered [] events (part_request client profile last) (replies.Part as_of total part) → ArePartsOf events client profile as_of total from (parts ++ part ∷ [])
-parts_last events client profile as_of total from last [] part place are is =
-    (subst (λ (n : ℕ). IsAnswered [] events (part_request client profile n) (replies.Part as_of total part)) (omega (arith, place)) is, tt)
-parts_last events client profile as_of total from last (first ∷ parts) part place are is =
-    (are.0, parts_last events client profile as_of total (from + length first) last parts part (omega (arith, place, length-append first (joined parts))) are.1 is)
+use Rattle.droid_tree_connection.specs.Answering.{IsAnswered}
+use Rattle.droid_tree_connection.specs.Calls.{Fails, IsAmong, Waits}
+use Rattle.droid_tree_connection.specs.Events.{Event, Fact, facts_after}
+use Rattle.droid_tree_connection.specs.Stages.{StandsOn}
+use Rattle.droid_tree_connection.specs.Vouching.{remember}
+use Rattle.droid_tree_connection.specs.declared.in_flight.InFlight.{InFlight}
+use Rattle.droid_tree_connection.specs.declared.known_requests.KnownRequests.{KnownRequests}
+use Rattle.droid_tree_connection.specs.declared.transfer_fault.TransferFault.{TransferFault}
+use Rattle.droid_tree_connection.proofs.Going.{answered_after, answered_before, goes_in, goes_none, goes_on, nothing_in}
+use Rattle.droid_tree_remote.specs.Exports.{ArePartsOf, Downloads, Exports, ExportsFront, IsPartFrame, OnlyAsks, joined, part_frame}
+use Rattle.droid_tree_remote.proofs.Pausing.{stands_later}
 
 joined_more : (parts : List (List ℕ)) (part : List ℕ) → joined (parts ++ part ∷ []) ≡ joined parts ++ part
 joined_more parts part = flat_map-append (λ (p : List ℕ). p) parts (part ∷ []) ∙ ap (λ (l : List ℕ). joined parts ++ l) (append-nil part)
 
-module _ {C : Type 0} (does : C → Event → C → Type 0) (client profile as_of total : ℕ) where
-  module _ (old new : InFlight C) (none : old.waiting.items ≡ []) where
-    asks_part : (from : ℕ) (frame : Frame) → Contains old.waiting.items frame ⊎ (frame ≡ part_request client profile from) → IsPartRequest client profile frame
-    asks_part from frame (inl there) = absurd (nothing_in old.waiting.items frame none there)
-    asks_part from frame (inr is) = (from, is)
+module _ (client : ℕ) (name : List ℕ) (profile : ℕ) where
+  module _ (known : KnownRequests) (facts : List Fact) where
+    parts_before : (before after : List Event) (as_of total from : ℕ) (parts : List (List ℕ)) → ArePartsOf client name profile known facts before as_of total from parts
+        → ArePartsOf client name profile known facts (before ++ after) as_of total from parts
+    parts_before before after as_of total from [] are = tt
+    parts_before before after as_of total from (part ∷ parts) are =
+        (answered_before known facts before after (part_frame client name profile from) (replies.Part as_of total part) are.0, parts_before before after as_of total (from + length part) parts are.1)
 
-    -- nothing was out before
-    answered_alone : (before events : List Event) (frame : Frame) (reply : Reply) → IsAnswered (out_of old) events frame reply → IsAnswered [] (before ++ events) frame reply
-    answered_alone before events frame reply is = answered_after [] (out_of old) before events frame reply
-        (λ other there. none_in (out_after [] before) other (none_out old.written old.waiting.items none other there)) is
+    parts_last : (events : List Event) (as_of total from last : ℕ) (parts : List (List ℕ)) (part : List ℕ) → last ≡ from + length (joined parts) → ArePartsOf client name profile known facts events as_of total from parts
+        → IsAnswered known facts events (part_frame client name profile last) (replies.Part as_of total part) → ArePartsOf client name profile known facts events as_of total from (parts ++ part ∷ [])
+    parts_last events as_of total from last [] part place are is =
+        (subst (λ (n : ℕ). IsAnswered known facts events (part_frame client name profile n) (replies.Part as_of total part)) (omega (arith, place)) is, tt)
+    parts_last events as_of total from last (first ∷ parts) part place are is =
+        (are.0, parts_last events as_of total (from + length first) last parts part (omega (arith, place, length-append first (joined parts))) are.1 is)
 
-    -- the first part
-    pub exports_first : (from : ℕ) (part : List ℕ) (written written_after : Option (List ℕ))
-        → Waits does (part_request client profile 0) (replies.Part as_of total part) old new → Appends written written_after part → from ≡ 0 + length part
-        → ExportsFront does client profile as_of total from old.connection new.connection written written_after
-    exports_first from part written written_after waits wrote place = record {
-      parts = part ∷ [];
-      counted = omega (arith, place, length-append part []);
-      events = waits.goes.events;
-      happened = waits.goes.happened;
-      only = only_in (λ frame. Contains old.waiting.items frame ⊎ (frame ≡ part_request client profile 0)) (IsPartRequest client profile) (asks_part 0) waits.goes.events waits.goes.only;
-      came = (answered_alone [] waits.goes.events (part_request client profile 0) (replies.Part as_of total part) waits.answered, tt);
-      wrote = subst (λ (l : List ℕ). Appends written written_after l) (sym (append-nil part)) wrote;
+  -- the reply to such a request makes nothing known
+  pub same_known : (known : KnownRequests) (from : ℕ) (reply : Reply) → remember known (part_frame client name profile from) reply ≡ known
+  same_known known from (replies.Made number) = refl
+  same_known known from (replies.Node number) = refl
+  same_known known from (replies.Taken held) = refl
+  same_known known from (replies.Finished method mismatch hash puids) = refl
+  same_known known from replies.Abandoned = refl
+  same_known known from (replies.Progress held missing) = refl
+  same_known known from (replies.Part as_of total bytes) = refl
+  same_known known from (replies.Refused refusal) = refl
+
+  pub among_parts : (waiting : List Frame) (from : ℕ) (frame : Frame) → waiting ≡ [] → IsAmong waiting (part_frame client name profile from) frame → IsPartFrame client name profile frame
+  among_parts waiting from frame none (inl there) = absurd (nothing_in waiting frame none there)
+  among_parts waiting from frame none (inr is) = (from, is)
+
+  module _ {C : Type 0} (does : C → Event → C → Type 0) (known : KnownRequests) where
+    abbrev Asks : List Fact → InFlight C → InFlight C → Type 0
+    Asks facts old new = OnlyAsks client name profile does known facts old new
+
+    abbrev pub asks_none : (facts : List Fact) (old : InFlight C) → old.waiting.items ≡ [] → StandsOn known facts old → Asks facts old old
+    asks_none facts old none stands = record { goes = goes_none does known (IsPartFrame client name profile) facts old.connection; none = none; stands_on = stands }
+
+    abbrev pub asks_waits : (facts : List Fact) (from : ℕ) (reply : Reply) (old new : InFlight C) → old.waiting.items ≡ [] → Waits does known (part_frame client name profile from) reply facts old new → Asks facts old new
+    asks_waits facts from reply old new none waits = record {
+      goes = goes_in does known (IsAmong old.waiting.items (part_frame client name profile from)) (IsPartFrame client name profile) facts old.connection new.connection
+          (λ frame is. among_parts old.waiting.items from frame none is) waits.goes;
+      none = waits.none;
+      stands_on = subst (λ (k : KnownRequests). StandsOn k (facts_after facts waits.goes.events) new) (same_known known from reply) waits.stands_on;
     }
 
-    -- one more part
-    exports_more : (start : C) (from after : ℕ) (part : List ℕ) (written written_now written_after : Option (List ℕ))
-        → ExportsFront does client profile as_of total from start old.connection written written_now
-        → Waits does (part_request client profile from) (replies.Part as_of total part) old new → Appends written_now written_after part → after ≡ from + length part
-        → ExportsFront does client profile as_of total after start new.connection written written_after
-    exports_more start from after part written written_now written_after front waits wrote place =
-        let late = waits.goes.events in
-        let events = front.events ++ late in
-        record {
+    abbrev pub asks_fails : (facts : List Fact) (from : ℕ) (fault : TransferFault) (pieces : List Frame) (old new : InFlight C) → old.waiting.items ≡ []
+        → Fails does known (IsAmong old.waiting.items (part_frame client name profile from)) pieces fault facts old new → Asks facts old new
+    asks_fails facts from fault pieces old new none fails = record {
+      goes = goes_in does known (IsAmong old.waiting.items (part_frame client name profile from)) (IsPartFrame client name profile) facts old.connection new.connection
+          (λ frame is. among_parts old.waiting.items from frame none is) fails.stops.goes;
+      none = fails.none;
+      stands_on = fails.stands_on;
+    }
+
+    abbrev asks_on : (facts : List Fact) (old now new : InFlight C) (first : Asks facts old now) → Asks (facts_after facts first.goes.events) now new → Asks facts old new
+    asks_on facts old now new first second = record {
+      goes = goes_on does known (IsPartFrame client name profile) facts old.connection now.connection new.connection first.goes second.goes;
+      none = second.none;
+      stands_on = stands_later known facts first.goes.events second.goes.events new second.stands_on;
+    }
+
+    abbrev Front : List Fact → ℕ → ℕ → ℕ → InFlight C → InFlight C → Option (List ℕ) → Option (List ℕ) → Type 0
+    Front facts as_of total from old new written written_after = ExportsFront client name profile does as_of total from known facts old new written written_after
+
+    -- nothing came yet
+    abbrev pub front_none : (facts : List Fact) (as_of total : ℕ) (old : InFlight C) (written : Option (List ℕ)) → old.waiting.items ≡ [] → StandsOn known facts old → Front facts as_of total 0 old old written written
+    front_none facts as_of total old written none stands = record { parts = []; counted = refl; asks = asks_none facts old none stands; came = tt; wrote = Appends-nil written }
+
+    module _ (facts : List Fact) (as_of total from : ℕ) (old now new : InFlight C) (written written_now written_after : Option (List ℕ)) (front : Front facts as_of total from old now written written_now) where
+      abbrev then : List Fact
+      then = facts_after facts front.asks.goes.events
+
+      -- another part was asked for
+      module _ (part : List ℕ) (waits : Waits does known (part_frame client name profile from) (replies.Part as_of total part) then now new) where
+        abbrev more : Asks then now new
+        more = asks_waits then from (replies.Part as_of total part) now new front.asks.none waits
+
+        all_came : ArePartsOf client name profile known facts (front.asks.goes.events ++ waits.goes.events) as_of total 0 (front.parts ++ part ∷ [])
+        all_came =
+            let counted = front.counted in
+            parts_last known facts (front.asks.goes.events ++ waits.goes.events) as_of total 0 from front.parts part (omega (arith, counted))
+            (parts_before known facts front.asks.goes.events waits.goes.events as_of total 0 front.parts front.came)
+            (answered_after known facts front.asks.goes.events waits.goes.events (part_frame client name profile from) (replies.Part as_of total part) waits.answered)
+
+        -- it was written
+        pub front_more : (after : ℕ) → Appends written_now written_after part → after ≡ from + length part → Front facts as_of total after old new written written_after
+        front_more after wrote place = record {
           parts = front.parts ++ part ∷ [];
-          counted = ap length (joined_more front.parts part) ∙ omega (arith, length-append (joined front.parts) part, front.counted, place);
-          events = events;
-          happened = over_more does start old.connection new.connection front.events late front.happened waits.goes.happened;
-          only = all_append (WritesOnly (IsPartRequest client profile)) front.events late front.only
-              (only_in (λ frame. Contains old.waiting.items frame ⊎ (frame ≡ part_request client profile from)) (IsPartRequest client profile) (asks_part from) late waits.goes.only);
-          came = parts_last events client profile as_of total 0 from front.parts part (omega (arith, front.counted)) (parts_before front.events late client profile as_of total 0 front.parts front.came)
-              (answered_alone front.events late (part_request client profile from) (replies.Part as_of total part) waits.answered);
+          counted = let counted = front.counted in ap length (joined_more front.parts part) ∙ omega (arith, length-append (joined front.parts) part, counted, place);
+          asks = asks_on facts old now new front.asks more;
+          came = all_came;
           wrote = subst (λ (l : List ℕ). Appends written written_after l) (sym (joined_more front.parts part)) (Appends-trans written written_now written_after (joined front.parts) part front.wrote wrote);
         }
 
-    -- one more part of the same export
-    pub exports_next : (start : C) (as_of_too total_too from after : ℕ) (part : List ℕ) (written written_now written_after : Option (List ℕ))
-        → (as_of_too ≡ as_of) × (total_too ≡ total)
-        → ExportsFront does client profile as_of total from start old.connection written written_now
-        → Waits does (part_request client profile from) (replies.Part as_of_too total_too part) old new → Appends written_now written_after part → after ≡ from + length part
-        → ExportsFront does client profile as_of total after start new.connection written written_after
-    exports_next start as_of_too total_too from after part written written_now written_after same front waits wrote place =
-        let its : replies.Part as_of_too total_too part ≡ replies.Part as_of total part = ap (λ (n : ℕ). replies.Part n total_too part) same.0 ∙ ap (λ (n : ℕ). replies.Part as_of n part) same.1 in
-        exports_more start from after part written written_now written_after front (subst (λ (r : Reply). Waits does (part_request client profile from) r old new) its waits) wrote place
+        -- only its first bytes were written
+        pub front_unwritten : (count : ℕ) → Appends written_now written_after (take count part) → Downloads client name profile does known facts old new written written_after
+        front_unwritten count wrote = record {
+          asks = asks_on facts old now new front.asks more;
+          as_of = as_of;
+          total = total;
+          parts = front.parts ++ part ∷ [];
+          came = all_came;
+          bytes = joined front.parts ++ take count part;
+          rest = drop count part;
+          cut = joined_more front.parts part ∙ (ap (λ (l : List ℕ). joined front.parts ++ l) (sym (take-append-drop count part)) ∙ sym (append_assoc (joined front.parts) (take count part) (drop count part)));
+          wrote = Appends-trans written written_now written_after (joined front.parts) (take count part) front.wrote wrote;
+        }
 
-  -- the export ends there
-  pub exports_done : (from : ℕ) (old new : C) (written written_after : Option (List ℕ)) → from ≡ total → ExportsFront does client profile as_of total from old new written written_after → Exports does client profile old new written written_after
-  exports_done from old new written written_after all front = (as_of, total, subst (λ (n : ℕ). ExportsFront does client profile as_of total n old new written written_after) all front)
+      -- no further part came
+      pub front_missed : Asks then now new → Downloads client name profile does known facts old new written written_now
+      front_missed missed = record {
+        asks = asks_on facts old now new front.asks missed;
+        as_of = as_of;
+        total = total;
+        parts = front.parts;
+        came = parts_before known facts front.asks.goes.events missed.goes.events as_of total 0 front.parts front.came;
+        bytes = joined front.parts;
+        rest = [];
+        cut = sym (append-nil (joined front.parts));
+        wrote = front.wrote;
+      }
+
+    -- nothing further was asked for
+    pub front_ended : (facts : List Fact) (as_of total from : ℕ) (old now : InFlight C) (written written_now : Option (List ℕ)) → Front facts as_of total from old now written written_now
+        → Downloads client name profile does known facts old now written written_now
+    front_ended facts as_of total from old now written written_now front = record {
+      asks = front.asks;
+      as_of = as_of;
+      total = total;
+      parts = front.parts;
+      came = front.came;
+      bytes = joined front.parts;
+      rest = [];
+      cut = sym (append-nil (joined front.parts));
+      wrote = front.wrote;
+    }
+
+    pub export_done : (facts : List Fact) (as_of total from : ℕ) (old now : InFlight C) (written written_now : Option (List ℕ)) → from ≡ total → Front facts as_of total from old now written written_now
+        → Exports client name profile does known facts old now written written_now
+    export_done facts as_of total from old now written written_now all front = (as_of, total, subst (λ (n : ℕ). Front facts as_of total n old now written written_now) all front)
+
+-- another part is of the same export
+pub same_part : (as_of as_of_too total total_too : ℕ) (part : List ℕ) → (as_of_too ≡ as_of) × (total_too ≡ total) → replies.Part as_of_too total_too part ≡ replies.Part as_of total part
+same_part as_of as_of_too total total_too part same = ap (λ (n : ℕ). replies.Part n total_too part) same.0 ∙ ap (λ (n : ℕ). replies.Part as_of n part) same.1
+
+pub same_frame : (client client_now : ℕ) (name name_now : List ℕ) (profile from : ℕ) → client_now ≡ client → name_now ≡ name → part_frame client_now name_now profile from ≡ part_frame client name profile from
+same_frame client client_now name name_now profile from same named = ap (λ (c : ℕ). part_frame c name_now profile from) same ∙ ap (λ (n : List ℕ). part_frame client n profile from) named
+
+-- a part was asked for by a sender that is the same, but for what is in flight
+pub its_waits : {C : Type 0} (does : C → Event → C → Type 0) (known : KnownRequests) (facts : List Fact) (client client_now : ℕ) (name name_now : List ℕ) (profile from : ℕ) (reply : Reply) (old new : InFlight C) → client_now ≡ client → name_now ≡ name
+    → Waits does known (part_frame client_now name_now profile from) reply facts old new → Waits does known (part_frame client name profile from) reply facts old new
+its_waits does known facts client client_now name name_now profile from reply old new same named waits =
+    subst (λ (f : Frame). Waits does known f reply facts old new) (same_frame client client_now name name_now profile from same named) waits
+
+pub its_asks : {C : Type 0} (does : C → Event → C → Type 0) (known : KnownRequests) (facts : List Fact) (client client_now : ℕ) (name name_now : List ℕ) (profile : ℕ) (old new : InFlight C) → client_now ≡ client → name_now ≡ name
+    → OnlyAsks client_now name_now profile does known facts old new → OnlyAsks client name profile does known facts old new
+its_asks does known facts client client_now name name_now profile old new same named asks =
+    subst (λ (n : List ℕ). OnlyAsks client n profile does known facts old new) named (subst (λ (c : ℕ). OnlyAsks c name_now profile does known facts old new) same asks)

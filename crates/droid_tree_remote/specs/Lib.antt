@@ -1,10 +1,8 @@
-pub mod Events
+pub mod Numbered
+pub mod SenderCalls
+pub mod Patience
+pub mod Conversations
+pub mod RemoteSubmissions
 pub mod Exports
-pub mod Faults
-pub mod Numbering
-pub mod Asks
-pub mod Steps
-pub mod WrittenFrames
-pub mod Streams
-pub mod Submits
-pub mod Runs
+pub mod Probes
+pub mod NumberLaws

@@ -1,14 +1,13 @@
 //! Laws of submissions. Each stands on an empty function and is proved with it.
 
-ghost use Rattle.droid_tree_remote.specs.Runs.{AreApart, AreOfFirst};
+ghost use Rattle.droid_tree_remote.specs.NumberLaws.{FramesOfOneNumberAskTheSame};
 
-/// Two frames of one submission that have the same number are equal, commands and queries alike.
-pub fn numbers_are_apart()
-    ensures { AreApart }
-{}
+use droid_tree_numbers::laws::equal_numbers_ask_the_same;
 
-/// A resumed submission repeats the first one: each of its frames is a Status, or is the frame with the same number in
-/// a run that sends everything. This holds whatever bytes the pieces have that it does not send.
-pub fn a_run_goes_on()
-    ensures { AreOfFirst }
-{}
+/// Two calls of one submission whose frames have the same number ask the same, but for the bytes of a piece and the
+/// options of the profile; or both are numbered by digests, and two different texts have digests that begin alike.
+pub fn frames_of_one_number_ask_the_same()
+    ensures { FramesOfOneNumberAskTheSame }
+{
+    equal_numbers_ask_the_same();
+}

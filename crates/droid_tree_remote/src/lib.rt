@@ -1,25 +1,26 @@
-//! Submits a tree over a connection that may break. Requests are numbered, and each is sent until it is answered.
+//! Submits a tree to a service over a connection that may break, and reads what the service exports of it. Each request
+//! has a number by what it asks, so any number of runs over a tree, in any state, are one submission.
 //!
-//! The caller supplies the tree and the connection, as a [`droid_tree::Tree`] and a [`Connection`].
+//! The caller supplies the tree, the connection and the watcher, as a [`droid_tree::Tree`], a [`Connection`] and a
+//! [`droid_tree::Watcher`].
 #![tactic(auto)]
 
-mod connection;
-mod connection_steps;
-mod fault;
-mod in_flight;
+mod begun_options;
 pub mod laws;
-mod numbers;
+mod numbered_frame;
+mod patience;
 mod remote_export;
+mod remote_fault;
+mod remote_submission;
 mod sender;
-mod streams;
-mod submission;
 
-pub use connection::{Broken, Connection};
-pub use connection_steps::Written;
-pub use fault::{DownloadFault, SubmissionFault, TransferFault};
-pub use in_flight::InFlight;
-pub use numbers::{COMMAND_NUMBERS_END, Numbers};
+pub use begun_options::options_of;
+pub use droid_tree_connection::{
+    Broken, Connection, InFlight, Known, KnownRequests, Open, Stage, Streams, TransferFault,
+};
+pub use droid_tree_submission::{Node, Options, Submitted};
+pub use droid_tree_upload::{Client, ClientFault, SubmissionFault, Upload};
 pub use remote_export::export;
+pub use remote_fault::{DownloadFault, RemoteFault};
+pub use remote_submission::submit;
 pub use sender::Sender;
-pub use streams::{Open, Streams};
-pub use submission::submit;

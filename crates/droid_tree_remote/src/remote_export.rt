@@ -1,22 +1,19 @@
 //! Reads the export of a profile in parts.
 
-ghost use Rattle.std.specs.Prelude.{◌≡◌, ◌+◌, [], IfOk, IsTrue, OnOk, length};
+ghost use Rattle.std.specs.Prelude.{◌≡◌, ◌+◌, ℕ, [], IfOk, IsSome, IsTrue, OnErr, OnOk, length, take};
 ghost use Rattle.std.specs.Io.KnownBytes.{Appends};
 ghost use Rattle.droid_frame.specs.types.reply.Reply.TheVariants as replies;
-ghost use Rattle.droid_tree_remote.specs.Exports.{Exports, part_request};
-ghost use Rattle.droid_tree_remote.specs.Steps.{Waits};
+ghost use Rattle.droid_tree_connection.specs.Calls.{Waits, Wherever};
+ghost use Rattle.droid_tree_remote.specs.Exports.{Downloads, Exports, OnlyAsks, part_frame, part_request};
 
-use crate::connection::{Connection, VERSION};
-use crate::fault::{DownloadFault, TransferFault};
-use crate::in_flight::InFlight;
+use crate::numbered_frame::frame_of;
+use crate::remote_fault::DownloadFault;
+use crate::sender::Sender;
 use droid_frame::{
-    Blob, Criteria, Filter, Frame, PART_LIMIT, Refusal, Reply, Request, SteadyWrite, WriteState,
-    request_frame, write_all,
+    Blob, Criteria, Filter, PART_LIMIT, Refusal, Reply, Request, SteadyWrite, WriteState, write_all,
 };
+use droid_tree_connection::{Connection, TransferFault};
 use std::alloc::Global;
-
-/// The number of an Export request is this plus the offset of the part.
-const EXPORT_NUMBERS: u64 = 1 << 62;
 
 /// A part of an export.
 #[derive(Drop)]
@@ -32,21 +29,47 @@ pub(crate) struct Part {
 /// Writes the export of a profile, with all its records. Returns whether all parts are of one export. If not, a command
 /// came between them, and what was written is useless.
 pub fn export<C: Connection, O: SteadyWrite>(
-    in_flight: &mut InFlight<C>,
-    client: u32,
+    sender: &mut Sender<C>,
     profile: u32,
     writer: &mut O,
 ) -> Result<bool, DownloadFault>
-    ensures { IfOk result (λ one. IsTrue one → in_flight.old.waiting.items ≡ [] →
-        Exports C.does client profile in_flight.old.connection in_flight.new.connection (O.contents writer.old) (O.contents writer.new)) }
+    // If true is returned, all parts of one export were read and written.
+    ensures whole { IfOk result (λ one. IsTrue one → sender.old.in_flight.waiting.items ≡ [] → Wherever sender.old.in_flight (λ known facts.
+        Exports sender.old.client sender.old.name profile C.does known facts sender.old.in_flight sender.new.in_flight (O.contents writer.old) (O.contents writer.new))) }
+    // In any case only parts were asked for, and what was written is the front of parts of one export.
+    ensures downloads { sender.old.in_flight.waiting.items ≡ [] → Wherever sender.old.in_flight (λ known facts.
+        Downloads sender.old.client sender.old.name profile C.does known facts sender.old.in_flight sender.new.in_flight (O.contents writer.old) (O.contents writer.new)) }
+    ensures same { sender.new ≡ record sender.old { in_flight = sender.new.in_flight } }
+    // A sender that was stopped writes nothing.
+    ensures stopped { IsSome sender.old.stopped → sender.new ≡ sender.old }
 {
-    let first = ask_part(in_flight, client, profile, 0)?;
+    match sender.stopped {
+        Some(fault) => return Err(DownloadFault::Sending(fault)),
+        None => {}
+    }
+    let one = download(sender, profile, writer)?;
+    Ok(one)
+}
+
+/// Reads the parts of an export, one after the other, and writes them. Returns whether all are of one export.
+fn download<C: Connection, O: SteadyWrite>(
+    sender: &mut Sender<C>,
+    profile: u32,
+    writer: &mut O,
+) -> Result<bool, DownloadFault>
+    ensures whole { IfOk result (λ one. IsTrue one → sender.old.in_flight.waiting.items ≡ [] → Wherever sender.old.in_flight (λ known facts.
+        Exports sender.old.client sender.old.name profile C.does known facts sender.old.in_flight sender.new.in_flight (O.contents writer.old) (O.contents writer.new))) }
+    ensures downloads { sender.old.in_flight.waiting.items ≡ [] → Wherever sender.old.in_flight (λ known facts.
+        Downloads sender.old.client sender.old.name profile C.does known facts sender.old.in_flight sender.new.in_flight (O.contents writer.old) (O.contents writer.new)) }
+    ensures same { sender.new ≡ record sender.old { in_flight = sender.new.in_flight } }
+{
+    let first = ask_part(sender, profile, 0)?;
     let mut from = write_part(writer, 0, &first)?;
     for _ in 0..u64::MAX {
         if from >= first.total {
             return Ok(from == first.total);
         }
-        let part = ask_part(in_flight, client, profile, from)?;
+        let part = ask_part(sender, profile, from)?;
         if are_of_one(&first, &part) {
             from = write_part(writer, from, &part)?;
         } else {
@@ -70,6 +93,7 @@ fn are_of_one(first: &Part, other: &Part) -> bool
 fn write_part<O: SteadyWrite>(writer: &mut O, from: u64, part: &Part) -> Result<u64, DownloadFault>
     ensures after { IfOk result (λ after. after ≡ from + length part.now.bytes) }
     ensures wrote { OnOk result (Appends (O.contents writer.old) (O.contents writer.new) part.now.bytes) }
+    ensures front { OnErr result ((count : ℕ) × Appends (O.contents writer.old) (O.contents writer.new) (take count part.now.bytes)) }
 {
     let bytes = part.bytes.as_slice();
     if bytes.is_empty() && from < part.total {
@@ -84,27 +108,45 @@ fn write_part<O: SteadyWrite>(writer: &mut O, from: u64, part: &Part) -> Result<
 
 /// Requests the part at this offset.
 fn ask_part<C: Connection>(
-    in_flight: &mut InFlight<C>,
-    client: u32,
+    sender: &mut Sender<C>,
     profile: u32,
     from: u64,
 ) -> Result<Part, TransferFault>
-    ensures { IfOk result (λ part. Waits C.does (part_request client profile from) (replies.Part part.as_of part.total part.bytes) in_flight.old in_flight.new) }
+    ensures came { IfOk result (λ part. Wherever sender.old.in_flight (λ known facts. Waits C.does known (part_frame sender.old.client sender.old.name profile from)
+        (replies.Part part.as_of part.total part.bytes) facts sender.old.in_flight sender.new.in_flight)) }
+    ensures missed { OnErr result (sender.old.in_flight.waiting.items ≡ [] → Wherever sender.old.in_flight (λ known facts.
+        OnlyAsks sender.old.client sender.old.name profile C.does known facts sender.old.in_flight sender.new.in_flight)) }
+    ensures same { sender.new ≡ record sender.old { in_flight = sender.new.in_flight } }
 {
-    let frame = part_frame(in_flight.alloc, client, profile, from)?;
-    let reply = in_flight.ask(frame)?;
+    let reply = ask_reply(sender, profile, from)?;
     let part = part_of(reply)?;
     Ok(part)
 }
 
-/// Returns the frame that requests the part at this offset.
-fn part_frame(alloc: Global, client: u32, profile: u32, from: u64) -> Result<Frame, TransferFault>
-    ensures { IfOk result (λ frame. frame ≡ part_request client profile from) }
+/// Requests the part at this offset and returns the reply, whatever it is.
+fn ask_reply<C: Connection>(
+    sender: &mut Sender<C>,
+    profile: u32,
+    from: u64,
+) -> Result<Reply, TransferFault>
+    ensures came { IfOk result (λ reply. Wherever sender.old.in_flight (λ known facts. Waits C.does known (part_frame sender.old.client sender.old.name profile from)
+        reply facts sender.old.in_flight sender.new.in_flight)) }
+    ensures missed { OnErr result (sender.old.in_flight.waiting.items ≡ [] → Wherever sender.old.in_flight (λ known facts.
+        OnlyAsks sender.old.client sender.old.name profile C.does known facts sender.old.in_flight sender.new.in_flight)) }
+    ensures same { sender.new ≡ record sender.old { in_flight = sender.new.in_flight } }
 {
-    let Some(number) = from.checked_add(EXPORT_NUMBERS) else {
-        return Err(TransferFault::NumbersUsedUp);
-    };
-    let request = Request::Export {
+    let alloc = sender.in_flight.alloc;
+    let request = part_request(alloc, profile, from);
+    let frame = frame_of(alloc, sender.client, sender.name.as_str(), &request)?;
+    let reply = sender.in_flight.ask(frame)?;
+    Ok(reply)
+}
+
+/// Returns the request for the part at this offset.
+fn part_request(alloc: Global, profile: u32, from: u64) -> Request
+    ensures { result ≡ part_request profile from }
+{
+    Request::Export {
         profile,
         from,
         max: PART_LIMIT as u32,
@@ -112,12 +154,7 @@ fn part_frame(alloc: Global, client: u32, profile: u32, from: u64) -> Result<Fra
             all: true,
             criteria: Criteria::new(alloc),
         },
-    };
-    if !request.fits(VERSION) {
-        return Err(TransferFault::NumbersUsedUp);
     }
-    let frame = request_frame(alloc, VERSION, client, number, &request)?;
-    Ok(frame)
 }
 
 /// Returns the part in a reply.

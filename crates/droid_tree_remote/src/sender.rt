@@ -1,160 +1,124 @@
-//! Sends the requests of a walk, each with its own number.
+//! The client of a service behind a connection.
 
-ghost use Rattle.std.specs.Prelude.{◌≡◌, ◌<◌, ◌^◌, IfOk, OnOk};
-ghost use Rattle.droid_tree_remote.specs.Asks.{Asks, AsksNext, IsNew};
-ghost use Rattle.droid_tree_remote.specs.Numbering.{after_by, number_by};
-ghost use Rattle.droid_tree_remote.specs.Steps.{EndsAll};
+ghost use Rattle.std.specs.Prelude.{◌≡◌, None, [], IfErr, OnOk};
+ghost use Rattle.droid_tree_connection.specs.Calls.{EndsAll, Wherever};
+ghost use Rattle.droid_tree_remote.specs.SenderCalls.{CallsSender, FailsToSettle, IsFresh, client_fault_of, stop_of};
 
-use crate::connection::{Connection, VERSION};
-use crate::fault::TransferFault;
-use crate::in_flight::InFlight;
-use crate::numbers::{COMMAND_NUMBERS_END, Numbers, number_of, numbers_after};
-use droid_frame::{Blob, Frame, Refusal, Reply};
-use droid_tree_walk::{Exchange, ExchangeFault};
+use crate::numbered_frame::numbered_frame;
+use crate::patience::ask_patiently;
+use droid_frame::{Blob, Reply, Text};
+use droid_tree_connection::{Connection, InFlight, TransferFault};
+use droid_tree_upload::{Client, ClientFault};
 use std::alloc::Global;
 
-/// The kind of a Piece request.
+/// The kind of a Piece.
 const PIECE: u8 = 4;
 
-/// A client that numbers its requests and sends them over a connection that may break.
+/// Sends the requests of a submission over a connection that may break, each under its own number.
 #[derive(Drop)]
 pub struct Sender<C> {
     /// The connection, and the requests in flight.
     pub in_flight: InFlight<C>,
-    /// The client.
+    /// The number of the client.
     pub client: u32,
-    /// The numbers of its requests.
-    pub numbers: Numbers,
-    /// Whether to send Status for each new file: until the first file of which the service holds no piece.
-    pub sends_status: bool,
+    /// The name of the submission.
+    pub name: Text,
     /// Why no more requests are sent.
     pub stopped: Option<TransferFault>,
 }
 
 impl<C: Connection> Sender<C> {
-    /// Makes a client. Its first request has the number `first`.
-    pub fn new(alloc: Global, connection: C, client: u32, first: u64) -> Sender<C>
+    /// Makes the client of a submission. The connection is made with the first request.
+    pub fn new(alloc: Global, connection: C, client: u32, name: Text) -> Sender<C>
         ensures connection { result.in_flight.connection ≡ connection }
         ensures client { result.client ≡ client }
-        ensures numbers { result.numbers ≡ record { next = first; last = 0 } }
-        ensures fresh { IsNew result }
+        ensures name { result.name ≡ name }
+        ensures going { result.stopped ≡ None }
+        ensures fresh { IsFresh result }
     {
         Sender {
             in_flight: InFlight::new(alloc, connection),
             client,
-            numbers: Numbers {
-                next: first,
-                last: 0,
-            },
-            sends_status: true,
+            name,
             stopped: None,
         }
     }
 
-    /// Waits for the replies to all requests in flight.
-    pub(crate) fn end(&mut self) -> Result<(), TransferFault>
-        ensures { OnOk result (EndsAll C.does self.old.in_flight self.new.in_flight) }
+    /// Waits for the replies to all pieces in flight.
+    pub(crate) fn settle(&mut self) -> Result<(), TransferFault>
+        ensures settled { OnOk result (Wherever self.old.in_flight (λ known facts. EndsAll C.does known facts self.old.in_flight self.new.in_flight)) }
+        ensures same { OnOk result (self.new ≡ record self.old { in_flight = self.new.in_flight }) }
+        ensures none { OnOk result (self.new.in_flight.waiting.items ≡ []) }
+        ensures failed { IfErr result (λ fault. FailsToSettle C.does fault self.old self.new) }
     {
         if let Some(fault) = self.stopped {
             return Err(fault);
         }
-        self.in_flight.settle_all()?;
-        Ok(())
-    }
-
-    /// Sends a request of this kind and body, with its number.
-    fn ask_next(&mut self, kind: u8, body: Blob) -> Result<Reply, TransferFault>
-        ensures asks { IfOk result (λ reply. Asks C.does (record { version = 2; kind = kind; client = self.old.client; number = number_by self.old.numbers kind; body = body }) reply
-            self.old.in_flight self.new.in_flight) }
-        ensures numbers { IfOk result (λ reply. self.new.numbers ≡ after_by self.old.numbers kind reply) }
-        ensures below { OnOk result (self.old.numbers.next < 2 ^ 61) }
-        ensures client { self.new.client ≡ self.old.client }
-    {
-        see_going(self.stopped, self.numbers.next)?;
-        let number = number_of(self.numbers, kind)?;
-        let frame = Frame {
-            version: VERSION,
-            kind,
-            client: self.client,
-            number,
-            body,
-        };
-        let reply = ask_frame(&mut self.in_flight, frame)?;
-        self.numbers = numbers_after(self.numbers, kind, &reply);
-        self.sends_status = sends_more_status(self.sends_status, &reply);
-        Ok(reply)
-    }
-}
-
-/// Sends a frame and returns its reply. A piece is not waited for: the `Taken` that is returned at once carries no
-/// count, and the true reply is checked when it is read.
-fn ask_frame<C: Connection>(
-    in_flight: &mut InFlight<C>,
-    frame: Frame,
-) -> Result<Reply, TransferFault>
-    ensures { IfOk result (λ reply. Asks C.does frame reply in_flight.old in_flight.new) }
-{
-    if frame.kind == PIECE {
-        in_flight.send(frame)?;
-        return Ok(Reply::Taken { held: 0 });
-    }
-    let reply = in_flight.ask(frame)?;
-    Ok(reply)
-}
-
-/// Returns whether to send Status for the next file: no longer after a file of which the service holds no piece.
-/// Requests have one order, so the earlier submission ended before that file.
-fn sends_more_status(looks: bool, reply: &Reply) -> bool {
-    match reply {
-        Reply::Progress {
-            held: _,
-            missing: 0,
-        } => false,
-        _ => looks,
-    }
-}
-
-/// Checks that there is a number left and that no error ended the submission.
-fn see_going(stopped: Option<TransferFault>, next: u64) -> Result<(), TransferFault>
-    ensures { OnOk result (next < 2 ^ 61) }
-{
-    if let Some(fault) = stopped {
-        return Err(fault);
-    }
-    if next < COMMAND_NUMBERS_END {
-        Ok(())
-    } else {
-        Err(TransferFault::NumbersUsedUp)
-    }
-}
-
-impl<C: Connection> Exchange for Sender<C> {
-    ghost asks = { λ old asked new. AsksNext C.does asked.0 asked.1 old new };
-
-    fn ask(&mut self, kind: u8, body: Blob) -> Result<Reply, ExchangeFault> {
-        match self.ask_next(kind, body) {
-            Ok(reply) => {
-                self.stopped = changed(&reply);
-                Ok(reply)
-            }
+        match self.in_flight.settle_all() {
+            Ok(()) => Ok(()),
             Err(fault) => {
                 self.stopped = Some(fault);
-                Err(ExchangeFault)
+                Err(fault)
+            }
+        }
+    }
+}
+
+impl<C: Connection> Client for Sender<C> {
+    ghost calls = { CallsSender C.does };
+
+    fn ask(&mut self, attempt: u32, kind: u8, body: Blob) -> Result<Reply, ClientFault> {
+        match self.stopped {
+            Some(_) => return Err(ClientFault::Ended),
+            None => {}
+        }
+        let Some(frame) = numbered_frame(self.client, self.name.as_str(), attempt, kind, body)
+        else {
+            return Err(ClientFault::Ended);
+        };
+        match ask_patiently(&mut self.in_flight, frame) {
+            Ok(reply) => Ok(reply),
+            Err(fault) => {
+                self.stopped = stop_of(fault);
+                Err(client_fault_of(fault))
             }
         }
     }
 
-    fn sends_status(&self) -> bool {
-        self.sends_status
+    fn send(&mut self, body: Blob) -> Result<(), ClientFault> {
+        match self.stopped {
+            Some(_) => return Err(ClientFault::Ended),
+            None => {}
+        }
+        let Some(frame) = numbered_frame(self.client, self.name.as_str(), 0, PIECE, body) else {
+            return Err(ClientFault::Ended);
+        };
+        match self.in_flight.send(frame) {
+            Ok(()) => Ok(()),
+            Err(fault) => {
+                self.stopped = stop_of(fault);
+                Err(client_fault_of(fault))
+            }
+        }
     }
 }
 
-/// Returns the error for a changed tree, if the reply shows one: the service has another request under this number, or
-/// another node of this name.
-fn changed(reply: &Reply) -> Option<TransferFault> {
-    match reply {
-        Reply::Refused(Refusal::NumberReused) => Some(TransferFault::Changed),
-        Reply::Refused(Refusal::NameTaken) => Some(TransferFault::Changed),
-        _ => None,
+/// Returns what the walk learns of a fault: a refused piece, or that nothing more is sent.
+fn client_fault_of(fault: TransferFault) -> ClientFault
+    ensures { result ≡ client_fault_of fault }
+{
+    match fault {
+        TransferFault::Refused(refusal) => ClientFault::Piece(refusal),
+        _ => ClientFault::Ended,
+    }
+}
+
+/// Returns why no more requests are sent after a fault. A refused piece is no reason.
+fn stop_of(fault: TransferFault) -> Option<TransferFault>
+    ensures { result ≡ stop_of fault }
+{
+    match fault {
+        TransferFault::Refused(_) => None,
+        _ => Some(fault),
     }
 }

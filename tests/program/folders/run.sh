@@ -4,6 +4,7 @@
 set -u
 tests=$(cd "$(dirname "$0")/../.." && pwd)
 . "$tests/lib/modules.sh"
-export PRELOAD_READS="$work/reads.so"
+export PRELOAD_READS="$work/reads.so" PRELOAD_CHANGES="$work/changes.so"
 build_library reads.c "$PRELOAD_READS"
-run_modules profile_trees profile_skipped profile_reads profile_output profile_progress profile_arguments
+build_library changes.c "$PRELOAD_CHANGES"
+run_modules profile_trees profile_skipped profile_reads profile_exchanged profile_output profile_progress profile_arguments

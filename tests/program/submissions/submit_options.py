@@ -35,12 +35,6 @@ class Options(InFolder):
         frames, _ = self.sent(client=4_294_967_295)
         self.assertEqual({frame.client for frame in frames}, {4_294_967_295})
 
-    def test_first(self):
-        """The commands have the numbers from the first on, in the order in which they go out."""
-        frames, _ = self.sent("--first", "1000")
-        commands = [frame.number for frame in frames if frame.kind <= 6]
-        self.assertEqual(commands, list(range(1000, 1000 + len(commands))))
-
     def test_limit(self):
         """`abc` and `xyz` stand within 100 bytes of the ends, but not within 2."""
         frames, rows = self.sent("--limit", "100")
@@ -71,6 +65,21 @@ class Options(InFolder):
         self.assertEqual(added, files)
         lengths = [len(frame.body) - 12 for frame in frames if frame.kind == PIECE]
         self.assertEqual(lengths, [64, 36, 7, 64, 64, 64, 14])
+
+    def test_wrong(self):
+        """The command ends before it looks at the folder."""
+        numbers = [["--wait", number] for number in ("-1", "86401", "x", "")] + [["--timeout", number] for number in ("0", "86401")]
+        for words in (*numbers, ["--wait"], ["--timeout"], ["--name"], ["--name", ""], ["--skipped"], ["--first", "1"]):
+            with self.subTest(words=words):
+                status, err = submit(self.top + b"/none", 1, 7, *words)
+                self.assertEqual((status, err[:7]), (2, b"error: "))
+
+    def test_last_values_are_taken(self):
+        """The command looks at the folder then."""
+        for words in (["--wait", "0"], ["--wait", "86400"], ["--timeout", "1"], ["--timeout", "86400"], ["--name", "a deposit"]):
+            with self.subTest(words=words):
+                status, err = submit(self.top + b"/none", 1, 7, *words)
+                self.assertEqual((status, err.split(b"\n")[0]), (4, b"fault: Folder"))
 
     @staticmethod
     def puids(rows):

@@ -1,8 +1,9 @@
 """A folder is submitted. Its export has the rows of Python's own walk."""
 import os
+import unittest
 
-from lib.program import SAMPLE, Serve, send
-from lib.submissions import WithTree, submit
+from lib.program import SAMPLE, Serve
+from lib.submissions import WithTree, fault, submit
 from lib.trees import ALL_SKIPPED, profile, walk
 
 
@@ -49,26 +50,15 @@ class Whole(WithTree):
 
     def test_export_that_can_not_be_made(self):
         """Nothing is sent then: nobody listens on port 1."""
-        status, err = submit(self.top, 1, 7, "--export", self.work + b"/none/export.csv")
         path = self.work + b"/none/export.csv"
-        self.assertEqual((status, err), (4, b"fault: Output\n" + path + b": cannot be created: its folder does not exist: create it first\n"))
-
-    def test_nobody_listens(self):
-        with Serve.lasting() as service:
-            port = service.port
-        status, err = submit(self.top, port, 7, "--export", self.export)
-        sentence = b"nobody listens on port %d: start droid_desk serve --port %d first\n" % (port, port)
-        self.assertEqual((status, err), (4, b"fault: Socket\n" + sentence))
-        self.assertFalse(os.path.exists(self.export))
-
-    def test_no_more_profiles(self):
-        with Serve.lasting() as service:
-            for client in range(100, 164):
-                self.assertEqual(send(service.port, client, b"create 65536 0\n")[0], 0)
-            status, err = submit(self.top, service.port, 7)
-        sentence = b"port %d: the service refused a request, perhaps for its limit of 64 profiles: start another\n" % service.port
-        self.assertEqual((status, err), (4, b"fault: Reply\n" + sentence))
+        sentence = "%s: cannot be created: its folder does not exist: create it first" % os.fsdecode(path)
+        for option in ("--export", "--skipped"):
+            self.assertEqual(submit(self.top, 1, 7, option, path), (4, fault("Output", sentence)))
 
     def test_no_folder(self):
-        status, err = submit(self.top + b"/none", 1, 7)
-        self.assertEqual((status, err), (4, b"fault: Folder\n" + self.top + b"/none: no such folder: check the path\n"))
+        path = self.top + b"/none"
+        self.assertEqual(submit(path, 1, 7), (4, fault("Folder", "%s: no such folder: check the path" % os.fsdecode(path))))
+
+
+if __name__ == "__main__":
+    unittest.main()

@@ -6,15 +6,23 @@ use crate::sample_service::sample_service;
 use crate::submissions::small_tree::OPTIONS;
 use droid_core::Service;
 use droid_frame::{
-    Blob, Criteria, Filter, Frame, Reply, Request, is_version, reply_body, request_frame,
+    Blob, Criteria, Filter, Frame, Reply, Request, Text, is_version, reply_body, request_frame,
 };
-use droid_tree_remote::{Broken, Connection, InFlight, Sender, SubmissionFault, submit};
+use droid_tree_remote::{
+    Broken, Connection, InFlight, Options, RemoteFault, Sender, Upload, submit,
+};
 use std::alloc::{AllocError, Global};
 use std::collections::VecDeque;
 use std::test::Fail;
 
 /// The client.
 pub const CLIENT: u32 = 7;
+
+/// The submission's name.
+const NAME: &str = "/tree";
+
+/// How many pauses a request may make: with the first, ten tries.
+const PAUSES: u32 = 9;
 
 /// What happens to the frame at which the connection breaks.
 #[derive(Clone, Copy, Debug, PartialEq, Eq)]
@@ -39,6 +47,8 @@ pub struct BreakingService {
     /// The step at which the connection breaks, or 0.
     pub breaks_at: u32,
     pub way: Way,
+    /// How many frames arrived.
+    pub handled: u32,
     /// How many pieces arrived.
     pub pieces: u32,
     /// How many replies were in flight at most.
@@ -49,6 +59,10 @@ pub struct BreakingService {
     pub lives: u32,
     /// How many steps this connection has made.
     pub lived: u32,
+    /// How many pauses are left.
+    pub pauses: u32,
+    /// The service that stands there after the break, in the place of this one.
+    pub successor: Option<Service>,
 }
 
 impl BreakingService {
@@ -65,11 +79,14 @@ impl BreakingService {
             step: 0,
             breaks_at,
             way,
+            handled: 0,
             pieces: 0,
             most: 0,
             joins: 0,
             lives: 0,
             lived: 0,
+            pauses: PAUSES,
+            successor: None,
         }
     }
 
@@ -79,6 +96,11 @@ impl BreakingService {
         self.lived = self.lived.wrapping_add(1);
         let gone = self.way == Way::Gone && self.breaks_at != 0 && self.step > self.breaks_at;
         let dies = self.lives != 0 && self.lived > self.lives;
+        if self.step == self.breaks_at
+            && let Some(successor) = self.successor.take()
+        {
+            self.service = successor;
+        }
         if self.step == self.breaks_at || gone || dies {
             self.joined = false;
             self.replies.clear();
@@ -90,6 +112,7 @@ impl BreakingService {
     /// Lets the service handle a frame.
     fn handle(&mut self, frame: &Frame) -> Result<(), AllocError> {
         let (client, number) = (frame.client, frame.number);
+        self.handled = self.handled.wrapping_add(1);
         if frame.kind == 4 {
             self.pieces = self.pieces.wrapping_add(1);
         }
@@ -154,6 +177,20 @@ impl Connection for BreakingService {
             None => Err(Broken),
         }
     }
+
+    fn pause(&mut self) -> bool {
+        match self.pauses.checked_sub(1) {
+            Some(left) => {
+                self.pauses = left;
+                true
+            }
+            None => false,
+        }
+    }
+
+    fn start_wait(&mut self) {
+        self.pauses = PAUSES;
+    }
 }
 
 /// Returns the service behind a sender's connection.
@@ -164,20 +201,65 @@ pub fn service_of(sender: Sender<BreakingService>) -> Service {
     service
 }
 
-/// Submits a tree. Returns whether nothing was skipped, or why it ended early.
-pub fn submitted(
+/// A run of `submit`, and what it left.
+#[derive(Drop)]
+pub struct Run<'a> {
+    /// Whether nothing was skipped, or why it ended early.
+    pub ended: Result<bool, RemoteFault>,
+    pub upload: Upload<MemoryTree<'a>, Sender<BreakingService>, NotingWatcher>,
+}
+
+impl Run<'_> {
+    /// Returns the connection.
+    pub fn desk(&mut self) -> &mut BreakingService {
+        &mut self.upload.client.in_flight.connection
+    }
+
+    /// Returns the whole export of the first profile.
+    pub fn exported(&mut self) -> Result<Blob, Fail> {
+        let alloc = self.upload.alloc;
+        exported(alloc, &mut self.upload.client.in_flight.connection.service)
+    }
+
+    /// Returns the service.
+    pub fn into_service(self) -> Service {
+        let Run { upload, .. } = self;
+        let Upload { client, .. } = upload;
+        service_of(client)
+    }
+}
+
+/// Submits a tree by these options.
+pub fn submitted_by<'a>(
     alloc: Global,
-    sender: &mut Sender<BreakingService>,
-    watcher: &mut NotingWatcher,
-    rows: &[Row],
-) -> Result<bool, SubmissionFault> {
-    let mut tree = MemoryTree::of(rows);
-    let walked = submit(alloc, &mut tree, sender, watcher, OPTIONS)?;
-    Ok(walked.whole)
+    desk: BreakingService,
+    rows: &'a [Row<'a>],
+    options: Options,
+) -> Result<Run<'a>, Fail> {
+    let mut upload = Upload {
+        alloc,
+        tree: MemoryTree::of(rows),
+        client: Sender::new(alloc, desk, CLIENT, Text::copy_of(alloc, NAME)?),
+        watcher: NotingWatcher::new(alloc),
+    };
+    let ended = match submit(&mut upload, options) {
+        Ok(submitted) => Ok(submitted.whole),
+        Err(fault) => Err(fault),
+    };
+    Ok(Run { ended, upload })
+}
+
+/// Submits a tree.
+pub fn submitted<'a>(
+    alloc: Global,
+    desk: BreakingService,
+    rows: &'a [Row<'a>],
+) -> Result<Run<'a>, Fail> {
+    submitted_by(alloc, desk, rows, OPTIONS)
 }
 
 /// Returns the whole export of the first profile.
-pub fn exported(alloc: Global, service: &mut Service) -> Result<Blob, Fail> {
+fn exported(alloc: Global, service: &mut Service) -> Result<Blob, Fail> {
     let request = Request::Export {
         profile: 1,
         from: 0,

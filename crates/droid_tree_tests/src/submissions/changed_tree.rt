@@ -1,41 +1,81 @@
 //! A tree that has changed since it was submitted.
 
 use crate::memory_tree::Row;
-use crate::noting_watcher::NotingWatcher;
-use crate::submissions::breaking_service::{BreakingService, CLIENT, Way, service_of, submitted};
+use crate::submissions::breaking_service::{BreakingService, Way, submitted};
 use droid_tree::EntryKind;
-use droid_tree_remote::{Sender, SubmissionFault, TransferFault};
 use std::test::Fail;
 
-const FIRST: [Row; 2] = [
+const FIRST: [Row; 3] = [
     ("", b"d", EntryKind::Folder, 0, Some(b"")),
     ("/d", b"more", EntryKind::File, 5, Some(b"abcde")),
+    ("", b"z", EntryKind::File, 1, Some(b"z")),
 ];
 
 /// The same tree with a longer file.
-const LONGER: [Row; 2] = [
+const LONGER: [Row; 3] = [
     ("", b"d", EntryKind::Folder, 0, Some(b"")),
     ("/d", b"more", EntryKind::File, 7, Some(b"abcdefg")),
+    ("", b"z", EntryKind::File, 1, Some(b"z")),
 ];
 
+/// The same tree with two more files, before and behind the others.
+const WIDER: [Row; 5] = [
+    ("", b"a", EntryKind::File, 1, Some(b"a")),
+    ("", b"d", EntryKind::Folder, 0, Some(b"")),
+    ("/d", b"more", EntryKind::File, 5, Some(b"abcde")),
+    ("/d", b"new", EntryKind::File, 1, Some(b"n")),
+    ("", b"z", EntryKind::File, 1, Some(b"z")),
+];
+
+/// The same tree, of which a file can't be read.
+const SEALED: [Row; 3] = [
+    ("", b"d", EntryKind::Folder, 0, Some(b"")),
+    ("/d", b"more", EntryKind::File, 5, None),
+    ("", b"z", EntryKind::File, 1, Some(b"z")),
+];
+
+/// Another file of a name is skipped, and the walk goes on.
 #[test]
 fn longer(rt: HostRuntime) -> Result<(), Fail> {
     let alloc = rt.alloc();
     let desk = BreakingService::new(alloc, 0, Way::Unsent)?;
-    let mut sender = Sender::new(alloc, desk, CLIENT, 1);
-    let mut watcher = NotingWatcher::new(alloc);
-    assert!(rt; submitted(alloc, &mut sender, &mut watcher, &FIRST)?);
-    let desk = BreakingService::over(alloc, service_of(sender), 0, Way::Unsent);
-    let mut sender = Sender::new(alloc, desk, CLIENT, 1);
-    let ended = submitted(alloc, &mut sender, &mut watcher, &LONGER);
-    assert!(rt;
-        matches!(
-            &ended,
-            Err(SubmissionFault::Sending(TransferFault::Changed))
-        )
-    );
-    assert!(rt;
-        watcher.used_before && watcher.skipped.as_slice() == b"/d/more refused\n".as_slice()
-    );
+    let run = submitted(alloc, desk, &FIRST)?;
+    assert!(rt; run.ended == Ok(true));
+    let desk = BreakingService::over(alloc, run.into_service(), 0, Way::Unsent);
+    let mut run = submitted(alloc, desk, &LONGER)?;
+    assert!(rt; run.ended == Ok(false) && run.desk().pieces == 0);
+    let watcher = &run.upload.watcher;
+    assert!(rt; watcher.used_before && watcher.files == 1);
+    assert!(rt; watcher.skipped.as_slice() == b"/d/more refused\n".as_slice());
+    Ok(())
+}
+
+/// What is new is sent, and what was there is not.
+#[test]
+fn wider(rt: HostRuntime) -> Result<(), Fail> {
+    let alloc = rt.alloc();
+    let desk = BreakingService::new(alloc, 0, Way::Unsent)?;
+    let run = submitted(alloc, desk, &FIRST)?;
+    let desk = BreakingService::over(alloc, run.into_service(), 0, Way::Unsent);
+    let mut run = submitted(alloc, desk, &WIDER)?;
+    assert!(rt; run.ended == Ok(true) && run.desk().pieces == 2);
+    assert!(rt; run.upload.watcher.files == 4);
+    Ok(())
+}
+
+/// A file that could not be read, and was abandoned, is added again when it can be read.
+#[test]
+fn readable_again(rt: HostRuntime) -> Result<(), Fail> {
+    let alloc = rt.alloc();
+    let desk = BreakingService::new(alloc, 0, Way::Unsent)?;
+    let mut run = submitted(alloc, desk, &SEALED)?;
+    assert!(rt; run.ended == Ok(false) && run.desk().pieces == 1);
+    assert!(rt; run.upload.watcher.skipped.as_slice() == b"/d/more unreadable\n".as_slice());
+    let desk = BreakingService::over(alloc, run.into_service(), 0, Way::Unsent);
+    let mut run = submitted(alloc, desk, &FIRST)?;
+    assert!(rt; run.ended == Ok(true) && run.desk().pieces == 2);
+    let text = run.exported()?;
+    let text = std::str::from_utf8(text.as_slice())?;
+    assert!(rt; text.contains("/d/more"));
     Ok(())
 }

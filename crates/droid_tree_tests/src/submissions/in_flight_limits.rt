@@ -1,19 +1,18 @@
 //! How many requests are in flight, and how many connections are tried.
 
-use crate::noting_watcher::NotingWatcher;
-use crate::submissions::breaking_service::{BreakingService, CLIENT, Way, submitted};
+use crate::submissions::breaking_service::{BreakingService, Way, submitted};
 use crate::submissions::small_tree::ROWS;
-use droid_tree_remote::{Sender, SubmissionFault, TransferFault};
+use droid_tree_remote::{RemoteFault, TransferFault};
 use std::test::Fail;
+
+const BROKEN: Result<bool, RemoteFault> = Err(RemoteFault::Sending(TransferFault::Broken));
 
 #[test]
 fn sixteen_at_most(rt: HostRuntime) -> Result<(), Fail> {
     let alloc = rt.alloc();
     let desk = BreakingService::new(alloc, 0, Way::Unsent)?;
-    let mut sender = Sender::new(alloc, desk, CLIENT, 1);
-    let mut watcher = NotingWatcher::new(alloc);
-    assert!(rt; submitted(alloc, &mut sender, &mut watcher, &ROWS)?);
-    assert!(rt; sender.in_flight.connection.most == 16);
+    let mut run = submitted(alloc, desk, &ROWS)?;
+    assert!(rt; run.ended == Ok(true) && run.desk().most == 16);
     Ok(())
 }
 
@@ -23,22 +22,17 @@ fn one_frame_alone(rt: HostRuntime) -> Result<(), Fail> {
     let alloc = rt.alloc();
     let mut desk = BreakingService::new(alloc, 0, Way::Unsent)?;
     desk.lives = 2;
-    let mut sender = Sender::new(alloc, desk, CLIENT, 1);
-    let mut watcher = NotingWatcher::new(alloc);
-    let ended = submitted(alloc, &mut sender, &mut watcher, &ROWS);
-    assert!(rt; matches!(&ended, Err(SubmissionFault::Sending(TransferFault::Broken))));
-    assert!(rt; sender.in_flight.connection.joins == 10);
+    let mut run = submitted(alloc, desk, &ROWS)?;
+    assert!(rt; run.ended == BROKEN && run.desk().joins == 10);
     Ok(())
 }
 
+/// Where no connection can be made, there is a try before each pause, and one behind the last.
 #[test]
 fn ten_tries(rt: HostRuntime) -> Result<(), Fail> {
     let alloc = rt.alloc();
     let desk = BreakingService::new(alloc, 1, Way::Gone)?;
-    let mut sender = Sender::new(alloc, desk, CLIENT, 1);
-    let mut watcher = NotingWatcher::new(alloc);
-    let ended = submitted(alloc, &mut sender, &mut watcher, &ROWS);
-    assert!(rt; matches!(&ended, Err(SubmissionFault::Sending(TransferFault::Broken))));
-    assert!(rt; sender.in_flight.connection.step == 10);
+    let mut run = submitted(alloc, desk, &ROWS)?;
+    assert!(rt; run.ended == BROKEN && run.desk().step == 10);
     Ok(())
 }

@@ -3,7 +3,7 @@
 use crate::memory_tree::Row;
 use droid_frame::HashKind;
 use droid_tree::EntryKind;
-use droid_tree_walk::Options;
+use droid_tree_remote::Options;
 
 pub const OPTIONS: Options = Options {
     scan_limit: 65_536,
@@ -33,5 +33,9 @@ pub const ROWS: [Row; 6] = [
 /// How many pieces these files have together.
 pub const PIECES: u32 = 1 + 1 + 2 + 24;
 
-/// How many bytes the files have that are not empty.
-pub const BYTES: u64 = 1 + 4 + 5 + 95;
+/// How many frames a first run sends: a profile, five files and a folder, a first Finish of the four files that are not
+/// empty, the pieces, and the ends of five files.
+pub const FRAMES: u32 = 1 + 6 + 4 + PIECES + 5;
+
+/// How many frames a run sends where all is there: a profile, five files and a folder, and the Finish of each file.
+pub const FRAMES_AGAIN: u32 = 1 + 6 + 5;

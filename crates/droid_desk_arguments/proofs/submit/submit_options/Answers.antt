@@ -10,19 +10,23 @@ pub returns : goal.returns
 returns c =
     let found = found_of c.args.submit.now in
     let folder = c.in_ok-folder.ensures ∙ first_value-rows found (codes "folder") in
+    let name = c.get_str-name.ensures ∙ first_value-rows found (codes "name") in
     let piece_size = number_or (λ bs r. ParsesUnsigned 32 10 bs r × ExplainsUnsignedError 10 bs r × HasUnsignedDigitsIfOk bs r) 32 262144 (λ text x gives. gives.0.1) (λ text e gives. gives.0)
     found (codes "piece-size") c.get_one.result c.unwrap_or-piece_size.result c.get_one.ensures.none c.get_one.ensures.value c.unwrap_or-piece_size.ensures in
     let limit = number_or (λ bs r. ParsesUnsigned 32 10 bs r × ExplainsUnsignedError 10 bs r × HasUnsignedDigitsIfOk bs r) 32 65536 (λ text x gives. gives.0.1) (λ text e gives. gives.0)
     found (codes "limit") c.get_one-2.result c.unwrap_or-limit.result c.get_one-2.ensures.none c.get_one-2.ensures.value c.unwrap_or-limit.ensures in
     let hash = subst (λ (o : Option Text). IsHash o c.in_ok-hash.hash) (c.get_str-hash_word.ensures ∙ first_value-rows found (codes "hash")) c.in_ok-hash.ensures in
     let export = c.get_str-export.ensures ∙ first_value-rows found (codes "export") in
+    let skipped = c.get_str-skipped.ensures ∙ first_value-rows found (codes "skipped") in
     record {
       folder = folder;
       destination = c.in_ok-to.ensures;
+      name = name;
       piece_size = piece_size;
       limit = limit;
       match_all = c.flag_of-match_all.ensures;
       hash = hash;
       export = export;
+      skipped = skipped;
       quiet = c.flag_of-quiet.ensures;
     }

@@ -1,0 +1,14 @@
+-- What the options of `submit` become (this project's own).
+use Rattle.droid_desk_arguments.specs.declared.submit.Destination.{Destination}
+use Rattle.droid_desk_arguments.specs.declared.submit.SubmitOptions.{SubmitOptions}
+use Rattle.droid_desk_folders.specs.declared.loopback.LoopbackSettings.{LoopbackSettings}
+use Rattle.droid_desk_progress.specs.declared.verbosity.Verbosity.{Verbosity}
+use Rattle.droid_tree_submission.specs.declared.tree_submission.Options.{Options}
+
+-- how the tree is submitted
+abbrev pub walk_options : SubmitOptions → Options
+walk_options options = record { scan_limit = options.limit; match_all = options.match_all; hash = options.hash; piece_size = options.piece_size }
+
+-- where to connect to, and how long to wait
+abbrev pub connection_of : Destination → Verbosity → LoopbackSettings
+connection_of to verbosity = record { port = to.port; wait = to.wait; timeout = to.timeout; verbosity = verbosity }

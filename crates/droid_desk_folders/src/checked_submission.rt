@@ -1,0 +1,85 @@
+//! Submits a tree, and compares the profile with it.
+
+ghost use Rattle.std.specs.Prelude.{◌≡◌, [], true, IfErr, IfOk, OnErr, OnOk};
+ghost use Rattle.droid_tree_connection.specs.Calls.{Wherever};
+ghost use Rattle.droid_desk_folders.specs.CheckedSubmissions.{ChecksTree, EndsCommand};
+ghost use Rattle.droid_desk_folders.specs.ProfileComparisons.{AsksParts, Compares, ReadsExport};
+
+use crate::audience::Audience;
+use crate::check_fault::CheckFault;
+use crate::profile_comparison::{Compared, ComparisonFault, compare_with, read_export};
+use crate::recorder::Recorder;
+use droid_tree::{Tree, WalkFault, count};
+use droid_tree_remote::{Connection, Options, RemoteFault, Sender, Submitted, Upload, submit};
+
+/// Why a tree was not submitted, or its profile not compared with it.
+#[derive(Clone, Copy, Debug)]
+pub enum CommandFault {
+    /// The tree could not be counted. Nothing was sent.
+    Uncounted(WalkFault),
+    /// The submission ended early.
+    Unsubmitted(RemoteFault),
+    /// Everything was submitted to this profile, but the profile could not be compared.
+    Uncompared {
+        /// The number of the profile.
+        profile: u32,
+        /// Why not.
+        fault: ComparisonFault,
+    },
+}
+
+/// Counts what is in a tree, reports that to the watcher, submits the tree, reads the CSV of the profile, and compares it
+/// with the tree as it was submitted.
+pub fn submit_and_check<T: Tree, C: Connection, W: Audience>(
+    upload: &mut Upload<T, Sender<C>, Recorder<W>>,
+    options: Options,
+    limit: u64,
+) -> Result<Compared, CommandFault>
+    // The tree has no more folders and files than the limit. It was submitted, and then the CSV of its profile was read and
+    // compared with exactly what was submitted.
+    ensures checked { IfOk result (λ compared. ChecksTree T.observes C.does W.expects W.hears options limit compared upload.old upload.new) }
+    // After a fault of the counting nothing was sent or reported. After one of the submission it stands as that says. After
+    // one of the comparison the tree was submitted.
+    ensures ended { IfErr result (λ fault. EndsCommand T.observes C.does W.expects W.hears options limit fault upload.old upload.new) }
+{
+    let counted = match count(upload.alloc, &mut upload.tree, limit) {
+        Ok(counted) => counted,
+        Err(fault) => return Err(CommandFault::Uncounted(fault)),
+    };
+    upload.watcher.watcher.hear_count(counted);
+    let submitted = match submit(upload, options) {
+        Ok(submitted) => submitted,
+        Err(fault) => return Err(CommandFault::Unsubmitted(fault)),
+    };
+    match check_profile(upload, &submitted) {
+        Ok(compared) => Ok(compared),
+        Err(fault) => Err(CommandFault::Uncompared {
+            profile: submitted.profile,
+            fault,
+        }),
+    }
+}
+
+/// Reads the CSV of a profile and compares it with what was submitted.
+fn check_profile<T: Tree, C: Connection, W: Audience>(
+    upload: &mut Upload<T, Sender<C>, Recorder<W>>,
+    submitted: &Submitted,
+) -> Result<Compared, ComparisonFault>
+    ensures only_client { upload.new ≡ record upload.old { client = upload.new.client } }
+    ensures kept { OnOk result (upload.old.watcher.has_all ≡ true) }
+    ensures reads { IfOk result (λ compared. upload.old.client.in_flight.waiting.items ≡ [] → Wherever upload.old.client.in_flight (λ known facts.
+        ReadsExport C.does upload.old.client.client upload.old.client.name submitted.now.profile known facts upload.old.client.in_flight upload.new.client.in_flight compared.csv.items)) }
+    ensures asks { OnErr result (upload.old.client.in_flight.waiting.items ≡ [] → Wherever upload.old.client.in_flight (λ known facts.
+        AsksParts C.does upload.old.client.client upload.old.client.name submitted.now.profile known facts upload.old.client.in_flight upload.new.client.in_flight)) }
+    ensures compares { IfOk result (λ compared. Compares upload.old.watcher.skipped.items submitted.now compared.csv.items compared) }
+{
+    let csv = read_export(upload.alloc, &mut upload.client, submitted.profile)?;
+    if !upload.watcher.has_all {
+        return Err(ComparisonFault::Unchecked(CheckFault::Memory));
+    }
+    let skipped = upload.watcher.skipped.as_slice();
+    match compare_with(upload.alloc, skipped, submitted, csv) {
+        Ok(compared) => Ok(compared),
+        Err(fault) => Err(ComparisonFault::Unchecked(fault)),
+    }
+}

@@ -1,0 +1,211 @@
+//! Sentences that say how a submission ended, and what to do.
+
+use crate::begun_options::BegunOptions;
+use crate::check_fault::CheckFault;
+use crate::folder_advice::{NO_MEMORY, print_no_folder, print_no_output, walk_advice};
+use crate::submission_ending::{OutputFile, SubmissionEnding};
+use droid_desk_arguments::SubmitOptions;
+use droid_desk_progress::Shown;
+use droid_frame::{Limit, Refusal};
+use droid_tree_disk::OutputFault;
+use droid_tree_remote::{RemoteFault, SubmissionFault, TransferFault};
+use std::fs::Files;
+use std::io::{self, ErrorKind};
+
+const MISTAKE: &str = "this is a mistake in droid_desk or in the service";
+
+impl SubmissionEnding {
+    /// Prints the fault to standard error, and behind it a sentence that says what happened and what to do.
+    pub fn print<R: Files + Eprint>(self, rt: &R, options: SubmitOptions<'_>) -> io::Result<()> {
+        let Some(name) = self.fault_name() else {
+            return Ok(());
+        };
+        eprintln!(rt; "fault: {name}")?;
+        match self {
+            SubmissionEnding::NoFolder => print_no_folder(rt, options.folder),
+            SubmissionEnding::InFolder(file)
+            | SubmissionEnding::NoOutput(file, _)
+            | SubmissionEnding::Unwritten(file) => self.print_file(rt, path_of(options, file)),
+            SubmissionEnding::Uncounted(fault) => {
+                print_folder(rt, options.folder, walk_advice(fault))
+            }
+            SubmissionEnding::Unsubmitted(RemoteFault::Walking(fault)) => {
+                print_walking(rt, options, fault)
+            }
+            SubmissionEnding::Unsubmitted(RemoteFault::Sending(fault))
+            | SubmissionEnding::NoExport(fault) => print_transfer(rt, options, fault),
+            _ => self.print_of_port(rt, options),
+        }
+    }
+
+    /// Prints the sentence of an ending that is about the port or about memory.
+    fn print_of_port<R: Eprint>(self, rt: &R, options: SubmitOptions<'_>) -> io::Result<()> {
+        let port = options.to.port;
+        match self {
+            SubmissionEnding::NoConnection(cause) => print_no_connection(rt, port, cause),
+            SubmissionEnding::OtherOptions(begun) => print_other_options(rt, port, begun),
+            SubmissionEnding::Disturbed => {
+                eprintln!(rt;
+                    "port {port}: other clients sent requests between the parts of the CSV, a hundred times: run the same command again later"
+                )
+            }
+            SubmissionEnding::Unchecked(CheckFault::Memory) => eprintln!(rt; "{NO_MEMORY}"),
+            SubmissionEnding::Unchecked(fault) => {
+                eprintln!(rt; "port {port}: {}: {MISTAKE}", check_sentence(fault))
+            }
+            _ => eprintln!(rt; "{NO_MEMORY}"),
+        }
+    }
+
+    /// Prints why a file was not written.
+    fn print_file<R: Files + Eprint>(self, rt: &R, path: &str) -> io::Result<()> {
+        let shown = Shown(path.as_bytes());
+        match self {
+            SubmissionEnding::InFolder(_) => {
+                eprintln!(rt;
+                    "{shown}: lies in the folder that is submitted, and would change it: choose another place"
+                )
+            }
+            SubmissionEnding::NoOutput(_, OutputFault::Refused) => print_no_output(rt, path),
+            SubmissionEnding::Unwritten(_) => {
+                eprintln!(rt; "{shown}: could not be written: is the disk full?")
+            }
+            _ => eprintln!(rt; "{NO_MEMORY}"),
+        }
+    }
+}
+
+/// Returns the path of a file that a submission writes.
+fn path_of(options: SubmitOptions<'_>, file: OutputFile) -> &str {
+    let path = match file {
+        OutputFile::Export => options.export,
+        OutputFile::Skipped => options.skipped,
+    };
+    path.unwrap_or("")
+}
+
+fn print_folder<R: Eprint>(rt: &R, folder: &str, sentence: &str) -> io::Result<()> {
+    eprintln!(rt; "{}: {sentence}", Shown(folder.as_bytes()))
+}
+
+/// Says why a port could not be connected to.
+fn print_no_connection<R: Eprint>(rt: &R, port: u16, cause: ErrorKind) -> io::Result<()> {
+    match cause {
+        ErrorKind::ConnectionRefused => {
+            eprintln!(rt;
+                "nobody listens on port {port}: start droid_desk serve --port {port} first, or wait longer by --wait"
+            )
+        }
+        kind => eprintln!(rt; "port {port}: cannot be connected to: {kind}"),
+    }
+}
+
+/// Says which options the submission was begun with.
+fn print_other_options<R: Eprint>(rt: &R, port: u16, begun: BegunOptions) -> io::Result<()> {
+    eprintln!(rt;
+        "port {port}: this submission was begun {begun}: give the same, or another --name"
+    )
+}
+
+/// Says why a walk ended early.
+fn print_walking<R: Eprint>(
+    rt: &R,
+    options: SubmitOptions<'_>,
+    fault: SubmissionFault,
+) -> io::Result<()> {
+    let port = options.to.port;
+    match fault {
+        SubmissionFault::Memory => print_transfer(rt, options, TransferFault::Memory),
+        SubmissionFault::Ended => print_transfer(rt, options, TransferFault::Broken),
+        SubmissionFault::Reply => {
+            eprintln!(rt; "port {port}: a reply came that does not fit its request: {MISTAKE}")
+        }
+        SubmissionFault::Refused(refusal) => print_refusal(rt, port, refusal),
+        SubmissionFault::TooLong => {
+            print_folder(
+                rt,
+                options.folder,
+                "a request is too long: this is a mistake in droid_desk",
+            )
+        }
+        SubmissionFault::Folders => {
+            print_folder(
+                rt,
+                options.folder,
+                "new folders appeared while it was read: run the same command again",
+            )
+        }
+    }
+}
+
+/// Says why sending ended early.
+fn print_transfer<R: Eprint>(
+    rt: &R,
+    options: SubmitOptions<'_>,
+    fault: TransferFault,
+) -> io::Result<()> {
+    let port = options.to.port;
+    match fault {
+        TransferFault::Memory => {
+            eprintln!(rt;
+                "out of memory, here or in the service: run the same command again to resume"
+            )
+        }
+        TransferFault::Broken => {
+            eprintln!(rt;
+                "port {port}: the connection broke and could not be made again within {} seconds: run the same command again to resume",
+                options.to.wait
+            )
+        }
+        TransferFault::Stranger => {
+            eprintln!(rt;
+                "port {port}: what came is no reply to the request: is droid_desk serve listening there?"
+            )
+        }
+        TransferFault::Restarted => {
+            eprintln!(rt;
+                "port {port}: the service has lost what was sent, so it was restarted: run the same command again, it starts anew"
+            )
+        }
+        TransferFault::Refused(refusal) => print_refusal(rt, port, refusal),
+        TransferFault::Busy => print_busy(rt, options),
+    }
+}
+
+/// Says that the service has no place for another unfinished file.
+fn print_busy<R: Eprint>(rt: &R, options: SubmitOptions<'_>) -> io::Result<()> {
+    eprintln!(rt;
+        "port {}: 64 files are unfinished there, and no place came free within {} seconds: finish or abandon some, or wait longer by --wait",
+        options.to.port, options.to.wait
+    )
+}
+
+/// Says what a refusal means.
+fn print_refusal<R: Eprint>(rt: &R, port: u16, refusal: Refusal) -> io::Result<()> {
+    eprintln!(rt; "port {port}: {}", refusal_sentence(refusal))
+}
+
+fn refusal_sentence(refusal: Refusal) -> &'static str {
+    match refusal {
+        Refusal::LimitReached(Limit::Profiles) =>
+            "the service has 64 profiles and takes no more: start another service on another port",
+        Refusal::NumberReused =>
+            "the client's number for a request is used for another request: give another --client",
+        Refusal::NoSuchProfile | Refusal::NoSuchNode | Refusal::NotAFolder | Refusal::NotAFile =>
+            "the service no longer has what was sent: run the same command again",
+        Refusal::Store =>
+            "the service's store failed: run the same command again, or start the service anew",
+        Refusal::Memory => "the service is out of memory: run the same command again to resume",
+        _ =>
+            "the service refused a request that it must take: this is a mistake in droid_desk or in the service",
+    }
+}
+
+fn check_sentence(fault: CheckFault) -> &'static str {
+    match fault {
+        CheckFault::Memory => "out of memory",
+        CheckFault::NoProfile => "the CSV that came is not that of a profile",
+        CheckFault::SamePath => "the profile has two entries of one path",
+        CheckFault::Moment => "the profile took an entry whose moment it must refuse",
+    }
+}

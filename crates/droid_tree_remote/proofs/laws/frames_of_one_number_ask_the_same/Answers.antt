@@ -1,0 +1,10 @@
+use Rattle.droid_tree_upload.specs.Calls.{attempt_of, request_of}
+use Rattle.droid_tree_remote.proofs.Handing.{if_err_same}
+use Rattle.droid_tree_remote.proofs.Pausing.{first_missed}
+use Rattle.droid_tree_remote.proofs.Conversing.{ends_all}
+use Rattle.droid_tree_remote.proofs.Parts.{same_frame}
+use Rattle.droid_tree_remote.proofs.Probing.{finds_none}
+use Rattle.droid_tree_remote.proofs.laws.frames_of_one_number_ask_the_same.Goals as goal
+
+pub returns : goal.returns
+returns c = λ client name one other asked other_asked same. c.equal_numbers_ask_the_same.ensures name (attempt_of one) (attempt_of other) (request_of one) (request_of other) asked other_asked same

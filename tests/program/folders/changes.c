@@ -1,0 +1,79 @@
+/* Preloaded into a program, this changes folders while the program reads them, by environment variables:
+ *   LISTED_TWICE      each listing that has this name has it twice
+ *   EXCHANGED         before the program looks at a file of this name for the time of this number,
+ *   EXCHANGED_LOOK    counted from 1, or where the number is 0, before it opens the file for the first time,
+ *   EXCHANGED_BY      this path is renamed
+ *   EXCHANGED_TO      to this one */
+#define _GNU_SOURCE
+#include <dirent.h>
+#include <dlfcn.h>
+#include <fcntl.h>
+#include <stdarg.h>
+#include <stdio.h>
+#include <stdlib.h>
+#include <string.h>
+#include <sys/stat.h>
+#include <unistd.h>
+
+static long looks;
+static int is_done;
+
+static const char *text(const char *name) {
+    const char *found = getenv(name);
+    return found ? found : "";
+}
+
+static int has_name(const char *path, const char *name) {
+    const char *last = strrchr(path, '/');
+    return *name && strcmp(last ? last + 1 : path, name) == 0;
+}
+
+static void exchange(void) {
+    if (!is_done) rename(text("EXCHANGED_BY"), text("EXCHANGED_TO"));
+    is_done = 1;
+}
+
+/* the record of the name stands once more behind the others */
+ssize_t getdents64(int fd, void *buffer, size_t length) {
+    ssize_t (*real)(int, void *, size_t) = (ssize_t(*)(int, void *, size_t))dlsym(RTLD_NEXT, "getdents64");
+    size_t room = sizeof(struct dirent64);
+    ssize_t count = real(fd, buffer, length > 2 * room ? length - room : length);
+    for (ssize_t at = 0; at < count;) {
+        struct dirent64 *record = (struct dirent64 *)((char *)buffer + at);
+        if (has_name(record->d_name, text("LISTED_TWICE")) && count + record->d_reclen <= (ssize_t)length) {
+            memcpy((char *)buffer + count, record, record->d_reclen);
+            return count + record->d_reclen;
+        }
+        at += record->d_reclen;
+    }
+    return count;
+}
+
+int statx(int folder, const char *path, int flags, unsigned mask, struct statx *found) {
+    int (*real)(int, const char *, int, unsigned, struct statx *) =
+        (int (*)(int, const char *, int, unsigned, struct statx *))dlsym(RTLD_NEXT, "statx");
+    if (has_name(path, text("EXCHANGED")) && ++looks == atol(text("EXCHANGED_LOOK"))) exchange();
+    return real(folder, path, flags, mask, found);
+}
+
+static int open_by(const char *name, int folder, const char *path, int flags, mode_t mode) {
+    int (*real)(int, const char *, int, ...) = (int (*)(int, const char *, int, ...))dlsym(RTLD_NEXT, name);
+    if (has_name(path, text("EXCHANGED")) && atol(text("EXCHANGED_LOOK")) == 0) exchange();
+    return real(folder, path, flags, mode);
+}
+
+int openat(int folder, const char *path, int flags, ...) {
+    va_list more;
+    va_start(more, flags);
+    mode_t mode = va_arg(more, mode_t);
+    va_end(more);
+    return open_by("openat", folder, path, flags, mode);
+}
+
+int open(const char *path, int flags, ...) {
+    va_list more;
+    va_start(more, flags);
+    mode_t mode = va_arg(more, mode_t);
+    va_end(more);
+    return open_by("openat", AT_FDCWD, path, flags, mode);
+}

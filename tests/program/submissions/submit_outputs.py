@@ -1,0 +1,151 @@
+"""What `submit` writes: the profile's number, and the files of --export and --skipped, which must not lie in the folder."""
+import csv
+import os
+import unittest
+
+from lib.connections import free_port
+from lib.frames import ADD_FILE, CAUSES, EXPORT
+from lib.lying import Lying, closing, first_of, refusing
+from lib.program import Serve
+from lib.submissions import WithSmallTree, fault, submit, submit_and_print
+from lib.trees import SKIPPED, lines, walk
+
+IN_FOLDER = "%s: lies in the folder that is submitted, and would change it: choose another place"
+NO_FOLDER = "%s: cannot be created: its folder does not exist: create it first"
+
+
+class Outputs(WithSmallTree):
+    def setUp(self):
+        super().setUp()
+        self.skipped = self.work + b"/skipped.csv"
+
+    def read_skipped(self):
+        with open(self.skipped, encoding="utf-8", errors="surrogateescape", newline="") as file:
+            return list(csv.reader(file, strict=True))
+
+
+class Printed(Outputs):
+    def test_number_of_the_profile(self):
+        with Serve.lasting() as service:
+            for number, client in enumerate((7, 8, 9), 1):
+                for _ in range(2):
+                    self.assertEqual(submit_and_print(self.top, service.port, client), (0, b"profile %d\n" % number, b""))
+            # also where something was skipped
+            os.symlink(b"z.bin", self.top + b"/link")
+            status, out, _ = submit_and_print(self.top, service.port, 8)
+            self.assertEqual((status, out), (5, b"profile 2\n"))
+
+    def test_no_number(self):
+        """Without a profile, or where the walk did not come to its end."""
+        self.assertEqual(submit_and_print(self.top, free_port(), 7, "--wait", "0")[:2], (4, b""))
+        with Lying(first_of(ADD_FILE, refusing(CAUSES["Store"]))) as service:
+            self.assertEqual(submit_and_print(self.top, service.port, 7)[:2], (4, b""))
+
+    def test_number_of_a_profile_that_was_not_compared(self):
+        with Lying(first_of(EXPORT, refusing(CAUSES["NoSuchProfile"]))) as service:
+            self.assertEqual(submit_and_print(self.top, service.port, 7)[:2], (4, b"profile 1\n"))
+
+
+class Written(Outputs):
+    def test_skipped(self):
+        """Each path with its reason as on standard error, whatever bytes a path has."""
+        os.symlink(b"z.bin", self.top + b'/a "link", with a comma')
+        os.mkfifo(self.top + b"/pipe\nof two lines")
+        self.file(b"/caf\xe9", b"its name is no text")
+        with Serve.lasting() as service:
+            status, err = submit(self.top, service.port, 7, "--skipped", self.skipped, "--export", self.export)
+        kind = "neither a folder nor a regular file, or it can't be looked at"
+        paths = [('/a "link", with a comma', kind), ("/caf\udce9", "its name is no UTF-8"), ("/pipe\nof two lines", kind)]
+        self.assertEqual(status, 5)
+        self.assertEqual(self.read_skipped(), [["path", "reason"], *map(list, paths)])
+        with open(self.skipped, "rb") as file:
+            self.assertTrue(file.read().startswith(b'"path","reason"\n"/a ""link"", with a comma","neither '))
+        self.assertEqual(len(lines(err, SKIPPED)), 3)
+        self.same(self.exported(), walk(self.top)[0])
+        self.assertEqual(self.beside(), [b"skipped.csv"])
+
+    def test_nothing_skipped(self):
+        with Serve.lasting() as service:
+            self.assertEqual(submit(self.top, service.port, 7, "--skipped", self.skipped), (0, b""))
+        self.assertEqual(self.read_skipped(), [["path", "reason"]])
+
+    def test_what_is_not_in_the_folder_is_not_skipped(self):
+        with Serve.lasting() as service:
+            self.assertEqual(submit(self.top, service.port, 7), (0, b""))
+            os.remove(self.top + b"/z.bin")
+            ended = submit(self.top, service.port, 7, "--skipped", self.skipped)
+        self.assertEqual(ended, (5, b"not in the folder: /z.bin\n"))
+        self.assertEqual(self.read_skipped(), [["path", "reason"]])
+
+    def test_unchanged_after_a_fault(self):
+        """Files that were there stay as they were, and nothing is left beside them."""
+        words = ["--wait", "0", "--export", self.export, "--skipped", self.skipped]
+        for there in (None, b"from before"):
+            for lie in (closing, first_of(ADD_FILE, refusing(CAUSES["Store"]))):
+                self.put(there)
+                with Lying(lie) as service:
+                    self.assertEqual(submit(self.top, service.port, 7, *words)[0], 4)
+                self.assertEqual([content_of(path) for path in (self.export, self.skipped)], [there, there])
+
+    def test_walk_without_export(self):
+        """Where the walk came to its end and the export did not, what was skipped is known, and written."""
+        for there in (None, b"from before"):
+            self.put(there)
+            with Lying(first_of(EXPORT, refusing(CAUSES["NoSuchProfile"]))) as service:
+                ended = submit(self.top, service.port, 7, "--export", self.export, "--skipped", self.skipped)
+            self.assertEqual((ended[0], content_of(self.export)), (4, there))
+            self.assertEqual(self.read_skipped(), [["path", "reason"]])
+
+    def put(self, content):
+        """Makes both files with this content, or removes them."""
+        for path in (self.export, self.skipped):
+            if content is None and os.path.exists(path):
+                os.remove(path)
+            elif content is not None:
+                with open(path, "wb") as file:
+                    file.write(content)
+
+
+def content_of(path):
+    """Returns what is in a file, or None where it is not there."""
+    if not os.path.exists(path):
+        return None
+    with open(path, "rb") as file:
+        return file.read()
+
+
+class InTheFolder(Outputs):
+    def refused(self, path, sentence):
+        """Checks that neither file may have this path. Nobody listens: that is seen before anything is sent."""
+        before = self.moments()
+        for option in ("--export", "--skipped"):
+            ended = submit(self.top, 1, 7, "--wait", "0", option, path)
+            self.assertEqual(ended, (4, fault("Output", sentence % os.fsdecode(path))), path)
+        self.assertEqual(self.moments(), before)
+
+    def moments(self):
+        return {folder: os.stat(folder).st_mtime_ns for folder, _, _ in os.walk(self.top)}
+
+    def test_refused(self):
+        os.symlink(self.top + b"/sub", self.work + b"/link")
+        places = (b"/tree/x.csv", b"/tree/sub/x.csv", b"/tree/a.bin", b"/link/x.csv", b"/tree/../tree/x.csv", b"/tree//sub/./x.csv")
+        for place in places:
+            self.refused(self.work + place, IN_FOLDER)
+        self.refused(self.work + b"/none/x.csv", NO_FOLDER)
+
+    def test_relative(self):
+        for path in ("x.csv", "./x.csv", "sub/x.csv"):
+            ended = submit(b".", 1, 7, "--wait", "0", "--export", path, cwd=self.top)
+            self.assertEqual(ended, (4, fault("Output", IN_FOLDER % path)))
+
+    def test_beside(self):
+        """A folder whose name begins alike is another; so is the one above."""
+        os.mkdir(self.work + b"/tree2")
+        with Serve.lasting() as service:
+            for path in (b"../x.csv", b"../tree2/x.csv", b"sub/../../y.csv"):
+                self.assertEqual(submit(b".", service.port, 7, "--export", path, cwd=self.top), (0, b""), path)
+        self.assertEqual(self.beside(), [b"tree2", b"x.csv", b"y.csv"])
+
+
+if __name__ == "__main__":
+    unittest.main()
