@@ -99,11 +99,14 @@ impl<C: Connection> InFlight<C> {
         Ok(())
     }
 
-    /// Waits a while before a request is sent once more. Returns false, without waiting, if the time that may be waited
-    /// is over.
+    /// Gives up the connection, and waits a while before a request is sent once more. Returns false, without waiting, if
+    /// the time that may be waited is over. The next request begins on a new connection, where the service is vouched for
+    /// again.
     pub fn pause(&mut self) -> bool
-        ensures { Waited C.does (if result then Paused else Expired) self.old self.new }
+        ensures waited { Waited C.does (if result then Paused else Expired) self.old self.new }
+        ensures nowhere { self.new.stage ≡ Stage.Nowhere }
     {
+        self.stage = Stage::Nowhere;
         self.connection.pause()
     }
 

@@ -181,6 +181,8 @@ impl Connection for PaperService {
     }
 
     fn pause(&mut self) -> bool {
+        self.joined = false;
+        self.replies.clear();
         if self.pauses == 0 {
             return false;
         }

@@ -92,7 +92,7 @@ module _ {C : Type 0} (does : C → Event → C → Type 0) (known : KnownReques
         taken = all_taken_before known facts events (Started ∷ []) old.waiting.items waits.taken;
         none = waited.same_waiting ∙ waits.none;
         stands_on = stands_later known facts events (Started ∷ []) new
-            (waited.same_facts known (facts_after facts events) (subst (λ (k : KnownRequests). StandsOn k (facts_after facts events) now) (same_known known frame reply busy) waits.stands_on));
+            (waited.stands_on known (facts_after facts events) (subst (λ (k : KnownRequests). StandsOn k (facts_after facts events) now) (same_known known frame reply busy) waits.stands_on));
       }
 
   module _ (facts : List Fact) (turns : ℕ) (old now new : InFlight C) (pausing : Pausing does known frame turns facts old now) where
@@ -127,7 +127,7 @@ module _ {C : Type 0} (does : C → Event → C → Type 0) (known : KnownReques
     -- the client waited a while
     pub pausing_paused : Waited does Paused now new → Pausing does known frame (turns + 1) facts old new
     pausing_paused waited = pausing_on (turns + 1) (goes_one does known Own then now.connection new.connection Paused waited.happened tt) (omega arith)
-        (waited.same_waiting ∙ pausing.none) (waited.same_facts known then pausing.stands_on)
+        (waited.same_waiting ∙ pausing.none) (waited.stands_on known then pausing.stands_on)
 
     -- there is still no place
     pub pausing_again : (reply : Reply) → is_busy reply ≡ true → Waits does known frame reply then now new → Pausing does known frame turns facts old new
@@ -181,7 +181,7 @@ module _ {C : Type 0} (does : C → Event → C → Type 0) (known : KnownReques
       };
       kept = λ other there. absurd (nothing_in new.waiting.items other (waited.same_waiting ∙ pausing.none) there);
       none = λ refusal is. absurd cc;
-      stands_on = stands_later known facts pausing.goes.events (Expired ∷ []) new (waited.same_facts known then pausing.stands_on);
+      stands_on = stands_later known facts pausing.goes.events (Expired ∷ []) new (waited.stands_on known then pausing.stands_on);
     }
 
   -- there were as many events as the largest number counts

@@ -9,7 +9,8 @@ use droid_frame::{
     Blob, Criteria, Filter, Frame, Reply, Request, Text, is_version, reply_body, request_frame,
 };
 use droid_tree_remote::{
-    Broken, Connection, InFlight, Options, RemoteFault, Sender, Upload, submit,
+    Broken, Connection, InFlight, Options, RemoteFault, Sender, TransferFault, Upload, options_of,
+    submit,
 };
 use std::alloc::{AllocError, Global};
 use std::collections::VecDeque;
@@ -179,6 +180,8 @@ impl Connection for BreakingService {
     }
 
     fn pause(&mut self) -> bool {
+        self.joined = false;
+        self.replies.clear();
         match self.pauses.checked_sub(1) {
             Some(left) => {
                 self.pauses = left;
@@ -210,15 +213,85 @@ pub struct Run<'a> {
 }
 
 impl Run<'_> {
-    /// Returns the connection.
-    pub fn desk(&mut self) -> &mut BreakingService {
-        &mut self.upload.client.in_flight.connection
+    /// Returns whether the run came to its end, and nothing was skipped.
+    pub fn is_whole(&self) -> bool {
+        matches!(&self.ended, Ok(true))
+    }
+
+    /// Returns whether the run came to its end, and something was skipped.
+    pub fn has_skipped(&self) -> bool {
+        matches!(&self.ended, Ok(false))
+    }
+
+    /// Returns whether the run ended with this fault.
+    pub fn failed_with(&self, fault: RemoteFault) -> bool {
+        self.ended == Err(fault)
+    }
+
+    /// Returns whether the time that may be waited was over.
+    pub fn is_broken(&self) -> bool {
+        self.failed_with(RemoteFault::Sending(TransferFault::Broken))
+    }
+
+    /// Returns whether another service was noticed.
+    pub fn is_restarted(&self) -> bool {
+        self.failed_with(RemoteFault::Sending(TransferFault::Restarted))
+    }
+
+    /// Returns how many steps the connection made.
+    pub fn steps(&self) -> u32 {
+        self.upload.client.in_flight.connection.step
+    }
+
+    /// Returns how many connections were made.
+    pub fn joins(&self) -> u32 {
+        self.upload.client.in_flight.connection.joins
+    }
+
+    /// Returns how many frames arrived.
+    pub fn frames(&self) -> u32 {
+        self.upload.client.in_flight.connection.handled
+    }
+
+    /// Returns how many pieces arrived.
+    pub fn pieces(&self) -> u32 {
+        self.upload.client.in_flight.connection.pieces
+    }
+
+    /// Returns how many replies were in flight at most.
+    pub fn most(&self) -> usize {
+        self.upload.client.in_flight.connection.most
+    }
+
+    /// Returns how many bytes were read from the tree.
+    pub fn bytes_read(&self) -> u64 {
+        self.upload.tree.read
+    }
+
+    /// Returns how many files were taken.
+    pub fn files(&self) -> u64 {
+        self.upload.watcher.files
+    }
+
+    /// Returns what was skipped, a line each.
+    pub fn skipped(&self) -> &[u8] {
+        self.upload.watcher.skipped.as_slice()
+    }
+
+    /// Returns whether the number or name of the last skipped entry was used before.
+    pub fn used_before(&self) -> bool {
+        self.upload.watcher.used_before
     }
 
     /// Returns the whole export of the first profile.
     pub fn exported(&mut self) -> Result<Blob, Fail> {
         let alloc = self.upload.alloc;
         exported(alloc, &mut self.upload.client.in_flight.connection.service)
+    }
+
+    /// Returns the options that the submission was begun with.
+    pub fn options(&mut self, options: Options) -> Result<Option<Options>, TransferFault> {
+        options_of(&mut self.upload.client, options)
     }
 
     /// Returns the service.
