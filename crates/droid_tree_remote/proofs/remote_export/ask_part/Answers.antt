@@ -6,6 +6,14 @@ use Rattle.droid_tree_remote.proofs.Handing.{if_err_same}
 use Rattle.droid_tree_remote.proofs.Parts.{ends_waits}
 use Rattle.droid_tree_remote.proofs.remote_export.ask_part.Goals as goal
 
+pub returns-in_err-reply-clause-missed : goal.returns-in_err-reply-clause-missed
+returns-in_err-reply-clause-missed g c =
+    let old = c.args.sender.now in
+    let new = c.ask_reply.new.sender.in_flight in
+    if_err_same c.from_residual.result c.in_err-reply.field-0.0
+    (λ f. old.in_flight.waiting.items ≡ [] → Wherever old.in_flight (λ known facts. EndsAsking old.client old.name c.args.profile g.C.Connection.does f known facts old.in_flight new)) c.from_residual.ensures.1
+    c.in_err-reply.ensures.missed
+
 pub returns-in_err-part-clause-missed : goal.returns-in_err-part-clause-missed
 returns-in_err-part-clause-missed g c =
     let old = c.args.sender.now in

@@ -142,8 +142,8 @@ returns-in_err-first-clause-ended g c =
     let old = c.args.sender.now in
     let new = c.ask_part.new.sender.in_flight in
     let fault = c.in_err-first.field-0.0 in
-    if_err_same c.from_residual-in_err-first.result (Sending fault)
-    (λ f. old.in_flight.waiting.items ≡ [] → Wherever old.in_flight (λ known facts. EndsExport old.client old.name c.args.profile does f known facts old.in_flight new)) c.from_residual-in_err-first.ensures.1
+    if_err_same c.from_residual.result (Sending fault)
+    (λ f. old.in_flight.waiting.items ≡ [] → Wherever old.in_flight (λ known facts. EndsExport old.client old.name c.args.profile does f known facts old.in_flight new)) c.from_residual.ensures.1
     c.in_err-first.ensures.missed
 
 pub returns-in_err-from-clause-ended : goal.returns-in_err-from-clause-ended
