@@ -23,7 +23,7 @@ const IN_FLIGHT_LIMIT: usize = 16;
 /// A connection, and the frames in flight, in order.
 ///
 /// After the connection broke, the next read makes a new one. There the service must first repeat its replies to the
-/// last profile and the last node that it made. Then the frames are written again: first the oldest alone, and the
+/// last profile that it made and to the last change of its nodes. Then the frames are written again: first the oldest alone, and the
 /// others after its reply.
 #[derive(Drop)]
 pub struct InFlight<C> {
