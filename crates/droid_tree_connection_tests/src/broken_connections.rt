@@ -113,7 +113,7 @@ fn pauses(rt: HostRuntime) -> Result<(), Fail> {
         let reply = in_flight.ask(request(alloc, 6, 7));
         assert!(rt; matches!(&reply, Ok(Reply::Abandoned)));
         let written = last_connection(in_flight.connection.log.as_slice());
-        assert!(rt; written == [0, 1, 2, 7].as_slice());
+        assert!(rt; written == [0, 1, 6, 7].as_slice());
     }
     Ok(())
 }
@@ -129,6 +129,20 @@ fn profile_lost_in_a_pause(rt: HostRuntime) -> Result<(), Fail> {
     assert!(rt; matches!(&reply, Err(TransferFault::Restarted)));
     let written = last_connection(in_flight.connection.log.as_slice());
     assert!(rt; written == [0, 1].as_slice());
+    Ok(())
+}
+
+/// Once the file was abandoned, a service without the node gets requests 1 and 6 and no other.
+#[test]
+fn node_lost_in_a_pause(rt: HostRuntime) -> Result<(), Fail> {
+    let alloc = rt.alloc();
+    let (outcome, mut in_flight) = broken(alloc, 0, Loss::Nothing);
+    assert!(rt; outcome == Ok(true) && in_flight.pause());
+    in_flight.connection.node = 0;
+    let reply = in_flight.ask(request(alloc, 6, 7));
+    assert!(rt; matches!(&reply, Err(TransferFault::Restarted)));
+    let written = last_connection(in_flight.connection.log.as_slice());
+    assert!(rt; written == [0, 1, 6].as_slice());
     Ok(())
 }
 

@@ -25,8 +25,8 @@ same_known : (known : KnownRequests) (frame : Frame) (reply : Reply) → is_busy
 same_known known frame (Made profile) busy = absurd cc
 same_known known frame (Node number) busy = absurd cc
 same_known known frame (Taken held) busy = refl
-same_known known frame (Finished method mismatch hash puids) busy = refl
-same_known known frame Abandoned busy = refl
+same_known known frame (Finished method mismatch hash puids) busy = absurd cc
+same_known known frame Abandoned busy = absurd cc
 same_known known frame (Progress held missing) busy = refl
 same_known known frame (Part as_of total bytes) busy = refl
 same_known known frame (Refused refusal) busy = refl

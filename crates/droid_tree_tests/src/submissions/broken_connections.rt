@@ -1,6 +1,7 @@
 //! The connection breaks at each step of a submission, before or after the frame arrives, and the submission goes on.
 
-use crate::submissions::breaking_service::{BreakingService, Way, submitted};
+use crate::submissions::breaking_service::{BreakingService, Way};
+use crate::submissions::run::submitted;
 use crate::submissions::small_tree::{FRAMES, PIECES, ROWS};
 use std::test::Fail;
 

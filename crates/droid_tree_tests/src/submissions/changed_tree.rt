@@ -1,7 +1,8 @@
 //! A tree that has changed since it was submitted.
 
 use crate::memory_tree::Row;
-use crate::submissions::breaking_service::{BreakingService, Way, submitted};
+use crate::submissions::breaking_service::{BreakingService, Way};
+use crate::submissions::run::submitted;
 use droid_tree::EntryKind;
 use std::test::Fail;
 

@@ -1,6 +1,7 @@
 //! How many requests are in flight, and how many connections are tried.
 
-use crate::submissions::breaking_service::{BreakingService, Way, submitted};
+use crate::submissions::breaking_service::{BreakingService, Way};
+use crate::submissions::run::submitted;
 use crate::submissions::small_tree::ROWS;
 use std::test::Fail;
 

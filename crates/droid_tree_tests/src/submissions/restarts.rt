@@ -1,17 +1,22 @@
 //! A submission ends at each of its steps and is resumed; or the service forgets everything at each of its steps.
 
+use crate::memory_tree::Row;
 use crate::sample_service::sample_service;
-use crate::submissions::breaking_service::{BreakingService, Way, submitted, submitted_by};
+use crate::submissions::breaking_service::{BreakingService, Way};
+use crate::submissions::other_client::ask_as_another;
+use crate::submissions::run::{submitted, submitted_by};
 use crate::submissions::small_tree::{FRAMES_AGAIN, OPTIONS, PIECES, ROWS};
 use droid_core::Service;
-use droid_frame::{HashKind, Refusal, Request, request_frame};
+use droid_frame::{HashKind, Refusal, Request};
+use droid_tree::EntryKind;
 use droid_tree_remote::{Options, RemoteFault, SubmissionFault};
 use std::alloc::Global;
 use std::test::Fail;
 
 /// The service has a profile of this name with other options.
-const OTHER_OPTIONS: RemoteFault =
-    RemoteFault::Walking(SubmissionFault::Refused(Refusal::NumberReused));
+const OTHER_OPTIONS: RemoteFault = RemoteFault::Walking(SubmissionFault::Refused(
+    Refusal::NumberReused,
+));
 
 #[test]
 fn at_each_step(rt: HostRuntime) -> Result<(), Fail> {
@@ -54,10 +59,7 @@ fn service_of_another(alloc: Global) -> Result<Service, Fail> {
         match_all: false,
         hash: HashKind::Md5,
     };
-    if request.fits(2) {
-        let frame = request_frame(alloc, 2, 99, 1, &request)?;
-        let _ = service.handle(frame);
-    }
+    ask_as_another(alloc, &mut service, 1, &request)?;
     Ok(service)
 }
 
@@ -81,6 +83,42 @@ fn forgetful_at_each_step(rt: HostRuntime) -> Result<(), Fail> {
             is_noticed || same.as_slice() == text.as_slice(),
             "{breaks_at}"
         );
+    }
+    Ok(())
+}
+
+/// A file of eighteen pieces, and one that is empty. No folder stands before them.
+const FILES: [Row; 2] = [
+    (
+        "",
+        b"a",
+        EntryKind::File,
+        70,
+        Some(b"message digest, of more pieces than are under way at once, by four byte"),
+    ),
+    ("", b"b", EntryKind::File, 0, Some(b"")),
+];
+
+/// While the first file is under way, a new service gives the profile and the file the same numbers. Then the pieces
+/// that it lacks are noticed: one is refused that is too far ahead of them, or Finish is. The next run sends them.
+#[test]
+fn forgetful_in_the_first_file(rt: HostRuntime) -> Result<(), Fail> {
+    let alloc = rt.alloc();
+    let desk = BreakingService::new(alloc, 0, Way::Unsent)?;
+    let mut whole = submitted(alloc, desk, &FILES)?;
+    let text = whole.exported()?;
+    for breaks_at in 1..whole.steps() {
+        let mut desk = BreakingService::new(alloc, breaks_at, Way::Arrived)?;
+        desk.successor = Some(sample_service(alloc)?);
+        let early = submitted(alloc, desk, &FILES)?;
+        let is_noticed = early.is_restarted() || early.lacks_pieces();
+        assert!(rt; is_noticed || early.is_whole(), "{breaks_at}");
+        let desk = BreakingService::over(alloc, early.into_service(), 0, Way::Unsent);
+        let mut run = submitted(alloc, desk, &FILES)?;
+        assert!(rt; run.is_whole(), "{breaks_at}");
+        assert!(rt; is_noticed || run.pieces() == 0, "{breaks_at}");
+        let same = run.exported()?;
+        assert!(rt; same.as_slice() == text.as_slice(), "{breaks_at}");
     }
     Ok(())
 }
