@@ -1,5 +1,5 @@
 -- Call after call on a sender's connection.
-use Rattle.std.proofs.Common.{◌≡◌, ◌⊎◌, ◌<◌, ◌==◌, ℕ, zero, suc, Bool, true, false, cond, List, [], ◌∷◌, ◌++◌, Contains, length, Option, Some, None, inl, inr, refl, sym, ap, subst, ◌∙◌, arith}
+use Rattle.std.proofs.Common.{◌≡◌, ◌⊎◌, ◌==◌, ℕ, zero, suc, Bool, true, false, cond, List, [], ◌∷◌, ◌++◌, Contains, Some, inl, inr, refl, sym, ap, subst, ◌∙◌, arith}
 use Rattle.std.specs.Prelude.{IsTrue}
 use Rattle.std.specs.List.{AllByRecursion}
 use Rattle.std.proofs.lemmas.List.Elements.{Contains-append_cases, Contains-append_left, Contains-append_right, Contains-push, Contains-push_cases}
@@ -10,7 +10,7 @@ use Rattle.droid_frame.specs.types.request.Request.{Request}
 use Rattle.droid_tree.specs.Heard.{Heard}
 use Rattle.droid_tree.specs.Observation as trees
 use Rattle.droid_tree.specs.Observation.{Observation}
-use Rattle.droid_tree_connection.specs.Answering.{IsAnswered, IsTaken}
+use Rattle.droid_tree_connection.specs.Answering.{IsTaken}
 use Rattle.droid_tree_connection.specs.Calls.{EndsAll, Fails, IsAmong, Sends, Waits}
 use Rattle.droid_tree_connection.specs.Chains.{GoesOver}
 use Rattle.droid_tree_connection.specs.Events as connections
@@ -32,7 +32,7 @@ use Rattle.droid_tree_upload.specs.declared.client_fault.ClientFault.{ClientFaul
 use Rattle.droid_tree_upload.specs.declared.upload.Upload.{Upload}
 use Rattle.droid_tree_remote.specs.Conversations.{AreAwaited, AreDone, Converses, IsDone, IsOfDeeds, WritesOnly, frame_of_call, known_after, known_behind}
 use Rattle.droid_tree_remote.specs.Numbered.{frame_of}
-use Rattle.droid_tree_remote.specs.SenderCalls.{Answers, CallsSender, FailsCall, FailsToSettle, HadStopped, HadStoppedBefore, HasMissed, IsFresh, Misses, NotAllCame, SendsPiece, WasForeign}
+use Rattle.droid_tree_remote.specs.SenderCalls.{CallsSender, FailsCall, FailsToSettle, HadStopped, HadStoppedBefore, HasMissed, IsFresh, Misses, NotAllCame, WasForeign}
 use Rattle.droid_tree_remote.specs.declared.sender.Sender.{Sender}
 use Rattle.droid_tree_remote.proofs.Pausing.{stands_later}
 

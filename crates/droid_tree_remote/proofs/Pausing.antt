@@ -1,14 +1,13 @@
 -- Tries after tries, while the service has no place for another unfinished file.
-use Rattle.std.proofs.Common.{◌≡◌, ◌⊎◌, ℕ, suc, ◌+◌, ◌≤◌, ◌-◌, ◌^◌, true, List, [], ◌∷◌, ◌++◌, Contains, length, inl, inr, refl, sym, ap, subst, ◌∙◌, append_assoc, length-append, arith}
+use Rattle.std.proofs.Common.{◌≡◌, ℕ, ◌+◌, ◌≤◌, ◌-◌, ◌^◌, true, List, [], ◌∷◌, ◌++◌, Contains, length, inl, inr, refl, sym, ap, subst, ◌∙◌, append_assoc, length-append, arith}
 use Rattle.droid_frame.specs.types.frame.Frame.{Frame}
-use Rattle.droid_frame.specs.types.refusal.Refusal.{Refusal}
 use Rattle.droid_frame.specs.types.reply.Reply.{Reply}
 use Rattle.droid_frame.specs.types.reply.Reply.TheVariants.{Made, Node, Taken, Finished, Abandoned, Progress, Part, Refused}
 use Rattle.droid_tree_connection.specs.Calls.{Fails, IsAmong, Waited, Waits}
 use Rattle.droid_tree_connection.specs.Events.{Event, Fact, Expired, Paused, Started, facts_after}
 use Rattle.droid_tree_connection.specs.Moves.{Goes}
 use Rattle.droid_tree_connection.specs.Stages.{StandsOn}
-use Rattle.droid_tree_connection.specs.TransferFaults.{Explains, GivesUp}
+use Rattle.droid_tree_connection.specs.TransferFaults.{Explains}
 use Rattle.droid_tree_connection.specs.Vouching.{remember}
 use Rattle.droid_tree_connection.specs.declared.in_flight.InFlight.{InFlight}
 use Rattle.droid_tree_connection.specs.declared.known_requests.KnownRequests.{KnownRequests}
@@ -16,7 +15,7 @@ use Rattle.droid_tree_connection.specs.declared.transfer_fault.TransferFault.{Tr
 use Rattle.droid_tree_connection.specs.declared.transfer_fault.TransferFault.TheVariants as transfers
 use Rattle.droid_tree_connection.proofs.Going.{all_taken_before, answered_after, explains_after, facts_append, goes_in, goes_on, goes_one, nothing_in}
 use Rattle.droid_tree_remote.specs.Patience.{MissesCopy, Pausing}
-use Rattle.droid_tree_remote.specs.SenderCalls.{ExplainsMiss, IsBusy, Misses, is_busy}
+use Rattle.droid_tree_remote.specs.SenderCalls.{ExplainsMiss, Misses, is_busy}
 
 -- ---- what is known, and what stands
 
