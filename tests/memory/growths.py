@@ -30,6 +30,7 @@ TESTS = {
     "droid_wire_tests": ["memory::each_growth_of_serving"],
     "droid_export_tests": ["memory::each_growth_of_small_texts", "memory::each_growth_of_an_export"],
     "droid_store_tests": ["memory::each_growth_of_the_store"],
+    "droid_fixity_tests": ["memory::each_growth_of_a_report", "memory::each_growth_of_a_list", "memory::each_growth_of_a_profile"],
 }
 # with fewer allocations, the library did not count them
 FEWEST = 3

@@ -193,6 +193,9 @@ fn refusal_sentence(refusal: Refusal) -> &'static str {
             "the client's number for a request is used for another request: give another --client",
         Refusal::NoSuchProfile | Refusal::NoSuchNode | Refusal::NotAFolder | Refusal::NotAFile =>
             "the service no longer has what was sent: run the same command again",
+        // Each piece was taken before, or is less than sixteen behind one that was.
+        Refusal::Incomplete { .. } | Refusal::TooFarAhead { .. } =>
+            "the service no longer has pieces that it took, so it was restarted: run the same command again",
         Refusal::Store =>
             "the service's store failed: run the same command again, or start the service anew",
         Refusal::Memory => "the service is out of memory: run the same command again to resume",

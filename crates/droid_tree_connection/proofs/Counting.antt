@@ -1,5 +1,5 @@
 -- Which frames in flight count as written, and what they count on.
-use Rattle.std.proofs.Common.{◌≡◌, ◌<◌, ℕ, suc, zero, ◌+◌, Bool, true, false, cond, List, [], ◌∷◌, ◌++◌, Contains, take, drop, length, get_or, Some, inl, inr, refl, sym, ap, subst, ◌∙◌, add-one, arith}
+use Rattle.std.proofs.Common.{◌≡◌, ◌<◌, ◌==◌, ℕ, suc, zero, ◌+◌, Bool, true, false, cond, List, [], ◌∷◌, ◌++◌, Contains, take, drop, length, get_or, Some, inl, inr, refl, sym, ap, subst, ◌∙◌, add-one, arith}
 use Rattle.std.proofs.lemmas.List.{take_more, take-append-drop}
 use Rattle.std.proofs.lemmas.List.Elements.{Contains-append_left, Contains-append_right, Contains-push, Contains-push_cases}
 use Rattle.droid_frame.specs.types.frame.Frame.{Frame}
@@ -101,23 +101,23 @@ module _ (known : KnownRequests) where
   -- ---- what becomes known
 
   vouched_profile : (facts : List Fact) (answer : Known) (is : Bool) → IsVouched known facts → IsRepeated facts answer
-      → IsVouched (cond is (record { profile = Some answer; node = known.node }) known) facts
+      → IsVouched (cond is (record { profile = Some answer; change = known.change }) known) facts
   vouched_profile facts answer false vouched repeated one is = vouched one is
   vouched_profile facts answer true vouched repeated one (inl is) = subst (λ (k : Known). IsRepeated facts k) (cc) repeated
   vouched_profile facts answer true vouched repeated one (inr is) = vouched one (inr is)
 
-  vouched_node : (facts : List Fact) (answer : Known) (is : Bool) → IsVouched known facts → IsRepeated facts answer
-      → IsVouched (cond is (record { profile = known.profile; node = Some answer }) known) facts
-  vouched_node facts answer false vouched repeated one is = vouched one is
-  vouched_node facts answer true vouched repeated one (inl is) = vouched one (inl is)
-  vouched_node facts answer true vouched repeated one (inr is) = subst (λ (k : Known). IsRepeated facts k) (cc) repeated
+  vouched_change : (facts : List Fact) (answer : Known) (is : Bool) → IsVouched known facts → IsRepeated facts answer
+      → IsVouched (cond is (record { profile = known.profile; change = Some answer }) known) facts
+  vouched_change facts answer false vouched repeated one is = vouched one is
+  vouched_change facts answer true vouched repeated one (inl is) = vouched one (inl is)
+  vouched_change facts answer true vouched repeated one (inr is) = subst (λ (k : Known). IsRepeated facts k) (cc) repeated
 
   pub vouched_known : (facts : List Fact) (answer : Known) (reply : Reply) → IsVouched known facts → IsRepeated facts answer → IsVouched (remember_as known answer reply) facts
   vouched_known facts answer (Made profile) vouched repeated = vouched_profile facts answer _ vouched repeated
-  vouched_known facts answer (Node number) vouched repeated = vouched_node facts answer (adds_node answer.request.kind) vouched repeated
+  vouched_known facts answer (Node number) vouched repeated = vouched_change facts answer (adds_node answer.request.kind) vouched repeated
   vouched_known facts answer (Taken held) vouched repeated = vouched
-  vouched_known facts answer (Finished method mismatch hash puids) vouched repeated = vouched
-  vouched_known facts answer Abandoned vouched repeated = vouched
+  vouched_known facts answer (Finished method mismatch hash puids) vouched repeated = vouched_change facts answer (answer.request.kind == 5) vouched repeated
+  vouched_known facts answer Abandoned vouched repeated = vouched_change facts answer (answer.request.kind == 6) vouched repeated
   vouched_known facts answer (Progress held missing) vouched repeated = vouched
   vouched_known facts answer (Part as_of total bytes) vouched repeated = vouched
   vouched_known facts answer (Refused refusal) vouched repeated = vouched

@@ -34,12 +34,12 @@ explains_lost known Is facts events Busy lost restarted = absurd lost
 
 module _ {C : Type 0} (does : C → Event → C → Type 0) (known : KnownRequests) (waiting : List Frame) (facts : List Fact) (old now new : C) where
   -- both known requests were repeated
-  pub vouched_both : (first : Repeats does known waiting known.profile true facts old now) (second : Repeats does known waiting known.node true (facts_after facts first.goes.events) now new)
+  pub vouched_both : (first : Repeats does known waiting known.profile true facts old now) (second : Repeats does known waiting known.change true (facts_after facts first.goes.events) now new)
       → IsVouched known (facts_after facts (first.goes.events ++ second.goes.events))
   vouched_both first second one is =
       subst (λ (l : List Fact). IsRepeated l one) (sym (facts_append facts first.goes.events second.goes.events))
       (elim is [
         | inl profile ↦ let early = first.repeated refl one profile in
             record { written = second.kept refl (Written one.request) early.written; received = second.kept refl (Received one.reply) early.received }
-        | inr node ↦ second.repeated refl one node
+        | inr change ↦ second.repeated refl one change
       ])

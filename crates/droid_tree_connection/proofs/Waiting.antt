@@ -79,16 +79,16 @@ module _ {C : Type 0} (does : C → Event → C → Type 0) (known : KnownReques
     stands_on = subst (λ (l : List Fact). StandsOn known l new) (sym (facts_append facts first.goes.events second.events)) on;
   }
 
-  -- a pause, and the start of the time to wait, change no fact
+  -- a pause, and the start of the time to wait
   abbrev pub tries_paused : (facts : List Fact) (old now new : InFlight C) (first : Tries does known facts old now) → now.waiting.items ≡ old.waiting.items → Waited does Paused now new → Tries does known facts old new
   tries_paused facts old now new first same waited =
       tries_on facts old now new first (goes_one does known (Contains now.waiting.items) (facts_after facts first.goes.events) now.connection new.connection Paused waited.happened tt)
-      (waited.same_facts known (facts_after facts first.goes.events) first.stands_on) (λ frame there. subst (λ (l : List Frame). Contains l frame) same there)
+      (waited.stands_on known (facts_after facts first.goes.events) first.stands_on) (λ frame there. subst (λ (l : List Frame). Contains l frame) same there)
 
   abbrev pub tries_started : (facts : List Fact) (old now new : InFlight C) (first : Tries does known facts old now) → now.waiting.items ≡ old.waiting.items → Waited does Started now new → Tries does known facts old new
   tries_started facts old now new first same waited =
       tries_on facts old now new first (goes_one does known (Contains now.waiting.items) (facts_after facts first.goes.events) now.connection new.connection Started waited.happened tt)
-      (waited.same_facts known (facts_after facts first.goes.events) first.stands_on) (λ frame there. subst (λ (l : List Frame). Contains l frame) same there)
+      (waited.stands_on known (facts_after facts first.goes.events) first.stands_on) (λ frame there. subst (λ (l : List Frame). Contains l frame) same there)
 
   -- a pause and one more try
   pub tries_again : (count : ℕ) (facts : List Fact) (old now paused new : InFlight C) (tries : Tries does known facts old now) → count ≤ length tries.goes.events → now.waiting.items ≡ old.waiting.items → Waited does Paused now paused

@@ -5,7 +5,7 @@ use Rattle.std.specs.List.{AllByRecursion}
 use Rattle.droid_frame.specs.types.frame.Frame.{Frame}
 use Rattle.droid_frame.specs.types.reply.Reply.{Reply}
 use Rattle.droid_tree_connection.specs.Answering.{IsAnswered, IsTaken}
-use Rattle.droid_tree_connection.specs.Events.{Event, Came, Fact, Written, facts_after}
+use Rattle.droid_tree_connection.specs.Events.{Event, Came, Fact, Written, facts_after, facts_behind}
 use Rattle.droid_tree_connection.specs.Moves.{Goes, Moves, Stops}
 use Rattle.droid_tree_connection.specs.Stages.{AreIn, HasFirst, Stands, StandsOn, counted}
 use Rattle.droid_tree_connection.specs.Vouching.{IsVouched, remember}
@@ -60,12 +60,12 @@ pub record Fails {C : Type 0} (does : C → Event → C → Type 0) (known : Kno
   pub stops : Stops does known Is pieces fault facts old.connection new.connection
   pub stands_on : StandsOn known (facts_after facts stops.goes.events) new
 
--- an event happened to the connection that is not of frames; the requests in flight and the facts are the same
+-- an event happened to the connection that is not of frames; the same requests are in flight and known
 pub record Waited {C : Type 0} (does : C → Event → C → Type 0) (event : Event) (old new : InFlight C) : Type 0 where
   pub happened : does old.connection event new.connection
   pub same_waiting : new.waiting.items ≡ old.waiting.items
   pub same_known : new.known ≡ old.known
-  pub same_facts : (known : KnownRequests) (facts : List Fact) → StandsOn known facts old → StandsOn known facts new
+  pub stands_on : (known : KnownRequests) (facts : List Fact) → StandsOn known facts old → StandsOn known (facts_behind facts event) new
 
 -- ---- of the steps between them
 

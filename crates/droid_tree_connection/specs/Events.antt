@@ -15,9 +15,9 @@ pub data Event : Type 0 where
   Came : (frame : Frame) → Event
   -- no frame could be read
   Lost : Event
-  -- the client waited a while
+  -- the connection, if there was one, was given up, and then the client waited a while
   Paused : Event
-  -- the time that may be waited is over
+  -- the connection, if there was one, was given up, and the time that may be waited is over
   Expired : Event
   -- the time that may be waited was started anew
   Started : Event
@@ -28,12 +28,10 @@ pub data Fact : Type 0 where
   -- this frame was read on it
   Received : (frame : Frame) → Fact
 
--- the facts after an event: a connection that is made or breaks has none
+-- the facts after an event: a connection that is made, breaks or is given up has none
 abbrev pub facts_behind : List Fact → Event → List Fact
 facts_behind facts (Sent frame) = facts ++ Written frame ∷ []
 facts_behind facts (Came frame) = facts ++ Received frame ∷ []
-facts_behind facts Paused = facts
-facts_behind facts Expired = facts
 facts_behind facts Started = facts
 facts_behind facts _ = []
 

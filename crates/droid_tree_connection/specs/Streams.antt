@@ -34,8 +34,8 @@ pub record ReadsNone {S : Type 0} (remaining : S → Option (List ℕ)) (old new
   pub closed : new ≡ None
   pub read : (before : S) → old ≡ Some before → (after : S) × (IsAtEnd (remaining before) ⊎ ReadsNoFrame (remaining before) (remaining after))
 
--- A stream that is joined is one that the opener just opened, with nothing written or read yet. The opener opens and
--- waits, and takes no part in anything else.
+-- A stream that is joined is one that the opener just opened, with nothing written or read yet. Behind a pause no stream
+-- is open. The opener opens and waits, and takes no part in anything else.
 abbrev pub StreamDoes : {O S : Type 0} → (O → S → O → Type 0) → (O → Event → O → Type 0) → (S → Option (List ℕ)) → (S → Option (List ℕ)) → Streams O S → Event → Streams O S → Type 0
 StreamDoes {O} {S} opens waits remaining contents old Joined new = (stream : S) × (new.stream ≡ Some stream) × opens old.opener stream new.opener
 StreamDoes opens waits remaining contents old Alone new = (new.stream ≡ None) × waits old.opener Alone new.opener
@@ -43,6 +43,6 @@ StreamDoes opens waits remaining contents old (Sent frame) new = (new.opener ≡
 StreamDoes opens waits remaining contents old (Cut frame) new = (new.opener ≡ old.opener) × WritesFront contents frame old.stream new.stream
 StreamDoes opens waits remaining contents old (Came frame) new = (new.opener ≡ old.opener) × ReadsWhole remaining frame old.stream new.stream
 StreamDoes opens waits remaining contents old Lost new = (new.opener ≡ old.opener) × ReadsNone remaining old.stream new.stream
-StreamDoes opens waits remaining contents old Paused new = (new.stream ≡ old.stream) × waits old.opener Paused new.opener
-StreamDoes opens waits remaining contents old Expired new = (new.stream ≡ old.stream) × waits old.opener Expired new.opener
+StreamDoes opens waits remaining contents old Paused new = (new.stream ≡ None) × waits old.opener Paused new.opener
+StreamDoes opens waits remaining contents old Expired new = (new.stream ≡ None) × waits old.opener Expired new.opener
 StreamDoes opens waits remaining contents old Started new = (new.stream ≡ old.stream) × waits old.opener Started new.opener

@@ -2,7 +2,7 @@
 use Rattle.std.specs.Prelude.{◌≡◌, ◌⊎◌, ℕ, ◌==◌, ◌||◌, Bool, if◌then◌else◌, List, [], ◌∷◌, Contains, Option, Some, None}
 use Rattle.droid_frame.specs.types.frame.Frame.{Frame}
 use Rattle.droid_frame.specs.types.reply.Reply.{Reply}
-use Rattle.droid_frame.specs.types.reply.Reply.TheVariants.{Made, Node}
+use Rattle.droid_frame.specs.types.reply.Reply.TheVariants.{Made, Node, Finished, Abandoned}
 use Rattle.droid_frame.specs.ReplyFrames.{frame_of_reply}
 use Rattle.droid_tree_connection.specs.Events.{Event, Fact, Sent, Cut, Written, Received, facts_behind}
 use Rattle.droid_tree_connection.specs.declared.known_requests.Known.{Known}
@@ -10,11 +10,11 @@ use Rattle.droid_tree_connection.specs.declared.known_requests.KnownRequests.{Kn
 
 -- nothing is known yet
 abbrev pub nothing_known : KnownRequests
-nothing_known = record { profile = None; node = None }
+nothing_known = record { profile = None; change = None }
 
 -- this is a known request
 abbrev pub IsKnown : KnownRequests → Known → Type 0
-IsKnown all known = (all.profile ≡ Some known) ⊎ (all.node ≡ Some known)
+IsKnown all known = (all.profile ≡ Some known) ⊎ (all.change ≡ Some known)
 
 abbrev pub AreKnown : Option Known → KnownRequests → Type 0
 AreKnown some all = (known : Known) → some ≡ Some known → IsKnown all known
@@ -51,15 +51,18 @@ adds_node kind = (kind == 2) || (kind == 3)
 
 -- what is known after an answer
 abbrev pub remember_as : KnownRequests → Known → Reply → KnownRequests
-remember_as all answer (Made profile) = if answer.request.kind == 1 then record { profile = Some answer; node = all.node } else all
-remember_as all answer (Node number) = if adds_node answer.request.kind then record { profile = all.profile; node = Some answer } else all
+remember_as all answer (Made profile) = if answer.request.kind == 1 then record { profile = Some answer; change = all.change } else all
+remember_as all answer (Node number) = if adds_node answer.request.kind then record { profile = all.profile; change = Some answer } else all
+remember_as all answer (Finished method mismatch hash puids) = if answer.request.kind == 5 then record { profile = all.profile; change = Some answer } else all
+remember_as all answer Abandoned = if answer.request.kind == 6 then record { profile = all.profile; change = Some answer } else all
 remember_as all answer _ = all
 
 -- the frame of a reply to this request
 abbrev pub reply_to : Frame → Reply → Frame
 reply_to frame reply = frame_of_reply frame.version frame.client frame.number reply
 
--- What is known after a request and its reply: a CreateProfile (kind 1) answered by Made, or an AddFolder or AddFile
--- (kinds 2 and 3) answered by Node, takes the place of the last one.
+-- What is known after a request and its reply. A CreateProfile (kind 1) that is answered by Made takes the place of the
+-- last one. So does a change of its nodes: an AddFolder or AddFile (2 and 3) that is answered by Node, a Finish (5) by
+-- Finished, and an Abandon (6) by Abandoned.
 abbrev pub remember : KnownRequests → Frame → Reply → KnownRequests
 remember all frame reply = remember_as all (record { request = frame; reply = reply_to frame reply }) reply

@@ -32,7 +32,8 @@ pub trait Connection {
         ensures came { IfOk result (λ frame. does self.old (Came frame) self.new) }
         ensures lost { OnErr result (does self.old Lost self.new) };
 
-    /// Waits a while before another try. Returns false, without waiting, if the time that may be waited is over.
+    /// Gives up the connection, if there is one, and then waits a while: a service that serves one connection at a time
+    /// can serve others meanwhile. Returns false, without waiting, if the time that may be waited is over.
     fn pause(&mut self) -> bool
         ensures { does self.old (if result then Paused else Expired) self.new };
 

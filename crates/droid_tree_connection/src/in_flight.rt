@@ -23,7 +23,7 @@ const IN_FLIGHT_LIMIT: usize = 16;
 /// A connection, and the frames in flight, in order.
 ///
 /// After the connection broke, the next read makes a new one. There the service must first repeat its replies to the
-/// last profile and the last node that it made. Then the frames are written again: first the oldest alone, and the
+/// last profile that it made and to the last change of its nodes. Then the frames are written again: first the oldest alone, and the
 /// others after its reply.
 #[derive(Drop)]
 pub struct InFlight<C> {
@@ -99,11 +99,14 @@ impl<C: Connection> InFlight<C> {
         Ok(())
     }
 
-    /// Waits a while before a request is sent once more. Returns false, without waiting, if the time that may be waited
-    /// is over.
+    /// Gives up the connection, and waits a while before a request is sent once more. Returns false, without waiting, if
+    /// the time that may be waited is over. The next request begins on a new connection, where the service is vouched for
+    /// again.
     pub fn pause(&mut self) -> bool
-        ensures { Waited C.does (if result then Paused else Expired) self.old self.new }
+        ensures waited { Waited C.does (if result then Paused else Expired) self.old self.new }
+        ensures nowhere { self.new.stage ≡ Stage.Nowhere }
     {
+        self.stage = Stage::Nowhere;
         self.connection.pause()
     }
 

@@ -10,12 +10,16 @@ use crate::transfer_fault::TransferFault;
 use droid_frame::{Frame, Reply};
 use std::alloc::Global;
 
-/// The kinds of CreateProfile, AddFolder and AddFile.
+/// The kinds of CreateProfile, AddFolder, AddFile, Finish and Abandon.
 const CREATE_PROFILE: u8 = 1;
 
 const ADD_FOLDER: u8 = 2;
 
 const ADD_FILE: u8 = 3;
+
+const FINISH: u8 = 5;
+
+const ABANDON: u8 = 6;
 
 /// A request that the service accepted, and its reply. The service keeps the reply, and repeats it when the request
 /// comes again. One that replies otherwise lost what it kept, or is another service.
@@ -32,23 +36,25 @@ pub struct Known {
 pub struct KnownRequests {
     /// The last CreateProfile that was answered by Made.
     pub profile: Option<Known>,
-    /// The last AddFolder or AddFile that was answered by Node.
-    pub node: Option<Known>,
+    /// The last change of the profile's nodes: an AddFolder or AddFile that was answered by Node, a Finish by Finished,
+    /// or an Abandon by Abandoned.
+    pub change: Option<Known>,
 }
 
 impl KnownRequests {
     /// Knows no request.
     pub(crate) fn new() -> KnownRequests
         ensures profile { result.profile ≡ None }
-        ensures node { result.node ≡ None }
+        ensures change { result.change ≡ None }
     {
         KnownRequests {
             profile: None,
-            node: None,
+            change: None,
         }
     }
 
-    /// Reads the reply in an answer, and remembers the answer if a profile or a node was made.
+    /// Reads the reply in an answer, and remembers the answer if a profile was made or a node was made, finished or
+    /// abandoned.
     pub(crate) fn read_answer(
         &mut self,
         alloc: Global,
@@ -59,7 +65,7 @@ impl KnownRequests {
         ensures fault { IfErr result (λ fault. ExplainsBody fault answer.reply) }
         ensures same { OnErr result (self.new ≡ self.old) }
     {
-        if answer.request.kind > ADD_FILE {
+        if answer.request.kind > ABANDON {
             let reply = read_reply(alloc, answer.reply)?;
             return Ok(reply);
         }
@@ -69,7 +75,7 @@ impl KnownRequests {
         Ok(reply)
     }
 
-    /// Remembers an answer if a profile or a node was made.
+    /// Remembers an answer if a profile was made or a node was made, finished or abandoned.
     fn remember(&mut self, answer: Known, reply: &Reply)
         ensures { self.new ≡ remember_as self.old answer reply.now }
     {
@@ -81,7 +87,17 @@ impl KnownRequests {
             }
             Reply::Node { .. } => {
                 if adds_node(answer.request.kind) {
-                    self.node = Some(answer);
+                    self.change = Some(answer);
+                }
+            }
+            Reply::Finished { .. } => {
+                if answer.request.kind == FINISH {
+                    self.change = Some(answer);
+                }
+            }
+            Reply::Abandoned => {
+                if answer.request.kind == ABANDON {
+                    self.change = Some(answer);
                 }
             }
             _ => {}

@@ -81,6 +81,7 @@ impl<O: Open<S>, S: SteadyRead + SteadyWrite + Drop> Connection for Streams<O, S
     }
 
     fn pause(&mut self) -> bool {
+        self.stream.take();
         self.opener.pause()
     }
 

@@ -52,7 +52,7 @@ fn begin_on<C: Connection>(
     if !stands {
         return Ok(Stage::Nowhere);
     }
-    let vouched = repeat(alloc, connection, &known.node)?;
+    let vouched = repeat(alloc, connection, &known.change)?;
     if !vouched {
         return Ok(Stage::Nowhere);
     }

@@ -99,6 +99,53 @@ fn silent_service(rt: HostRuntime) -> Result<(), Fail> {
     Ok(())
 }
 
+/// A pause gives the connection up, also where the time that may be waited is over. The next request begins on a new
+/// one, where the service is vouched for again.
+#[test]
+fn pauses(rt: HostRuntime) -> Result<(), Fail> {
+    let alloc = rt.alloc();
+    for pauses in 0..2u32 {
+        let (outcome, mut in_flight) = broken(alloc, 0, Loss::Nothing);
+        assert!(rt; outcome == Ok(true) && in_flight.connection.joined);
+        in_flight.connection.pauses = pauses;
+        assert!(rt; in_flight.pause() == (0 < pauses));
+        assert!(rt; !in_flight.connection.joined);
+        let reply = in_flight.ask(request(alloc, 6, 7));
+        assert!(rt; matches!(&reply, Ok(Reply::Abandoned)));
+        let written = last_connection(in_flight.connection.log.as_slice());
+        assert!(rt; written == [0, 1, 6, 7].as_slice());
+    }
+    Ok(())
+}
+
+/// A service that lost the profile while the client paused gets request 1 and no other.
+#[test]
+fn profile_lost_in_a_pause(rt: HostRuntime) -> Result<(), Fail> {
+    let alloc = rt.alloc();
+    let (outcome, mut in_flight) = broken(alloc, 0, Loss::Nothing);
+    assert!(rt; outcome == Ok(true) && in_flight.pause());
+    in_flight.connection.profile = 0;
+    let reply = in_flight.ask(request(alloc, 6, 7));
+    assert!(rt; matches!(&reply, Err(TransferFault::Restarted)));
+    let written = last_connection(in_flight.connection.log.as_slice());
+    assert!(rt; written == [0, 1].as_slice());
+    Ok(())
+}
+
+/// Once the file was abandoned, a service without the node gets requests 1 and 6 and no other.
+#[test]
+fn node_lost_in_a_pause(rt: HostRuntime) -> Result<(), Fail> {
+    let alloc = rt.alloc();
+    let (outcome, mut in_flight) = broken(alloc, 0, Loss::Nothing);
+    assert!(rt; outcome == Ok(true) && in_flight.pause());
+    in_flight.connection.node = 0;
+    let reply = in_flight.ask(request(alloc, 6, 7));
+    assert!(rt; matches!(&reply, Err(TransferFault::Restarted)));
+    let written = last_connection(in_flight.connection.log.as_slice());
+    assert!(rt; written == [0, 1, 6].as_slice());
+    Ok(())
+}
+
 /// Each connection breaks after seven steps. These are enough for the two known requests and one more, since a new
 /// connection begins with one frame alone.
 #[test]

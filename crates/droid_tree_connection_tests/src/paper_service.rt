@@ -93,7 +93,7 @@ impl PaperService {
 
     /// Returns the kind of the reply to a request, and its number. A request that comes again gets the reply that it
     /// got before. The kinds are 129 for Made, 130 for Node, 131 for Taken, 133 for Abandoned and 136 for Refused, with
-    /// the reason 13 for BadPiece.
+    /// the reasons 4 for NoSuchNode and 13 for BadPiece.
     fn reply(&mut self, kind: u8, number: u64) -> (u8, u32) {
         if kind == 1 {
             if self.profile == 0 {
@@ -110,7 +110,7 @@ impl PaperService {
             return (130, self.node);
         }
         if kind != 4 {
-            return (133, 0);
+            return if self.node == 0 { (136, 4) } else { (133, 0) };
         }
         if number == self.refused {
             return (136, 13);
@@ -181,6 +181,8 @@ impl Connection for PaperService {
     }
 
     fn pause(&mut self) -> bool {
+        self.joined = false;
+        self.replies.clear();
         if self.pauses == 0 {
             return false;
         }

@@ -1,5 +1,5 @@
 -- Call after call on a sender's connection.
-use Rattle.std.proofs.Common.{◌≡◌, ◌⊎◌, ◌<◌, ℕ, zero, suc, Bool, true, false, cond, List, [], ◌∷◌, ◌++◌, Contains, length, Option, Some, None, inl, inr, refl, sym, ap, subst, ◌∙◌, arith}
+use Rattle.std.proofs.Common.{◌≡◌, ◌⊎◌, ◌==◌, ℕ, zero, suc, Bool, true, false, cond, List, [], ◌∷◌, ◌++◌, Contains, Some, inl, inr, refl, sym, ap, subst, ◌∙◌, arith}
 use Rattle.std.specs.Prelude.{IsTrue}
 use Rattle.std.specs.List.{AllByRecursion}
 use Rattle.std.proofs.lemmas.List.Elements.{Contains-append_cases, Contains-append_left, Contains-append_right, Contains-push, Contains-push_cases}
@@ -10,7 +10,7 @@ use Rattle.droid_frame.specs.types.request.Request.{Request}
 use Rattle.droid_tree.specs.Heard.{Heard}
 use Rattle.droid_tree.specs.Observation as trees
 use Rattle.droid_tree.specs.Observation.{Observation}
-use Rattle.droid_tree_connection.specs.Answering.{IsAnswered, IsTaken}
+use Rattle.droid_tree_connection.specs.Answering.{IsTaken}
 use Rattle.droid_tree_connection.specs.Calls.{EndsAll, Fails, IsAmong, Sends, Waits}
 use Rattle.droid_tree_connection.specs.Chains.{GoesOver}
 use Rattle.droid_tree_connection.specs.Events as connections
@@ -32,7 +32,7 @@ use Rattle.droid_tree_upload.specs.declared.client_fault.ClientFault.{ClientFaul
 use Rattle.droid_tree_upload.specs.declared.upload.Upload.{Upload}
 use Rattle.droid_tree_remote.specs.Conversations.{AreAwaited, AreDone, Converses, IsDone, IsOfDeeds, WritesOnly, frame_of_call, known_after, known_behind}
 use Rattle.droid_tree_remote.specs.Numbered.{frame_of}
-use Rattle.droid_tree_remote.specs.SenderCalls.{Answers, CallsSender, FailsCall, FailsToSettle, HadStopped, HadStoppedBefore, HasMissed, IsFresh, Misses, NotAllCame, SendsPiece, WasForeign}
+use Rattle.droid_tree_remote.specs.SenderCalls.{CallsSender, FailsCall, FailsToSettle, HadStopped, HadStoppedBefore, HasMissed, IsFresh, Misses, NotAllCame, WasForeign}
 use Rattle.droid_tree_remote.specs.declared.sender.Sender.{Sender}
 use Rattle.droid_tree_remote.proofs.Pausing.{stands_later}
 
@@ -90,22 +90,22 @@ module _ (known : KnownRequests) (frame : Frame) where
   abbrev IsOld : Known → Type 0
   IsOld one = IsKnown known one ⊎ (one.request ≡ frame)
 
-  known_profile : (reply : Frame) (is : Bool) (one : Known) → IsKnown (cond is (record { profile = Some (record { request = frame; reply = reply }); node = known.node }) known) one → IsOld one
+  known_profile : (reply : Frame) (is : Bool) (one : Known) → IsKnown (cond is (record { profile = Some (record { request = frame; reply = reply }); change = known.change }) known) one → IsOld one
   known_profile reply false one known_it = inl known_it
   known_profile reply true one (inl is) = inr cc
   known_profile reply true one (inr is) = inl (inr is)
 
-  known_node : (reply : Frame) (is : Bool) (one : Known) → IsKnown (cond is (record { profile = known.profile; node = Some (record { request = frame; reply = reply }) }) known) one → IsOld one
-  known_node reply false one known_it = inl known_it
-  known_node reply true one (inl is) = inl (inl is)
-  known_node reply true one (inr is) = inr cc
+  known_change : (reply : Frame) (is : Bool) (one : Known) → IsKnown (cond is (record { profile = known.profile; change = Some (record { request = frame; reply = reply }) }) known) one → IsOld one
+  known_change reply false one known_it = inl known_it
+  known_change reply true one (inl is) = inl (inl is)
+  known_change reply true one (inr is) = inr cc
 
   known_before : (reply : Reply) (one : Known) → IsKnown (remember known frame reply) one → IsOld one
   known_before (replies.Made profile) one is = known_profile _ _ one is
-  known_before (replies.Node number) one is = known_node _ (adds_node frame.kind) one is
+  known_before (replies.Node number) one is = known_change _ (adds_node frame.kind) one is
   known_before (replies.Taken held) one is = inl is
-  known_before (replies.Finished method mismatch hash puids) one is = inl is
-  known_before replies.Abandoned one is = inl is
+  known_before (replies.Finished method mismatch hash puids) one is = known_change _ (frame.kind == 5) one is
+  known_before replies.Abandoned one is = known_change _ (frame.kind == 6) one is
   known_before (replies.Progress held missing) one is = inl is
   known_before (replies.Part as_of total bytes) one is = inl is
   known_before (replies.Refused refusal) one is = inl is

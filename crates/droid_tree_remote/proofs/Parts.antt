@@ -1,5 +1,5 @@
 -- Part after part of an export.
-use Rattle.std.proofs.Common.{◌≡◌, ℕ, ◌+◌, Option, List, [], ◌∷◌, ◌++◌, Contains, length, take, drop, inl, inr, refl, sym, ap, subst, ◌∙◌, length-append, append-nil, append_assoc, arith}
+use Rattle.std.proofs.Common.{◌≡◌, ℕ, ◌+◌, Option, List, [], ◌∷◌, ◌++◌, length, take, drop, inl, inr, refl, sym, ap, subst, ◌∙◌, length-append, append-nil, append_assoc, arith}
 use Rattle.std.specs.Io.KnownBytes.{Appends}
 use Rattle.std.proofs.KnownBytes.{Appends-nil, Appends-trans}
 use Rattle.std.proofs.lemmas.Grind.{flat_map-append}
@@ -14,9 +14,13 @@ use Rattle.droid_tree_connection.specs.Stages.{StandsOn}
 use Rattle.droid_tree_connection.specs.Vouching.{remember}
 use Rattle.droid_tree_connection.specs.declared.in_flight.InFlight.{InFlight}
 use Rattle.droid_tree_connection.specs.declared.known_requests.KnownRequests.{KnownRequests}
+use Rattle.droid_tree_connection.specs.TransferFaults.{Explains}
 use Rattle.droid_tree_connection.specs.declared.transfer_fault.TransferFault.{TransferFault}
-use Rattle.droid_tree_connection.proofs.Going.{answered_after, answered_before, goes_in, goes_none, goes_on, nothing_in}
-use Rattle.droid_tree_remote.specs.Exports.{ArePartsOf, Downloads, Exports, ExportsFront, IsPartFrame, OnlyAsks, joined, part_frame}
+use Rattle.droid_tree_connection.specs.declared.transfer_fault.TransferFault.TheVariants as transfers
+use Rattle.droid_tree_connection.proofs.Going.{answered_after, answered_before, explains_after, goes_in, goes_none, goes_on, nothing_in}
+use Rattle.droid_tree_remote.specs.Exports.{ArePartsOf, Downloads, EndsAsking, EndsExport, ExplainsEnd, ExplainsReply, ExplainsUnwritten, Exports, ExportsFront, IsPartFrame, OnlyAsks, joined, part_frame}
+use Rattle.droid_tree_remote.specs.declared.remote_fault.DownloadFault.{DownloadFault}
+use Rattle.droid_tree_remote.specs.declared.remote_fault.DownloadFault.TheVariants.{Sending, Writing}
 use Rattle.droid_tree_remote.proofs.Pausing.{stands_later}
 
 joined_more : (parts : List (List ℕ)) (part : List ℕ) → joined (parts ++ part ∷ []) ≡ joined parts ++ part
@@ -82,6 +86,88 @@ module _ (client : ℕ) (name : List ℕ) (profile : ℕ) where
       none = second.none;
       stands_on = stands_later known facts first.goes.events second.goes.events new second.stands_on;
     }
+
+    -- ---- why no part came
+
+    -- no reply came
+    end_by_fault : (facts : List Fact) (events : List Event) (from : ℕ) (waiting : List Frame) → waiting ≡ [] → (fault : TransferFault) → Explains fault known (IsAmong waiting (part_frame client name profile from)) waiting facts events
+        → ExplainsEnd client name profile known facts events fault
+    end_by_fault facts events from waiting none transfers.Memory why = tt
+    end_by_fault facts events from waiting none transfers.Broken why = why
+    end_by_fault facts events from waiting none transfers.Stranger why =
+        inl (record { frame = why.frame; came = why.came; is = among_parts waiting from why.frame none why.is; last = why.last; no_reply = why.no_reply })
+    end_by_fault facts events from waiting none transfers.Restarted why = why
+    end_by_fault facts events from waiting none (transfers.Refused refusal) why = absurd (nothing_in waiting why.frame none why.is)
+    end_by_fault facts events from waiting none transfers.Busy why = absurd why
+
+    -- a reply came that is no part
+    end_by_reply : (facts : List Fact) (events : List Event) (from : ℕ) (reply : Reply) → IsAnswered known facts events (part_frame client name profile from) reply → (fault : TransferFault) → ExplainsReply from reply fault
+        → ExplainsEnd client name profile known facts events fault
+    end_by_reply facts events from reply answered transfers.Memory why = tt
+    end_by_reply facts events from reply answered transfers.Stranger why = inr (record { from = from; reply = reply; answered = answered; odd = why })
+    end_by_reply facts events from reply answered (transfers.Refused refusal) why =
+        record { from = from; answered = subst (λ (r : Reply). IsAnswered known facts events (part_frame client name profile from) r) why.0 answered; reason = why.1 }
+    end_by_reply facts events from reply answered transfers.Broken why = absurd why
+    end_by_reply facts events from reply answered transfers.Restarted why = absurd why
+    end_by_reply facts events from reply answered transfers.Busy why = absurd why
+
+    its_explains : (facts : List Fact) (xs ys : List Event) (fault : TransferFault) → Explains fault known (IsPartFrame client name profile) [] (facts_after facts xs) ys → Explains fault known (IsPartFrame client name profile) [] facts (xs ++ ys)
+    its_explains facts xs ys fault why =
+        explains_after known (IsPartFrame client name profile) (IsPartFrame client name profile) [] [] (λ frame is. is) (λ frame is. is) facts xs ys fault why
+
+    -- more events came before
+    end_later : (facts : List Fact) (xs ys : List Event) (fault : TransferFault) → ExplainsEnd client name profile known (facts_after facts xs) ys fault → ExplainsEnd client name profile known facts (xs ++ ys) fault
+    end_later facts xs ys transfers.Memory why = tt
+    end_later facts xs ys transfers.Broken why = its_explains facts xs ys transfers.Broken why
+    end_later facts xs ys transfers.Restarted why = its_explains facts xs ys transfers.Restarted why
+    end_later facts xs ys transfers.Busy why = absurd why
+    end_later facts xs ys transfers.Stranger why = elim why [
+      | inl no_reply ↦ inl (its_explains facts xs ys transfers.Stranger no_reply)
+      | inr odd ↦ inr (record { from = odd.from; reply = odd.reply; answered = answered_after known facts xs ys (part_frame client name profile odd.from) odd.reply odd.answered; odd = odd.odd })
+    ]
+    end_later facts xs ys (transfers.Refused refusal) why =
+        record { from = why.from; answered = answered_after known facts xs ys (part_frame client name profile why.from) (replies.Refused refusal) why.answered; reason = why.reason }
+
+    abbrev Ends : TransferFault → List Fact → InFlight C → InFlight C → Type 0
+    Ends fault facts old new = EndsAsking client name profile does fault known facts old new
+
+    abbrev EndsAny : DownloadFault → List Fact → InFlight C → InFlight C → Type 0
+    EndsAny fault facts old new = EndsExport client name profile does fault known facts old new
+
+    -- the request could not be made
+    pub ends_unasked : (facts : List Fact) (old : InFlight C) → old.waiting.items ≡ [] → StandsOn known facts old → (fault : TransferFault) → fault ≡ transfers.Memory → Ends fault facts old old
+    ends_unasked facts old none stands fault is =
+        subst (λ (f : TransferFault). Ends f facts old old) (sym is) (record { asks = asks_none facts old none stands; explained = tt })
+
+    pub ends_fails : (facts : List Fact) (from : ℕ) (fault : TransferFault) (old new : InFlight C) → old.waiting.items ≡ [] → Fails does known (IsAmong old.waiting.items (part_frame client name profile from)) old.waiting.items fault facts old new
+        → Ends fault facts old new
+    ends_fails facts from fault old new none fails =
+        record { asks = asks_fails facts from fault old.waiting.items old new none fails; explained = end_by_fault facts fails.stops.goes.events from old.waiting.items none fault fails.stops.explained }
+
+    pub ends_waits : (facts : List Fact) (from : ℕ) (reply : Reply) (fault : TransferFault) (old new : InFlight C) → old.waiting.items ≡ [] → Waits does known (part_frame client name profile from) reply facts old new
+        → ExplainsReply from reply fault → Ends fault facts old new
+    ends_waits facts from reply fault old new none waits why =
+        record { asks = asks_waits facts from reply old new none waits; explained = end_by_reply facts waits.goes.events from reply waits.answered fault why }
+
+    -- a part came and was not written
+    pub ends_unwritten : (facts : List Fact) (from : ℕ) (reply : Reply) (fault : DownloadFault) (old new : InFlight C) → old.waiting.items ≡ [] → Waits does known (part_frame client name profile from) reply facts old new
+        → ExplainsUnwritten from reply fault → EndsAny fault facts old new
+    ends_unwritten facts from reply (Writing why) old new none waits written = asks_waits facts from reply old new none waits
+    ends_unwritten facts from reply (Sending transfers.Stranger) old new none waits written = ends_waits facts from reply transfers.Stranger old new none waits written
+    ends_unwritten facts from reply (Sending transfers.Memory) old new none waits written = absurd written
+    ends_unwritten facts from reply (Sending transfers.Broken) old new none waits written = absurd written
+    ends_unwritten facts from reply (Sending transfers.Restarted) old new none waits written = absurd written
+    ends_unwritten facts from reply (Sending (transfers.Refused refusal)) old new none waits written = absurd written
+    ends_unwritten facts from reply (Sending transfers.Busy) old new none waits written = absurd written
+
+    -- other parts were asked for before
+    pub ends_on : (facts : List Fact) (fault : TransferFault) (old now new : InFlight C) (first : Asks facts old now) → Ends fault (facts_after facts first.goes.events) now new → Ends fault facts old new
+    ends_on facts fault old now new first ends =
+        record { asks = asks_on facts old now new first ends.asks; explained = end_later facts first.goes.events ends.asks.goes.events fault ends.explained }
+
+    pub ends_any_on : (facts : List Fact) (fault : DownloadFault) (old now new : InFlight C) (first : Asks facts old now) → EndsAny fault (facts_after facts first.goes.events) now new → EndsAny fault facts old new
+    ends_any_on facts (Sending fault) old now new first ends = ends_on facts fault old now new first ends
+    ends_any_on facts (Writing why) old now new first ends = asks_on facts old now new first ends
 
     abbrev Front : List Fact → ℕ → ℕ → ℕ → InFlight C → InFlight C → Option (List ℕ) → Option (List ℕ) → Type 0
     Front facts as_of total from old new written written_after = ExportsFront client name profile does as_of total from known facts old new written written_after
@@ -180,3 +266,7 @@ pub its_asks : {C : Type 0} (does : C → Event → C → Type 0) (known : Known
     → OnlyAsks client_now name_now profile does known facts old new → OnlyAsks client name profile does known facts old new
 its_asks does known facts client client_now name name_now profile old new same named asks =
     subst (λ (n : List ℕ). OnlyAsks client n profile does known facts old new) named (subst (λ (c : ℕ). OnlyAsks c name_now profile does known facts old new) same asks)
+
+-- what is so of a sender is so of another that is the same, but for what is in flight
+pub its_own : (P : ℕ → List ℕ → Type 0) (client client_now : ℕ) (name name_now : List ℕ) → client_now ≡ client → name_now ≡ name → P client_now name_now → P client name
+its_own P client client_now name name_now same named is = subst (λ (n : List ℕ). P client n) named (subst (λ (c : ℕ). P c name_now) same is)

@@ -1,14 +1,13 @@
 -- Tries after tries, while the service has no place for another unfinished file.
-use Rattle.std.proofs.Common.{◌≡◌, ◌⊎◌, ℕ, suc, ◌+◌, ◌≤◌, ◌-◌, ◌^◌, true, List, [], ◌∷◌, ◌++◌, Contains, length, inl, inr, refl, sym, ap, subst, ◌∙◌, append_assoc, length-append, arith}
+use Rattle.std.proofs.Common.{◌≡◌, ℕ, ◌+◌, ◌≤◌, ◌-◌, ◌^◌, true, List, [], ◌∷◌, ◌++◌, Contains, length, inl, inr, refl, sym, ap, subst, ◌∙◌, append_assoc, length-append, arith}
 use Rattle.droid_frame.specs.types.frame.Frame.{Frame}
-use Rattle.droid_frame.specs.types.refusal.Refusal.{Refusal}
 use Rattle.droid_frame.specs.types.reply.Reply.{Reply}
 use Rattle.droid_frame.specs.types.reply.Reply.TheVariants.{Made, Node, Taken, Finished, Abandoned, Progress, Part, Refused}
 use Rattle.droid_tree_connection.specs.Calls.{Fails, IsAmong, Waited, Waits}
 use Rattle.droid_tree_connection.specs.Events.{Event, Fact, Expired, Paused, Started, facts_after}
 use Rattle.droid_tree_connection.specs.Moves.{Goes}
 use Rattle.droid_tree_connection.specs.Stages.{StandsOn}
-use Rattle.droid_tree_connection.specs.TransferFaults.{Explains, GivesUp}
+use Rattle.droid_tree_connection.specs.TransferFaults.{Explains}
 use Rattle.droid_tree_connection.specs.Vouching.{remember}
 use Rattle.droid_tree_connection.specs.declared.in_flight.InFlight.{InFlight}
 use Rattle.droid_tree_connection.specs.declared.known_requests.KnownRequests.{KnownRequests}
@@ -16,7 +15,7 @@ use Rattle.droid_tree_connection.specs.declared.transfer_fault.TransferFault.{Tr
 use Rattle.droid_tree_connection.specs.declared.transfer_fault.TransferFault.TheVariants as transfers
 use Rattle.droid_tree_connection.proofs.Going.{all_taken_before, answered_after, explains_after, facts_append, goes_in, goes_on, goes_one, nothing_in}
 use Rattle.droid_tree_remote.specs.Patience.{MissesCopy, Pausing}
-use Rattle.droid_tree_remote.specs.SenderCalls.{ExplainsMiss, IsBusy, Misses, is_busy}
+use Rattle.droid_tree_remote.specs.SenderCalls.{ExplainsMiss, Misses, is_busy}
 
 -- ---- what is known, and what stands
 
@@ -25,8 +24,8 @@ same_known : (known : KnownRequests) (frame : Frame) (reply : Reply) → is_busy
 same_known known frame (Made profile) busy = absurd cc
 same_known known frame (Node number) busy = absurd cc
 same_known known frame (Taken held) busy = refl
-same_known known frame (Finished method mismatch hash puids) busy = refl
-same_known known frame Abandoned busy = refl
+same_known known frame (Finished method mismatch hash puids) busy = absurd cc
+same_known known frame Abandoned busy = absurd cc
 same_known known frame (Progress held missing) busy = refl
 same_known known frame (Part as_of total bytes) busy = refl
 same_known known frame (Refused refusal) busy = refl
@@ -92,7 +91,7 @@ module _ {C : Type 0} (does : C → Event → C → Type 0) (known : KnownReques
         taken = all_taken_before known facts events (Started ∷ []) old.waiting.items waits.taken;
         none = waited.same_waiting ∙ waits.none;
         stands_on = stands_later known facts events (Started ∷ []) new
-            (waited.same_facts known (facts_after facts events) (subst (λ (k : KnownRequests). StandsOn k (facts_after facts events) now) (same_known known frame reply busy) waits.stands_on));
+            (waited.stands_on known (facts_after facts events) (subst (λ (k : KnownRequests). StandsOn k (facts_after facts events) now) (same_known known frame reply busy) waits.stands_on));
       }
 
   module _ (facts : List Fact) (turns : ℕ) (old now new : InFlight C) (pausing : Pausing does known frame turns facts old now) where
@@ -127,7 +126,7 @@ module _ {C : Type 0} (does : C → Event → C → Type 0) (known : KnownReques
     -- the client waited a while
     pub pausing_paused : Waited does Paused now new → Pausing does known frame (turns + 1) facts old new
     pausing_paused waited = pausing_on (turns + 1) (goes_one does known Own then now.connection new.connection Paused waited.happened tt) (omega arith)
-        (waited.same_waiting ∙ pausing.none) (waited.same_facts known then pausing.stands_on)
+        (waited.same_waiting ∙ pausing.none) (waited.stands_on known then pausing.stands_on)
 
     -- there is still no place
     pub pausing_again : (reply : Reply) → is_busy reply ≡ true → Waits does known frame reply then now new → Pausing does known frame turns facts old new
@@ -181,7 +180,7 @@ module _ {C : Type 0} (does : C → Event → C → Type 0) (known : KnownReques
       };
       kept = λ other there. absurd (nothing_in new.waiting.items other (waited.same_waiting ∙ pausing.none) there);
       none = λ refusal is. absurd cc;
-      stands_on = stands_later known facts pausing.goes.events (Expired ∷ []) new (waited.same_facts known then pausing.stands_on);
+      stands_on = stands_later known facts pausing.goes.events (Expired ∷ []) new (waited.stands_on known then pausing.stands_on);
     }
 
   -- there were as many events as the largest number counts

@@ -1,5 +1,5 @@
 -- Frame after frame on one connection.
-use Rattle.std.proofs.Common.{◌≡◌, ◌⊎◌, ℕ, zero, suc, ◌+◌, ◌<◌, ◌≤◌, Bool, true, false, List, [], ◌∷◌, ◌++◌, Contains, Option, Some, None, inl, inr, refl, sym, ap, subst, ◌∙◌, append_assoc, arith}
+use Rattle.std.proofs.Common.{◌≡◌, ◌⊎◌, ℕ, zero, suc, ◌+◌, ◌<◌, ◌≤◌, List, [], ◌∷◌, ◌++◌, Some, None, inl, inr, refl, sym, ap, subst, ◌∙◌, arith}
 use Rattle.std.specs.List.{AllByRecursion}
 use Rattle.std.proofs.lemmas.List.Elements.{Contains-append_left, Contains-push}
 use Rattle.droid_frame.specs.types.frame.Frame.{Frame}
@@ -9,16 +9,15 @@ use Rattle.droid_frame.specs.types.reply.Reply.TheVariants as replies
 use Rattle.droid_tree_connection.specs.Answering.{IsAnswered, IsReplyTo}
 use Rattle.droid_tree_connection.specs.Events.{Event, Fact, Sent, Came, Cut, Lost, Written, Received, facts_after}
 use Rattle.droid_tree_connection.specs.Moves.{Goes}
-use Rattle.droid_tree_connection.specs.Stages.{CountsOn, Stands, StandsOn}
+use Rattle.droid_tree_connection.specs.Stages.{CountsOn, StandsOn}
 use Rattle.droid_tree_connection.specs.declared.connection_steps.Stage.{Stage}
 use Rattle.droid_tree_connection.specs.declared.connection_steps.Stage.TheVariants.{Nowhere}
 use Rattle.droid_tree_connection.specs.declared.in_flight.InFlight.{InFlight}
 use Rattle.droid_tree_connection.specs.declared.known_requests.KnownRequests.{KnownRequests}
-use Rattle.droid_tree_connection.proofs.Chaining.{over_more, over_one}
 use Rattle.droid_tree_connection.proofs.Counting.{counts_nowhere, vouched_more}
 use Rattle.droid_tree_connection.proofs.Going.{all_append, answered_after, answered_before, goes_in, goes_none, goes_on, goes_one}
 use Rattle.droid_tree_submission.specs.declared.tree_submission.Options.{Options}
-use Rattle.droid_tree_remote.specs.Probes.{AnswersHere, AsksPair, BrokeHere, Finds, IsHere, IsMadePair, IsOfPair, IsRefusedPair, ReadsHere, ReadsNotHere, Refuses, StandsNowhere, StaysHere, Tries, WritesHere, WritesNotHere, profile_frame, with_pair}
+use Rattle.droid_tree_remote.specs.Probes.{AnswersHere, BrokeHere, Finds, IsHere, IsOfPair, IsRefusedPair, ReadsHere, ReadsNotHere, Refuses, StandsNowhere, StaysHere, Tries, WritesHere, WritesNotHere, profile_frame, with_pair}
 use Rattle.droid_tree_remote.proofs.Pausing.{stands_later}
 
 module _ {C : Type 0} (does : C → Event → C → Type 0) (known : KnownRequests) (frame : Frame) (facts : List Fact) where

@@ -1,5 +1,5 @@
 -- What happens on a sender's connection for the deeds of an upload (this project's own).
-use Rattle.std.specs.Prelude.{◌≡◌, ℕ, Bool, true, IsTrue, List, [], ◌∷◌, Contains}
+use Rattle.std.specs.Prelude.{◌≡◌, ℕ, Bool, IsTrue, List, [], ◌∷◌, Contains}
 use Rattle.std.specs.List.{AllByRecursion}
 use Rattle.droid_frame.specs.types.frame.Frame.{Frame}
 use Rattle.droid_tree_connection.specs.Answering.{IsAnswered, IsTaken}

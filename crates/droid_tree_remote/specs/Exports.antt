@@ -1,8 +1,11 @@
 -- An export that is read in parts (this project's own).
-use Rattle.std.specs.Prelude.{◌≡◌, ℕ, ◌+◌, Option, List, [], ◌∷◌, ◌++◌, length}
+use Rattle.std.specs.Prelude.{◌≡◌, ◌≢◌, ◌⊎◌, ℕ, ◌+◌, ◌<◌, ◌≤◌, ◌^◌, Option, List, [], ◌∷◌, ◌++◌, length}
 use Rattle.std.specs.Io.KnownBytes.{Appends}
 use Rattle.std.specs.List.{flat_map}
 use Rattle.droid_frame.specs.types.frame.Frame.{Frame}
+use Rattle.droid_frame.specs.types.refusal.Refusal.{Refusal}
+use Rattle.droid_frame.specs.types.refusal.Refusal.TheVariants as refusals
+use Rattle.droid_frame.specs.types.reply.Reply.{Reply}
 use Rattle.droid_frame.specs.types.reply.Reply.TheVariants as replies
 use Rattle.droid_frame.specs.types.request.Request.{Request}
 use Rattle.droid_frame.specs.types.request.Request.TheVariants.{Export}
@@ -10,10 +13,15 @@ use Rattle.droid_tree_connection.specs.Answering.{IsAnswered}
 use Rattle.droid_tree_connection.specs.Events.{Event, Fact, facts_after}
 use Rattle.droid_tree_connection.specs.Moves.{Goes}
 use Rattle.droid_tree_connection.specs.Stages.{StandsOn}
+use Rattle.droid_tree_connection.specs.TransferFaults.{Explains, IsStranger}
 use Rattle.droid_tree_connection.specs.declared.in_flight.InFlight.{InFlight}
 use Rattle.droid_tree_connection.specs.declared.known_requests.KnownRequests.{KnownRequests}
+use Rattle.droid_tree_connection.specs.declared.transfer_fault.TransferFault.{TransferFault}
+use Rattle.droid_tree_connection.specs.declared.transfer_fault.TransferFault.TheVariants as transfers
 use Rattle.droid_tree_numbers.specs.Submitted.{all_records}
 use Rattle.droid_tree_remote.specs.Numbered.{frame_of}
+use Rattle.droid_tree_remote.specs.declared.remote_fault.DownloadFault.{DownloadFault}
+use Rattle.droid_tree_remote.specs.declared.remote_fault.DownloadFault.TheVariants.{Sending, Writing}
 
 -- all records, from this offset on, in the largest parts
 abbrev pub part_request : ℕ → ℕ → Request
@@ -21,6 +29,26 @@ part_request profile from = Export profile from 1048576 all_records
 
 abbrev pub joined : List (List ℕ) → List ℕ
 joined parts = flat_map (λ part. part) parts
+
+-- The reply to the request for the part at this offset is neither a refusal nor a part that can stand there: that is empty
+-- only at the end, and its last byte can be counted.
+abbrev pub IsOdd : ℕ → Reply → Type 0
+IsOdd from (replies.Part as_of total bytes) = ((bytes ≡ []) × (from < total)) ⊎ (2 ^ 64 ≤ from + length bytes)
+IsOdd from (replies.Refused refusal) = ⊥
+IsOdd from _ = Unit {0}
+
+-- why the reply to the request for the part at this offset is no part
+abbrev pub ExplainsReply : ℕ → Reply → TransferFault → Type 0
+ExplainsReply from reply transfers.Memory = Unit {0}
+ExplainsReply from reply transfers.Stranger = IsOdd from reply
+ExplainsReply from reply (transfers.Refused refusal) = (reply ≡ replies.Refused refusal) × (refusal ≢ refusals.Memory)
+ExplainsReply from reply _ = ⊥
+
+-- why a part that came was not written
+abbrev pub ExplainsUnwritten : ℕ → Reply → DownloadFault → Type 0
+ExplainsUnwritten from reply (Sending transfers.Stranger) = IsOdd from reply
+ExplainsUnwritten from reply (Sending _) = ⊥
+ExplainsUnwritten from reply (Writing why) = Unit {0}
 
 module _ (client : ℕ) (name : List ℕ) (profile : ℕ) where
   -- the frame that asks for the part at this offset
@@ -65,3 +93,34 @@ module _ (client : ℕ) (name : List ℕ) (profile : ℕ) where
     pub rest : List ℕ
     pub cut : joined parts ≡ bytes ++ rest
     pub wrote : Appends written written_after bytes
+
+  -- ---- of an export that ended early
+
+  -- the request for a part was refused, for another reason than memory
+  pub record IsRefusedPart (known : KnownRequests) (facts : List Fact) (events : List Event) (refusal : Refusal) : Type 0 where
+    pub from : ℕ
+    pub answered : IsAnswered known facts events (part_frame from) (replies.Refused refusal)
+    pub reason : refusal ≢ refusals.Memory
+
+  -- the reply to the request for a part is neither a refusal nor a part that can stand there
+  pub record IsOddPart (known : KnownRequests) (facts : List Fact) (events : List Event) : Type 0 where
+    pub from : ℕ
+    pub reply : Reply
+    pub answered : IsAnswered known facts events (part_frame from) reply
+    pub odd : IsOdd from reply
+
+  -- why no part came, or none that can stand there
+  abbrev pub ExplainsEnd : KnownRequests → List Fact → List Event → TransferFault → Type 0
+  ExplainsEnd known facts events (transfers.Refused refusal) = IsRefusedPart known facts events refusal
+  ExplainsEnd known facts events transfers.Stranger = IsStranger IsPartFrame events ⊎ IsOddPart known facts events
+  ExplainsEnd known facts events fault = Explains fault known IsPartFrame [] facts events
+
+  -- only parts were asked for, and then no part came, or none that can stand there, for a reason that the events show
+  pub record EndsAsking {C : Type 0} (does : C → Event → C → Type 0) (fault : TransferFault) (known : KnownRequests) (facts : List Fact) (old new : InFlight C) : Type 0 where
+    pub asks : OnlyAsks does known facts old new
+    pub explained : ExplainsEnd known facts asks.goes.events fault
+
+  -- how an export ends early: no part came; or it could not be written
+  abbrev pub EndsExport : {C : Type 0} → (C → Event → C → Type 0) → DownloadFault → KnownRequests → List Fact → InFlight C → InFlight C → Type 0
+  EndsExport does (Sending fault) known facts old new = EndsAsking does fault known facts old new
+  EndsExport does (Writing why) known facts old new = OnlyAsks does known facts old new

@@ -1,5 +1,5 @@
 -- A tree that is submitted over a connection (this project's own).
-use Rattle.std.specs.Prelude.{◌≡◌, true, false, [], Option, Some, None}
+use Rattle.std.specs.Prelude.{◌≡◌, true, false, [], Option, Some}
 use Rattle.droid_tree.specs.Heard.{Heard}
 use Rattle.droid_tree.specs.Observation.{Observation}
 use Rattle.droid_tree_connection.specs.Events.{Event}

@@ -1,10 +1,10 @@
 //! Reads the export of a profile in parts.
 
-ghost use Rattle.std.specs.Prelude.{◌≡◌, ◌+◌, ℕ, [], IfOk, IsSome, IsTrue, OnErr, OnOk, length, take};
+ghost use Rattle.std.specs.Prelude.{◌≡◌, ◌+◌, ℕ, None, [], IfErr, IfOk, IsSome, IsTrue, OnErr, OnOk, length, take};
 ghost use Rattle.std.specs.Io.KnownBytes.{Appends};
 ghost use Rattle.droid_frame.specs.types.reply.Reply.TheVariants as replies;
 ghost use Rattle.droid_tree_connection.specs.Calls.{Waits, Wherever};
-ghost use Rattle.droid_tree_remote.specs.Exports.{Downloads, Exports, OnlyAsks, part_frame, part_request};
+ghost use Rattle.droid_tree_remote.specs.Exports.{Downloads, EndsAsking, EndsExport, Exports, ExplainsReply, ExplainsUnwritten, part_frame, part_request};
 
 use crate::numbered_frame::frame_of;
 use crate::remote_fault::DownloadFault;
@@ -27,7 +27,8 @@ pub(crate) struct Part {
 }
 
 /// Writes the export of a profile, with all its records. Returns whether all parts are of one export. If not, a command
-/// came between them, and what was written is useless.
+/// came between them, and what was written is useless. A request for a part that is refused, for another reason than
+/// memory, is `TransferFault::Refused`.
 pub fn export<C: Connection, O: SteadyWrite>(
     sender: &mut Sender<C>,
     profile: u32,
@@ -39,6 +40,9 @@ pub fn export<C: Connection, O: SteadyWrite>(
     // In any case only parts were asked for, and what was written is the front of parts of one export.
     ensures downloads { sender.old.in_flight.waiting.items ≡ [] → Wherever sender.old.in_flight (λ known facts.
         Downloads sender.old.client sender.old.name profile C.does known facts sender.old.in_flight sender.new.in_flight (O.contents writer.old) (O.contents writer.new)) }
+    // The events show why it ended early: a refused request ends it with the fault `Refused`.
+    ensures ended { IfErr result (λ fault. sender.old.stopped ≡ None → sender.old.in_flight.waiting.items ≡ [] → Wherever sender.old.in_flight (λ known facts.
+        EndsExport sender.old.client sender.old.name profile C.does fault known facts sender.old.in_flight sender.new.in_flight)) }
     ensures same { sender.new ≡ record sender.old { in_flight = sender.new.in_flight } }
     // A sender that was stopped writes nothing.
     ensures stopped { IsSome sender.old.stopped → sender.new ≡ sender.old }
@@ -61,6 +65,8 @@ fn download<C: Connection, O: SteadyWrite>(
         Exports sender.old.client sender.old.name profile C.does known facts sender.old.in_flight sender.new.in_flight (O.contents writer.old) (O.contents writer.new))) }
     ensures downloads { sender.old.in_flight.waiting.items ≡ [] → Wherever sender.old.in_flight (λ known facts.
         Downloads sender.old.client sender.old.name profile C.does known facts sender.old.in_flight sender.new.in_flight (O.contents writer.old) (O.contents writer.new)) }
+    ensures ended { IfErr result (λ fault. sender.old.in_flight.waiting.items ≡ [] → Wherever sender.old.in_flight (λ known facts.
+        EndsExport sender.old.client sender.old.name profile C.does fault known facts sender.old.in_flight sender.new.in_flight)) }
     ensures same { sender.new ≡ record sender.old { in_flight = sender.new.in_flight } }
 {
     let first = ask_part(sender, profile, 0)?;
@@ -94,6 +100,7 @@ fn write_part<O: SteadyWrite>(writer: &mut O, from: u64, part: &Part) -> Result<
     ensures after { IfOk result (λ after. after ≡ from + length part.now.bytes) }
     ensures wrote { OnOk result (Appends (O.contents writer.old) (O.contents writer.new) part.now.bytes) }
     ensures front { OnErr result ((count : ℕ) × Appends (O.contents writer.old) (O.contents writer.new) (take count part.now.bytes)) }
+    ensures fault { IfErr result (λ fault. ExplainsUnwritten from (replies.Part part.now.as_of part.now.total part.now.bytes) fault) }
 {
     let bytes = part.bytes.as_slice();
     if bytes.is_empty() && from < part.total {
@@ -114,8 +121,8 @@ fn ask_part<C: Connection>(
 ) -> Result<Part, TransferFault>
     ensures came { IfOk result (λ part. Wherever sender.old.in_flight (λ known facts. Waits C.does known (part_frame sender.old.client sender.old.name profile from)
         (replies.Part part.as_of part.total part.bytes) facts sender.old.in_flight sender.new.in_flight)) }
-    ensures missed { OnErr result (sender.old.in_flight.waiting.items ≡ [] → Wherever sender.old.in_flight (λ known facts.
-        OnlyAsks sender.old.client sender.old.name profile C.does known facts sender.old.in_flight sender.new.in_flight)) }
+    ensures missed { IfErr result (λ fault. sender.old.in_flight.waiting.items ≡ [] → Wherever sender.old.in_flight (λ known facts.
+        EndsAsking sender.old.client sender.old.name profile C.does fault known facts sender.old.in_flight sender.new.in_flight)) }
     ensures same { sender.new ≡ record sender.old { in_flight = sender.new.in_flight } }
 {
     let reply = ask_reply(sender, profile, from)?;
@@ -131,8 +138,8 @@ fn ask_reply<C: Connection>(
 ) -> Result<Reply, TransferFault>
     ensures came { IfOk result (λ reply. Wherever sender.old.in_flight (λ known facts. Waits C.does known (part_frame sender.old.client sender.old.name profile from)
         reply facts sender.old.in_flight sender.new.in_flight)) }
-    ensures missed { OnErr result (sender.old.in_flight.waiting.items ≡ [] → Wherever sender.old.in_flight (λ known facts.
-        OnlyAsks sender.old.client sender.old.name profile C.does known facts sender.old.in_flight sender.new.in_flight)) }
+    ensures missed { IfErr result (λ fault. sender.old.in_flight.waiting.items ≡ [] → Wherever sender.old.in_flight (λ known facts.
+        EndsAsking sender.old.client sender.old.name profile C.does fault known facts sender.old.in_flight sender.new.in_flight)) }
     ensures same { sender.new ≡ record sender.old { in_flight = sender.new.in_flight } }
 {
     let alloc = sender.in_flight.alloc;
@@ -159,7 +166,8 @@ fn part_request(alloc: Global, profile: u32, from: u64) -> Request
 
 /// Returns the part in a reply.
 fn part_of(reply: Reply) -> Result<Part, TransferFault>
-    ensures { IfOk result (λ part. reply ≡ replies.Part part.as_of part.total part.bytes) }
+    ensures part { IfOk result (λ part. reply ≡ replies.Part part.as_of part.total part.bytes) }
+    ensures fault { IfErr result (λ fault. (from : ℕ) → ExplainsReply from reply fault) }
 {
     match reply {
         Reply::Part {
@@ -172,6 +180,7 @@ fn part_of(reply: Reply) -> Result<Part, TransferFault>
             bytes,
         }),
         Reply::Refused(Refusal::Memory) => Err(TransferFault::Memory),
+        Reply::Refused(refusal) => Err(TransferFault::Refused(refusal)),
         _ => Err(TransferFault::Stranger),
     }
 }

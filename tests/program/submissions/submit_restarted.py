@@ -14,6 +14,7 @@ from lib.submissions import Relay, WithSmallTree, fault, submit
 from lib.trees import walk
 
 RESTARTED = "port %d: the service has lost what was sent, so it was restarted: run the same command again, it starts anew"
+INCOMPLETE = "port %d: the service no longer has pieces that it took, so it was restarted: run the same command again"
 OTHER = 9
 
 
@@ -36,8 +37,8 @@ class Restarted(WithSmallTree):
             list(pool.map(check, range(1, self.REQUESTS + 1)))
 
     def test_at_each_request(self):
-        """The first entry has number 1 in each new profile, so nothing is noticed on the new connection until there is a
-        second; then the end shows it."""
+        """While the first file is under way, the new service gives the profile and the file the same numbers, so nothing
+        is noticed on the new connection; then its Finish is Incomplete."""
         self.each(self.one_restart)
 
     def one_restart(self, place):
@@ -59,8 +60,8 @@ class Restarted(WithSmallTree):
                 # after the new connection nothing was sent but the two requests that are known
                 self.assertLessEqual(len(service.frames), place + 2)
             elif ended != (0, b""):
-                due = [(4, b"fault: Restarted"), (4, b"fault: Incomplete"), (5, b"not in the profile: /a.bin")]
-                self.assertIn((ended[0], ended[1].split(b"\n")[0]), due, place)
+                due = [fault("Restarted", RESTARTED % service.port), fault("Incomplete", INCOMPLETE % service.port)]
+                self.assertIn(ended, [(4, err) for err in due], place)
             else:
                 self.has(self.text_of(place), walk(self.top)[0])
             self.assertEqual(os.path.exists(self.export_of(place)), ended[0] != 4, place)

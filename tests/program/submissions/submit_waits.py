@@ -141,6 +141,18 @@ class Places(Waits):
                 self.fill(other)
             self.ends_whole(relay.port, "--wait", "20")
 
+    def test_freed_over_another_connection(self):
+        """`serve` serves one connection at a time. While it waits for a place, `submit` gives its own up."""
+        with Serve.lasting() as service:
+            with connect(service.port) as other:
+                self.fill(other)
+            with ThreadPoolExecutor(1) as pool:
+                waiting = pool.submit(submit, self.top, service.port, 7, "--wait", "20")
+                time.sleep(0.5)
+                with connect(service.port) as other:
+                    self.finish_one(other)
+                self.assertEqual(waiting.result(), (0, b""))
+
     @staticmethod
     def fill(stream):
         """Begins 64 files of another client, of one byte each."""

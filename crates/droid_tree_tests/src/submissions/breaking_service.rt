@@ -1,25 +1,12 @@
 //! A service behind a connection that breaks.
 
-use crate::memory_tree::{MemoryTree, Row};
-use crate::noting_watcher::NotingWatcher;
 use crate::sample_service::sample_service;
-use crate::submissions::small_tree::OPTIONS;
 use droid_core::Service;
-use droid_frame::{
-    Blob, Criteria, Filter, Frame, Reply, Request, Text, is_version, reply_body, request_frame,
-};
-use droid_tree_remote::{
-    Broken, Connection, InFlight, Options, RemoteFault, Sender, Upload, submit,
-};
+use droid_frame::{Frame, is_version, reply_body};
+use droid_tree_remote::{Broken, Connection};
 use std::alloc::{AllocError, Global};
 use std::collections::VecDeque;
 use std::test::Fail;
-
-/// The client.
-pub const CLIENT: u32 = 7;
-
-/// The submission's name.
-const NAME: &str = "/tree";
 
 /// How many pauses a request may make: with the first, ten tries.
 const PAUSES: u32 = 9;
@@ -63,6 +50,8 @@ pub struct BreakingService {
     pub pauses: u32,
     /// The service that stands there after the break, in the place of this one.
     pub successor: Option<Service>,
+    /// What another client asks for at the first pause. The service serves one connection at a time.
+    pub other: Option<Frame>,
 }
 
 impl BreakingService {
@@ -87,6 +76,7 @@ impl BreakingService {
             lived: 0,
             pauses: PAUSES,
             successor: None,
+            other: None,
         }
     }
 
@@ -179,6 +169,11 @@ impl Connection for BreakingService {
     }
 
     fn pause(&mut self) -> bool {
+        self.joined = false;
+        self.replies.clear();
+        if let Some(frame) = self.other.take() {
+            let _ = self.service.handle(frame);
+        }
         match self.pauses.checked_sub(1) {
             Some(left) => {
                 self.pauses = left;
@@ -190,91 +185,5 @@ impl Connection for BreakingService {
 
     fn start_wait(&mut self) {
         self.pauses = PAUSES;
-    }
-}
-
-/// Returns the service behind a sender's connection.
-pub fn service_of(sender: Sender<BreakingService>) -> Service {
-    let Sender { in_flight, .. } = sender;
-    let InFlight { connection, .. } = in_flight;
-    let BreakingService { service, .. } = connection;
-    service
-}
-
-/// A run of `submit`, and what it left.
-#[derive(Drop)]
-pub struct Run<'a> {
-    /// Whether nothing was skipped, or why it ended early.
-    pub ended: Result<bool, RemoteFault>,
-    pub upload: Upload<MemoryTree<'a>, Sender<BreakingService>, NotingWatcher>,
-}
-
-impl Run<'_> {
-    /// Returns the connection.
-    pub fn desk(&mut self) -> &mut BreakingService {
-        &mut self.upload.client.in_flight.connection
-    }
-
-    /// Returns the whole export of the first profile.
-    pub fn exported(&mut self) -> Result<Blob, Fail> {
-        let alloc = self.upload.alloc;
-        exported(alloc, &mut self.upload.client.in_flight.connection.service)
-    }
-
-    /// Returns the service.
-    pub fn into_service(self) -> Service {
-        let Run { upload, .. } = self;
-        let Upload { client, .. } = upload;
-        service_of(client)
-    }
-}
-
-/// Submits a tree by these options.
-pub fn submitted_by<'a>(
-    alloc: Global,
-    desk: BreakingService,
-    rows: &'a [Row<'a>],
-    options: Options,
-) -> Result<Run<'a>, Fail> {
-    let mut upload = Upload {
-        alloc,
-        tree: MemoryTree::of(rows),
-        client: Sender::new(alloc, desk, CLIENT, Text::copy_of(alloc, NAME)?),
-        watcher: NotingWatcher::new(alloc),
-    };
-    let ended = match submit(&mut upload, options) {
-        Ok(submitted) => Ok(submitted.whole),
-        Err(fault) => Err(fault),
-    };
-    Ok(Run { ended, upload })
-}
-
-/// Submits a tree.
-pub fn submitted<'a>(
-    alloc: Global,
-    desk: BreakingService,
-    rows: &'a [Row<'a>],
-) -> Result<Run<'a>, Fail> {
-    submitted_by(alloc, desk, rows, OPTIONS)
-}
-
-/// Returns the whole export of the first profile.
-fn exported(alloc: Global, service: &mut Service) -> Result<Blob, Fail> {
-    let request = Request::Export {
-        profile: 1,
-        from: 0,
-        max: 1_048_576,
-        filter: Filter {
-            all: true,
-            criteria: Criteria::new(alloc),
-        },
-    };
-    if !request.fits(1) {
-        return Ok(Blob::from(Vec::new(alloc)));
-    }
-    let frame = request_frame(alloc, 1, 99, 1, &request)?;
-    match service.handle(frame) {
-        Reply::Part { bytes, .. } => Ok(bytes),
-        _ => Ok(Blob::from(Vec::new(alloc))),
     }
 }

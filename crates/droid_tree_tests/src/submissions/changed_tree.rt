@@ -1,7 +1,8 @@
 //! A tree that has changed since it was submitted.
 
 use crate::memory_tree::Row;
-use crate::submissions::breaking_service::{BreakingService, Way, submitted};
+use crate::submissions::breaking_service::{BreakingService, Way};
+use crate::submissions::run::submitted;
 use droid_tree::EntryKind;
 use std::test::Fail;
 
@@ -39,14 +40,12 @@ const SEALED: [Row; 3] = [
 fn longer(rt: HostRuntime) -> Result<(), Fail> {
     let alloc = rt.alloc();
     let desk = BreakingService::new(alloc, 0, Way::Unsent)?;
-    let run = submitted(alloc, desk, &FIRST)?;
-    assert!(rt; run.ended == Ok(true));
-    let desk = BreakingService::over(alloc, run.into_service(), 0, Way::Unsent);
-    let mut run = submitted(alloc, desk, &LONGER)?;
-    assert!(rt; run.ended == Ok(false) && run.desk().pieces == 0);
-    let watcher = &run.upload.watcher;
-    assert!(rt; watcher.used_before && watcher.files == 1);
-    assert!(rt; watcher.skipped.as_slice() == b"/d/more refused\n".as_slice());
+    let first = submitted(alloc, desk, &FIRST)?;
+    assert!(rt; first.is_whole());
+    let desk = BreakingService::over(alloc, first.into_service(), 0, Way::Unsent);
+    let run = submitted(alloc, desk, &LONGER)?;
+    assert!(rt; run.has_skipped() && run.pieces() == 0 && run.files() == 1);
+    assert!(rt; run.used_before() && run.skipped() == b"/d/more refused\n".as_slice());
     Ok(())
 }
 
@@ -55,11 +54,10 @@ fn longer(rt: HostRuntime) -> Result<(), Fail> {
 fn wider(rt: HostRuntime) -> Result<(), Fail> {
     let alloc = rt.alloc();
     let desk = BreakingService::new(alloc, 0, Way::Unsent)?;
-    let run = submitted(alloc, desk, &FIRST)?;
-    let desk = BreakingService::over(alloc, run.into_service(), 0, Way::Unsent);
-    let mut run = submitted(alloc, desk, &WIDER)?;
-    assert!(rt; run.ended == Ok(true) && run.desk().pieces == 2);
-    assert!(rt; run.upload.watcher.files == 4);
+    let first = submitted(alloc, desk, &FIRST)?;
+    let desk = BreakingService::over(alloc, first.into_service(), 0, Way::Unsent);
+    let run = submitted(alloc, desk, &WIDER)?;
+    assert!(rt; run.is_whole() && run.pieces() == 2 && run.files() == 4);
     Ok(())
 }
 
@@ -68,12 +66,12 @@ fn wider(rt: HostRuntime) -> Result<(), Fail> {
 fn readable_again(rt: HostRuntime) -> Result<(), Fail> {
     let alloc = rt.alloc();
     let desk = BreakingService::new(alloc, 0, Way::Unsent)?;
-    let mut run = submitted(alloc, desk, &SEALED)?;
-    assert!(rt; run.ended == Ok(false) && run.desk().pieces == 1);
-    assert!(rt; run.upload.watcher.skipped.as_slice() == b"/d/more unreadable\n".as_slice());
-    let desk = BreakingService::over(alloc, run.into_service(), 0, Way::Unsent);
+    let sealed = submitted(alloc, desk, &SEALED)?;
+    assert!(rt; sealed.has_skipped() && sealed.pieces() == 1);
+    assert!(rt; sealed.skipped() == b"/d/more unreadable\n".as_slice());
+    let desk = BreakingService::over(alloc, sealed.into_service(), 0, Way::Unsent);
     let mut run = submitted(alloc, desk, &FIRST)?;
-    assert!(rt; run.ended == Ok(true) && run.desk().pieces == 2);
+    assert!(rt; run.is_whole() && run.pieces() == 2);
     let text = run.exported()?;
     let text = std::str::from_utf8(text.as_slice())?;
     assert!(rt; text.contains("/d/more"));

@@ -1,18 +1,16 @@
 //! How many requests are in flight, and how many connections are tried.
 
-use crate::submissions::breaking_service::{BreakingService, Way, submitted};
+use crate::submissions::breaking_service::{BreakingService, Way};
+use crate::submissions::run::submitted;
 use crate::submissions::small_tree::ROWS;
-use droid_tree_remote::{RemoteFault, TransferFault};
 use std::test::Fail;
-
-const BROKEN: Result<bool, RemoteFault> = Err(RemoteFault::Sending(TransferFault::Broken));
 
 #[test]
 fn sixteen_at_most(rt: HostRuntime) -> Result<(), Fail> {
     let alloc = rt.alloc();
     let desk = BreakingService::new(alloc, 0, Way::Unsent)?;
-    let mut run = submitted(alloc, desk, &ROWS)?;
-    assert!(rt; run.ended == Ok(true) && run.desk().most == 16);
+    let run = submitted(alloc, desk, &ROWS)?;
+    assert!(rt; run.is_whole() && run.most() == 16);
     Ok(())
 }
 
@@ -22,8 +20,8 @@ fn one_frame_alone(rt: HostRuntime) -> Result<(), Fail> {
     let alloc = rt.alloc();
     let mut desk = BreakingService::new(alloc, 0, Way::Unsent)?;
     desk.lives = 2;
-    let mut run = submitted(alloc, desk, &ROWS)?;
-    assert!(rt; run.ended == BROKEN && run.desk().joins == 10);
+    let run = submitted(alloc, desk, &ROWS)?;
+    assert!(rt; run.is_broken() && run.joins() == 10);
     Ok(())
 }
 
@@ -32,7 +30,7 @@ fn one_frame_alone(rt: HostRuntime) -> Result<(), Fail> {
 fn ten_tries(rt: HostRuntime) -> Result<(), Fail> {
     let alloc = rt.alloc();
     let desk = BreakingService::new(alloc, 1, Way::Gone)?;
-    let mut run = submitted(alloc, desk, &ROWS)?;
-    assert!(rt; run.ended == BROKEN && run.desk().step == 10);
+    let run = submitted(alloc, desk, &ROWS)?;
+    assert!(rt; run.is_broken() && run.steps() == 10);
     Ok(())
 }

@@ -1,17 +1,22 @@
 //! A submission ends at each of its steps and is resumed; or the service forgets everything at each of its steps.
 
+use crate::memory_tree::Row;
 use crate::sample_service::sample_service;
-use crate::submissions::breaking_service::{BreakingService, Way, submitted, submitted_by};
+use crate::submissions::breaking_service::{BreakingService, Way};
+use crate::submissions::other_client::ask_as_another;
+use crate::submissions::run::{submitted, submitted_by};
 use crate::submissions::small_tree::{FRAMES_AGAIN, OPTIONS, PIECES, ROWS};
 use droid_core::Service;
-use droid_frame::{HashKind, Refusal, Request, request_frame};
-use droid_tree_remote::{Options, RemoteFault, SubmissionFault, TransferFault, options_of};
+use droid_frame::{HashKind, Refusal, Request};
+use droid_tree::EntryKind;
+use droid_tree_remote::{Options, RemoteFault, SubmissionFault};
 use std::alloc::Global;
 use std::test::Fail;
 
-const BROKEN: Result<bool, RemoteFault> = Err(RemoteFault::Sending(TransferFault::Broken));
-
-const RESTARTED: Result<bool, RemoteFault> = Err(RemoteFault::Sending(TransferFault::Restarted));
+/// The service has a profile of this name with other options.
+const OTHER_OPTIONS: RemoteFault = RemoteFault::Walking(SubmissionFault::Refused(
+    Refusal::NumberReused,
+));
 
 #[test]
 fn at_each_step(rt: HostRuntime) -> Result<(), Fail> {
@@ -19,17 +24,14 @@ fn at_each_step(rt: HostRuntime) -> Result<(), Fail> {
     let desk = BreakingService::new(alloc, 0, Way::Unsent)?;
     let mut whole = submitted(alloc, desk, &ROWS)?;
     let text = whole.exported()?;
-    let steps = whole.desk().step;
-    for breaks_at in 1..=steps {
+    for breaks_at in 1..=whole.steps() {
         let desk = BreakingService::new(alloc, breaks_at, Way::Gone)?;
+        let early = submitted(alloc, desk, &ROWS)?;
+        assert!(rt; early.is_broken(), "{breaks_at}");
+        let left = PIECES.checked_sub(early.pieces());
+        let desk = BreakingService::over(alloc, early.into_service(), 0, Way::Unsent);
         let mut run = submitted(alloc, desk, &ROWS)?;
-        assert!(rt; run.ended == BROKEN, "{breaks_at}");
-        let taken = run.desk().pieces;
-        let desk = BreakingService::over(alloc, run.into_service(), 0, Way::Unsent);
-        let mut run = submitted(alloc, desk, &ROWS)?;
-        assert!(rt; run.ended == Ok(true), "{breaks_at}");
-        let left = PIECES.checked_sub(taken);
-        assert!(rt; left == Some(run.desk().pieces), "{breaks_at}");
+        assert!(rt; run.is_whole() && left == Some(run.pieces()), "{breaks_at}");
         let same = run.exported()?;
         assert!(rt; same.as_slice() == text.as_slice(), "{breaks_at}");
     }
@@ -41,11 +43,11 @@ fn at_each_step(rt: HostRuntime) -> Result<(), Fail> {
 fn all_is_there(rt: HostRuntime) -> Result<(), Fail> {
     let alloc = rt.alloc();
     let desk = BreakingService::new(alloc, 0, Way::Unsent)?;
+    let first = submitted(alloc, desk, &ROWS)?;
+    let desk = BreakingService::over(alloc, first.into_service(), 0, Way::Unsent);
     let run = submitted(alloc, desk, &ROWS)?;
-    let desk = BreakingService::over(alloc, run.into_service(), 0, Way::Unsent);
-    let mut run = submitted(alloc, desk, &ROWS)?;
-    assert!(rt; run.ended == Ok(true) && run.upload.tree.read == 0);
-    assert!(rt; run.desk().pieces == 0 && run.desk().handled == FRAMES_AGAIN);
+    assert!(rt; run.is_whole() && run.bytes_read() == 0);
+    assert!(rt; run.pieces() == 0 && run.frames() == FRAMES_AGAIN);
     Ok(())
 }
 
@@ -57,10 +59,7 @@ fn service_of_another(alloc: Global) -> Result<Service, Fail> {
         match_all: false,
         hash: HashKind::Md5,
     };
-    if request.fits(2) {
-        let frame = request_frame(alloc, 2, 99, 1, &request)?;
-        let _ = service.handle(frame);
-    }
+    ask_as_another(alloc, &mut service, 1, &request)?;
     Ok(service)
 }
 
@@ -71,20 +70,55 @@ fn forgetful_at_each_step(rt: HostRuntime) -> Result<(), Fail> {
     let desk = BreakingService::new(alloc, 0, Way::Unsent)?;
     let mut whole = submitted(alloc, desk, &ROWS)?;
     let text = whole.exported()?;
-    let steps = whole.desk().step;
-    for breaks_at in 1..steps {
+    for breaks_at in 1..whole.steps() {
         let mut desk = BreakingService::new(alloc, breaks_at, Way::Arrived)?;
         desk.successor = Some(sample_service(alloc)?);
         let mut run = submitted(alloc, desk, &ROWS)?;
         // Steps 1 to 3 are those of the first profile, 4 and 5 those of the first folder, which has number 1 again; at
         // step 6 the second node is added.
-        let is_noticed = run.ended == RESTARTED;
+        let is_noticed = run.is_restarted();
         assert!(rt; is_noticed == (7 < breaks_at), "{breaks_at}");
         let same = run.exported()?;
         assert!(rt;
             is_noticed || same.as_slice() == text.as_slice(),
             "{breaks_at}"
         );
+    }
+    Ok(())
+}
+
+/// A file of eighteen pieces, and one that is empty. No folder stands before them.
+const FILES: [Row; 2] = [
+    (
+        "",
+        b"a",
+        EntryKind::File,
+        70,
+        Some(b"message digest, of more pieces than are under way at once, by four byte"),
+    ),
+    ("", b"b", EntryKind::File, 0, Some(b"")),
+];
+
+/// While the first file is under way, a new service gives the profile and the file the same numbers. Then the pieces
+/// that it lacks are noticed: one is refused that is too far ahead of them, or Finish is. The next run sends them.
+#[test]
+fn forgetful_in_the_first_file(rt: HostRuntime) -> Result<(), Fail> {
+    let alloc = rt.alloc();
+    let desk = BreakingService::new(alloc, 0, Way::Unsent)?;
+    let mut whole = submitted(alloc, desk, &FILES)?;
+    let text = whole.exported()?;
+    for breaks_at in 1..whole.steps() {
+        let mut desk = BreakingService::new(alloc, breaks_at, Way::Arrived)?;
+        desk.successor = Some(sample_service(alloc)?);
+        let early = submitted(alloc, desk, &FILES)?;
+        let is_noticed = early.is_restarted() || early.lacks_pieces();
+        assert!(rt; is_noticed || early.is_whole(), "{breaks_at}");
+        let desk = BreakingService::over(alloc, early.into_service(), 0, Way::Unsent);
+        let mut run = submitted(alloc, desk, &FILES)?;
+        assert!(rt; run.is_whole(), "{breaks_at}");
+        assert!(rt; is_noticed || run.pieces() == 0, "{breaks_at}");
+        let same = run.exported()?;
+        assert!(rt; same.as_slice() == text.as_slice(), "{breaks_at}");
     }
     Ok(())
 }
@@ -97,7 +131,7 @@ fn forgetful_with_another_profile(rt: HostRuntime) -> Result<(), Fail> {
         let mut desk = BreakingService::new(alloc, breaks_at, Way::Arrived)?;
         desk.successor = Some(service_of_another(alloc)?);
         let run = submitted(alloc, desk, &ROWS)?;
-        assert!(rt; run.ended == RESTARTED, "{breaks_at}");
+        assert!(rt; run.is_restarted(), "{breaks_at}");
     }
     Ok(())
 }
@@ -107,17 +141,16 @@ fn forgetful_with_another_profile(rt: HostRuntime) -> Result<(), Fail> {
 fn other_options(rt: HostRuntime) -> Result<(), Fail> {
     let alloc = rt.alloc();
     let desk = BreakingService::new(alloc, 0, Way::Unsent)?;
-    let run = submitted(alloc, desk, &ROWS)?;
+    let first = submitted(alloc, desk, &ROWS)?;
     let other = Options {
         hash: HashKind::Nothing,
         match_all: true,
         ..OPTIONS
     };
-    let desk = BreakingService::over(alloc, run.into_service(), 0, Way::Unsent);
+    let desk = BreakingService::over(alloc, first.into_service(), 0, Way::Unsent);
     let mut run = submitted_by(alloc, desk, &ROWS, other)?;
-    let reused = SubmissionFault::Refused(Refusal::NumberReused);
-    assert!(rt; run.ended == Err(RemoteFault::Walking(reused)));
-    let begun = options_of(&mut run.upload.client, other);
+    assert!(rt; run.failed_with(OTHER_OPTIONS));
+    let begun = run.options(other);
     assert!(rt;
         matches!(
             &begun,
@@ -128,13 +161,23 @@ fn other_options(rt: HostRuntime) -> Result<(), Fail> {
             }))
         )
     );
+    Ok(())
+}
+
+/// The options that a submission was begun with are not found where the limit is another one.
+#[test]
+fn other_limit(rt: HostRuntime) -> Result<(), Fail> {
+    let alloc = rt.alloc();
+    let desk = BreakingService::new(alloc, 0, Way::Unsent)?;
+    let first = submitted(alloc, desk, &ROWS)?;
     let other = Options {
         scan_limit: 7,
         ..OPTIONS
     };
-    let desk = BreakingService::over(alloc, run.into_service(), 0, Way::Unsent);
+    let desk = BreakingService::over(alloc, first.into_service(), 0, Way::Unsent);
     let mut run = submitted_by(alloc, desk, &ROWS, other)?;
-    assert!(rt; run.ended == Err(RemoteFault::Walking(reused)));
-    assert!(rt; matches!(&options_of(&mut run.upload.client, other), Ok(None)));
+    assert!(rt; run.failed_with(OTHER_OPTIONS));
+    let begun = run.options(other);
+    assert!(rt; matches!(&begun, Ok(None)));
     Ok(())
 }

@@ -2,7 +2,8 @@
 
 use crate::memory_tree::{MemoryTree, Row};
 use crate::noting_watcher::NotingWatcher;
-use crate::submissions::breaking_service::{BreakingService, CLIENT, Way};
+use crate::submissions::breaking_service::{BreakingService, Way};
+use crate::submissions::run::CLIENT;
 use crate::submissions::small_tree::OPTIONS;
 use droid_frame::{Noted, Text};
 use droid_tree::EntryKind;

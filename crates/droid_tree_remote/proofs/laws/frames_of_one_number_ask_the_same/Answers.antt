@@ -1,9 +1,4 @@
 use Rattle.droid_tree_upload.specs.Calls.{attempt_of, request_of}
-use Rattle.droid_tree_remote.proofs.Handing.{if_err_same}
-use Rattle.droid_tree_remote.proofs.Pausing.{first_missed}
-use Rattle.droid_tree_remote.proofs.Conversing.{ends_all}
-use Rattle.droid_tree_remote.proofs.Parts.{same_frame}
-use Rattle.droid_tree_remote.proofs.Probing.{finds_none}
 use Rattle.droid_tree_remote.proofs.laws.frames_of_one_number_ask_the_same.Goals as goal
 
 pub returns : goal.returns

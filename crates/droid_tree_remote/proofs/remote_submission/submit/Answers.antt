@@ -1,7 +1,6 @@
 use Rattle.std.proofs.Common.{true, false, refl, ap}
 use Rattle.droid_tree_submission.specs.Submissions.{deeds_of_tree}
 use Rattle.droid_tree_remote.specs.RemoteSubmissions.{AtEnd, InWalk}
-use Rattle.droid_tree_remote.specs.declared.sender.Sender.{Sender}
 use Rattle.droid_tree_remote.proofs.Conversing.{converses, ends_all, ends_nowhere, ends_unsettled, stands_client}
 use Rattle.droid_tree_remote.proofs.remote_submission.submit.Goals as goal
 
