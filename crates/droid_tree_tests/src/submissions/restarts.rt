@@ -87,17 +87,14 @@ fn forgetful_at_each_step(rt: HostRuntime) -> Result<(), Fail> {
     Ok(())
 }
 
-/// A file of eighteen pieces, and one that is empty. No folder stands before them.
-const FILES: [Row; 2] = [
-    (
-        "",
-        b"a",
-        EntryKind::File,
-        70,
-        Some(b"message digest, of more pieces than are under way at once, by four byte"),
-    ),
-    ("", b"b", EntryKind::File, 0, Some(b"")),
-];
+/// A file of eighteen pieces: more than are under way at once.
+const FILE: [Row; 1] = [(
+    "",
+    b"a",
+    EntryKind::File,
+    71,
+    Some(b"message digest, of more pieces than are under way at once, by four byte"),
+)];
 
 /// While the first file is under way, a new service gives the profile and the file the same numbers. Then the pieces
 /// that it lacks are noticed: one is refused that is too far ahead of them, or Finish is. The next run sends them.
@@ -105,16 +102,16 @@ const FILES: [Row; 2] = [
 fn forgetful_in_the_first_file(rt: HostRuntime) -> Result<(), Fail> {
     let alloc = rt.alloc();
     let desk = BreakingService::new(alloc, 0, Way::Unsent)?;
-    let mut whole = submitted(alloc, desk, &FILES)?;
+    let mut whole = submitted(alloc, desk, &FILE)?;
     let text = whole.exported()?;
-    for breaks_at in 1..whole.steps() {
+    for breaks_at in 1..=whole.steps() {
         let mut desk = BreakingService::new(alloc, breaks_at, Way::Arrived)?;
         desk.successor = Some(sample_service(alloc)?);
-        let early = submitted(alloc, desk, &FILES)?;
+        let early = submitted(alloc, desk, &FILE)?;
         let is_noticed = early.is_restarted() || early.lacks_pieces();
         assert!(rt; is_noticed || early.is_whole(), "{breaks_at}");
         let desk = BreakingService::over(alloc, early.into_service(), 0, Way::Unsent);
-        let mut run = submitted(alloc, desk, &FILES)?;
+        let mut run = submitted(alloc, desk, &FILE)?;
         assert!(rt; run.is_whole(), "{breaks_at}");
         assert!(rt; is_noticed || run.pieces() == 0, "{breaks_at}");
         let same = run.exported()?;
