@@ -8,8 +8,8 @@ places-init c = (lit< tt, below_one (Beats c.args.lens.now 0) (beats_itself c.ar
 
 pub places-preserved : goal.places-preserved
 places-preserved c = (
-  c.better.ensures.inside,
-  one_more c.args.lens.now c.better.result c.places.best c.places.place c.better.ensures.first c.better.ensures.second c.places.invariant.1,
+  c.better-best.ensures.inside,
+  one_more c.args.lens.now c.better-best.result c.places.best c.places.place c.better-best.ensures.first c.better-best.ensures.second c.places.invariant.1,
 )
 
 pub returns-clause-shortest : goal.returns-clause-shortest

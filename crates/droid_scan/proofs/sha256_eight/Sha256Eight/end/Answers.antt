@@ -22,8 +22,8 @@ returns-then-index-lt4-clause-empty c =
 pub returns-then-index-lt4-clause-others : goal.returns-then-index-lt4-clause-others
 unfolding HoldsOf
 returns-then-index-lt4-clause-others c = λ j low other m held.
-    let one = λ k. Holds c.args.self.now.low k m in
-    let two = λ k. Holds c.args.self.now.high k m in
+    let one : ℕ → Type 0 = λ k. Holds c.args.self.now.low k m in
+    let two : ℕ → Type 0 = λ k. Holds c.args.self.now.high k m in
     by_half (λ k. Holds c.end.new.self k m) two j (λ first. c.end.ensures.others j first other m (of_first one two j first held)) (λ second. of_second one two j second held)
 
 pub returns-else-index-lt4-clause-empty : goal.returns-else-index-lt4-clause-empty
@@ -34,8 +34,8 @@ returns-else-index-lt4-clause-empty c =
 pub returns-else-index-lt4-clause-others : goal.returns-else-index-lt4-clause-others
 unfolding HoldsOf
 returns-else-index-lt4-clause-others c = λ j low other m held.
-    let one = λ k. Holds c.args.self.now.low k m in
-    let two = λ k. Holds c.args.self.now.high k m in
+    let one : ℕ → Type 0 = λ k. Holds c.args.self.now.low k m in
+    let two : ℕ → Type 0 = λ k. Holds c.args.self.now.high k m in
     let from : 4 ≤ c.args.index = c.if-index-lt4.false in
     by_half one (λ k. Holds c.end-else-index-lt4.new.self k m) j (λ first. of_first one two j first held)
     (λ second. (let apart : j - 4 ≢ c.args.index - 4 = omega arith in c.end-else-index-lt4.ensures.others (j - 4) (omega arith) apart m (of_second one two j second held)))
