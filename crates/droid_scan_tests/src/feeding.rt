@@ -27,6 +27,9 @@ pub(crate) fn feed(lanes: &mut HashLanes, pieces: [&[u8]; 8]) {
     let [mut a, mut b, mut c, mut d, mut e, mut f, mut g, mut h] = pieces;
     for _ in 0..8 {
         let taken = lanes.advance([a, b, c, d, e, f, g, h]);
+        if taken == 0 {
+            break;
+        }
         a = rest(a, taken);
         b = rest(b, taken);
         c = rest(c, taken);

@@ -53,7 +53,7 @@ fn is_right(kind: HashKind) -> bool {
     let mut spans = [Span::at(0); 8];
     let mut seed = 1321;
     let mut right = true;
-    for _ in 0..3000u32 {
+    for _ in 0..1000u32 {
         for lane in 0..8 {
             seed = next(seed);
             spans[lane] = spans[lane].read_on(seed);
@@ -82,7 +82,11 @@ fn is_right(kind: HashKind) -> bool {
 }
 
 #[test]
-fn any_schedule(rt: HostRuntime) {
+fn any_schedule_of_md5(rt: HostRuntime) {
     assert!(rt; is_right(HashKind::Md5));
+}
+
+#[test]
+fn any_schedule_of_sha256(rt: HostRuntime) {
     assert!(rt; is_right(HashKind::Sha256));
 }
