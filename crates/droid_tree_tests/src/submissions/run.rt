@@ -143,10 +143,10 @@ impl Run {
 }
 
 /// Submits a tree by these options. The submission's name is the empty one.
-pub fn submitted_by(
+pub fn submitted_by<'a>(
     alloc: Global,
     desk: BreakingService,
-    rows: &[Row<'_>],
+    rows: &'a [Row<'a>],
     options: Options,
 ) -> Run {
     let name = Text::from(String::new(alloc));
@@ -175,7 +175,7 @@ pub fn submitted_by(
 }
 
 /// Submits a tree.
-pub fn submitted(alloc: Global, desk: BreakingService, rows: &[Row<'_>]) -> Run {
+pub fn submitted<'a>(alloc: Global, desk: BreakingService, rows: &'a [Row<'a>]) -> Run {
     submitted_by(alloc, desk, rows, OPTIONS)
 }
 
