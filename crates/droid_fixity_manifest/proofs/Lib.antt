@@ -1,0 +1,9 @@
+mod ClearBytes
+mod Decoding
+mod EscapedPaths
+mod Fronts
+mod Reading
+mod Tests
+mod Unescaping
+mod ReadBack
+mod WrittenLines

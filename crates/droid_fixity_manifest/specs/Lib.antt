@@ -1,0 +1,7 @@
+pub mod Digests
+pub mod Spellings
+pub mod Paths
+pub mod Lines
+pub mod Lists
+pub mod Writing
+pub mod ReadBack
