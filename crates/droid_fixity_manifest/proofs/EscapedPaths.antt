@@ -42,7 +42,7 @@ unescaped_escaped (b ∷ path) = read_by (b == 92) (b == 10) (b == 13) b (escape
 abbrev pub is_dotless : List ℕ → Bool
 is_dotless text = not (bytes_eq (take 2 text) (codes "./"))
 
-dot_is_no_name : (path : List ℕ) → is_plain (46 ∷ 47 ∷ path) ≡ true → ⊥
+pub dot_is_no_name : (path : List ℕ) → is_plain (46 ∷ 47 ∷ path) ≡ true → ⊥
 dot_is_no_name path h = false_true h
 
 dotless_by : (dot slash : Bool) (a b : ℕ) (path : List ℕ) → (a == 46) ≡ dot → (b == 47) ≡ slash → is_plain (a ∷ b ∷ path) ≡ true → not (dot && (slash && true)) ≡ true
@@ -51,7 +51,7 @@ dotless_by true false a b path hd hs plain = refl
 dotless_by true true a b path hd hs plain =
     absurd (dot_is_no_name path (ap (λ (k : ℕ). is_plain (k ∷ 47 ∷ path)) (sym (eqb-true a 46 hd)) ∙ (ap (λ (k : ℕ). is_plain (a ∷ k ∷ path)) (sym (eqb-true b 47 hs)) ∙ plain)))
 
-alone : (dot : Bool) → not (dot && false) ≡ true
+pub alone : (dot : Bool) → not (dot && false) ≡ true
 alone true = refl
 alone false = refl
 

@@ -1,9 +1,12 @@
 mod ClearBytes
+mod Cuts
 mod Decoding
 mod EscapedPaths
 mod Fronts
+mod GrammarHolds
+mod GrammarRead
+mod ReadBack
 mod Reading
 mod Tests
 mod Unescaping
-mod ReadBack
 mod WrittenLines

@@ -18,6 +18,10 @@ never false no = refl
 pub false_true : false ≡ true → ⊥
 false_true h = absurd cc
 
+pub not_true : (test : Bool) → not test ≡ true → test ≡ false
+not_true false h = refl
+not_true true h = absurd (false_true h)
+
 -- a number that passes a test is none that does not
 pub other_sign : (test : ℕ → Bool) (b sign : ℕ) → test b ≡ true → test sign ≡ false → (b == sign) ≡ false
 other_sign test b sign is no = never (b == sign) (λ same. false_true (sym no ∙ (ap test (sym (eqb-true b sign same)) ∙ is)))

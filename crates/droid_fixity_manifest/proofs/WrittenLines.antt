@@ -1,17 +1,17 @@
 -- What a line says that was written.
-use Rattle.std.proofs.Common.{◌≡◌, ◌∙◌, ◌<◌, ℕ, ◌+◌, ◌*◌, ◌==◌, ◌&&◌, ◌||◌, Bool, true, false, not, List, [], ◌∷◌, ◌++◌, length, take, drop, Option, Some, None, codes, if◌then◌else◌, refl, sym, ap, arith, append_assoc}
-use Rattle.std.specs.List.{AllPass, list_all, list_any, position, position_or_len}
+use Rattle.std.proofs.Common.{◌≡◌, ◌∙◌, ◌<◌, ℕ, ◌+◌, ◌*◌, ◌==◌, ◌&&◌, ◌||◌, Bool, true, false, not, List, [], ◌∷◌, ◌++◌, length, take, drop, Option, Some, None, codes, if◌then◌else◌, inl, inr, refl, sym, ap, arith, append_assoc}
+use Rattle.std.specs.List.{list_all, list_any}
 use Rattle.std.specs.Str.{bytes_eq}
-use Rattle.std.proofs.lemmas.Bool.{and_parts, eqb-true, lt-ltb}
-use Rattle.std.proofs.lemmas.List.{drop_at, length-append, take_at}
-use Rattle.std.proofs.lemmas.List.Elements.{All-head, All-tail}
+use Rattle.std.proofs.lemmas.Bool.{and_parts, eqb-true}
+use Rattle.std.proofs.lemmas.List.Sums.{list_all-from_AllPass}
 use Rattle.hex.specs.Hex.{encode_lower, is_hex_digit, lower_digits}
 use Rattle.hex.proofs.HexLemmas.{decode_of-encode_lower, decode_of-ok, decode_sized-twice, length-encode_with}
 use Rattle.droid_frame.specs.Fields.{IsBytes}
 use Rattle.droid_frame.specs.types.hash_value.HashValue.{HashValue}
 use Rattle.droid_frame.specs.types.hash_value.HashValue.TheVariants as values
 use Rattle.droid_fixity_manifest.specs.Digests.{hash_of, md5_by, md5_of, sha256_by, sha256_of}
-use Rattle.droid_fixity_manifest.specs.Lines.{behind_mark, checksum_entry, cut, cut_at_gap, escapes_of, file_item, is_blank, is_gap, meaning, meaning_by_bytes, meaning_by_entry, entry_of, without_backslash}
+use Rattle.droid_fixity_manifest.specs.Grammar.{IsMark}
+use Rattle.droid_fixity_manifest.specs.Lines.{behind_mark, checksum_entry, cut_at_gap, escapes_of, file_item, is_blank, is_gap, meaning, meaning_by_bytes, meaning_by_entry, entry_of, without_backslash}
 use Rattle.droid_fixity_manifest.specs.Paths.{is_plain, without_dot}
 use Rattle.droid_fixity_manifest.specs.Spellings.{◌>>=◌, escaped, is_escaped, spelled, unescaped}
 use Rattle.droid_fixity_manifest.specs.Writing.{line_by, shown}
@@ -21,8 +21,9 @@ use Rattle.droid_fixity_manifest.specs.declared.form.ManifestForm.{ManifestForm}
 use Rattle.droid_fixity_manifest.specs.declared.form.ManifestForm.TheVariants.{Checksums}
 use Rattle.droid_fixity_manifest.specs.declared.meaning.Meaning.TheVariants as meanings
 use Rattle.droid_fixity_manifest.proofs.ClearBytes.{digits_clear, is_clear, plain_clear}
+use Rattle.droid_fixity_manifest.proofs.Cuts.{cut_found, none_pass}
 use Rattle.droid_fixity_manifest.proofs.EscapedPaths.{escaped_clear, escaped_dotless, is_dotless, plain_dotless, unescaped_escaped}
-use Rattle.droid_fixity_manifest.proofs.Tests.{all_append, both_true, false_true, neither, other_sign}
+use Rattle.droid_fixity_manifest.proofs.Tests.{all_append, both_true, false_true, neither, not_true, other_sign}
 
 -- ---- the digits of a hash
 
@@ -31,13 +32,8 @@ pub record AreDigits (digits : List ℕ) (hash : HashValue) : Type 0 where
   pub each : list_all is_hex_digit digits ≡ true
   pub reads : hash_of digits ≡ Some hash
 
-each_digit : (digits : List ℕ) → AllPass is_hex_digit digits → list_all is_hex_digit digits ≡ true
-each_digit [] all = refl
-each_digit (b ∷ digits) all =
-    both_true (is_hex_digit b) (list_all is_hex_digit digits) (All-head (λ (c : ℕ). is_hex_digit c ≡ true) b digits all) (each_digit digits (All-tail (λ (c : ℕ). is_hex_digit c ≡ true) b digits all))
-
 digits_pass : (digest : List ℕ) → IsBytes digest → list_all is_hex_digit (encode_lower digest) ≡ true
-digits_pass digest bytes = each_digit (encode_lower digest) ((decode_of-ok (encode_lower digest) digest (decode_of-encode_lower digest bytes)).1)
+digits_pass digest bytes = list_all-from_AllPass is_hex_digit (encode_lower digest) ((decode_of-ok (encode_lower digest) digest (decode_of-encode_lower digest bytes)).1)
 
 of_32 : (digits : List ℕ) → length digits ≡ 32 → hash_of digits ≡ md5_of digits
 of_32 digits len = rw len refl
@@ -68,38 +64,38 @@ sha256_digits_are digest len bytes =
 digit_no_gap : (b : ℕ) → is_hex_digit b ≡ true → is_gap b ≡ false
 digit_no_gap b is = neither (b == 32) (b == 9) (other_sign is_hex_digit b 32 is refl) (other_sign is_hex_digit b 9 is refl)
 
-gap_place : (digits rest : List ℕ) → list_all is_hex_digit digits ≡ true → position_or_len is_gap (digits ++ 32 ∷ rest) ≡ length digits
-gap_place [] rest all = refl
-gap_place (b ∷ digits) rest all =
+pub no_gaps : (digits : List ℕ) → list_all is_hex_digit digits ≡ true → none_pass is_gap digits ≡ true
+no_gaps [] all = refl
+no_gaps (b ∷ digits) all =
     let both = and_parts (is_hex_digit b) (list_all is_hex_digit digits) all in
-    let behind = gap_place digits rest both.1 in
-    rw (digit_no_gap b both.0) (omega (arith, behind))
-
-gap_found : (digits rest : List ℕ) → list_all is_hex_digit digits ≡ true → position is_gap (digits ++ 32 ∷ rest) ≡ Some (length digits)
-gap_found digits rest all =
-    let len = length-append digits (32 ∷ rest) in
-    let below : length digits < length (digits ++ 32 ∷ rest) = omega (arith, len) in
-    rw (gap_place digits rest all) (rw (lt-ltb (length digits) (length (digits ++ 32 ∷ rest)) below) refl)
+    both_true (not (is_gap b)) (none_pass is_gap digits) (ap not (digit_no_gap b both.0)) (no_gaps digits both.1)
 
 digits_cut : (digits rest : List ℕ) → list_all is_hex_digit digits ≡ true → cut_at_gap (digits ++ 32 ∷ rest) ≡ Some (digits, 32 ∷ rest)
-digits_cut digits rest all =
-    ap (cut (digits ++ 32 ∷ rest)) (gap_found digits rest all)
-    ∙ (ap (λ (front : List ℕ). Some (front, drop (length digits) (digits ++ 32 ∷ rest))) (take_at digits (32 ∷ rest) (length digits) refl)
-    ∙ ap (λ (back : List ℕ). Some (digits, back)) (drop_at digits (32 ∷ rest) (length digits) refl))
+digits_cut digits rest all = cut_found is_gap digits rest 32 (no_gaps digits all) refl
 
 -- ---- the parts of a line
 
 -- the parts of a line behind a backslash, by its two parts
-abbrev parts_by : Escapes → Option (List ℕ × List ℕ) → Option (HashValue × Escapes × List ℕ)
+abbrev pub parts_by : Escapes → Option (List ℕ × List ℕ) → Option (HashValue × Escapes × List ℕ)
 parts_by how parts = parts >>= λ two. hash_of two.0 >>= λ hash. behind_mark two.1 >>= λ text. Some (hash, how, text)
 
-entry_is : (line : List ℕ) → checksum_entry line ≡ parts_by (escapes_of line) (cut_at_gap (without_backslash line))
+pub entry_is : (line : List ℕ) → checksum_entry line ≡ parts_by (escapes_of line) (cut_at_gap (without_backslash line))
 unfolding checksum_entry
 entry_is line = refl
 
-parts_are : (digits text : List ℕ) (hash : HashValue) (how : Escapes) → AreDigits digits hash → parts_by how (cut_at_gap (digits ++ 32 ∷ 32 ∷ text)) ≡ Some (hash, how, text)
-parts_are digits text hash how are =
-    ap (parts_by how) (digits_cut digits (32 ∷ text) are.each) ∙ ap (λ (found : Option HashValue). found >>= λ value. Some (value, how, text)) are.reads
+marked : (mark : ℕ) (text : List ℕ) → IsMark mark → behind_mark (32 ∷ mark ∷ text) ≡ Some text
+marked mark text is =
+    elim is [
+      | inl space ↦ rw space refl
+      | inr star ↦ rw star refl
+    ]
+
+parts_are : (digits text : List ℕ) (mark : ℕ) (hash : HashValue) (how : Escapes) → AreDigits digits hash → IsMark mark
+    → parts_by how (cut_at_gap (digits ++ 32 ∷ mark ∷ text)) ≡ Some (hash, how, text)
+parts_are digits text mark hash how are is =
+    ap (parts_by how) (digits_cut digits (mark ∷ text) are.each)
+    ∙ (ap (λ (found : Option HashValue). found >>= λ value. behind_mark (32 ∷ mark ∷ text) >>= λ rest. Some (value, how, rest)) are.reads
+    ∙ ap (λ (found : Option (List ℕ)). found >>= λ rest. Some (hash, how, rest)) (marked mark text is))
 
 -- a line of digits begins neither as a comment nor with a backslash
 pub record BeginsPlain (line : List ℕ) : Type 0 where
@@ -110,7 +106,7 @@ pub record BeginsPlain (line : List ℕ) : Type 0 where
 no_hash : (hash : HashValue) → hash_of [] ≡ Some hash → ⊥
 no_hash hash h = absurd cc
 
-begins_plain : (digits text : List ℕ) (hash : HashValue) → AreDigits digits hash → BeginsPlain (digits ++ text)
+pub begins_plain : (digits text : List ℕ) (hash : HashValue) → AreDigits digits hash → BeginsPlain (digits ++ text)
 begins_plain [] text hash are = absurd (no_hash hash are.reads)
 begins_plain (b ∷ digits) text hash are =
     let both = and_parts (is_hex_digit b) (list_all is_hex_digit digits) are.each in
@@ -121,22 +117,22 @@ begins_plain (b ∷ digits) text hash are =
       whole = rw backslash refl;
     }
 
-plain_entry : (digits text : List ℕ) (hash : HashValue) → AreDigits digits hash → checksum_entry (digits ++ 32 ∷ 32 ∷ text) ≡ Some (hash, escapes.Nothing, text)
-plain_entry digits text hash are =
-    let line = digits ++ 32 ∷ 32 ∷ text in
-    let begins = begins_plain digits (32 ∷ 32 ∷ text) hash are in
+plain_entry : (digits text : List ℕ) (mark : ℕ) (hash : HashValue) → AreDigits digits hash → IsMark mark → checksum_entry (digits ++ 32 ∷ mark ∷ text) ≡ Some (hash, escapes.Nothing, text)
+plain_entry digits text mark hash are is =
+    let line = digits ++ 32 ∷ mark ∷ text in
+    let begins = begins_plain digits (32 ∷ mark ∷ text) hash are in
     entry_is line ∙ (ap (λ (how : Escapes). parts_by how (cut_at_gap (without_backslash line))) begins.how
-    ∙ (ap (λ (rest : List ℕ). parts_by escapes.Nothing (cut_at_gap rest)) begins.whole ∙ parts_are digits text hash escapes.Nothing are))
+    ∙ (ap (λ (rest : List ℕ). parts_by escapes.Nothing (cut_at_gap rest)) begins.whole ∙ parts_are digits text mark hash escapes.Nothing are is))
 
-escaped_entry : (digits text : List ℕ) (hash : HashValue) → AreDigits digits hash → checksum_entry (92 ∷ (digits ++ 32 ∷ 32 ∷ text)) ≡ Some (hash, escapes.Backslash, text)
-escaped_entry digits text hash are = entry_is (92 ∷ (digits ++ 32 ∷ 32 ∷ text)) ∙ parts_are digits text hash escapes.Backslash are
+escaped_entry : (digits text : List ℕ) (mark : ℕ) (hash : HashValue) → AreDigits digits hash → IsMark mark → checksum_entry (92 ∷ (digits ++ 32 ∷ mark ∷ text)) ≡ Some (hash, escapes.Backslash, text)
+escaped_entry digits text mark hash are is = entry_is (92 ∷ (digits ++ 32 ∷ mark ∷ text)) ∙ parts_are digits text mark hash escapes.Backslash are is
 
 -- ---- what the line says
 
-blank_no : (line : List ℕ) → is_blank line ≡ false → meaning Checksums line ≡ meaning_by_entry Checksums (entry_of Checksums line)
+pub blank_no : (line : List ℕ) → is_blank line ≡ false → meaning Checksums line ≡ meaning_by_entry Checksums (entry_of Checksums line)
 blank_no line h = rw h refl
 
-plain_bytes : (hash : HashValue) (path : List ℕ) → is_plain path ≡ true → meaning_by_bytes hash (Some path) ≡ meanings.File (file_item hash (47 ∷ path))
+pub plain_bytes : (hash : HashValue) (path : List ℕ) → is_plain path ≡ true → meaning_by_bytes hash (Some path) ≡ meanings.File (file_item hash (47 ∷ path))
 plain_bytes hash path plain = rw plain refl
 
 entry_says : (line text path : List ℕ) (hash : HashValue) (how : Escapes) → is_blank line ≡ false → checksum_entry line ≡ Some (hash, how, text)
@@ -144,26 +140,18 @@ entry_says : (line text path : List ℕ) (hash : HashValue) (how : Escapes) → 
 entry_says line text path hash how blank entry spells plain =
     blank_no line blank ∙ (ap (meaning_by_entry Checksums) entry ∙ (ap (meaning_by_bytes hash) spells ∙ plain_bytes hash path plain))
 
-not_true : (test : Bool) → not test ≡ true → test ≡ false
-not_true false h = refl
-not_true true h = absurd (false_true h)
-
-no_dot : (text : List ℕ) → is_dotless text ≡ true → without_dot text ≡ text
+pub no_dot : (text : List ℕ) → is_dotless text ≡ true → without_dot text ≡ text
 no_dot text h = rw (not_true (bytes_eq (take 2 text) (codes "./")) h) refl
 
-plain_says : (digits path : List ℕ) (hash : HashValue) → AreDigits digits hash → is_plain path ≡ true → meaning Checksums (digits ++ 32 ∷ 32 ∷ path) ≡ meanings.File (file_item hash (47 ∷ path))
-plain_says digits path hash are plain =
-    entry_says (digits ++ 32 ∷ 32 ∷ path) path path hash escapes.Nothing (begins_plain digits (32 ∷ 32 ∷ path) hash are).blank (plain_entry digits path hash are)
-    (ap Some (no_dot path (plain_dotless path plain))) plain
+pub plain_says : (digits text name : List ℕ) (mark : ℕ) (hash : HashValue) → AreDigits digits hash → IsMark mark → without_dot text ≡ name → is_plain name ≡ true
+    → meaning Checksums (digits ++ 32 ∷ mark ∷ text) ≡ meanings.File (file_item hash (47 ∷ name))
+plain_says digits text name mark hash are is below plain =
+    entry_says (digits ++ 32 ∷ mark ∷ text) text name hash escapes.Nothing (begins_plain digits (32 ∷ mark ∷ text) hash are).blank (plain_entry digits text mark hash are is) (ap Some below) plain
 
-escaped_says : (digits path : List ℕ) (hash : HashValue) → AreDigits digits hash → is_plain path ≡ true → meaning Checksums (92 ∷ (digits ++ 32 ∷ 32 ∷ escaped path)) ≡ meanings.File (file_item hash (47 ∷ path))
-escaped_says digits path hash are plain =
-    entry_says (92 ∷ (digits ++ 32 ∷ 32 ∷ escaped path)) (escaped path) path hash escapes.Backslash refl (escaped_entry digits (escaped path) hash are)
-    (ap unescaped (no_dot (escaped path) (escaped_dotless path (plain_dotless path plain))) ∙ unescaped_escaped path) plain
-
-dash_says : (digits : List ℕ) (hash : HashValue) → AreDigits digits hash → meaning Checksums (digits ++ 32 ∷ 32 ∷ codes "./-") ≡ meanings.File (file_item hash (codes "/-"))
-dash_says digits hash are =
-    entry_says (digits ++ 32 ∷ 32 ∷ codes "./-") (codes "./-") (codes "-") hash escapes.Nothing (begins_plain digits (32 ∷ 32 ∷ codes "./-") hash are).blank (plain_entry digits (codes "./-") hash are) refl refl
+pub escaped_says : (digits text name : List ℕ) (mark : ℕ) (hash : HashValue) → AreDigits digits hash → IsMark mark → unescaped (without_dot text) ≡ Some name → is_plain name ≡ true
+    → meaning Checksums (92 ∷ (digits ++ 32 ∷ mark ∷ text)) ≡ meanings.File (file_item hash (47 ∷ name))
+escaped_says digits text name mark hash are is spells plain =
+    entry_says (92 ∷ (digits ++ 32 ∷ mark ∷ text)) text name hash escapes.Backslash refl (escaped_entry digits text mark hash are is) spells plain
 
 -- ---- the line that is written
 
@@ -181,12 +169,12 @@ body_by : (test : Bool) (digits path : List ℕ) (hash : HashValue) → list_any
 body_by true digits path hash is are plain = (92 ∷ (digits ++ 32 ∷ 32 ∷ escaped path), record {
       ends = ap (λ (rest : List ℕ). 92 ∷ rest) (sym (append_assoc digits (32 ∷ 32 ∷ escaped path) (10 ∷ [])));
       clear = plain_body_clear digits (escaped path) hash are (escaped_clear path);
-      says = escaped_says digits path hash are plain;
+      says = escaped_says digits (escaped path) path 32 hash are (inl refl) (ap unescaped (no_dot (escaped path) (escaped_dotless path (plain_dotless path plain))) ∙ unescaped_escaped path) plain;
     })
 body_by false digits path hash is are plain = (digits ++ 32 ∷ 32 ∷ path, record {
       ends = sym (append_assoc digits (32 ∷ 32 ∷ path) (10 ∷ []));
       clear = plain_body_clear digits path hash are (plain_clear path is);
-      says = plain_says digits path hash are plain;
+      says = plain_says digits path path 32 hash are (inl refl) (no_dot path (plain_dotless path plain)) plain;
     })
 
 dash_is : (path : List ℕ) → bytes_eq path (codes "-") ≡ true → path ≡ codes "-"
@@ -199,7 +187,7 @@ shown_by : (dash : Bool) (digits path : List ℕ) (hash : HashValue) → bytes_e
 shown_by true digits path hash is are plain = (digits ++ 32 ∷ 32 ∷ codes "./-", record {
       ends = sym (append_assoc digits (32 ∷ 32 ∷ codes "./-") (10 ∷ []));
       clear = plain_body_clear digits (codes "./-") hash are refl;
-      says = dash_says digits hash are ∙ ap (λ (p : List ℕ). meanings.File (file_item hash (47 ∷ p))) (sym (dash_is path is));
+      says = plain_says digits (codes "./-") path 32 hash are (inl refl) (sym (dash_is path is)) plain;
     })
 shown_by false digits path hash is are plain = body_by (list_any is_escaped path) digits path hash refl are plain
 
