@@ -1,12 +1,11 @@
 -- A text that is cut at the first byte that passes a test.
-use Rattle.std.proofs.Common.{◌≡◌, ◌∙◌, ◌<◌, ℕ, ◌+◌, Bool, true, false, not, List, [], ◌∷◌, ◌++◌, length, take, drop, get_or, Option, Some, None, unwrap_or, cond, refl, sym, ap, arith}
+use Rattle.std.proofs.Common.{◌≡◌, ◌∙◌, ◌<◌, ℕ, suc, ◌+◌, Bool, true, false, not, List, [], ◌∷◌, ◌++◌, length, take, drop, get_or, Option, Some, None, unwrap_or, cond, refl, sym, ap, arith}
 use Rattle.std.specs.Prelude.{nat_lt}
 use Rattle.std.specs.List.{list_all, position, position_or_len}
-use Rattle.std.proofs.lemmas.Bool.{and_parts, lt-ltb, ltb-true}
+use Rattle.std.proofs.lemmas.Bool.{and_from, and_parts, lt-ltb, ltb-true, not-true}
 use Rattle.std.proofs.lemmas.List.{drop_at, drop_more, length-append, take-append-drop, take_at}
 use Rattle.std.proofs.lemmas.List.Sums.{passes_at_first}
 use Rattle.droid_fixity_manifest.specs.Lines.{cut}
-use Rattle.droid_fixity_manifest.proofs.Tests.{both_true, not_true}
 
 -- bytes of which none passes
 abbrev pub none_pass : (ℕ → Bool) → List ℕ → Bool
@@ -19,7 +18,7 @@ place_is test [] rest first none passes = rw passes refl
 place_is test (b ∷ front) rest first none passes =
     let both = and_parts (not (test b)) (none_pass test front) none in
     let behind = place_is test front rest first both.1 passes in
-    rw (not_true (test b) both.0) (omega (arith, behind))
+    rw (not-true (test b) both.0) (omega (arith, behind))
 
 found : (test : ℕ → Bool) (front rest : List ℕ) (first : ℕ) → none_pass test front ≡ true → test first ≡ true → position test (front ++ first ∷ rest) ≡ Some (length front)
 found test front rest first none passes =
@@ -47,7 +46,9 @@ pub record IsCut (test : ℕ → Bool) (text front rest : List ℕ) : Type 0 whe
 none_by : (passes : Bool) (test : ℕ → Bool) (b : ℕ) (text : List ℕ) → test b ≡ passes → none_pass test (take (position_or_len test text) text) ≡ true
     → none_pass test (take (cond (not passes) (1 + position_or_len test text) 0) (b ∷ text)) ≡ true
 none_by true test b text is none = refl
-none_by false test b text is none = both_true (not (test b)) (none_pass test (take (position_or_len test text) text)) (ap not is) none
+none_by false test b text is none =
+    let same : 1 + position_or_len test text ≡ suc (position_or_len test text) = omega arith in
+    ap (λ (n : ℕ). none_pass test (take n (b ∷ text))) same ∙ and_from (not (test b)) (none_pass test (take (position_or_len test text) text)) (ap not is) none
 
 none_before : (test : ℕ → Bool) (text : List ℕ) → none_pass test (take (position_or_len test text) text) ≡ true
 none_before test [] = refl

@@ -2,11 +2,11 @@
 use Rattle.std.proofs.Common.{◌≡◌, ◌∙◌, ℕ, ◌==◌, ◌&&◌, ◌||◌, Bool, true, false, not, List, [], ◌∷◌, ◌++◌, take, Option, Some, None, codes, if◌then◌else◌, refl, sym, ap}
 use Rattle.std.specs.List.{flat_map, list_all, list_any}
 use Rattle.std.specs.Str.{bytes_eq}
-use Rattle.std.proofs.lemmas.Bool.{and_parts, eqb-true}
+use Rattle.std.proofs.lemmas.Bool.{and_from, and_parts, eqb-true}
 use Rattle.droid_fixity_manifest.specs.Paths.{is_name, is_plain}
 use Rattle.droid_fixity_manifest.specs.Spellings.{escaped, escaped_byte, onto, unescaped, unescaped_from}
 use Rattle.droid_fixity_manifest.proofs.ClearBytes.{is_clear}
-use Rattle.droid_fixity_manifest.proofs.Tests.{all_append, both_true, false_true}
+use Rattle.droid_fixity_manifest.proofs.Tests.{all_append, false_true}
 
 -- how a byte is spelled, by what it is
 abbrev pub spelled_by : (backslash feed return : Bool) → ℕ → List ℕ
@@ -18,7 +18,7 @@ clear_by : (backslash feed return : Bool) (b : ℕ) → (b == 10) ≡ feed → (
 clear_by true feed return b hf hr = refl
 clear_by false true return b hf hr = refl
 clear_by false false true b hf hr = refl
-clear_by false false false b hf hr = both_true (is_clear b) true (both_true (not (b == 10)) (not (b == 13)) (ap not hf) (ap not hr)) refl
+clear_by false false false b hf hr = and_from (is_clear b) true (and_from (not (b == 10)) (not (b == 13)) (ap not hf) (ap not hr)) refl
 
 pub escaped_clear : (path : List ℕ) → list_all is_clear (escaped path) ≡ true
 escaped_clear [] = refl

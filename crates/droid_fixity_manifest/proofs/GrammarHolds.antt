@@ -2,7 +2,7 @@
 use Rattle.std.proofs.Common.{◌≡◌, ◌∙◌, ℕ, ◌==◌, ◌&&◌, ◌||◌, Bool, true, false, not, cond, List, [], ◌∷◌, ◌++◌, length, take, drop, Option, Some, None, unwrap_or, codes, inl, inr, ◌⊎◌, refl, sym, ap, subst}
 use Rattle.std.specs.List.{list_all, position}
 use Rattle.std.specs.Str.{bytes_eq}
-use Rattle.std.proofs.lemmas.Bool.{and_parts, eqb-true, or_cases}
+use Rattle.std.proofs.lemmas.Bool.{and_from, and_parts, eqb-true, or_cases}
 use Rattle.std.proofs.lemmas.List.{take-append-drop}
 use Rattle.std.proofs.lemmas.Slice.Eq.{bytes_eq-Decides}
 use Rattle.droid_frame.specs.types.hash_value.HashValue.{HashValue}
@@ -20,7 +20,7 @@ use Rattle.droid_fixity_manifest.specs.declared.meaning.Meaning.{Meaning}
 use Rattle.droid_fixity_manifest.specs.declared.meaning.Meaning.TheVariants as meanings
 use Rattle.droid_fixity_manifest.proofs.Cuts.{IsCut, cut_parts, none_pass}
 use Rattle.droid_fixity_manifest.proofs.GrammarRead.{bag_entry_is, bag_parts_by}
-use Rattle.droid_fixity_manifest.proofs.Tests.{both_true, false_true}
+use Rattle.droid_fixity_manifest.proofs.Tests.{false_true}
 use Rattle.droid_fixity_manifest.proofs.WrittenLines.{entry_is, parts_by}
 
 -- ---- what a line was read from
@@ -273,7 +273,7 @@ all_gaps : (text : List ℕ) → none_pass is_no_gap text ≡ true → list_all 
 all_gaps [] none = refl
 all_gaps (b ∷ text) none =
     let both = and_parts (not (is_no_gap b)) (none_pass is_no_gap text) none in
-    both_true (is_gap b) (list_all is_gap text) (gap_again (is_gap b) both.0) (all_gaps text both.1)
+    and_from (is_gap b) (list_all is_gap text) (gap_again (is_gap b) both.0) (all_gaps text both.1)
 
 -- what stands behind digits begins with a gap, so the gaps in front are some
 are_gaps : (front rest more : List ℕ) (gap first : ℕ) (after : List ℕ) → front ++ rest ≡ gap ∷ more → is_gap gap ≡ true → rest ≡ first ∷ after → is_no_gap first ≡ true → list_all is_gap front ≡ true → AreGaps front

@@ -2,7 +2,7 @@
 use Rattle.std.proofs.Common.{◌≡◌, ◌∙◌, ℕ, ◌==◌, ◌&&◌, ◌||◌, Bool, true, false, not, cond, List, [], ◌∷◌, ◌++◌, length, take, Option, Some, None, Result, Ok, Err, codes, inl, inr, ◌⊎◌, IsOk, refl, sym, ap}
 use Rattle.std.specs.List.{list_all, position}
 use Rattle.std.specs.Str.{bytes_eq}
-use Rattle.std.proofs.lemmas.Bool.{and_parts, eqb-true}
+use Rattle.std.proofs.lemmas.Bool.{and_from, and_parts, eqb-true}
 use Rattle.std.proofs.lemmas.List.Sums.{list_all-from_AllPass}
 use Rattle.hex.specs.Hex.{decode_sized, is_hex_digit}
 use Rattle.hex.specs.declared.FromHexError.{FromHexError}
@@ -20,7 +20,7 @@ use Rattle.droid_fixity_manifest.specs.declared.form.ManifestForm.TheVariants.{B
 use Rattle.droid_fixity_manifest.specs.declared.meaning.Meaning.TheVariants as meanings
 use Rattle.droid_fixity_manifest.proofs.Cuts.{cut_found, none_pass}
 use Rattle.droid_fixity_manifest.proofs.EscapedPaths.{alone, dot_is_no_name, is_dotless, plain_dotless}
-use Rattle.droid_fixity_manifest.proofs.Tests.{both_true, false_true}
+use Rattle.droid_fixity_manifest.proofs.Tests.{false_true}
 use Rattle.droid_fixity_manifest.proofs.WrittenLines.{AreDigits, begins_plain, escaped_says, no_dot, no_gaps, plain_bytes, plain_says}
 
 -- ---- what stands for a hash is digits
@@ -95,11 +95,11 @@ gaps_none : (gaps : List ℕ) → list_all is_gap gaps ≡ true → none_pass is
 gaps_none [] all = refl
 gaps_none (b ∷ gaps) all =
     let both = and_parts (is_gap b) (list_all is_gap gaps) all in
-    both_true (not (is_no_gap b)) (none_pass is_no_gap gaps) (ap (λ (t : Bool). not (not t)) both.0) (gaps_none gaps both.1)
+    and_from (not (is_no_gap b)) (none_pass is_no_gap gaps) (ap (λ (t : Bool). not (not t)) both.0) (gaps_none gaps both.1)
 
 gaps_cut : (gaps rest : List ℕ) (first : ℕ) → AreGaps gaps → is_no_gap first ≡ true → behind_gaps (gaps ++ first ∷ rest) ≡ Some (without_star (first ∷ rest))
 gaps_cut gaps rest first are no_gap =
-    let all : list_all is_gap gaps ≡ true = ap (list_all is_gap) are.whole ∙ both_true (is_gap are.gap) (list_all is_gap are.more) are.first are.rest in
+    let all : list_all is_gap gaps ≡ true = ap (list_all is_gap) are.whole ∙ and_from (is_gap are.gap) (list_all is_gap are.more) are.first are.rest in
     ap (λ (parts : Option (List ℕ × List ℕ)). parts >>= λ two. Some (without_star two.1)) (cut_found is_no_gap gaps rest first (gaps_none gaps all) no_gap)
 
 line_cut : (digits gaps rest : List ℕ) (hash : HashValue) → AreDigits digits hash → AreGaps gaps → cut_at_gap (digits ++ (gaps ++ rest)) ≡ Some (digits, gaps ++ rest)

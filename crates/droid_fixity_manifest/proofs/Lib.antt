@@ -5,6 +5,8 @@ mod EscapedPaths
 mod Fronts
 mod GrammarHolds
 mod GrammarRead
+mod OneKind
+mod Meanings
 mod ReadBack
 mod Reading
 mod Tests

@@ -9,8 +9,8 @@ use Rattle.droid_frame.specs.types.hash_value.HashValue.TheVariants as values
 use Rattle.droid_fixity.specs.declared.item.Item.{Item}
 use Rattle.droid_fixity_manifest.specs.Lines.{file_item, meaning, without_return}
 use Rattle.droid_fixity_manifest.specs.Lists.{after, is_alike, items_from, taken, taken_file}
-use Rattle.droid_fixity_manifest.specs.Paths.{is_plain}
-use Rattle.droid_fixity_manifest.specs.ReadBack.{AreListed, IsDigest, IsListed, is_file_path, lines_of}
+use Rattle.droid_fixity_manifest.specs.Paths.{is_file_path, is_plain}
+use Rattle.droid_fixity_manifest.specs.ReadBack.{AreListed, IsDigest, IsListed, lines_of}
 use Rattle.droid_fixity_manifest.specs.Writing.{line, line_below, line_by, shown}
 use Rattle.droid_fixity_manifest.specs.declared.form.ManifestForm.TheVariants.{Checksums}
 use Rattle.droid_fixity_manifest.specs.declared.list_fault.ManifestFault.{ManifestFault}

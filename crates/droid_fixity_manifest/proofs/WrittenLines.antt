@@ -2,7 +2,7 @@
 use Rattle.std.proofs.Common.{◌≡◌, ◌∙◌, ◌<◌, ℕ, ◌+◌, ◌*◌, ◌==◌, ◌&&◌, ◌||◌, Bool, true, false, not, List, [], ◌∷◌, ◌++◌, length, take, drop, Option, Some, None, codes, if◌then◌else◌, inl, inr, refl, sym, ap, arith, append_assoc}
 use Rattle.std.specs.List.{list_all, list_any}
 use Rattle.std.specs.Str.{bytes_eq}
-use Rattle.std.proofs.lemmas.Bool.{and_parts, eqb-true}
+use Rattle.std.proofs.lemmas.Bool.{and_from, and_parts, eqb-true, not-true, or_from}
 use Rattle.std.proofs.lemmas.List.Sums.{list_all-from_AllPass}
 use Rattle.hex.specs.Hex.{encode_lower, is_hex_digit, lower_digits}
 use Rattle.hex.proofs.HexLemmas.{decode_of-encode_lower, decode_of-ok, decode_sized-twice, length-encode_with}
@@ -23,7 +23,7 @@ use Rattle.droid_fixity_manifest.specs.declared.meaning.Meaning.TheVariants as m
 use Rattle.droid_fixity_manifest.proofs.ClearBytes.{digits_clear, is_clear, plain_clear}
 use Rattle.droid_fixity_manifest.proofs.Cuts.{cut_found, none_pass}
 use Rattle.droid_fixity_manifest.proofs.EscapedPaths.{escaped_clear, escaped_dotless, is_dotless, plain_dotless, unescaped_escaped}
-use Rattle.droid_fixity_manifest.proofs.Tests.{all_append, both_true, false_true, neither, not_true, other_sign}
+use Rattle.droid_fixity_manifest.proofs.Tests.{all_append, false_true, other_sign}
 
 -- ---- the digits of a hash
 
@@ -62,13 +62,13 @@ sha256_digits_are digest len bytes =
 -- ---- the digits are cut off
 
 digit_no_gap : (b : ℕ) → is_hex_digit b ≡ true → is_gap b ≡ false
-digit_no_gap b is = neither (b == 32) (b == 9) (other_sign is_hex_digit b 32 is refl) (other_sign is_hex_digit b 9 is refl)
+digit_no_gap b is = or_from (b == 32) (b == 9) (other_sign is_hex_digit b 32 is refl) (other_sign is_hex_digit b 9 is refl)
 
 pub no_gaps : (digits : List ℕ) → list_all is_hex_digit digits ≡ true → none_pass is_gap digits ≡ true
 no_gaps [] all = refl
 no_gaps (b ∷ digits) all =
     let both = and_parts (is_hex_digit b) (list_all is_hex_digit digits) all in
-    both_true (not (is_gap b)) (none_pass is_gap digits) (ap not (digit_no_gap b both.0)) (no_gaps digits both.1)
+    and_from (not (is_gap b)) (none_pass is_gap digits) (ap not (digit_no_gap b both.0)) (no_gaps digits both.1)
 
 digits_cut : (digits rest : List ℕ) → list_all is_hex_digit digits ≡ true → cut_at_gap (digits ++ 32 ∷ rest) ≡ Some (digits, 32 ∷ rest)
 digits_cut digits rest all = cut_found is_gap digits rest 32 (no_gaps digits all) refl
@@ -97,7 +97,7 @@ parts_are digits text mark hash how are is =
     ∙ (ap (λ (found : Option HashValue). found >>= λ value. behind_mark (32 ∷ mark ∷ text) >>= λ rest. Some (value, how, rest)) are.reads
     ∙ ap (λ (found : Option (List ℕ)). found >>= λ rest. Some (hash, how, rest)) (marked mark text is))
 
--- a line of digits begins neither as a comment nor with a backslash
+-- a line of digits begins or_from as a comment nor with a backslash
 pub record BeginsPlain (line : List ℕ) : Type 0 where
   pub blank : is_blank line ≡ false
   pub how : escapes_of line ≡ escapes.Nothing
@@ -141,7 +141,7 @@ entry_says line text path hash how blank entry spells plain =
     blank_no line blank ∙ (ap (meaning_by_entry Checksums) entry ∙ (ap (meaning_by_bytes hash) spells ∙ plain_bytes hash path plain))
 
 pub no_dot : (text : List ℕ) → is_dotless text ≡ true → without_dot text ≡ text
-no_dot text h = rw (not_true (bytes_eq (take 2 text) (codes "./")) h) refl
+no_dot text h = rw (not-true (bytes_eq (take 2 text) (codes "./")) h) refl
 
 pub plain_says : (digits text name : List ℕ) (mark : ℕ) (hash : HashValue) → AreDigits digits hash → IsMark mark → without_dot text ≡ name → is_plain name ≡ true
     → meaning Checksums (digits ++ 32 ∷ mark ∷ text) ≡ meanings.File (file_item hash (47 ∷ name))

@@ -5,7 +5,7 @@ use Rattle.droid_frame.specs.types.hash_value.HashValue.{HashValue}
 use Rattle.droid_frame.specs.types.node_kind.NodeKind.TheVariants.{File}
 use Rattle.droid_fixity.specs.declared.item.Item.{Item}
 use Rattle.droid_fixity_manifest.specs.Digests.{hash_of}
-use Rattle.droid_fixity_manifest.specs.Paths.{below, is_plain}
+use Rattle.droid_fixity_manifest.specs.Paths.{below, is_file_path}
 use Rattle.droid_fixity_manifest.specs.Spellings.{◌>>=◌, spelled}
 use Rattle.droid_fixity_manifest.specs.declared.form.Escapes.{Escapes}
 use Rattle.droid_fixity_manifest.specs.declared.form.Escapes.TheVariants as escapes
@@ -82,10 +82,14 @@ entry_of Bag line = bag_entry line
 abbrev pub file_item : HashValue → List ℕ → Item
 file_item hash path = record { path = path; kind = File; length = None; modified = None; hash = hash }
 
+-- by the path
+abbrev pub meaning_by_path : HashValue → List ℕ → Meaning
+meaning_by_path hash path = if is_file_path path then meanings.File (file_item hash path) else meanings.Misplaced
+
 -- by the bytes of the path below the folder
 abbrev pub meaning_by_bytes : HashValue → Option (List ℕ) → Meaning
 meaning_by_bytes hash None = meanings.Malformed
-meaning_by_bytes hash (Some bytes) = if is_plain bytes then meanings.File (file_item hash (47 ∷ bytes)) else meanings.Misplaced
+meaning_by_bytes hash (Some bytes) = meaning_by_path hash (47 ∷ bytes)
 
 -- by the spelling of the path below the folder
 abbrev pub meaning_by_text : HashValue → Escapes → Option (List ℕ) → Meaning

@@ -1,5 +1,5 @@
 -- What a list of checksums says.
-use Rattle.std.specs.Prelude.{◌≡◌, ◌≢◌, ℕ, ◌+◌, ◌==◌, Bool, true, List, [], ◌∷◌, ◌++◌, map, Vec, Result, Ok, Err, if◌then◌else◌}
+use Rattle.std.specs.Prelude.{◌≡◌, ◌≢◌, ℕ, ◌+◌, ◌==◌, Bool, true, List, [], ◌∷◌, ◌++◌, Vec, Result, Ok, Err, IsTrue, if◌then◌else◌}
 use Rattle.std.specs.List.{AllByRecursion, slice_split}
 use Rattle.std.specs.declared.alloc.Global.{Global}
 use Rattle.droid_frame.specs.Hashes.{hash_kind_number, hash_value_kind}
@@ -22,6 +22,10 @@ same_kind one other = hash_kind_number (hash_value_kind one) == hash_kind_number
 abbrev pub is_alike : List Item → HashValue → Bool
 is_alike [] hash = true
 is_alike (item ∷ items) hash = same_kind item.hash hash
+
+-- hashes of one kind: each is of the kind of the first
+abbrev pub HaveOneKind : List Item → Type 0
+HaveOneKind items = AllByRecursion (λ item. IsTrue (is_alike items item.hash)) items
 
 -- the items with that of one more line, by its number
 abbrev pub taken_file : ℕ → List Item → Item → Result (List Item) ManifestFault

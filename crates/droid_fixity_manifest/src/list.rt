@@ -24,7 +24,9 @@ pub fn read_manifest(
     let mut number = 1;
     for line in text.split(|byte| *byte == b'\n') {
         let meaning = meaning_of(alloc, form, without_return(line))?;
-        take(&mut items, number, meaning)?;
+        if let Err(fault) = take(&mut items, number, meaning) {
+            return Err(fault);
+        }
         number += 1;
     }
     Ok(items)

@@ -5,7 +5,7 @@ ghost use Rattle.droid_frame.specs.types.hash_value.HashValue.{HashValue};
 ghost use Rattle.droid_fixity.specs.declared.item.Item.{Item};
 ghost use Rattle.droid_fixity_manifest.specs.Grammar.{NamesFile};
 ghost use Rattle.droid_fixity_manifest.specs.Lines.{file_item, meaning};
-ghost use Rattle.droid_fixity_manifest.specs.Lists.{items_of};
+ghost use Rattle.droid_fixity_manifest.specs.Lists.{HaveOneKind, items_of};
 ghost use Rattle.droid_fixity_manifest.specs.ReadBack.{AreListed, lines_of};
 ghost use Rattle.droid_fixity_manifest.specs.declared.form.ManifestForm.{ManifestForm};
 ghost use Rattle.droid_fixity_manifest.specs.declared.form.ManifestForm.TheVariants.{Checksums};
@@ -20,4 +20,9 @@ pub fn lines_are_read_back()
 pub fn lines_of_the_grammar_name_files()
     ensures { (form : ManifestForm) (line : List ℕ) (hash : HashValue) (path : List ℕ) →
         (meaning form line ≡ File (file_item hash path)) ↔ NamesFile form line hash path }
+{}
+
+/// States that the digests of a list that can be read are of one kind.
+pub fn lists_have_one_kind()
+    ensures { (form : ManifestForm) (text : List ℕ) (items : List Item) → items_of form text ≡ Ok items → HaveOneKind items }
 {}

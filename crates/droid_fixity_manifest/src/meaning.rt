@@ -6,7 +6,7 @@ ghost use Rattle.droid_fixity_manifest.specs.Spellings.{spelled};
 
 use crate::entry::entry_of;
 use crate::form::{Escapes, ManifestForm};
-use crate::path::{below, is_plain};
+use crate::path::{below, is_file_path};
 use crate::spelling::add_spelled;
 use droid_fixity::Item;
 use droid_frame::{Blob, HashValue, NodeKind};
@@ -62,10 +62,17 @@ fn file_at(
     if !add_spelled(&mut path, escapes, text)? {
         return Ok(Meaning::Malformed);
     }
-    if !is_plain(&path[1..]) {
-        return Ok(Meaning::Misplaced);
+    Ok(meaning_of_path(hash, path))
+}
+
+/// Returns what a line says that gives this hash to the file with this path.
+fn meaning_of_path(hash: HashValue, path: Vec<u8>) -> Meaning
+    ensures { result ≡ lines.meaning_by_path hash path.items }
+{
+    if !is_file_path(path.as_slice()) {
+        return Meaning::Misplaced;
     }
-    Ok(Meaning::File(file_item(hash, Blob::from(path))))
+    Meaning::File(file_item(hash, Blob::from(path)))
 }
 
 /// Returns the item of a file of which nothing is known but its hash.

@@ -37,8 +37,18 @@ fn behind<'a>(front: &[u8], text: &'a [u8]) -> Option<&'a [u8]>
     }
 }
 
+/// Returns whether this is the path of a file: `/` and names, `/` between them.
+pub(crate) fn is_file_path(path: &[u8]) -> bool
+    ensures { result ≡ paths.is_file_path path.now }
+{
+    match path.split_first() {
+        Some((first, names)) => *first == b'/' && is_plain(names),
+        None => false,
+    }
+}
+
 /// Returns whether a path consists of names with `/` between them.
-pub(crate) fn is_plain(path: &[u8]) -> bool
+fn is_plain(path: &[u8]) -> bool
     ensures { result ≡ paths.is_plain path.now }
 {
     path.split(|byte| *byte == b'/').all(|name| is_name(name))
