@@ -41,6 +41,8 @@ module _ (text front : List ℕ) (place : ℕ) (opened : Bool) (whole : Option (
   opens_kept is backslash = ap (in_front front) (sym (step_opens (drop (place + 1) text) (get_or text place 0) backslash)) ∙ left_is false is
 
   pub plain_kept : (path : List ℕ) → opened ≡ false → (get_or text place 0 == 92) ≡ false → path ≡ front ++ get_or text place 0 ∷ []
-      → in_front path (unescaped_from false (drop (place + 1) text)) ≡ whole
+      → in_front path (unescaped_from opened (drop (place + 1) text)) ≡ whole
   plain_kept path is plain added =
-      ap (λ (p : List ℕ). in_front p (unescaped_from false (drop (place + 1) text))) added ∙ (sym (step_plain front (drop (place + 1) text) (get_or text place 0) plain) ∙ left_is false is)
+      ap (λ (s : Bool). in_front path (unescaped_from s (drop (place + 1) text))) is
+      ∙ ap (λ (p : List ℕ). in_front p (unescaped_from false (drop (place + 1) text))) added
+      ∙ (sym (step_plain front (drop (place + 1) text) (get_or text place 0) plain) ∙ left_is false is)

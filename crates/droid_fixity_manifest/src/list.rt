@@ -12,7 +12,10 @@ use droid_fixity::Item;
 use droid_frame::HashValue;
 use std::alloc::{AllocError, Global};
 
-/// Reads a list of checksums. Each line that names a file gives an item.
+/// Reads a list of checksums. Each line that names a file gives an item with its path and its hash.
+///
+/// Paths begin with `/`, as those of a profile do; those of a bag's manifest are paths below the folder `data`. A path may
+/// stand twice. An error names the first line at fault. README.md says which lines are accepted.
 pub fn read_manifest(
     alloc: Global,
     form: ManifestForm,
