@@ -1,0 +1,14 @@
+mod ClearBytes
+mod Cuts
+mod Decoding
+mod EscapedPaths
+mod Fronts
+mod GrammarHolds
+mod GrammarRead
+mod OneKind
+mod Meanings
+mod ReadBack
+mod Reading
+mod Tests
+mod Unescaping
+mod WrittenLines

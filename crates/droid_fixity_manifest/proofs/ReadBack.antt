@@ -1,0 +1,81 @@
+-- Lines that were written are read back.
+use Rattle.std.proofs.Common.{◌≡◌, ◌∙◌, ℕ, ◌+◌, ◌==◌, Bool, true, false, List, [], ◌∷◌, ◌++◌, Result, Ok, Err, refl, sym, ap, subst, append-nil, append_assoc}
+use Rattle.std.specs.Prelude.{IsTrue}
+use Rattle.std.specs.List.{AllByRecursion, flat_map, list_all, slice_split}
+use Rattle.std.proofs.lemmas.Bool.{and_parts, eqb-true}
+use Rattle.hex.specs.Hex.{encode_lower}
+use Rattle.droid_frame.specs.types.hash_value.HashValue.{HashValue}
+use Rattle.droid_frame.specs.types.hash_value.HashValue.TheVariants as values
+use Rattle.droid_fixity.specs.declared.item.Item.{Item}
+use Rattle.droid_fixity_manifest.specs.Lines.{file_item, meaning, without_return}
+use Rattle.droid_fixity_manifest.specs.Lists.{after, is_alike, items_from, taken, taken_file}
+use Rattle.droid_fixity_manifest.specs.Paths.{is_file_path, is_plain}
+use Rattle.droid_fixity_manifest.specs.ReadBack.{AreListed, IsDigest, IsListed, lines_of}
+use Rattle.droid_fixity_manifest.specs.Writing.{line, line_below, line_by, shown}
+use Rattle.droid_fixity_manifest.specs.declared.form.ManifestForm.TheVariants.{Checksums}
+use Rattle.droid_fixity_manifest.specs.declared.list_fault.ManifestFault.{ManifestFault}
+use Rattle.droid_fixity_manifest.specs.declared.meaning.Meaning.{Meaning}
+use Rattle.droid_fixity_manifest.specs.declared.meaning.Meaning.TheVariants as meanings
+use Rattle.droid_fixity_manifest.proofs.ClearBytes.{first_line, is_clear, no_return}
+use Rattle.droid_fixity_manifest.proofs.Tests.{false_true}
+use Rattle.droid_fixity_manifest.proofs.WrittenLines.{AreDigits, IsBody, body_of, md5_digits_are, sha256_digits_are}
+
+-- a hash that can be listed has digits
+record HasDigits (hash : HashValue) : Type 0 where
+  pub digits : List ℕ
+  pub are : AreDigits digits hash
+  pub written : (path : List ℕ) → line_below hash path ≡ line_by digits path
+
+has_digits : (hash : HashValue) → IsDigest hash → HasDigits hash
+has_digits values.Nothing is = absurd is
+has_digits (values.Md5 digest) is = record { digits = encode_lower digest; are = md5_digits_are digest is.0 is.1; written = λ path. refl }
+has_digits (values.Sha256 digest) is = record { digits = encode_lower digest; are = sha256_digits_are digest is.0 is.1; written = λ path. refl }
+
+-- the line of a file, without its line feed
+record HasBody (hash : HashValue) (path : List ℕ) : Type 0 where
+  pub body : List ℕ
+  pub ends : line hash path ≡ body ++ 10 ∷ []
+  pub clear : list_all is_clear body ≡ true
+  pub says : meaning Checksums body ≡ meanings.File (file_item hash path)
+
+body_at : (hash : HashValue) (path : List ℕ) → IsDigest hash → is_plain path ≡ true → HasBody hash (47 ∷ path)
+body_at hash path digest plain =
+    let has = has_digits hash digest in
+    let made = body_of has.digits path hash has.are plain in
+    record { body = made.0; ends = has.written (shown path) ∙ made.1.ends; clear = made.1.clear; says = made.1.says }
+
+has_body : (hash : HashValue) (path : List ℕ) → IsDigest hash → is_file_path path ≡ true → HasBody hash path
+has_body hash [] digest is = absurd (false_true is)
+has_body hash (b ∷ path) digest is =
+    let both = and_parts (b == 47) (is_plain path) is in
+    subst (λ (k : ℕ). HasBody hash (k ∷ path)) (sym (eqb-true b 47 both.0)) (body_at hash path digest both.1)
+
+alike_front : (front items : List Item) (item : Item) → is_alike (front ++ item ∷ items) item.hash ≡ true → is_alike front item.hash ≡ true
+alike_front [] items item h = refl
+alike_front (first ∷ front) items item h = h
+
+-- one line more
+one_line : (number : ℕ) (front items : List Item) (item : Item) (text : List ℕ) → IsListed item → is_alike front item.hash ≡ true
+    → items_from Checksums number front (slice_split (λ b. b == 10) (line item.hash item.path ++ text)) ≡ items_from Checksums (number + 1) (front ++ item ∷ []) (slice_split (λ b. b == 10) text)
+one_line number front items item text listed alike =
+    let has = has_body item.hash item.path listed.digest listed.path in
+    let whole : line item.hash item.path ++ text ≡ has.body ++ 10 ∷ text = ap (λ (l : List ℕ). l ++ text) has.ends ∙ append_assoc has.body (10 ∷ []) text in
+    let split : slice_split (λ b. b == 10) (line item.hash item.path ++ text) ≡ has.body ∷ slice_split (λ b. b == 10) text =
+    ap (slice_split (λ b. b == 10)) whole ∙ first_line has.body text has.clear in
+    let says : meaning Checksums (without_return has.body) ≡ meanings.File item =
+    ap (meaning Checksums) (no_return has.body has.clear) ∙ (has.says ∙ ap meanings.File (sym listed.only)) in
+    let takes : taken number front (meaning Checksums (without_return has.body)) ≡ Ok (front ++ item ∷ []) = ap (taken number front) says ∙ rw alike refl in
+    ap (items_from Checksums number front) split
+    ∙ ap (λ (r : Result (List Item) ManifestFault). after r (λ more. items_from Checksums (number + 1) more (slice_split (λ b. b == 10) text))) takes
+
+read_from : (number : ℕ) (front items : List Item) → AllByRecursion IsListed items → AllByRecursion (λ item. IsTrue (is_alike (front ++ items) item.hash)) items
+    → items_from Checksums number front (slice_split (λ b. b == 10) (lines_of items)) ≡ Ok (front ++ items)
+read_from number front [] each kinds = ap Ok (sym (append-nil front))
+read_from number front (item ∷ items) each kinds =
+    let same : front ++ item ∷ items ≡ (front ++ item ∷ []) ++ items = sym (append_assoc front (item ∷ []) items) in
+    one_line number front items item (lines_of items) each.0 (alike_front front items item kinds.0)
+    ∙ (read_from (number + 1) (front ++ item ∷ []) items each.1 (subst (λ (all : List Item). AllByRecursion (λ one. IsTrue (is_alike all one.hash)) items) same kinds.1)
+    ∙ ap Ok (sym same))
+
+pub read_back : (items : List Item) → AreListed items → items_from Checksums 1 [] (slice_split (λ b. b == 10) (lines_of items)) ≡ Ok items
+read_back items are = read_from 1 [] items are.each are.kinds
