@@ -13,12 +13,7 @@ pub(crate) fn lens(pieces: [&[u8]; 4]) -> [usize; 4]
     ensures count { length result ≡ 4 }
 {
     let [a, b, c, d] = pieces;
-    [
-        a.len(),
-        b.len(),
-        c.len(),
-        d.len(),
-    ]
+    [a.len(), b.len(), c.len(), d.len()]
 }
 
 // How many bytes of a block each message has begun.

@@ -17,16 +17,19 @@ fn every_length(kind: HashKind) -> bool {
     let mut lanes = HashLanes::new(kind);
     let mut right = true;
     for turn in 0..301 {
-        feed(&mut lanes, [
-            file(&bytes, 0, turn),
-            file(&bytes, 1, turn),
-            file(&bytes, 2, turn),
-            file(&bytes, 3, turn),
-            file(&bytes, 4, turn),
-            file(&bytes, 5, turn),
-            file(&bytes, 6, turn),
-            file(&bytes, 7, turn),
-        ]);
+        feed(
+            &mut lanes,
+            [
+                file(&bytes, 0, turn),
+                file(&bytes, 1, turn),
+                file(&bytes, 2, turn),
+                file(&bytes, 3, turn),
+                file(&bytes, 4, turn),
+                file(&bytes, 5, turn),
+                file(&bytes, 6, turn),
+                file(&bytes, 7, turn),
+            ],
+        );
         for lane in 0..LANES {
             let found = lanes.end(lane);
             right &= found == whole(kind, file(&bytes, lane, turn));
@@ -44,10 +47,22 @@ fn every_cut(kind: HashKind) -> bool {
     for cut in 0..301 {
         let first = part(&bytes, 0, cut);
         let second = part(&bytes, cut, 300);
-        feed(&mut lanes, [none, none, none, first, none, none, none, none]);
-        feed(&mut lanes, [none, none, none, second, none, none, none, none]);
-        feed(&mut lanes, [none, none, none, none, none, none, none, first]);
-        feed(&mut lanes, [second, none, none, none, none, none, none, second]);
+        feed(
+            &mut lanes,
+            [none, none, none, first, none, none, none, none],
+        );
+        feed(
+            &mut lanes,
+            [none, none, none, second, none, none, none, none],
+        );
+        feed(
+            &mut lanes,
+            [none, none, none, none, none, none, none, first],
+        );
+        feed(
+            &mut lanes,
+            [second, none, none, none, none, none, none, second],
+        );
         let all = whole(kind, part(&bytes, 0, 300));
         right &= lanes.end(3) == all;
         right &= lanes.end(7) == all;
