@@ -58,13 +58,13 @@ none_before test (b ∷ text) = none_by (test b) test b text refl (none_before t
 parts_at : (test : ℕ → Bool) (text : List ℕ) → position_or_len test text < length text
     → IsCut test text (take (position_or_len test text) text) (drop (position_or_len test text) text)
 parts_at test text below = record {
-    whole = sym (take-append-drop (position_or_len test text) text);
-    first = get_or text (position_or_len test text) 0;
-    more = drop (position_or_len test text + 1) text;
-    starts = drop_more text (position_or_len test text) 0 below;
-    passes = passes_at_first test text 0 below;
-    none = none_before test text;
-  }
+  whole = sym (take-append-drop (position_or_len test text) text);
+  first = get_or text (position_or_len test text) 0;
+  more = drop (position_or_len test text + 1) text;
+  starts = drop_more text (position_or_len test text) 0 below;
+  passes = passes_at_first test text 0 below;
+  none = none_before test text;
+}
 
 parts_by : (is_below : Bool) (test : ℕ → Bool) (text front rest : List ℕ) → nat_lt (position_or_len test text) (length text) ≡ is_below
     → cut text (cond is_below (Some (position_or_len test text)) None) ≡ Some (front, rest) → IsCut test text front rest

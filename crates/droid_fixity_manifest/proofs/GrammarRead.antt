@@ -125,13 +125,13 @@ bag_named line name hash is plain =
     let are = are_digits is.digits hash is.digest in
     ap (meaning Bag) is.whole ∙ elim is.starred [
       | inl star ↦ elim is.dotted [
-          | inl dot ↦ rw (star, dot) (bag_line_says is.digits is.gaps (codes "./data/" ++ is.text) is.text name 42 hash are is.gapped refl refl is.spells plain)
-          | inr none ↦ rw (star, none) (bag_line_says is.digits is.gaps (codes "data/" ++ is.text) is.text name 42 hash are is.gapped refl refl is.spells plain)
-        ]
+        | inl dot ↦ rw (star, dot) (bag_line_says is.digits is.gaps (codes "./data/" ++ is.text) is.text name 42 hash are is.gapped refl refl is.spells plain)
+        | inr none ↦ rw (star, none) (bag_line_says is.digits is.gaps (codes "data/" ++ is.text) is.text name 42 hash are is.gapped refl refl is.spells plain)
+      ]
       | inr nothing ↦ elim is.dotted [
-          | inl dot ↦ rw (nothing, dot) (bag_line_says is.digits is.gaps (codes "/data/" ++ is.text) is.text name 46 hash are is.gapped refl refl is.spells plain)
-          | inr none ↦ rw (nothing, none) (bag_line_says is.digits is.gaps (codes "ata/" ++ is.text) is.text name 100 hash are is.gapped refl refl is.spells plain)
-        ]
+        | inl dot ↦ rw (nothing, dot) (bag_line_says is.digits is.gaps (codes "/data/" ++ is.text) is.text name 46 hash are is.gapped refl refl is.spells plain)
+        | inr none ↦ rw (nothing, none) (bag_line_says is.digits is.gaps (codes "ata/" ++ is.text) is.text name 100 hash are is.gapped refl refl is.spells plain)
+      ]
     ]
 
 -- ---- both forms

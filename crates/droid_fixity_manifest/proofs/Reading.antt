@@ -11,7 +11,7 @@ use Rattle.droid_fixity_manifest.specs.declared.meaning.Meaning.{Meaning}
 onward : (form : ManifestForm) (number : ℕ) (xs ys : List (List ℕ)) (first : Result (List Item) ManifestFault)
     → ((more : List Item) → items_from form (number + 1) more (xs ++ ys) ≡ after (items_from form (number + 1) more xs) (λ items. items_from form (number + 1 + length xs) items ys))
     → after first (λ more. items_from form (number + 1) more (xs ++ ys))
-        ≡ after (after first (λ more. items_from form (number + 1) more xs)) (λ items. items_from form (number + 1 + length xs) items ys)
+    ≡ after (after first (λ more. items_from form (number + 1) more xs)) (λ items. items_from form (number + 1 + length xs) items ys)
 onward form number xs ys (Ok more) rest = rest more
 onward form number xs ys (Err fault) rest = refl
 

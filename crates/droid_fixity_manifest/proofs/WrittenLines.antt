@@ -166,16 +166,22 @@ plain_body_clear digits path hash are clear = all_append is_clear digits (32 ∷
 
 body_by : (test : Bool) (digits path : List ℕ) (hash : HashValue) → list_any is_escaped path ≡ test → AreDigits digits hash → is_plain path ≡ true
     → (body : List ℕ) × IsBody (if test then 92 ∷ (digits ++ 32 ∷ 32 ∷ (escaped path ++ 10 ∷ [])) else digits ++ 32 ∷ 32 ∷ (path ++ 10 ∷ [])) body hash path
-body_by true digits path hash is are plain = (92 ∷ (digits ++ 32 ∷ 32 ∷ escaped path), record {
-      ends = ap (λ (rest : List ℕ). 92 ∷ rest) (sym (append_assoc digits (32 ∷ 32 ∷ escaped path) (10 ∷ [])));
-      clear = plain_body_clear digits (escaped path) hash are (escaped_clear path);
-      says = escaped_says digits (escaped path) path 32 hash are (inl refl) (ap unescaped (no_dot (escaped path) (escaped_dotless path (plain_dotless path plain))) ∙ unescaped_escaped path) plain;
-    })
-body_by false digits path hash is are plain = (digits ++ 32 ∷ 32 ∷ path, record {
-      ends = sym (append_assoc digits (32 ∷ 32 ∷ path) (10 ∷ []));
-      clear = plain_body_clear digits path hash are (plain_clear path is);
-      says = plain_says digits path path 32 hash are (inl refl) (no_dot path (plain_dotless path plain)) plain;
-    })
+body_by true digits path hash is are plain = (
+  92 ∷ (digits ++ 32 ∷ 32 ∷ escaped path),
+  record {
+    ends = ap (λ (rest : List ℕ). 92 ∷ rest) (sym (append_assoc digits (32 ∷ 32 ∷ escaped path) (10 ∷ [])));
+    clear = plain_body_clear digits (escaped path) hash are (escaped_clear path);
+    says = escaped_says digits (escaped path) path 32 hash are (inl refl) (ap unescaped (no_dot (escaped path) (escaped_dotless path (plain_dotless path plain))) ∙ unescaped_escaped path) plain;
+  },
+)
+body_by false digits path hash is are plain = (
+  digits ++ 32 ∷ 32 ∷ path,
+  record {
+    ends = sym (append_assoc digits (32 ∷ 32 ∷ path) (10 ∷ []));
+    clear = plain_body_clear digits path hash are (plain_clear path is);
+    says = plain_says digits path path 32 hash are (inl refl) (no_dot path (plain_dotless path plain)) plain;
+  },
+)
 
 dash_is : (path : List ℕ) → bytes_eq path (codes "-") ≡ true → path ≡ codes "-"
 dash_is [] h = absurd (false_true h)
@@ -184,11 +190,14 @@ dash_is (b ∷ c ∷ path) h = absurd (false_true ((and_parts (b == 45) false h)
 
 shown_by : (dash : Bool) (digits path : List ℕ) (hash : HashValue) → bytes_eq path (codes "-") ≡ dash → AreDigits digits hash → is_plain path ≡ true
     → (body : List ℕ) × IsBody (line_by digits (if dash then codes "./-" else path)) body hash path
-shown_by true digits path hash is are plain = (digits ++ 32 ∷ 32 ∷ codes "./-", record {
-      ends = sym (append_assoc digits (32 ∷ 32 ∷ codes "./-") (10 ∷ []));
-      clear = plain_body_clear digits (codes "./-") hash are refl;
-      says = plain_says digits (codes "./-") path 32 hash are (inl refl) (sym (dash_is path is)) plain;
-    })
+shown_by true digits path hash is are plain = (
+  digits ++ 32 ∷ 32 ∷ codes "./-",
+  record {
+    ends = sym (append_assoc digits (32 ∷ 32 ∷ codes "./-") (10 ∷ []));
+    clear = plain_body_clear digits (codes "./-") hash are refl;
+    says = plain_says digits (codes "./-") path 32 hash are (inl refl) (sym (dash_is path is)) plain;
+  },
+)
 shown_by false digits path hash is are plain = body_by (list_any is_escaped path) digits path hash refl are plain
 
 pub body_of : (digits path : List ℕ) (hash : HashValue) → AreDigits digits hash → is_plain path ≡ true → (body : List ℕ) × IsBody (line_by digits (shown path)) body hash path

@@ -44,7 +44,13 @@ fn escapes_of(line: &[u8]) -> Escapes
     ensures { result ≡ lines.escapes_of line.now }
 {
     match line.first() {
-        Some(first) => { if *first == b'\\' { Escapes::Backslash } else { Escapes::Nothing } }
+        Some(first) => {
+            if *first == b'\\' {
+                Escapes::Backslash
+            } else {
+                Escapes::Nothing
+            }
+        }
         None => Escapes::Nothing,
     }
 }

@@ -58,10 +58,7 @@ fn is_plain(path: &[u8]) -> bool
 fn is_name(name: &[u8]) -> bool
     ensures { result ≡ paths.is_name name.now }
 {
-    !name.is_empty()
-        && name != b".".as_slice()
-        && name != b"..".as_slice()
-        && has_no_zero(name)
+    !name.is_empty() && name != b".".as_slice() && name != b"..".as_slice() && has_no_zero(name)
 }
 
 fn has_no_zero(name: &[u8]) -> bool

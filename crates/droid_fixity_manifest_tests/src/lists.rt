@@ -14,11 +14,20 @@ const CHECKSUMS: [(&str, &str); 58] = [
     ("# a comment\n#\n", ""),
     // what `md5sum` writes
     ("b1946ac92492d2347c6235b4d2611184  a\n", "/a m;"),
-    ("5891b5b522d5df086d0ff0b110fbd9d21bb4fc7163af34d08286a2e846f6be03  a\n", "/a s;"),
+    (
+        "5891b5b522d5df086d0ff0b110fbd9d21bb4fc7163af34d08286a2e846f6be03  a\n",
+        "/a s;",
+    ),
     ("b1946ac92492d2347c6235b4d2611184 *a\n", "/a m;"),
-    ("\\b1946ac92492d2347c6235b4d2611184  a\\\\b\\nc\\rd\n", "/a\\b\nc\rd m;"),
+    (
+        "\\b1946ac92492d2347c6235b4d2611184  a\\\\b\\nc\\rd\n",
+        "/a\\b\nc\rd m;",
+    ),
     ("b1946ac92492d2347c6235b4d2611184  ./a/b c\n", "/a/b c m;"),
-    ("b1946ac92492d2347c6235b4d2611184  a\nb1946ac92492d2347c6235b4d2611184  b\n", "/a m;/b m;"),
+    (
+        "b1946ac92492d2347c6235b4d2611184  a\nb1946ac92492d2347c6235b4d2611184  b\n",
+        "/a m;/b m;",
+    ),
     // what `md5sum -c` takes beside
     ("b1946ac92492d2347c6235b4d2611184  a", "/a m;"),
     ("B1946AC92492D2347C6235B4D2611184  a\n", "/a m;"),
@@ -31,9 +40,15 @@ const CHECKSUMS: [(&str, &str); 58] = [
     ("b1946ac92492d2347c6235b4d2611184 **a\n", "/*a m;"),
     ("b1946ac92492d2347c6235b4d2611184   a \n", "/ a  m;"),
     ("b1946ac92492d2347c6235b4d2611184  a\r\r\n", "/a\r m;"),
-    ("b1946ac92492d2347c6235b4d2611184  a\nb1946ac92492d2347c6235b4d2611184  a\n", "/a m;/a m;"),
+    (
+        "b1946ac92492d2347c6235b4d2611184  a\nb1946ac92492d2347c6235b4d2611184  a\n",
+        "/a m;/a m;",
+    ),
     ("b1946ac92492d2347c6235b4d2611184  ...\n", "/... m;"),
-    ("b1946ac92492d2347c6235b4d2611184  a/.b/..c\n", "/a/.b/..c m;"),
+    (
+        "b1946ac92492d2347c6235b4d2611184  a/.b/..c\n",
+        "/a/.b/..c m;",
+    ),
     // a line that is malformed
     ("b1946ac92492d2347c6235b4d2611184 a\n", "line 1"),
     ("b1946ac92492d2347c6235b4d2611184\ta\n", "line 1"),
@@ -53,7 +68,10 @@ const CHECKSUMS: [(&str, &str); 58] = [
     ("  \n", "line 1"),
     (" # c\n", "line 1"),
     ("a,b\n", "line 1"),
-    ("b1946ac92492d2347c6235b4d2611184  a\n\n# c\r\nb1946ac92492d2347c6235b4d2611184 b\n", "line 4"),
+    (
+        "b1946ac92492d2347c6235b4d2611184  a\n\n# c\r\nb1946ac92492d2347c6235b4d2611184 b\n",
+        "line 4",
+    ),
     // a path that is that of no file below the folder
     ("b1946ac92492d2347c6235b4d2611184  /a\n", "path 1"),
     ("b1946ac92492d2347c6235b4d2611184  ../a\n", "path 1"),
@@ -68,10 +86,19 @@ const CHECKSUMS: [(&str, &str); 58] = [
     ("b1946ac92492d2347c6235b4d2611184  a/./b\n", "path 1"),
     ("b1946ac92492d2347c6235b4d2611184  a\0b\n", "path 1"),
     ("b1946ac92492d2347c6235b4d2611184  \n", "path 1"),
-    ("b1946ac92492d2347c6235b4d2611184  a\nb1946ac92492d2347c6235b4d2611184  .//b\n", "path 2"),
+    (
+        "b1946ac92492d2347c6235b4d2611184  a\nb1946ac92492d2347c6235b4d2611184  .//b\n",
+        "path 2",
+    ),
     // digests of two kinds
-    ("b1946ac92492d2347c6235b4d2611184  a\n5891b5b522d5df086d0ff0b110fbd9d21bb4fc7163af34d08286a2e846f6be03  b\n", "digest 2"),
-    ("5891b5b522d5df086d0ff0b110fbd9d21bb4fc7163af34d08286a2e846f6be03  a\n5891b5b522d5df086d0ff0b110fbd9d21bb4fc7163af34d08286a2e846f6be03  b\n\nb1946ac92492d2347c6235b4d2611184  b\n", "digest 4"),
+    (
+        "b1946ac92492d2347c6235b4d2611184  a\n5891b5b522d5df086d0ff0b110fbd9d21bb4fc7163af34d08286a2e846f6be03  b\n",
+        "digest 2",
+    ),
+    (
+        "5891b5b522d5df086d0ff0b110fbd9d21bb4fc7163af34d08286a2e846f6be03  a\n5891b5b522d5df086d0ff0b110fbd9d21bb4fc7163af34d08286a2e846f6be03  b\n\nb1946ac92492d2347c6235b4d2611184  b\n",
+        "digest 4",
+    ),
 ];
 
 /// The same of manifests of bags.
@@ -79,17 +106,35 @@ const BAG: [(&str, &str); 29] = [
     // what RFC 8493 says
     ("", ""),
     ("b1946ac92492d2347c6235b4d2611184 data/a\n", "/a m;"),
-    ("5891b5b522d5df086d0ff0b110fbd9d21bb4fc7163af34d08286a2e846f6be03  data/a/b c\n", "/a/b c s;"),
+    (
+        "5891b5b522d5df086d0ff0b110fbd9d21bb4fc7163af34d08286a2e846f6be03  data/a/b c\n",
+        "/a/b c s;",
+    ),
     ("b1946ac92492d2347c6235b4d2611184\t \tdata/a\r\n", "/a m;"),
     ("B1946AC92492D2347C6235B4D2611184  data/a", "/a m;"),
-    ("b1946ac92492d2347c6235b4d2611184  data/a%0Ab%0Dc%25d\n", "/a\nb\rc%d m;"),
-    ("b1946ac92492d2347c6235b4d2611184  data/%0a%0d\n", "/\n\r m;"),
+    (
+        "b1946ac92492d2347c6235b4d2611184  data/a%0Ab%0Dc%25d\n",
+        "/a\nb\rc%d m;",
+    ),
+    (
+        "b1946ac92492d2347c6235b4d2611184  data/%0a%0d\n",
+        "/\n\r m;",
+    ),
     // what stands for itself
-    ("b1946ac92492d2347c6235b4d2611184  data/a%41%b%%25%2\n", "/a%41%b%%%2 m;"),
+    (
+        "b1946ac92492d2347c6235b4d2611184  data/a%41%b%%25%2\n",
+        "/a%41%b%%%2 m;",
+    ),
     ("b1946ac92492d2347c6235b4d2611184  data/%250A\n", "/%0A m;"),
-    ("b1946ac92492d2347c6235b4d2611184  data/a\\nb\n", "/a\\nb m;"),
+    (
+        "b1946ac92492d2347c6235b4d2611184  data/a\\nb\n",
+        "/a\\nb m;",
+    ),
     ("b1946ac92492d2347c6235b4d2611184  data/a \n", "/a  m;"),
-    ("b1946ac92492d2347c6235b4d2611184  data/data/a\n", "/data/a m;"),
+    (
+        "b1946ac92492d2347c6235b4d2611184  data/data/a\n",
+        "/data/a m;",
+    ),
     // what tools write
     ("b1946ac92492d2347c6235b4d2611184 *data/a\n", "/a m;"),
     ("b1946ac92492d2347c6235b4d2611184  ./data/a\n", "/a m;"),
@@ -100,7 +145,10 @@ const BAG: [(&str, &str); 29] = [
     ("b1946ac92492d2347c6235b4d2611184\n", "line 1"),
     ("b1946ac92492d2347c6235b4d2611184  \n", "line 1"),
     (" b1946ac92492d2347c6235b4d2611184  data/a\n", "line 1"),
-    ("b1946ac92492d2347c6235b4d2611184  data/a\n1946ac92492d2347c6235b4d2611184  data/b\n", "line 2"),
+    (
+        "b1946ac92492d2347c6235b4d2611184  data/a\n1946ac92492d2347c6235b4d2611184  data/b\n",
+        "line 2",
+    ),
     // a path that is that of no file of the bag
     ("b1946ac92492d2347c6235b4d2611184  a\n", "path 1"),
     ("b1946ac92492d2347c6235b4d2611184  data\n", "path 1"),

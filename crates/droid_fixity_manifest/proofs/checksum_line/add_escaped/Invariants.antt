@@ -6,6 +6,6 @@ use Rattle.droid_fixity_manifest.proofs.checksum_line.add_escaped.Given as goal
 
 abbrev pub invariant-loop-byte : goal.invariant-loop-byte
 invariant-loop-byte l = record {
-    so_far : l.text.items ≡ l.fn.text.items ++ escaped (take l.byte-index l.path);
-    front : KeepsFront l.fn.text.items l.text.items;
-  }
+  so_far : l.text.items ≡ l.fn.text.items ++ escaped (take l.byte-index l.path);
+  front : KeepsFront l.fn.text.items l.text.items;
+}

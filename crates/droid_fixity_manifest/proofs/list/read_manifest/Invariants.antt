@@ -5,6 +5,6 @@ use Rattle.droid_fixity_manifest.proofs.list.read_manifest.Given as goal
 
 abbrev pub invariant-loop-line : goal.invariant-loop-line
 invariant-loop-line l = record {
-    so_far : items_from l.form 1 [] (map (λ line. line.now) l.yielded) ≡ Ok l.items.items;
-    number : l.number ≡ 1 + length l.yielded;
-  }
+  so_far : items_from l.form 1 [] (map (λ line. line.now) l.yielded) ≡ Ok l.items.items;
+  number : l.number ≡ 1 + length l.yielded;
+}

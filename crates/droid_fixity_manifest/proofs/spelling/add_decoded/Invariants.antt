@@ -6,6 +6,6 @@ use Rattle.droid_fixity_manifest.proofs.spelling.add_decoded.Given as goal
 
 abbrev pub invariant-loop-part : goal.invariant-loop-part
 invariant-loop-part l = record {
-    flag : is_none l.yielded ≡ l.is_first;
-    so_far : l.path.items ≡ l.fn.path.items ++ decoded_parts (texts l.yielded);
-  }
+  flag : is_none l.yielded ≡ l.is_first;
+  so_far : l.path.items ≡ l.fn.path.items ++ decoded_parts (texts l.yielded);
+}
