@@ -9,7 +9,7 @@ use std::test::Fail;
 fn unbroken(rt: HostRuntime) -> Result<(), Fail> {
     let alloc = rt.alloc();
     let desk = BreakingService::new(alloc, 0, Way::Unsent)?;
-    let run = submitted(alloc, desk, &ROWS)?;
+    let run = submitted(alloc, desk, &ROWS);
     assert!(rt; run.is_whole());
     assert!(rt; run.frames() == FRAMES && run.pieces() == PIECES && run.joins() == 1);
     Ok(())
@@ -21,12 +21,12 @@ fn unbroken(rt: HostRuntime) -> Result<(), Fail> {
 fn short_lives(rt: HostRuntime) -> Result<(), Fail> {
     let alloc = rt.alloc();
     let desk = BreakingService::new(alloc, 0, Way::Unsent)?;
-    let mut whole = submitted(alloc, desk, &ROWS)?;
+    let mut whole = submitted(alloc, desk, &ROWS);
     let text = whole.exported()?;
     for lives in 7..13u32 {
         let mut desk = BreakingService::new(alloc, 0, Way::Unsent)?;
         desk.lives = lives;
-        let mut run = submitted(alloc, desk, &ROWS)?;
+        let mut run = submitted(alloc, desk, &ROWS);
         assert!(rt; run.is_whole(), "{lives}");
         let same = run.exported()?;
         assert!(rt; same.as_slice() == text.as_slice(), "{lives}");
@@ -38,13 +38,13 @@ fn short_lives(rt: HostRuntime) -> Result<(), Fail> {
 fn at_each_step(rt: HostRuntime) -> Result<(), Fail> {
     let alloc = rt.alloc();
     let desk = BreakingService::new(alloc, 0, Way::Unsent)?;
-    let mut whole = submitted(alloc, desk, &ROWS)?;
+    let mut whole = submitted(alloc, desk, &ROWS);
     let text = whole.exported()?;
     assert!(rt; text.len() > 500);
     for way in [Way::Unsent, Way::Arrived] {
         for breaks_at in 1..=whole.steps() {
             let desk = BreakingService::new(alloc, breaks_at, way)?;
-            let mut run = submitted(alloc, desk, &ROWS)?;
+            let mut run = submitted(alloc, desk, &ROWS);
             assert!(rt; run.is_whole(), "{breaks_at}");
             let same = run.exported()?;
             assert!(rt; same.as_slice() == text.as_slice(), "{breaks_at}");

@@ -40,10 +40,10 @@ const SEALED: [Row; 3] = [
 fn longer(rt: HostRuntime) -> Result<(), Fail> {
     let alloc = rt.alloc();
     let desk = BreakingService::new(alloc, 0, Way::Unsent)?;
-    let first = submitted(alloc, desk, &FIRST)?;
+    let first = submitted(alloc, desk, &FIRST);
     assert!(rt; first.is_whole());
     let desk = BreakingService::over(alloc, first.into_service(), 0, Way::Unsent);
-    let run = submitted(alloc, desk, &LONGER)?;
+    let run = submitted(alloc, desk, &LONGER);
     assert!(rt; run.has_skipped() && run.pieces() == 0 && run.files() == 1);
     assert!(rt; run.used_before() && run.skipped() == b"/d/more refused\n".as_slice());
     Ok(())
@@ -54,9 +54,9 @@ fn longer(rt: HostRuntime) -> Result<(), Fail> {
 fn wider(rt: HostRuntime) -> Result<(), Fail> {
     let alloc = rt.alloc();
     let desk = BreakingService::new(alloc, 0, Way::Unsent)?;
-    let first = submitted(alloc, desk, &FIRST)?;
+    let first = submitted(alloc, desk, &FIRST);
     let desk = BreakingService::over(alloc, first.into_service(), 0, Way::Unsent);
-    let run = submitted(alloc, desk, &WIDER)?;
+    let run = submitted(alloc, desk, &WIDER);
     assert!(rt; run.is_whole() && run.pieces() == 2 && run.files() == 4);
     Ok(())
 }
@@ -66,11 +66,11 @@ fn wider(rt: HostRuntime) -> Result<(), Fail> {
 fn readable_again(rt: HostRuntime) -> Result<(), Fail> {
     let alloc = rt.alloc();
     let desk = BreakingService::new(alloc, 0, Way::Unsent)?;
-    let sealed = submitted(alloc, desk, &SEALED)?;
+    let sealed = submitted(alloc, desk, &SEALED);
     assert!(rt; sealed.has_skipped() && sealed.pieces() == 1);
     assert!(rt; sealed.skipped() == b"/d/more unreadable\n".as_slice());
     let desk = BreakingService::over(alloc, sealed.into_service(), 0, Way::Unsent);
-    let mut run = submitted(alloc, desk, &FIRST)?;
+    let mut run = submitted(alloc, desk, &FIRST);
     assert!(rt; run.is_whole() && run.pieces() == 2);
     let text = run.exported()?;
     let text = std::str::from_utf8(text.as_slice())?;

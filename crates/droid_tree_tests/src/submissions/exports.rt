@@ -12,7 +12,7 @@ use std::test::Fail;
 fn no_such_profile(rt: HostRuntime) -> Result<(), Fail> {
     let alloc = rt.alloc();
     let desk = BreakingService::new(alloc, 0, Way::Unsent)?;
-    let mut run = submitted(alloc, desk, &ROWS)?;
+    let mut run = submitted(alloc, desk, &ROWS);
     assert!(rt; run.read_export(1) == Ok(true));
     let refused = TransferFault::Refused(Refusal::NoSuchProfile);
     assert!(rt; run.read_export(2) == Err(DownloadFault::Sending(refused)));

@@ -9,7 +9,7 @@ use std::test::Fail;
 fn sixteen_at_most(rt: HostRuntime) -> Result<(), Fail> {
     let alloc = rt.alloc();
     let desk = BreakingService::new(alloc, 0, Way::Unsent)?;
-    let run = submitted(alloc, desk, &ROWS)?;
+    let run = submitted(alloc, desk, &ROWS);
     assert!(rt; run.is_whole() && run.most() == 16);
     Ok(())
 }
@@ -20,7 +20,7 @@ fn one_frame_alone(rt: HostRuntime) -> Result<(), Fail> {
     let alloc = rt.alloc();
     let mut desk = BreakingService::new(alloc, 0, Way::Unsent)?;
     desk.lives = 2;
-    let run = submitted(alloc, desk, &ROWS)?;
+    let run = submitted(alloc, desk, &ROWS);
     assert!(rt; run.is_broken() && run.joins() == 10);
     Ok(())
 }
@@ -30,7 +30,7 @@ fn one_frame_alone(rt: HostRuntime) -> Result<(), Fail> {
 fn ten_tries(rt: HostRuntime) -> Result<(), Fail> {
     let alloc = rt.alloc();
     let desk = BreakingService::new(alloc, 1, Way::Gone)?;
-    let run = submitted(alloc, desk, &ROWS)?;
+    let run = submitted(alloc, desk, &ROWS);
     assert!(rt; run.is_broken() && run.steps() == 10);
     Ok(())
 }

@@ -49,7 +49,7 @@ fn freed_in_a_pause(rt: HostRuntime) -> Result<(), Fail> {
         file: 1,
     };
     desk.other = frame_of_another(alloc, 3, &left)?;
-    let run = submitted(alloc, desk, &ROWS)?;
+    let run = submitted(alloc, desk, &ROWS);
     assert!(rt; run.is_whole() && run.joins() == 2);
     Ok(())
 }
@@ -59,7 +59,7 @@ fn freed_in_a_pause(rt: HostRuntime) -> Result<(), Fail> {
 fn never_freed(rt: HostRuntime) -> Result<(), Fail> {
     let alloc = rt.alloc();
     let desk = full(alloc)?;
-    let run = submitted(alloc, desk, &ROWS)?;
+    let run = submitted(alloc, desk, &ROWS);
     assert!(rt; run.failed_with(RemoteFault::Sending(TransferFault::Busy)));
     assert!(rt; run.pieces() == 0 && run.joins() == 10);
     Ok(())

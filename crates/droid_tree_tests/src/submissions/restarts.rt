@@ -22,15 +22,15 @@ const OTHER_OPTIONS: RemoteFault = RemoteFault::Walking(SubmissionFault::Refused
 fn at_each_step(rt: HostRuntime) -> Result<(), Fail> {
     let alloc = rt.alloc();
     let desk = BreakingService::new(alloc, 0, Way::Unsent)?;
-    let mut whole = submitted(alloc, desk, &ROWS)?;
+    let mut whole = submitted(alloc, desk, &ROWS);
     let text = whole.exported()?;
     for breaks_at in 1..=whole.steps() {
         let desk = BreakingService::new(alloc, breaks_at, Way::Gone)?;
-        let early = submitted(alloc, desk, &ROWS)?;
+        let early = submitted(alloc, desk, &ROWS);
         assert!(rt; early.is_broken(), "{breaks_at}");
         let left = PIECES.checked_sub(early.pieces());
         let desk = BreakingService::over(alloc, early.into_service(), 0, Way::Unsent);
-        let mut run = submitted(alloc, desk, &ROWS)?;
+        let mut run = submitted(alloc, desk, &ROWS);
         assert!(rt; run.is_whole() && left == Some(run.pieces()), "{breaks_at}");
         let same = run.exported()?;
         assert!(rt; same.as_slice() == text.as_slice(), "{breaks_at}");
@@ -43,9 +43,9 @@ fn at_each_step(rt: HostRuntime) -> Result<(), Fail> {
 fn all_is_there(rt: HostRuntime) -> Result<(), Fail> {
     let alloc = rt.alloc();
     let desk = BreakingService::new(alloc, 0, Way::Unsent)?;
-    let first = submitted(alloc, desk, &ROWS)?;
+    let first = submitted(alloc, desk, &ROWS);
     let desk = BreakingService::over(alloc, first.into_service(), 0, Way::Unsent);
-    let run = submitted(alloc, desk, &ROWS)?;
+    let run = submitted(alloc, desk, &ROWS);
     assert!(rt; run.is_whole() && run.bytes_read() == 0);
     assert!(rt; run.pieces() == 0 && run.frames() == FRAMES_AGAIN);
     Ok(())
@@ -68,12 +68,12 @@ fn service_of_another(alloc: Global) -> Result<Service, Fail> {
 fn forgetful_at_each_step(rt: HostRuntime) -> Result<(), Fail> {
     let alloc = rt.alloc();
     let desk = BreakingService::new(alloc, 0, Way::Unsent)?;
-    let mut whole = submitted(alloc, desk, &ROWS)?;
+    let mut whole = submitted(alloc, desk, &ROWS);
     let text = whole.exported()?;
     for breaks_at in 1..whole.steps() {
         let mut desk = BreakingService::new(alloc, breaks_at, Way::Arrived)?;
         desk.successor = Some(sample_service(alloc)?);
-        let mut run = submitted(alloc, desk, &ROWS)?;
+        let mut run = submitted(alloc, desk, &ROWS);
         // Steps 1 to 3 are those of the first profile, 4 and 5 those of the first folder, which has number 1 again; at
         // step 6 the second node is added.
         let is_noticed = run.is_restarted();
@@ -102,16 +102,16 @@ const FILE: [Row; 1] = [(
 fn forgetful_in_the_first_file(rt: HostRuntime) -> Result<(), Fail> {
     let alloc = rt.alloc();
     let desk = BreakingService::new(alloc, 0, Way::Unsent)?;
-    let mut whole = submitted(alloc, desk, &FILE)?;
+    let mut whole = submitted(alloc, desk, &FILE);
     let text = whole.exported()?;
     for breaks_at in 1..=whole.steps() {
         let mut desk = BreakingService::new(alloc, breaks_at, Way::Arrived)?;
         desk.successor = Some(sample_service(alloc)?);
-        let early = submitted(alloc, desk, &FILE)?;
+        let early = submitted(alloc, desk, &FILE);
         let is_noticed = early.is_restarted() || early.lacks_pieces();
         assert!(rt; is_noticed || early.is_whole(), "{breaks_at}");
         let desk = BreakingService::over(alloc, early.into_service(), 0, Way::Unsent);
-        let mut run = submitted(alloc, desk, &FILE)?;
+        let mut run = submitted(alloc, desk, &FILE);
         assert!(rt; run.is_whole(), "{breaks_at}");
         assert!(rt; is_noticed || run.pieces() == 0, "{breaks_at}");
         let same = run.exported()?;
@@ -127,7 +127,7 @@ fn forgetful_with_another_profile(rt: HostRuntime) -> Result<(), Fail> {
     for breaks_at in 4..40u32 {
         let mut desk = BreakingService::new(alloc, breaks_at, Way::Arrived)?;
         desk.successor = Some(service_of_another(alloc)?);
-        let run = submitted(alloc, desk, &ROWS)?;
+        let run = submitted(alloc, desk, &ROWS);
         assert!(rt; run.is_restarted(), "{breaks_at}");
     }
     Ok(())
@@ -138,14 +138,14 @@ fn forgetful_with_another_profile(rt: HostRuntime) -> Result<(), Fail> {
 fn other_options(rt: HostRuntime) -> Result<(), Fail> {
     let alloc = rt.alloc();
     let desk = BreakingService::new(alloc, 0, Way::Unsent)?;
-    let first = submitted(alloc, desk, &ROWS)?;
+    let first = submitted(alloc, desk, &ROWS);
     let other = Options {
         hash: HashKind::Nothing,
         match_all: true,
         ..OPTIONS
     };
     let desk = BreakingService::over(alloc, first.into_service(), 0, Way::Unsent);
-    let mut run = submitted_by(alloc, desk, &ROWS, other)?;
+    let mut run = submitted_by(alloc, desk, &ROWS, other);
     assert!(rt; run.failed_with(OTHER_OPTIONS));
     let begun = run.options(other);
     assert!(rt;
@@ -166,13 +166,13 @@ fn other_options(rt: HostRuntime) -> Result<(), Fail> {
 fn other_limit(rt: HostRuntime) -> Result<(), Fail> {
     let alloc = rt.alloc();
     let desk = BreakingService::new(alloc, 0, Way::Unsent)?;
-    let first = submitted(alloc, desk, &ROWS)?;
+    let first = submitted(alloc, desk, &ROWS);
     let other = Options {
         scan_limit: 7,
         ..OPTIONS
     };
     let desk = BreakingService::over(alloc, first.into_service(), 0, Way::Unsent);
-    let mut run = submitted_by(alloc, desk, &ROWS, other)?;
+    let mut run = submitted_by(alloc, desk, &ROWS, other);
     assert!(rt; run.failed_with(OTHER_OPTIONS));
     let begun = run.options(other);
     assert!(rt; matches!(&begun, Ok(None)));

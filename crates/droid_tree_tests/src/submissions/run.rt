@@ -16,9 +16,6 @@ use std::test::Fail;
 /// The client.
 pub const CLIENT: u32 = 7;
 
-/// The submission's name.
-const NAME: &str = "/tree";
-
 /// Returns the service behind a sender's connection.
 fn service_of(sender: Sender<BreakingService>) -> Service {
     let Sender { in_flight, .. } = sender;
@@ -27,15 +24,20 @@ fn service_of(sender: Sender<BreakingService>) -> Service {
     service
 }
 
-/// A run of `submit`, and what it left.
+/// A run of `submit`, and what it left. It holds no tree: the checker of borrows does not cover a value that is a
+/// reference at this depth.
 #[derive(Drop)]
-pub struct Run<'a> {
+pub struct Run {
     /// Whether nothing was skipped, or why it ended early.
     pub ended: Result<bool, RemoteFault>,
-    pub upload: Upload<MemoryTree<'a>, Sender<BreakingService>, NotingWatcher>,
+    /// The client, with the service behind it.
+    pub client: Sender<BreakingService>,
+    pub watcher: NotingWatcher,
+    /// How many bytes were read from the tree.
+    pub read: u64,
 }
 
-impl Run<'_> {
+impl Run {
     /// Returns whether the run came to its end, and nothing was skipped.
     pub fn is_whole(&self) -> bool {
         matches!(&self.ended, Ok(true))
@@ -73,100 +75,107 @@ impl Run<'_> {
 
     /// Returns how many steps the connection made.
     pub fn steps(&self) -> u32 {
-        self.upload.client.in_flight.connection.step
+        self.client.in_flight.connection.step
     }
 
     /// Returns how many connections were made.
     pub fn joins(&self) -> u32 {
-        self.upload.client.in_flight.connection.joins
+        self.client.in_flight.connection.joins
     }
 
     /// Returns how many frames arrived.
     pub fn frames(&self) -> u32 {
-        self.upload.client.in_flight.connection.handled
+        self.client.in_flight.connection.handled
     }
 
     /// Returns how many pieces arrived.
     pub fn pieces(&self) -> u32 {
-        self.upload.client.in_flight.connection.pieces
+        self.client.in_flight.connection.pieces
     }
 
     /// Returns how many replies were in flight at most.
     pub fn most(&self) -> usize {
-        self.upload.client.in_flight.connection.most
+        self.client.in_flight.connection.most
     }
 
     /// Returns how many bytes were read from the tree.
     pub fn bytes_read(&self) -> u64 {
-        self.upload.tree.read
+        self.read
     }
 
     /// Returns how many files were taken.
     pub fn files(&self) -> u64 {
-        self.upload.watcher.files
+        self.watcher.files
     }
 
     /// Returns what was skipped, a line each.
     pub fn skipped(&self) -> &[u8] {
-        self.upload.watcher.skipped.as_slice()
+        self.watcher.skipped.as_slice()
     }
 
     /// Returns whether the number or name of the last skipped entry was used before.
     pub fn used_before(&self) -> bool {
-        self.upload.watcher.used_before
+        self.watcher.used_before
     }
 
     /// Returns the whole export of the first profile.
     pub fn exported(&mut self) -> Result<Blob, Fail> {
-        let alloc = self.upload.alloc;
-        exported(alloc, &mut self.upload.client.in_flight.connection.service)
+        let alloc = self.client.in_flight.alloc;
+        exported(alloc, &mut self.client.in_flight.connection.service)
     }
 
     /// Reads the export of a profile over the connection, and forgets it.
     pub fn read_export(&mut self, profile: u32) -> Result<bool, DownloadFault> {
-        let mut csv = Noted::new(Vec::new(self.upload.alloc));
-        export(&mut self.upload.client, profile, &mut csv)
+        let mut csv = Noted::new(Vec::new(self.client.in_flight.alloc));
+        export(&mut self.client, profile, &mut csv)
     }
 
     /// Returns the options that the submission was begun with.
     pub fn options(&mut self, options: Options) -> Result<Option<Options>, TransferFault> {
-        options_of(&mut self.upload.client, options)
+        options_of(&mut self.client, options)
     }
 
     /// Returns the service.
     pub fn into_service(self) -> Service {
-        let Run { upload, .. } = self;
-        let Upload { client, .. } = upload;
+        let Run { client, .. } = self;
         service_of(client)
     }
 }
 
-/// Submits a tree by these options.
+/// Submits a tree by these options. The submission's name is the empty one.
 pub fn submitted_by<'a>(
     alloc: Global,
     desk: BreakingService,
     rows: &'a [Row<'a>],
     options: Options,
-) -> Result<Run<'a>, Fail> {
+) -> Run {
+    let name = Text::from(String::new(alloc));
     let mut upload = Upload {
         alloc,
         tree: MemoryTree::of(rows),
-        client: Sender::new(alloc, desk, CLIENT, Text::copy_of(alloc, NAME)?),
+        client: Sender::new(alloc, desk, CLIENT, name),
         watcher: NotingWatcher::new(alloc),
     };
     let ended = match submit(&mut upload, options) {
         Ok(submitted) => Ok(submitted.whole),
         Err(fault) => Err(fault),
     };
-    Ok(Run { ended, upload })
+    let read = upload.tree.read;
+    let Upload {
+        client,
+        watcher,
+        ..
+    } = upload;
+    Run {
+        ended,
+        client,
+        watcher,
+        read,
+    }
 }
 
 /// Submits a tree.
-pub fn submitted<'a>(
-    alloc: Global,
-    desk: BreakingService,
-    rows: &'a [Row<'a>],
-) -> Result<Run<'a>, Fail> {
+pub fn submitted<'a>(alloc: Global, desk: BreakingService, rows: &'a [Row<'a>]) -> Run {
     submitted_by(alloc, desk, rows, OPTIONS)
 }
 
