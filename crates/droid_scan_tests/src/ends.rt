@@ -21,7 +21,8 @@ fn give(ends: &mut EndBytes, bytes: &[u8; LEN], size: usize, seed: u64) -> u64 {
             break;
         }
         seed = next(seed);
-        let to = (from + 1 + below(seed, 90)).min(size);
+        let count = below(seed, 90).saturating_add(1);
+        let to = count.saturating_add(from).min(size);
         ends.take(part(bytes, from, to));
         from = to;
     }
