@@ -15,6 +15,4 @@ mod profiles;
 #[cfg(test)]
 mod sample_service;
 #[cfg(test)]
-mod submissions;
-#[cfg(test)]
 mod walks;
