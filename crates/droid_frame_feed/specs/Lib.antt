@@ -1,0 +1,4 @@
+pub mod Feeding
+pub mod Headers
+pub mod Held
+pub mod Parts

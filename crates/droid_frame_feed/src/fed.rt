@@ -1,0 +1,12 @@
+//! What one call took.
+
+use droid_frame::Frame;
+
+/// What a reader took from the front of a piece.
+#[derive(Debug, Drop)]
+pub struct Fed {
+    /// The frame that is whole now. `None`: the whole piece was taken, and more bytes are needed.
+    pub frame: Option<Frame>,
+    /// The number of bytes that were taken from the piece. The bytes after them belong to the next frame.
+    pub taken: usize,
+}

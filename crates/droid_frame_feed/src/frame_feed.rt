@@ -1,0 +1,89 @@
+//! The reader of frames that is fed.
+
+ghost use Rattle.std.specs.Prelude.{◌≡◌, ◌≢◌, ◌≤◌, [], Ok, Err, IfOk, IfErr, OnOk, MatchOption, length};
+ghost use Rattle.droid_frame.specs.Streams.{BeginsNoFrame, why};
+ghost use Rattle.droid_frame.specs.declared.stream.arrival.Arrival.TheVariants as arrivals;
+ghost use Rattle.droid_frame_feed.specs.Feeding.{Brings, Fails, IsFaulty, Waits};
+
+use crate::fed::Fed;
+use crate::parts::Parts;
+use droid_frame::{FrameFault, HEADER_LENGTH};
+use std::alloc::Global;
+use std::marker::Model;
+
+/// A reader of frames that is fed the bytes of a stream in pieces. In contracts it is what it holds: the bytes that came
+/// of the next frame, and the memory that they take.
+///
+/// It copies each byte of a body once, and takes memory for a body as its bytes come: at most twice as much as has come.
+#[derive(Drop)]
+pub struct FrameFeed {
+    alloc: Global,
+    parts: Parts,
+}
+
+impl Model for FrameFeed {
+    ghost use Rattle.std.specs.Prelude.{vec_capacity};
+    ghost use Rattle.droid_frame_feed.specs.Held.{Held};
+    ghost use Rattle.droid_frame_feed.specs.Parts.{IsBetween, came};
+
+    ghost Value = { Held };
+
+    ghost view = { λ feed. record { bytes = came feed.parts; memory = vec_capacity feed.parts.body } };
+
+    ghost invariant = { λ feed. IsBetween feed.parts };
+}
+
+impl FrameFeed {
+    /// Makes the reader of a stream of which nothing has come. Allocates nothing.
+    pub fn new(alloc: Global) -> FrameFeed
+        ensures { result.bytes ≡ [] }
+    {
+        FrameFeed {
+            alloc,
+            parts: Parts {
+                header: [0; HEADER_LENGTH],
+                filled: 0,
+                body: Vec::new(alloc),
+            },
+        }
+    }
+
+    /// Takes bytes from the front of a piece, up to the end of the next frame, and returns that frame if it is whole now.
+    ///
+    /// A header with a bad version, or of too long a body, is a fault, and stays one whatever comes. If memory runs out,
+    /// nothing was taken: the same piece can be fed again.
+    pub fn take(&mut self, piece: &[u8]) -> Result<Fed, FrameFault>
+        ensures bound { IfOk result (λ fed. fed.taken ≤ length piece.now) }
+        // A frame is spelled by the bytes that were held and those that were taken. Without a frame the whole piece was
+        // taken, and the bytes may go on.
+        ensures frame { IfOk result (λ fed. MatchOption fed.frame
+            (Waits self.old.bytes piece.now self.new.bytes fed.taken)
+            (Brings self.old.bytes piece.now self.new.bytes fed.taken)) }
+        // The cause of each fault stands in the bytes. After out of memory nothing has changed.
+        ensures fault { IfErr result (Fails self.old.bytes piece.now self.new.bytes) }
+        // A fault stays.
+        ensures for_ever { (fault : FrameFault) → fault ≢ FrameFault.Truncated → IsFaulty self.old.bytes fault → result ≡ Err fault }
+        // What is held begins with no frame.
+        ensures rest { BeginsNoFrame self.new.bytes }
+        // A header takes no memory.
+        ensures memory { length self.new.bytes ≤ 18 → self.new.memory ≡ 0 }
+    {
+        self.parts.take(self.alloc, piece)
+    }
+
+    /// Returns how many bytes of memory are taken for the body that comes.
+    pub fn memory(&self) -> usize
+        ensures { result ≡ self.now.memory }
+    {
+        self.parts.body.capacity()
+    }
+
+    /// Returns what the end of the stream means here: `Ok` between two frames, a fault within one.
+    pub fn end(&self) -> Result<(), FrameFault>
+        ensures rest { BeginsNoFrame self.now.bytes }
+        ensures closed { OnOk result (why self.now.bytes ≡ Ok arrivals.End) }
+        ensures fault { IfErr result (λ fault. why self.now.bytes ≡ Err fault) }
+    {
+        self.parts.end()
+    }
+}

@@ -1,0 +1,14 @@
+//! Frames of a stream whose bytes come in pieces.
+//!
+//! [`FrameFeed`] is fed the bytes of a stream in pieces of any length. Its frames, what it holds between two pieces, and
+//! its fault are those of the joined bytes.
+#![tactic(auto)]
+
+mod body;
+mod fed;
+mod frame_feed;
+mod header;
+mod parts;
+
+pub use fed::Fed;
+pub use frame_feed::FrameFeed;

@@ -1,0 +1,117 @@
+//! Frames that come in pieces of every length.
+
+use droid_frame::{Frame, FrameFault};
+use droid_frame_feed::{Fed, FrameFeed};
+use droid_frame_vectors::{VECTORS, Vector, body_of};
+use std::alloc::Global;
+use std::test::Fail;
+
+/// Returns whether this is the frame of the vector.
+fn is_frame(frame: &Frame, vector: &Vector) -> bool {
+    (frame.version, frame.kind, frame.client, frame.number)
+        == (vector.version, vector.kind, 1, vector.number)
+        && frame.body.as_slice() == body_of(vector.bytes)
+}
+
+/// Returns whether the whole piece is taken, and no frame is whole.
+fn waits(feed: &mut FrameFeed, piece: &[u8]) -> bool {
+    match feed.take(piece) {
+        Ok(Fed { frame: None, taken }) => taken == piece.len(),
+        _ => false,
+    }
+}
+
+/// Returns whether the whole piece is taken, and ends this vector's frame.
+fn brings(feed: &mut FrameFeed, piece: &[u8], vector: &Vector) -> bool {
+    match feed.take(piece) {
+        Ok(Fed {
+            frame: Some(frame),
+            taken,
+        }) => taken == piece.len() && is_frame(&frame, vector),
+        _ => false,
+    }
+}
+
+/// Returns the first place at which the frame, cut there, doesn't come with the second piece.
+fn first_lost(alloc: Global, vector: &Vector) -> Option<usize> {
+    for cut in 0..vector.bytes.len() {
+        let (front, rest) = vector.bytes.split_at(cut);
+        let mut feed = FrameFeed::new(alloc);
+        let waited = waits(&mut feed, front);
+        let wanted = if cut == 0 {
+            Ok(())
+        } else {
+            Err(FrameFault::Truncated)
+        };
+        let cut_short = feed.end() == wanted;
+        let brought = brings(&mut feed, rest, vector);
+        let closed = feed.end() == Ok(());
+        if !(waited && cut_short && brought && closed) {
+            return Some(cut);
+        }
+    }
+    None
+}
+
+// Every vector, cut at each byte. A stream that ended at the cut would end within the frame.
+#[test]
+fn cut_at_each_byte(rt: HostRuntime) {
+    for vector in &VECTORS {
+        assert_eq!(rt; first_lost(rt.alloc(), vector), None, "{}", vector.kind);
+    }
+}
+
+/// Takes all of a piece, and returns how many frames of the vectors from `next` on came, or `None` if another came.
+fn count_in(feed: &mut FrameFeed, piece: &[u8], vectors: &[Vector], next: usize) -> Option<usize> {
+    let mut rest = piece;
+    let mut count = next;
+    while !rest.is_empty() {
+        let Ok(fed) = feed.take(rest) else {
+            return None;
+        };
+        if fed.taken == 0 {
+            return None;
+        }
+        rest = rest.get(fed.taken..)?;
+        if let Some(frame) = fed.frame {
+            if !is_frame(&frame, vectors.get(count)?) {
+                return None;
+            }
+            count = count.checked_add(1)?;
+        }
+    }
+    Some(count)
+}
+
+/// Returns how many frames of the vectors come of the stream in pieces of this width.
+fn count_by_width(alloc: Global, stream: &[u8], width: usize, vectors: &[Vector]) -> Option<usize> {
+    let mut feed = FrameFeed::new(alloc);
+    let mut rest = stream;
+    let mut count = 0;
+    while !rest.is_empty() {
+        let (piece, more) = rest.split_at(width.min(rest.len()));
+        if piece.is_empty() {
+            return None;
+        }
+        count = count_in(&mut feed, piece, vectors, count)?;
+        rest = more;
+    }
+    if feed.end() != Ok(()) {
+        return None;
+    }
+    Some(count)
+}
+
+// All vectors, one after another, in pieces of many widths.
+#[test]
+fn cut_by_width(rt: HostRuntime) -> Result<(), Fail> {
+    let mut stream = Vec::new(rt.alloc());
+    for vector in &VECTORS {
+        stream.extend_from_slice(vector.bytes)?;
+    }
+    for width in [1, 2, 3, 5, 17, 18, 19, 36, 37, 64, 1_000, 1_000_000] {
+        let count = count_by_width(rt.alloc(), stream.as_slice(), width, &VECTORS);
+        assert_eq!(rt; count, Some(VECTORS.len()), "{width}");
+    }
+    Ok(())
+}

@@ -1,0 +1,45 @@
+-- What serving many connections in turns comes to (this project's own).
+use Rattle.std.specs.Prelude.{◌≡◌, ◌≢◌, ℕ, ◌<◌, ◌≤◌, List, [], ◌∷◌, ◌++◌, Option, None, Some, Result, Ok, Err}
+use Rattle.std.specs.List.{AllByRecursion}
+use Rattle.droid_wire_turns.specs.Departures.{Explains, Happened, IsServed, Serves}
+use Rattle.droid_wire_turns.specs.Events.{Opened, Closed, Unwaited}
+use Rattle.droid_wire_turns.specs.Steps.{Always, Happens, IsOf, Step}
+use Rattle.droid_wire_turns.specs.declared.connections.WaitFault.{WaitFault}
+use Rattle.droid_wire_turns.specs.declared.departure.Departure.{Departure}
+
+-- no step is of this connection
+abbrev pub AreOfOthers : ℕ → List Step → Type 0
+AreOfOthers id steps = AllByRecursion (λ step. IsOf id step → ⊥) steps
+
+-- The connection was closed for this reason, and nothing of it happened after that. What was written to it until then,
+-- and what was held of it, is explained by the reason.
+pub record HasLeft (idle id : ℕ) (steps : List Step) : Type 0 where
+  pub why : Departure
+  pub before : List Step
+  pub later : List Step
+  pub parts : steps ≡ before ++ Happens (Closed id why) ∷ later
+  pub nothing_later : AreOfOthers id later
+  pub held : List ℕ
+  pub queued : List ℕ
+  pub serves : Serves id before held queued
+  pub explained : Explains idle id before held queued why
+
+-- each connection that was opened has left
+abbrev pub HaveLeft : ℕ → List Step → Type 0
+HaveLeft idle steps = (id : ℕ) → Happened (Opened id) steps → HasLeft idle id steps
+
+-- the connections are those below `opened`, and nothing happened of any other
+abbrev pub AreOpened : ℕ → List Step → Type 0
+AreOpened opened steps = (id : ℕ) → opened ≤ id → AreOfOthers id steps
+
+-- As many connections came as were wanted, those with the numbers below `count`; or waiting failed.
+abbrev pub EndsBy : Option ℕ → Result ℕ WaitFault → List Step → Type 0
+EndsBy total (Ok count) steps = AreOpened count steps × ((id : ℕ) → id < count → Happened (Opened id) steps) × ((wanted : ℕ) → total ≡ Some wanted → count ≡ wanted)
+EndsBy total (Err fault) steps = Happened Unwaited steps
+
+-- at each moment each connection was served well, and in the end each had left. So a connection that ends, fails or is
+-- idle changes nothing for the others: what is said of each depends on its own steps alone.
+pub record ServesAll (idle : ℕ) (total : Option ℕ) (result : Result ℕ WaitFault) (steps : List Step) : Type 0 where
+  pub each : (id : ℕ) → Always (IsServed id) [] steps
+  pub left : HaveLeft idle steps
+  pub ended : EndsBy total result steps
