@@ -13,7 +13,6 @@ use Rattle.droid_frame_feed.specs.Feeding.{Brings, Fails, Feeds, IsFaulty, Waits
 use Rattle.droid_frame_feed.specs.declared.fed.Fed.{Fed}
 use Rattle.droid_frame_feed.proofs.Fronts.{why_good}
 
-
 pub bound_of : (old piece new : List ℕ) (r : Result Fed FrameFault) → Feeds old piece new r → IfOk r (λ fed. fed.taken ≤ length piece)
 bound_of old piece new (Ok fed) feeds = feeds.0
 bound_of old piece new (Err fault) feeds = tt

@@ -219,7 +219,7 @@ pub record Grown (mid new : Parts) (piece : List ℕ) (head count n : ℕ) : Typ
   pub items : new.body.items ≡ mid.body.items ++ take count (drop head piece)
   pub memory : vec_capacity mid.body ≡ 0 → length new.body.items ≡ 0 → vec_capacity new.body ≡ 0
 
-grown_size : (mid new : Parts) (piece : List ℕ) (head count n : ℕ) → Grown mid new piece head count n → length new.body.items ≡ length mid.body.items + count
+pub grown_size : (mid new : Parts) (piece : List ℕ) (head count n : ℕ) → Grown mid new piece head count n → length new.body.items ≡ length mid.body.items + count
 grown_size mid new piece head count n grown =
     ap length grown.items ∙ omega (arith, length-append mid.body.items (take count (drop head piece)), length-take count (drop head piece), grown.counted)
 
@@ -251,12 +251,12 @@ body_between old mid new piece h head count n whole e grown short =
     }
 
 -- a body that is whole: the frame of it
-pub record Framed (h : Header) (frame : Frame) (body : List ℕ) : Type 0 where
+pub record Framed (h : Header) (frame : Frame) (bytes : List ℕ) : Type 0 where
   pub version : frame.version ≡ h.version
   pub kind : frame.kind ≡ h.kind
   pub client : frame.client ≡ h.client
   pub number : frame.number ≡ h.number
-  pub body : frame.body ≡ body
+  pub body : frame.body ≡ bytes
 
 pub body_brings : (old mid new : Parts) (piece after : List ℕ) (h : Header) (frame : Frame) (head count n : ℕ) → IsWhole old mid piece h head → judged h ≡ Ok n → Grown mid new piece head count n → length new.body.items ≡ n
     → Framed h frame new.body.items → IsBytes frame.body → after ≡ [] → Brings (came old) piece after (head + count) frame
@@ -286,3 +286,7 @@ none_between new none empty memory = record {
 pub passed_on : (old piece new : List ℕ) (r : Result Fed FrameFault) (fault : FrameFault) → IsErrAnd r (λ e. e ≡ fault) → Fails old piece new fault → Feeds old piece new r
 passed_on old piece new (Ok fed) fault is fails = absurd is
 passed_on old piece new (Err other) fault is fails = subst (λ (f : FrameFault). Fails old piece new f) (sym is) fails
+
+-- what is left of a piece behind its first bytes
+pub rest_is : (head : ℕ) (piece : List ℕ) → take (length piece - head) (drop head piece) ≡ drop head piece
+rest_is head piece = take_whole (length piece - head) (drop head piece) (omega (arith, length-drop head piece))

@@ -27,6 +27,7 @@ impl Parts {
         requires { IsBetween self.old }
         ensures between { IsBetween self.new }
         ensures feeds { Feeds (came self.old) piece.now (came self.new) result }
+        ensures sized { length self.new.header ≡ 18 }
     {
         let before = self.filled;
         let head = self.fill_header(piece);
@@ -62,6 +63,7 @@ impl Parts {
         ensures bytes { take self.new.filled self.new.header ≡ take self.old.filled self.old.header ++ take result piece.now }
         ensures front { take self.old.filled self.new.header ≡ take self.old.filled self.old.header }
         ensures body { self.new.body ≡ self.old.body }
+        ensures sized { length self.new.header ≡ 18 }
     {
         let before = self.filled;
         let count = (HEADER_LENGTH - before).min(piece.len());

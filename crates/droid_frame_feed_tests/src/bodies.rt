@@ -8,9 +8,7 @@ use std::test::Fail;
 const LONGEST: usize = 4_194_368;
 
 /// The header of a frame of version 2 that announces it, of client 1 and number 1.
-const HEADER: [u8; 18] = [
-    2, 5, 0, 0, 0, 1, 0, 0, 0, 0, 0, 0, 0, 1, 0, 0x40, 0, 0x40,
-];
+const HEADER: [u8; 18] = [2, 5, 0, 0, 0, 1, 0, 0, 0, 0, 0, 0, 0, 1, 0, 0x40, 0, 0x40];
 
 /// Returns whether the header takes no memory, and the first byte of the body at most two.
 fn begins_small(alloc: Global) -> bool {
@@ -34,9 +32,12 @@ fn comes_growing(alloc: Global, piece: &[u8]) -> bool {
         let Some(part) = part else { return false };
         match feed.take(part) {
             Ok(Fed { frame: None, taken }) => came = came.saturating_add(taken),
-            Ok(Fed {
-                frame: Some(frame), ..
-            }) => {
+            Ok(
+                Fed {
+                    frame: Some(frame),
+                    ..
+                },
+            ) => {
                 let sevens = frame.body.as_slice().iter().all(|byte| *byte == 7);
                 return sevens && frame.body.len() == LONGEST && feed.memory() == 0;
             }

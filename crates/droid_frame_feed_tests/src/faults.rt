@@ -47,6 +47,9 @@ fn stays_refused(alloc: Global, bytes: &[u8; 18], fault: FrameFault) -> bool {
 fn refused_for_ever(rt: HostRuntime) {
     for (version, length, fault) in &REFUSED {
         let bytes = header(*version, *length);
-        assert!(rt; stays_refused(rt.alloc(), &bytes, *fault), "{version} {length}");
+        assert!(rt;
+            stays_refused(rt.alloc(), &bytes, *fault),
+            "{version} {length}"
+        );
     }
 }

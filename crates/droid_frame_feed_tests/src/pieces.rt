@@ -24,10 +24,12 @@ fn waits(feed: &mut FrameFeed, piece: &[u8]) -> bool {
 /// Returns whether the whole piece is taken, and ends this vector's frame.
 fn brings(feed: &mut FrameFeed, piece: &[u8], vector: &Vector) -> bool {
     match feed.take(piece) {
-        Ok(Fed {
-            frame: Some(frame),
-            taken,
-        }) => taken == piece.len() && is_frame(&frame, vector),
+        Ok(
+            Fed {
+                frame: Some(frame),
+                taken,
+            },
+        ) => taken == piece.len() && is_frame(&frame, vector),
         _ => false,
     }
 }

@@ -67,9 +67,7 @@ impl ReplyQueue {
         let Some(len) = self.len.checked_add(size) else {
             return Err(AllocError);
         };
-        let pushed = self
-            .chunks
-            .push(self.alloc, version, client, number, reply);
+        let pushed = self.chunks.push(self.alloc, version, client, number, reply);
         self.chunks.settle(self.alloc);
         pushed?;
         self.len = len;

@@ -1,5 +1,5 @@
 -- Why a connection was closed, and what each reason says of it (this project's own).
-use Rattle.std.specs.Prelude.{◌≡◌, ℕ, ◌+◌, ◌≤◌, List, [], ◌∷◌, ◌++◌, Contains, Err, Unit}
+use Rattle.std.specs.Prelude.{◌≡◌, ℕ, ◌+◌, ◌≤◌, ◌⊎◌, Bool, true, false, List, [], ◌++◌, Contains, count_by, Err}
 use Rattle.std.specs.List.{AllByRecursion}
 use Rattle.droid_frame.specs.Replies.{HasReplySpelling}
 use Rattle.droid_frame.specs.StreamReads.{NamesSomeBody}
@@ -8,7 +8,7 @@ use Rattle.droid_frame.specs.declared.stream.fault.FrameFault.{FrameFault}
 use Rattle.droid_frame.specs.declared.stream.fault.FrameFault.TheVariants as faults
 use Rattle.droid_frame.specs.types.frame.Frame.{Frame}
 use Rattle.droid_frame.specs.types.reply.Reply.{Reply}
-use Rattle.droid_wire_turns.specs.Events.{Event, Unwaited, Ended, Unread, Unwritten}
+use Rattle.droid_wire_turns.specs.Events.{Event, Waited, Unwaited, Ended, Unread, Unwritten}
 use Rattle.droid_wire_turns.specs.Steps.{Step, Happens, Times, came, handled, spelled_frames, spelled_replies, times_of, went}
 use Rattle.droid_wire_turns.specs.declared.departure.Departure.{Departure}
 use Rattle.droid_wire_turns.specs.declared.departure.Departure.TheVariants as departures
@@ -54,6 +54,14 @@ StopsBy id steps held faults.Read = Happened (Unread id) steps
 pub record IsIdle (idle : ℕ) (times : Times) : Type 0 where
   pub long : times.active + idle ≤ times.now
 
+-- waiting failed, or there were 2^64 - 1 waits
+abbrev pub is_wait : Step → Bool
+is_wait (Happens Waited) = true
+is_wait _ = false
+
+abbrev pub IsStopped : List Step → Type 0
+IsStopped steps = Happened Unwaited steps ⊎ (18446744073709551615 ≤ count_by is_wait steps)
+
 -- What each reason says: of what was held, of what was left to be written, and of what happened. Where it isn't that
 -- writing failed, that memory ran out for a reply, that it was idle or that waiting failed, every reply was written.
 abbrev pub Explains : ℕ → ℕ → List Step → List ℕ → List ℕ → Departure → Type 0
@@ -62,4 +70,4 @@ Explains idle id steps held queued (departures.Frame fault) = StopsBy id steps h
 Explains idle id steps held queued departures.Memory = Unit {0}
 Explains idle id steps held queued departures.Write = Happened (Unwritten id) steps
 Explains idle id steps held queued departures.Idle = IsIdle idle (times_of id steps)
-Explains idle id steps held queued departures.Stopped = Happened Unwaited steps
+Explains idle id steps held queued departures.Stopped = IsStopped steps

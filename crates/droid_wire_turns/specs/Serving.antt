@@ -1,11 +1,12 @@
 -- What serving many connections in turns comes to (this project's own).
-use Rattle.std.specs.Prelude.{◌≡◌, ◌≢◌, ℕ, ◌<◌, ◌≤◌, List, [], ◌∷◌, ◌++◌, Option, None, Some, Result, Ok, Err}
+use Rattle.std.specs.Prelude.{◌≡◌, ℕ, ◌<◌, ◌≤◌, List, [], ◌∷◌, ◌++◌, Option, Some}
 use Rattle.std.specs.List.{AllByRecursion}
-use Rattle.droid_wire_turns.specs.Departures.{Explains, Happened, IsServed, Serves}
-use Rattle.droid_wire_turns.specs.Events.{Opened, Closed, Unwaited}
+use Rattle.droid_wire_turns.specs.Departures.{Explains, Happened, IsServed, IsStopped, Serves}
+use Rattle.droid_wire_turns.specs.Events.{Opened, Closed}
 use Rattle.droid_wire_turns.specs.Steps.{Always, Happens, IsOf, Step}
-use Rattle.droid_wire_turns.specs.declared.connections.WaitFault.{WaitFault}
 use Rattle.droid_wire_turns.specs.declared.departure.Departure.{Departure}
+use Rattle.droid_wire_turns.specs.declared.served.Served.{Served}
+use Rattle.droid_wire_turns.specs.declared.served.Served.TheVariants as served
 
 -- no step is of this connection
 abbrev pub AreOfOthers : ℕ → List Step → Type 0
@@ -32,14 +33,20 @@ HaveLeft idle steps = (id : ℕ) → Happened (Opened id) steps → HasLeft idle
 abbrev pub AreOpened : ℕ → List Step → Type 0
 AreOpened opened steps = (id : ℕ) → opened ≤ id → AreOfOthers id steps
 
--- As many connections came as were wanted, those with the numbers below `count`; or waiting failed.
-abbrev pub EndsBy : Option ℕ → Result ℕ WaitFault → List Step → Type 0
-EndsBy total (Ok count) steps = AreOpened count steps × ((id : ℕ) → id < count → Happened (Opened id) steps) × ((wanted : ℕ) → total ≡ Some wanted → count ≡ wanted)
-EndsBy total (Err fault) steps = Happened Unwaited steps
+-- the connections are those with the numbers below `count`
+pub record AreAll (count : ℕ) (steps : List Step) : Type 0 where
+  pub opened : (id : ℕ) → id < count → Happened (Opened id) steps
+  pub others : AreOpened count steps
+
+-- As many connections came as were wanted; or waiting failed, or there were 2^64 - 1 turns; or memory ran out at once.
+abbrev pub EndsBy : Option ℕ → Served → List Step → Type 0
+EndsBy total served.All steps = (count : ℕ) × AreAll count steps × ((wanted : ℕ) → total ≡ Some wanted → count ≡ wanted)
+EndsBy total served.Stopped steps = IsStopped steps
+EndsBy total served.Memory steps = steps ≡ []
 
 -- at each moment each connection was served well, and in the end each had left. So a connection that ends, fails or is
 -- idle changes nothing for the others: what is said of each depends on its own steps alone.
-pub record ServesAll (idle : ℕ) (total : Option ℕ) (result : Result ℕ WaitFault) (steps : List Step) : Type 0 where
+pub record ServesAll (idle : ℕ) (total : Option ℕ) (result : Served) (steps : List Step) : Type 0 where
   pub each : (id : ℕ) → Always (IsServed id) [] steps
   pub left : HaveLeft idle steps
   pub ended : EndsBy total result steps

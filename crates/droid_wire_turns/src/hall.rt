@@ -1,5 +1,10 @@
 //! The open connections, and their turns.
 
+ghost use Rattle.std.specs.Prelude.{◌≡◌, ◌≤◌, ℕ, ⊤, [], List, IfOk, vec_capacity};
+ghost use Rattle.droid_wire_turns.specs.Departures.{IsStopped};
+ghost use Rattle.droid_wire_turns.specs.Halls.{GoesOn, Keeps, MovesOn};
+ghost use Rattle.droid_wire_turns.specs.Steps.{Step};
+
 use crate::connections::Connections;
 use crate::departure::Departure;
 use crate::handler::Handler;
@@ -23,7 +28,10 @@ pub(crate) struct Hall {
 
 impl Hall {
     /// Makes room for so many open connections.
-    pub(crate) fn new(alloc: Global, seats: usize) -> Result<Hall, AllocError> {
+    pub(crate) fn new(alloc: Global, seats: usize) -> Result<Hall, AllocError>
+        ensures room { IfOk result (λ hall. seats ≤ vec_capacity hall.peers) }
+        ensures empty { IfOk result (λ hall. (idle : ℕ) → Keeps idle hall []) }
+    {
         Ok(Hall {
             peers: Vec::with_capacity(alloc, seats)?,
             opened: 0,
@@ -59,7 +67,11 @@ impl Hall {
         connections: &mut C,
         handler: &mut H,
         rules: Rules,
-    ) {
+    )
+        requires room { rules.seats ≤ vec_capacity self.old.peers }
+        ensures room { rules.seats ≤ vec_capacity self.new.peers }
+        ensures goes_on { GoesOn C.does H.handles rules.idle self.old self.new connections.old handler.old connections.new handler.new }
+    {
         self.now = connections.now();
         self.admit(alloc, connections, rules);
         let mut at = 0;
@@ -75,7 +87,11 @@ impl Hall {
     }
 
     /// Accepts connections while there are seats.
-    fn admit<C: Connections>(&mut self, alloc: Global, connections: &mut C, rules: Rules) {
+    fn admit<C: Connections>(&mut self, alloc: Global, connections: &mut C, rules: Rules)
+        requires room { rules.seats ≤ vec_capacity self.old.peers }
+        ensures room { rules.seats ≤ vec_capacity self.new.peers }
+        ensures moves_on { MovesOn C.does rules.idle (λ _. ⊤) self.old self.new connections.old connections.new }
+    {
         while self.peers.len() < rules.seats && self.wants_more(rules.total) {
             let id = self.opened;
             if !connections.accept(id) {
@@ -90,7 +106,10 @@ impl Hall {
     }
 
     /// Closes every connection, since the loop ends.
-    pub(crate) fn stop<C: Connections>(&mut self, connections: &mut C) {
+    pub(crate) fn stop<C: Connections>(&mut self, connections: &mut C)
+        ensures empty { self.new.peers.items ≡ [] }
+        ensures moves_on { (idle : ℕ) → MovesOn C.does idle IsStopped self.old self.new connections.old connections.new }
+    {
         while let Some(peer) = self.peers.pop() {
             connections.close(peer.id, Departure::Stopped);
         }

@@ -1,9 +1,13 @@
 //! One open connection: what came of it and isn't handled, and what waits to be written.
 
-ghost use Rattle.std.specs.Prelude.{◌≡◌, ◌≢◌, ◌≤◌, ◌<◌, ◌++◌, ◌∷◌, [], List, ℕ, None, Some, IfNone, IfSome, IsTrue, MatchOption, length};
-ghost use Rattle.droid_frame.specs.Streams.{IsReadable};
-ghost use Rattle.droid_wire_turns.specs.Peers.{Lends, Passes, Stands, has_none, is_sound};
-ghost use Rattle.droid_wire_turns.specs.Steps.{Goes, Handles, Step};
+ghost use Rattle.std.specs.Prelude.{◌≡◌, ◌≤◌, ◌++◌, ◌∷◌, [], List, ℕ, None, Some, IfNone, IfOk, IsTrue, MatchOption, MatchBool, ⊤};
+ghost use Rattle.droid_frame.specs.types.reply.Reply.{Reply};
+ghost use Rattle.droid_frame.specs.types.frame.Frame.{Frame};
+ghost use Rattle.droid_frame_feed.specs.Held.{Held};
+ghost use Rattle.droid_wire_turns.specs.Departures.{Explains, Happened};
+ghost use Rattle.droid_wire_turns.specs.Events.{Unwritten};
+ghost use Rattle.droid_wire_turns.specs.Peers.{Ends, IsNew, IsWhole, Lends, Moves, Stands, Visits, unread};
+ghost use Rattle.droid_wire_turns.specs.Steps.{Handles, Step};
 
 use crate::connections::{Came, Connections, Took};
 use crate::departure::Departure;
@@ -42,11 +46,17 @@ pub(crate) struct Peer {
     pub(crate) leaving: Option<Departure>,
     /// When bytes of it last came or went.
     pub(crate) active: u64,
+    /// Whether its last turn ended before all that had come of it was handled.
+    pub(crate) busy: bool,
 }
 
 impl Peer {
     /// Makes the state of a connection that was just accepted.
-    pub(crate) fn new(alloc: Global, id: u64, now: u64) -> Result<Peer, AllocError> {
+    pub(crate) fn new(alloc: Global, id: u64, now: u64) -> Result<Peer, AllocError>
+        ensures id { IfOk result (λ peer. peer.id ≡ id) }
+        ensures whole { IfOk result IsWhole }
+        ensures stands { IfOk result (λ peer. (steps : List Step) → IsNew id now steps → Stands peer now steps) }
+    {
         Ok(Peer {
             id,
             feed: FrameFeed::new(alloc),
@@ -56,7 +66,16 @@ impl Peer {
             queue: ReplyQueue::new(alloc),
             leaving: None,
             active: now,
+            busy: false,
         })
+    }
+
+    /// Returns how many milliseconds may be waited before its next turn.
+    pub(crate) fn patience(&self, now: u64, idle: u64) -> u64 {
+        if self.busy {
+            return 0;
+        }
+        idle.saturating_sub(now.saturating_sub(self.active))
     }
 
     /// Serves the connection once, and returns why it is over, if it is.
@@ -66,7 +85,12 @@ impl Peer {
         handler: &mut H,
         now: u64,
         idle: u64,
-    ) -> Option<Departure> {
+    ) -> Option<Departure>
+        requires whole { IsWhole self.old }
+        ensures whole { IsWhole self.new }
+        ensures id { self.new.id ≡ self.old.id }
+        ensures visits { Visits C.does H.handles self.old now connections.old handler.old connections.new handler.new (λ steps. Ends idle self.new now steps result) }
+    {
         if !self.send(connections, now) {
             return Some(Departure::Write);
         }
@@ -89,21 +113,35 @@ impl Peer {
         connections: &mut C,
         handler: &mut H,
         now: u64,
-    ) {
+    )
+        requires whole { IsWhole self.old }
+        ensures whole { IsWhole self.new }
+        ensures id { self.new.id ≡ self.old.id }
+        ensures visits { Visits C.does H.handles self.old now connections.old handler.old connections.new handler.new (Stands self.new now) }
+    {
         let mut room = BYTES_IN_TURN;
+        self.busy = false;
         for _ in 0..FRAMES_IN_TURN {
             if self.leaving.is_some() || self.queue.len() > QUEUE_LIMIT {
                 return;
             }
             let Some(frame) = self.next_frame(connections, &mut room, now) else {
+                self.busy = room == 0;
                 return;
             };
             self.answer(handler, frame);
         }
+        self.busy = true;
     }
 
     /// Handles a frame, and queues its reply.
-    fn answer<H: Handler>(&mut self, handler: &mut H, frame: Frame) {
+    fn answer<H: Handler>(&mut self, handler: &mut H, frame: Frame)
+        requires whole { IsWhole self.old }
+        ensures whole { IsWhole self.new }
+        ensures id { self.new.id ≡ self.old.id }
+        ensures answers { (reply : Reply) × H.handles handler.old frame reply handler.new
+            × ((now : ℕ) (steps : List Step) → Lends self.old now steps frame → Stands self.new now (steps ++ Handles self.old.id frame reply ∷ [])) }
+    {
         let (version, client, number) = (frame.version, frame.client, frame.number);
         let reply = handler.handle(frame);
         if self.queue.push(version, client, number, &reply).is_err() {
@@ -117,7 +155,12 @@ impl Peer {
         connections: &mut C,
         room: &mut usize,
         now: u64,
-    ) -> Option<Frame> {
+    ) -> Option<Frame>
+        requires whole { IsWhole self.old }
+        ensures whole { IsWhole self.new }
+        ensures id { self.new.id ≡ self.old.id }
+        ensures moves { Moves C.does self.old now connections.old connections.new (λ events steps. MatchOption result (Stands self.new now steps) (Lends self.new now steps)) }
+    {
         loop {
             if let Some(frame) = self.take() {
                 return Some(frame);
@@ -134,7 +177,14 @@ impl Peer {
     }
 
     /// Takes the next frame of what was read, if it is whole.
-    fn take(&mut self) -> Option<Frame> {
+    fn take(&mut self) -> Option<Frame>
+        requires whole { IsWhole self.old }
+        requires stays { self.old.leaving ≡ None }
+        ensures whole { IsWhole self.new }
+        ensures id { self.new.id ≡ self.old.id }
+        ensures takes { (now : ℕ) (steps : List Step) → Stands self.old now steps → MatchOption result (Stands self.new now steps) (Lends self.new now steps) }
+        ensures all { IfNone result (self.new.leaving ≡ None → unread self.new ≡ []) }
+    {
         match self.feed.take(&self.buffer[self.start..self.end]) {
             Ok(fed) => {
                 self.start += fed.taken;
@@ -148,7 +198,14 @@ impl Peer {
     }
 
     /// Reads once, and returns how many bytes came.
-    fn receive<C: Connections>(&mut self, connections: &mut C, now: u64) -> usize {
+    fn receive<C: Connections>(&mut self, connections: &mut C, now: u64) -> usize
+        requires whole { IsWhole self.old }
+        requires stays { self.old.leaving ≡ None }
+        requires none { unread self.old ≡ [] }
+        ensures whole { IsWhole self.new }
+        ensures id { self.new.id ≡ self.old.id }
+        ensures moves { Moves C.does self.old now connections.old connections.new (λ events steps. Stands self.new now steps) }
+    {
         match connections.read(self.id, self.buffer.as_mut_slice()) {
             Came::Bytes(count) => {
                 self.start = 0;
@@ -171,7 +228,13 @@ impl Peer {
     }
 
     /// Writes what waits, as far as the connection takes it. Returns false if it is broken.
-    fn send<C: Connections>(&mut self, connections: &mut C, now: u64) -> bool {
+    fn send<C: Connections>(&mut self, connections: &mut C, now: u64) -> bool
+        requires whole { IsWhole self.old }
+        ensures whole { IsWhole self.new }
+        ensures id { self.new.id ≡ self.old.id }
+        ensures moves { Moves C.does self.old now connections.old connections.new (λ events steps.
+            Stands self.new now steps × MatchBool result ⊤ (Happened (Unwritten self.old.id) steps)) }
+    {
         while self.queue.len() > 0 {
             match connections.write(self.id, self.queue.front()) {
                 Took::Bytes(0) | Took::Nothing => return true,

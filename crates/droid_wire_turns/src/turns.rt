@@ -1,5 +1,8 @@
 //! Many connections, served in turns.
 
+ghost use Rattle.droid_wire_turns.specs.Serving.{ServesAll};
+ghost use Rattle.droid_wire_turns.specs.Steps.{Goes};
+
 use crate::connections::Connections;
 use crate::hall::Hall;
 use crate::handler::Handler;
@@ -17,7 +20,13 @@ pub fn serve_in_turns<C: Connections, H: Handler>(
     connections: &mut C,
     handler: &mut H,
     rules: Rules,
-) -> Served {
+) -> Served
+    // Steps were done on the connections and the handler, and at each moment each connection was served well: the bytes
+    // that came of it are frames that were handled, in order, and what is held; the bytes that it took are the first of
+    // the frames of their replies, each in its version, in order, and nothing else. In the end each connection had left,
+    // and its reason explains what was held and what was not written.
+    ensures { Goes C.does H.handles connections.old handler.old connections.new handler.new (ServesAll rules.idle rules.total result) }
+{
     let Ok(mut hall) = Hall::new(alloc, rules.seats) else {
         return Served::Memory;
     };

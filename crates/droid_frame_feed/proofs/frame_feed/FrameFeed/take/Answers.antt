@@ -29,4 +29,4 @@ pub returns-clause-rest : goal.returns-clause-rest
 returns-clause-rest c = c.take.ensures.between.no_frame
 
 pub returns-clause-memory : goal.returns-clause-memory
-returns-clause-memory c = λ few. no_body c.take.new.self c.take.ensures.between (omega arith) few
+returns-clause-memory c = λ few. no_body c.take.new.self c.take.ensures.between c.take.ensures.sized few

@@ -1,10 +1,10 @@
-use Rattle.std.proofs.Common.{◌≡◌, ◌+◌, ◌≤◌, ℕ, length, ap, arith, refl, sym, ◌∙◌}
+use Rattle.std.proofs.Common.{◌≡◌, ◌+◌, ◌-◌, ◌≤◌, ◌++◌, ℕ, List, length, min, take, ap, arith, refl, subst, sym, ◌∙◌}
 use Rattle.std.proofs.lemmas.List.{length-drop}
 use Rattle.std.specs.declared.alloc.Global.{Global}
 use Rattle.std.specs.declared.vec.Vec.{Vec}
 use Rattle.droid_frame_feed.specs.declared.parts.Parts.{Parts}
 use Rattle.droid_frame_feed.proofs.Fronts.{good_is, good_small}
-use Rattle.droid_frame_feed.proofs.Taking.{Filled, Framed, Grown, IsWhole, Restored, body_between, body_brings, body_waits, body_within, grown_size, header_between, header_fails, memory_between, memory_fails, none_between, passed_on, short_between, short_waits}
+use Rattle.droid_frame_feed.proofs.Taking.{Filled, Framed, Grown, IsWhole, Restored, body_between, body_brings, body_waits, body_within, grown_size, header_between, header_fails, memory_between, memory_fails, none_between, passed_on, rest_is, short_between, short_waits}
 use Rattle.droid_frame_feed.proofs.parts.Parts.take.Goals as goal
 
 pub fill_header-head-requires : goal.fill_header-head-requires
@@ -130,10 +130,10 @@ returns-then-len-whole-clause-between c =
     let new : Parts = record { header = head.new.self.header; filled = head.new.self.filled; body = c.append.new.body } in
     let grown : Grown head.new.self new c.args.piece.now head.result c.in-Ok.count c.in_ok-whole.whole = record {
       within = omega (arith, head.ensures.count);
-      counted = c.in-Ok.ensures.count;
+      counted = subst (λ (l : List ℕ). c.in-Ok.count ≡ min (c.in_ok-whole.whole - length head.new.self.body.items) (length l)) (rest_is head.result c.args.piece.now) c.in-Ok.ensures.count;
       filled = refl;
       header = refl;
-      items = c.in-Ok.ensures.items;
+      items = subst (λ (l : List ℕ). c.append.new.body.items ≡ head.new.self.body.items ++ take c.in-Ok.count l) (rest_is head.result c.args.piece.now) c.in-Ok.ensures.items;
       memory = c.in-Ok.ensures.memory;
     } in
     body_between c.args.self.now head.new.self new c.args.piece.now c.from_bytes-header.result head.result c.in-Ok.count c.in_ok-whole.whole whole (sym c.in_ok-whole.ensures) grown (omega (arith, c.if-len-whole.true, c.len.ensures))
@@ -154,10 +154,10 @@ returns-then-len-whole-clause-feeds c =
     let new : Parts = record { header = head.new.self.header; filled = head.new.self.filled; body = c.append.new.body } in
     let grown : Grown head.new.self new c.args.piece.now head.result c.in-Ok.count c.in_ok-whole.whole = record {
       within = omega (arith, head.ensures.count);
-      counted = c.in-Ok.ensures.count;
+      counted = subst (λ (l : List ℕ). c.in-Ok.count ≡ min (c.in_ok-whole.whole - length head.new.self.body.items) (length l)) (rest_is head.result c.args.piece.now) c.in-Ok.ensures.count;
       filled = refl;
       header = refl;
-      items = c.in-Ok.ensures.items;
+      items = subst (λ (l : List ℕ). c.append.new.body.items ≡ head.new.self.body.items ++ take c.in-Ok.count l) (rest_is head.result c.args.piece.now) c.in-Ok.ensures.items;
       memory = c.in-Ok.ensures.memory;
     } in
     let waits = body_waits c.args.self.now head.new.self new c.args.piece.now c.from_bytes-header.result head.result c.in-Ok.count c.in_ok-whole.whole whole (sym c.in_ok-whole.ensures) grown (omega (arith, c.if-len-whole.true, c.len.ensures)) in
@@ -184,10 +184,10 @@ returns-clause-feeds c =
     let new : Parts = record { header = head.new.self.header; filled = head.new.self.filled; body = c.append.new.body } in
     let grown : Grown head.new.self new c.args.piece.now head.result c.in-Ok.count c.in_ok-whole.whole = record {
       within = omega (arith, head.ensures.count);
-      counted = c.in-Ok.ensures.count;
+      counted = subst (λ (l : List ℕ). c.in-Ok.count ≡ min (c.in_ok-whole.whole - length head.new.self.body.items) (length l)) (rest_is head.result c.args.piece.now) c.in-Ok.ensures.count;
       filled = refl;
       header = refl;
-      items = c.in-Ok.ensures.items;
+      items = subst (λ (l : List ℕ). c.append.new.body.items ≡ head.new.self.body.items ++ take c.in-Ok.count l) (rest_is head.result c.args.piece.now) c.in-Ok.ensures.items;
       memory = c.in-Ok.ensures.memory;
     } in
     let size = grown_size head.new.self new c.args.piece.now head.result c.in-Ok.count c.in_ok-whole.whole grown in
@@ -199,7 +199,7 @@ returns-clause-feeds c =
       number = c.frame.ensures.number;
       body = c.frame.ensures.body ∙ ap (λ (v : Vec ℕ Global). v.items) c.replace-body.ensures.value;
     } in (
-      omega (arith, head.ensures.count, c.in-Ok.ensures.count, length-drop head.result c.args.piece.now),
+      omega (arith, head.ensures.count, grown.counted, length-drop head.result c.args.piece.now),
       body_brings c.args.self.now head.new.self new c.args.piece.now _ c.from_bytes-header.result c.frame.result head.result c.in-Ok.count c.in_ok-whole.whole whole (sym c.in_ok-whole.ensures) grown
-          (omega (arith, size, within, c.in-Ok.ensures.count, c.if-len-whole.false, c.len.ensures)) framed c.frame.ensures.bytes (ap (λ (v : Vec ℕ Global). v.items) c.replace-body.ensures.after ∙ c.new.ensures.items),
+          (omega (arith, size, within, grown.counted, c.if-len-whole.false, c.len.ensures)) framed c.frame.ensures.bytes (ap (λ (v : Vec ℕ Global). v.items) c.replace-body.ensures.after ∙ c.new.ensures.items),
     )
