@@ -1,4 +1,5 @@
 pub mod Ends
 pub mod Fronts
 pub mod Results
+pub mod Streams
 pub mod Taking

@@ -1,8 +1,9 @@
 -- What a reader of frames takes from a piece, by what it held before (this project's own).
 use Rattle.std.specs.Prelude.{◌≡◌, ℕ, ◌≤◌, ◌⊎◌, List, [], ◌++◌, MatchOption, Result, Ok, Err, length, take}
+use Rattle.std.specs.Option.{option_to_list}
 use Rattle.droid_frame.specs.Frames.{frame_bytes}
 use Rattle.droid_frame.specs.StreamReads.{NamesSomeBody}
-use Rattle.droid_frame.specs.Streams.{BeginsNoFrame, IsReadable, why}
+use Rattle.droid_frame.specs.Streams.{BeginsNoFrame, Frames, IsReadable, why}
 use Rattle.droid_frame.specs.declared.stream.fault.FrameFault.{FrameFault}
 use Rattle.droid_frame.specs.declared.stream.fault.FrameFault.TheVariants.{Truncated, BadVersion, TooLong, Memory, Read}
 use Rattle.droid_frame.specs.types.frame.Frame.{Frame}
@@ -48,3 +49,11 @@ Fails old piece new Read = ⊥
 abbrev pub Feeds : List ℕ → List ℕ → List ℕ → Result Fed FrameFault → Type 0
 Feeds old piece new (Ok fed) = (fed.taken ≤ length piece) × MatchOption fed.frame (Waits old piece new fed.taken) (Brings old piece new fed.taken)
 Feeds old piece new (Err fault) = Fails old piece new fault
+
+-- One call on a stream of which these bytes came: they are these frames, and then what is held. It goes on so, and in the
+-- end the frames are those of the joined bytes, in whatever pieces these came. At a fault all that came begins, behind the
+-- frames, with no frame, for this reason.
+abbrev pub ReadsOn : List ℕ → List Frame → List ℕ → List ℕ → List ℕ → Result Fed FrameFault → Type 0
+ReadsOn stream frames old piece new (Ok fed) = Frames (stream ++ take fed.taken piece) (frames ++ option_to_list fed.frame) new
+ReadsOn stream frames old piece new (Err Memory) = Frames stream frames new
+ReadsOn stream frames old piece new (Err fault) = Frames (stream ++ piece) frames (old ++ piece) × (why (old ++ piece) ≡ Err fault)

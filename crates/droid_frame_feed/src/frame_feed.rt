@@ -1,9 +1,10 @@
 //! The reader of frames that is fed.
 
-ghost use Rattle.std.specs.Prelude.{◌≡◌, ◌≢◌, ◌≤◌, [], Ok, Err, IfOk, IfErr, OnOk, MatchOption, length};
-ghost use Rattle.droid_frame.specs.Streams.{BeginsNoFrame, why};
+ghost use Rattle.std.specs.Prelude.{◌≡◌, ◌≢◌, ◌≤◌, ℕ, List, [], Ok, Err, IfOk, IfErr, OnOk, MatchOption, length};
+ghost use Rattle.droid_frame.specs.Streams.{BeginsNoFrame, Frames, why};
+ghost use Rattle.droid_frame.specs.types.frame.Frame.{Frame};
 ghost use Rattle.droid_frame.specs.declared.stream.arrival.Arrival.TheVariants as arrivals;
-ghost use Rattle.droid_frame_feed.specs.Feeding.{Brings, Fails, IsFaulty, Waits};
+ghost use Rattle.droid_frame_feed.specs.Feeding.{Brings, Fails, IsFaulty, ReadsOn, Waits};
 
 use crate::fed::Fed;
 use crate::parts::Parts;
@@ -54,6 +55,9 @@ impl FrameFeed {
     /// nothing was taken: the same piece can be fed again.
     pub fn take(&mut self, piece: &[u8]) -> Result<Fed, FrameFault>
         ensures bound { IfOk result (λ fed. fed.taken ≤ length piece.now) }
+        // In whatever pieces a stream comes, its frames, what is held and its fault are those of the joined bytes.
+        ensures reads { (stream : List ℕ) (frames : List Frame) → Frames stream frames self.old.bytes →
+            ReadsOn stream frames self.old.bytes piece.now self.new.bytes result }
         // A frame is spelled by the bytes that were held and those that were taken. Without a frame the whole piece was
         // taken, and the bytes may go on.
         ensures frame { IfOk result (λ fed. MatchOption fed.frame

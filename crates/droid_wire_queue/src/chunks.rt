@@ -56,14 +56,12 @@ impl Chunks {
         ensures filled { AreFilled self.new.later.items }
     {
         let size = HEADER_LENGTH + reply_body_len(version, reply);
-        if self.last.len().saturating_add(size) > GATHERED {
-            self.close_last(alloc)?;
-        }
+        self.close_full(alloc, size)?;
         append_reply(alloc, &mut self.last, version, client, number, reply)
     }
 
-    /// Puts the last chunk behind the others, and begins a new one.
-    fn close_last(&mut self, alloc: Global) -> Result<(), AllocError>
+    /// Begins a new last chunk, if so many bytes more are too many for this one.
+    fn close_full(&mut self, alloc: Global, size: usize) -> Result<(), AllocError>
         requires filled { AreFilled self.old.later.items }
         ensures same { waiting self.new ≡ waiting self.old }
         ensures first { self.new.first ≡ self.old.first }
@@ -71,6 +69,9 @@ impl Chunks {
         ensures filled { AreFilled self.new.later.items }
     {
         if self.last.is_empty() {
+            return Ok(());
+        }
+        if self.last.len().saturating_add(size) <= GATHERED {
             return Ok(());
         }
         self.later.reserve(1)?;
