@@ -1,15 +1,18 @@
 -- What the end of a stream means, by the parts of what a reader holds.
-use Rattle.std.proofs.Common.{◌≡◌, ◌≢◌, ℕ, ◌<◌, ◌≤◌, true, false, List, [], ◌++◌, length, take, Result, Ok, Err, refl, sym, ap, subst, ◌∙◌, arith, inl, inr}
+use Rattle.std.proofs.Common.{◌≡◌, ◌≢◌, ℕ, ◌<◌, ◌≤◌, Bool, true, false, cond, ltb, List, [], ◌++◌, length, take, Result, Ok, Err, refl, sym, ap, subst, ◌∙◌, arith, inl, inr}
 use Rattle.std.specs.Prelude.{IfErr, IsErrAnd, vec_capacity}
-use Rattle.std.proofs.lemmas.Bool.{cases_lt}
+use Rattle.std.proofs.lemmas.Bool.{cases_lt, ltb-false}
+use Rattle.droid_frame.specs.Limits.{body_limit}
+use Rattle.droid_frame.specs.Versions.{is_version}
+use Rattle.droid_frame.proofs.BodyLimits.{limit_at_most}
 use Rattle.std.proofs.lemmas.List.{append-nil, length-append, length-take}
-use Rattle.droid_frame.specs.Streams.{why}
+use Rattle.droid_frame.specs.Streams.{length_in, version_in, why}
 use Rattle.droid_frame.specs.declared.stream.arrival.Arrival.TheVariants as arrivals
 use Rattle.droid_frame.specs.declared.stream.fault.FrameFault.{FrameFault}
-use Rattle.droid_frame.specs.declared.stream.fault.FrameFault.TheVariants.{Truncated}
+use Rattle.droid_frame.specs.declared.stream.fault.FrameFault.TheVariants.{Truncated, BadVersion, TooLong}
 use Rattle.droid_frame.proofs.StreamFrames.{why_nothing}
-use Rattle.droid_frame_feed.specs.Headers.{IsHeader, header_bytes, judged}
-use Rattle.droid_frame_feed.specs.Parts.{IsBetween, came}
+use Rattle.droid_frame_feed.specs.Headers.{IsHeader, header_bytes, judged, judged_at}
+use Rattle.droid_frame_feed.specs.Parts.{IsBetween, Lacks, came}
 use Rattle.droid_frame_feed.specs.declared.parts.Parts.{Parts}
 use Rattle.droid_frame_feed.specs.declared.header.Header.{Header}
 use Rattle.droid_frame_feed.proofs.Fronts.{faulty_is, good_is, why_cut, why_short}
@@ -43,4 +46,21 @@ no_body parts is size few =
     elim (cases_lt parts.filled 18) [
       | inl less ↦ is.none (ap length (is.short less))
       | inr full ↦ is.none (omega (arith, is.within, size, length-append (take parts.filled parts.header) parts.body.items, length-take parts.filled parts.header, few))
+    ]
+
+lacks_by : (one long : Bool) (limit n size : ℕ) → limit ≤ 4194368 → ltb limit n ≡ long → Lacks (cond one (cond long (Err TooLong) (Ok n)) (Err BadVersion)) size → size ≤ 4194368
+lacks_by false long limit n size fits e none = omega (arith, none)
+lacks_by true true limit n size fits e none = omega (arith, none)
+lacks_by true false limit n size fits e less = omega (arith, less, ltb-false limit n e, fits)
+
+-- no more of a body came than a frame may have
+lacks_few : (bytes : List ℕ) (size : ℕ) → Lacks (judged_at bytes) size → size ≤ 4194368
+unfolding judged_at
+lacks_few bytes size lacks = lacks_by (is_version (version_in bytes)) (ltb (body_limit (version_in bytes)) (length_in bytes)) (body_limit (version_in bytes)) (length_in bytes) size (limit_at_most (version_in bytes)) refl lacks
+
+pub few_held : (parts : Parts) → IsBetween parts → length (came parts) ≤ 4194386
+few_held parts is =
+    elim (cases_lt parts.filled 18) [
+      | inl less ↦ omega (arith, is.within, ap length (is.short less), length-append (take parts.filled parts.header) parts.body.items, length-take parts.filled parts.header)
+      | inr full ↦ omega (arith, is.within, lacks_few parts.header (length parts.body.items) (is.lacks (omega (arith, full, is.within))), length-append (take parts.filled parts.header) parts.body.items, length-take parts.filled parts.header)
     ]

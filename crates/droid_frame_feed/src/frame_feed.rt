@@ -69,6 +69,8 @@ impl FrameFeed {
         ensures for_ever { (fault : FrameFault) → fault ≢ FrameFault.Truncated → IsFaulty self.old.bytes fault → result ≡ Err fault }
         // What is held begins with no frame.
         ensures rest { BeginsNoFrame self.new.bytes }
+        // It is less than the longest frame.
+        ensures limit { length self.new.bytes ≤ 4194386 }
         // A header takes no memory.
         ensures memory { length self.new.bytes ≤ 18 → self.new.memory ≡ 0 }
     {

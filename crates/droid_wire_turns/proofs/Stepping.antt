@@ -1,21 +1,21 @@
 -- What one step more does to what was served of a connection.
-use Rattle.std.proofs.Common.{◌≡◌, ℕ, List, [], ◌∷◌, ◌++◌, refl, sym, ap, subst, ◌∙◌, append_assoc}
+use Rattle.std.proofs.Common.{◌≡◌, ℕ, ◌≤◌, List, [], ◌∷◌, ◌++◌, length, refl, sym, ap, subst, ◌∙◌, append_assoc, arith}
 use Rattle.std.specs.List.{AllByRecursion, flat_map}
-use Rattle.std.proofs.lemmas.List.{append-nil}
+use Rattle.std.proofs.lemmas.List.{append-nil, length-append}
 use Rattle.droid_frame.specs.Frames.{frame_bytes}
 use Rattle.droid_frame.specs.Replies.{HasReplySpelling}
 use Rattle.droid_frame.specs.ReplyFrames.{reply_frame}
 use Rattle.droid_frame.specs.Streams.{IsReadable}
 use Rattle.droid_frame.specs.types.frame.Frame.{Frame}
 use Rattle.droid_frame.specs.types.reply.Reply.{Reply}
-use Rattle.droid_wire_turns.specs.Departures.{Serves}
+use Rattle.droid_wire_turns.specs.Departures.{Serves, held_bound, queue_bound}
 use Rattle.droid_wire_turns.specs.Steps.{Handles, Step, bytes_read, bytes_written, came, handled, handled_in, spelled_frames, spelled_replies, went}
 use Rattle.droid_wire_turns.proofs.Gathered.{handled_here, none_more, one_more}
 use Rattle.droid_wire_turns.proofs.Moments.{all_both}
 
 -- bytes came of it, or it took some
-pub serves_more : (id : ℕ) (steps : List Step) (step : Step) (held queued more out : List ℕ) → bytes_read id step ≡ more → bytes_written id step ≡ out → handled_in id step ≡ [] → Serves id steps held (out ++ queued) → Serves id (steps ++ step ∷ []) (held ++ more) queued
-serves_more id steps step held queued more out came_is went_is none serves =
+pub serves_more : (id : ℕ) (steps : List Step) (step : Step) (held queued more out : List ℕ) → bytes_read id step ≡ more → bytes_written id step ≡ out → handled_in id step ≡ [] → length (held ++ more) ≤ held_bound → Serves id steps held (out ++ queued) → Serves id (steps ++ step ∷ []) (held ++ more) queued
+serves_more id steps step held queued more out came_is went_is none few serves =
     let same : handled id (steps ++ step ∷ []) ≡ handled id steps = none_more (handled_in id) steps step none in
     record {
       readable = subst (AllByRecursion (λ (one : Frame × Reply). IsReadable one.0)) (sym same) serves.readable;
@@ -25,12 +25,14 @@ serves_more id steps step held queued more out came_is went_is none serves =
           ∙ ap (λ (h : List (Frame × Reply)). spelled_frames h ++ (held ++ more)) (sym same))));
       written = ap spelled_replies same ∙ (serves.written ∙ (sym (append_assoc (went id steps) out queued)
           ∙ ap (λ (l : List ℕ). l ++ queued) (sym (one_more (bytes_written id) steps step ∙ ap (λ (l : List ℕ). went id steps ++ l) went_is))));
+      few = few;
+      short = omega (arith, serves.short, length-append out queued);
     }
 
 -- nothing of the kind happened
 pub serves_still : (id : ℕ) (steps : List Step) (step : Step) (held queued : List ℕ) → bytes_read id step ≡ [] → bytes_written id step ≡ [] → handled_in id step ≡ [] → Serves id steps held queued → Serves id (steps ++ step ∷ []) held queued
 serves_still id steps step held queued came_is went_is none serves =
-    subst (λ (l : List ℕ). Serves id (steps ++ step ∷ []) l queued) (append-nil held) (serves_more id steps step held queued [] [] came_is went_is none serves)
+    subst (λ (l : List ℕ). Serves id (steps ++ step ∷ []) l queued) (append-nil held) (serves_more id steps step held queued [] [] came_is went_is none (rw (append-nil held) serves.few) serves)
 
 frames_more : (answered : List (Frame × Reply)) (frame : Frame) (reply : Reply) → spelled_frames (answered ++ (frame, reply) ∷ []) ≡ spelled_frames answered ++ frame_bytes frame
 frames_more [] frame reply = append-nil (frame_bytes frame)
@@ -45,9 +47,9 @@ replies_more [] frame reply = append-nil (answer_bytes frame reply)
 replies_more (one ∷ answered) frame reply = ap (λ (l : List ℕ). answer_bytes one.0 one.1 ++ l) (replies_more answered frame reply) ∙ sym (append_assoc (answer_bytes one.0 one.1) (spelled_replies answered) (answer_bytes frame reply))
 
 -- a frame was handled
-pub serves_handled : (id : ℕ) (steps : List Step) (frame : Frame) (reply : Reply) (held queued : List ℕ) → IsReadable frame → HasReplySpelling frame.version reply → Serves id steps (frame_bytes frame ++ held) queued
+pub serves_handled : (id : ℕ) (steps : List Step) (frame : Frame) (reply : Reply) (held queued : List ℕ) → IsReadable frame → HasReplySpelling frame.version reply → length (queued ++ answer_bytes frame reply) ≤ queue_bound → Serves id steps (frame_bytes frame ++ held) queued
     → Serves id (steps ++ Handles id frame reply ∷ []) held (queued ++ answer_bytes frame reply)
-serves_handled id steps frame reply held queued readable spelled serves =
+serves_handled id steps frame reply held queued readable spelled short serves =
     let step : Step = Handles id frame reply in
     let now : handled id (steps ++ step ∷ []) ≡ handled id steps ++ (frame, reply) ∷ [] = one_more (handled_in id) steps step ∙ ap (λ (l : List (Frame × Reply)). handled id steps ++ l) (handled_here id frame reply) in
     record {
@@ -57,4 +59,6 @@ serves_handled id steps frame reply held queued readable spelled serves =
           ∙ (ap (λ (l : List ℕ). l ++ held) (sym (frames_more (handled id steps) frame reply)) ∙ ap (λ (h : List (Frame × Reply)). spelled_frames h ++ held) (sym now))));
       written = ap spelled_replies now ∙ (replies_more (handled id steps) frame reply ∙ (ap (λ (l : List ℕ). l ++ answer_bytes frame reply) serves.written
           ∙ (append_assoc (went id steps) queued (answer_bytes frame reply) ∙ ap (λ (l : List ℕ). l ++ (queued ++ answer_bytes frame reply)) (sym (none_more (bytes_written id) steps step refl)))));
+      few = omega (arith, serves.few, length-append (frame_bytes frame) held);
+      short = short;
     }

@@ -1,5 +1,5 @@
 -- Why a connection was closed, and what each reason says of it (this project's own).
-use Rattle.std.specs.Prelude.{◌≡◌, ℕ, ◌+◌, ◌≤◌, ◌⊎◌, Bool, true, false, List, [], ◌++◌, Contains, count_by, Err}
+use Rattle.std.specs.Prelude.{◌≡◌, ℕ, ◌-◌, ◌≤◌, ◌⊎◌, Bool, true, false, List, [], ◌++◌, Contains, count_by, Err, length}
 use Rattle.std.specs.List.{AllByRecursion}
 use Rattle.droid_frame.specs.Replies.{HasReplySpelling}
 use Rattle.droid_frame.specs.StreamReads.{NamesSomeBody}
@@ -13,6 +13,14 @@ use Rattle.droid_wire_turns.specs.Steps.{Step, Happens, Times, came, handled, sp
 use Rattle.droid_wire_turns.specs.declared.departure.Departure.{Departure}
 use Rattle.droid_wire_turns.specs.declared.departure.Departure.TheVariants as departures
 
+-- the most bytes that are held of one connection: less than the longest frame, and one buffer
+abbrev pub held_bound : ℕ
+held_bound = 4259922
+
+-- the most bytes that wait to be written to it: 8 MiB, and one reply
+abbrev pub queue_bound : ℕ
+queue_bound = 9437266
+
 -- Of one connection: the bytes that came of it are frames that were handled, in order, and then `held`. The bytes that
 -- it took are the first of the frames of their replies, each in its version, in order; `queued` are the others.
 pub record Serves (id : ℕ) (steps : List Step) (held queued : List ℕ) : Type 0 where
@@ -20,6 +28,8 @@ pub record Serves (id : ℕ) (steps : List Step) (held queued : List ℕ) : Type
   pub spelled : AllByRecursion (λ one. HasReplySpelling one.0.version one.1) (handled id steps)
   pub read : came id steps ≡ spelled_frames (handled id steps) ++ held
   pub written : spelled_replies (handled id steps) ≡ went id steps ++ queued
+  pub few : length held ≤ held_bound
+  pub short : length queued ≤ queue_bound
 
 -- the connection was served so, whatever is held and left to be written
 pub record IsServed (id : ℕ) (steps : List Step) : Type 0 where
@@ -52,7 +62,7 @@ StopsBy id steps held faults.Read = Happened (Unread id) steps
 
 -- nothing came of it and nothing of it went out for this long
 pub record IsIdle (idle : ℕ) (times : Times) : Type 0 where
-  pub long : times.active + idle ≤ times.now
+  pub long : idle ≤ times.now - times.active
 
 -- waiting failed, or there were 2^64 - 1 waits
 abbrev pub is_wait : Step → Bool

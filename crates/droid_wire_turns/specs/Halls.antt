@@ -1,5 +1,5 @@
 -- What the loop keeps of all connections, after the steps so far (this project's own).
-use Rattle.std.specs.Prelude.{◌≡◌, ℕ, ◌<◌, ◌≤◌, ◌⊎◌, List, [], ◌∷◌, ◌++◌, map}
+use Rattle.std.specs.Prelude.{◌≡◌, ℕ, ◌-◌, ◌<◌, ◌≤◌, ◌⊎◌, List, [], ◌∷◌, ◌++◌, map}
 use Rattle.std.specs.List.{AllByRecursion}
 use Rattle.droid_frame.specs.types.frame.Frame.{Frame}
 use Rattle.droid_frame.specs.types.reply.Reply.{Reply}
@@ -33,6 +33,10 @@ pub record Keeps (idle : ℕ) (hall : Hall) (steps : List Step) : Type 0 where
   pub untouched : (id : ℕ) → hall.opened ≤ id → AreOfOthers id steps
   pub opened : (id : ℕ) → id < hall.opened → Happened (Opened id) steps
   pub served : (id : ℕ) → Always (IsServed id) [] steps
+
+-- no open connection is idle for so long
+abbrev pub AreActive : ℕ → Hall → Type 0
+AreActive idle hall = AllByRecursion (λ peer. hall.now - peer.active < idle) hall.peers.items
 
 -- more steps were done, and the hall goes on from each list of steps that it stood for
 pub record GoesOn {C H : Type 0} (does : C → Event → C → Type 0) (handles : H → Frame → Reply → H → Type 0) (idle : ℕ) (old new : Hall) (connections : C) (handler : H) (later : C) (after : H) : Type 0 where

@@ -29,10 +29,6 @@ Keeps peer steps held queued (Some departures.Write) = ⊥
 Keeps peer steps held queued (Some departures.Idle) = ⊥
 Keeps peer steps held queued (Some departures.Stopped) = ⊥
 
--- the most bytes that wait to be written to one connection: 8 MiB and one reply
-abbrev pub queue_bound : ℕ
-queue_bound = 9437266
-
 -- what is kept of the connection is what the steps so far left of it
 pub record Stands (peer : Peer) (now : ℕ) (steps : List Step) : Type 0 where
   pub held : List ℕ
@@ -40,12 +36,13 @@ pub record Stands (peer : Peer) (now : ℕ) (steps : List Step) : Type 0 where
   pub serves : Serves peer.id steps held queued
   pub keeps : Keeps peer steps held queued peer.leaving
   pub times : times_of peer.id steps ≡ record { now = now; active = peer.active }
-  pub bound : length peer.queue.bytes ≤ queue_bound
 
--- the bytes that were read lie within the buffer
+-- the bytes that were read lie within the buffer, and no more is held than there is room for
 pub record IsWhole (peer : Peer) : Type 0 where
   pub ordered : peer.start ≤ peer.end
   pub within : peer.end ≤ length peer.buffer.items
+  pub sized : length peer.buffer.items ≡ 65536
+  pub fed : length peer.feed.bytes ≤ 4194386
 
 -- A frame was taken from what was held, and is to be handled.
 pub record Lends (peer : Peer) (now : ℕ) (steps : List Step) (frame : Frame) : Type 0 where
@@ -57,7 +54,6 @@ pub record Lends (peer : Peer) (now : ℕ) (steps : List Step) (frame : Frame) :
   pub queue : queued ≡ peer.queue.bytes
   pub stays : peer.leaving ≡ None
   pub times : times_of peer.id steps ≡ record { now = now; active = peer.active }
-  pub bound : length peer.queue.bytes ≤ queue_bound
 
 -- Events happened on the connections, of this connection alone. In each of these moments it was served well, and then
 -- `After` holds, of these events and of all steps so far.

@@ -1,9 +1,9 @@
 -- What serving many connections in turns comes to (this project's own).
-use Rattle.std.specs.Prelude.{◌≡◌, ℕ, ◌<◌, ◌≤◌, List, [], ◌∷◌, ◌++◌, Option, Some}
+use Rattle.std.specs.Prelude.{◌≡◌, ℕ, ◌-◌, ◌<◌, ◌≤◌, List, [], ◌∷◌, ◌++◌, Option, Some}
 use Rattle.std.specs.List.{AllByRecursion}
 use Rattle.droid_wire_turns.specs.Departures.{Explains, Happened, IsServed, IsStopped, Serves}
-use Rattle.droid_wire_turns.specs.Events.{Opened, Closed}
-use Rattle.droid_wire_turns.specs.Steps.{Always, Happens, IsOf, Step}
+use Rattle.droid_wire_turns.specs.Events.{Opened, Closed, Waited}
+use Rattle.droid_wire_turns.specs.Steps.{Always, Happens, IsOf, Step, times_of}
 use Rattle.droid_wire_turns.specs.declared.departure.Departure.{Departure}
 use Rattle.droid_wire_turns.specs.declared.served.Served.{Served}
 use Rattle.droid_wire_turns.specs.declared.served.Served.TheVariants as served
@@ -44,9 +44,19 @@ EndsBy total served.All steps = (count : ℕ) × AreAll count steps × ((wanted 
 EndsBy total served.Stopped steps = IsStopped steps
 EndsBy total served.Memory steps = steps ≡ []
 
+-- the connection was opened, and not closed
+pub record IsOpenAfter (id : ℕ) (steps : List Step) : Type 0 where
+  pub opened : Happened (Opened id) steps
+  pub stays : (why : Departure) → Happened (Closed id why) steps → ⊥
+
+-- whenever the loop waits, no open connection was idle for so long
+abbrev pub IsPrompt : ℕ → List Step → Type 0
+IsPrompt idle steps = (before later : List Step) → steps ≡ before ++ Happens Waited ∷ later → (id : ℕ) → IsOpenAfter id before → (times_of id before).now - (times_of id before).active < idle
+
 -- at each moment each connection was served well, and in the end each had left. So a connection that ends, fails or is
 -- idle changes nothing for the others: what is said of each depends on its own steps alone.
 pub record ServesAll (idle : ℕ) (total : Option ℕ) (result : Served) (steps : List Step) : Type 0 where
   pub each : (id : ℕ) → Always (IsServed id) [] steps
   pub left : HaveLeft idle steps
+  pub prompt : IsPrompt idle steps
   pub ended : EndsBy total result steps

@@ -2,7 +2,7 @@
 
 ghost use Rattle.std.specs.Prelude.{◌≡◌, ◌≤◌, ℕ, ⊤, [], List, IfOk, vec_capacity};
 ghost use Rattle.droid_wire_turns.specs.Departures.{IsStopped};
-ghost use Rattle.droid_wire_turns.specs.Halls.{GoesOn, Keeps, MovesOn};
+ghost use Rattle.droid_wire_turns.specs.Halls.{AreActive, GoesOn, Keeps, MovesOn};
 ghost use Rattle.droid_wire_turns.specs.Steps.{Step};
 
 use crate::connections::Connections;
@@ -70,6 +70,7 @@ impl Hall {
     )
         requires room { rules.seats ≤ vec_capacity self.old.peers }
         ensures room { rules.seats ≤ vec_capacity self.new.peers }
+        ensures active { AreActive rules.idle self.new }
         ensures goes_on { GoesOn C.does H.handles rules.idle self.old self.new connections.old handler.old connections.new handler.new }
     {
         self.now = connections.now();

@@ -1,6 +1,6 @@
 //! One open connection: what came of it and isn't handled, and what waits to be written.
 
-ghost use Rattle.std.specs.Prelude.{◌≡◌, ◌≤◌, ◌++◌, ◌∷◌, [], List, ℕ, None, Some, IfNone, IfOk, IsTrue, MatchOption, MatchBool, ⊤};
+ghost use Rattle.std.specs.Prelude.{◌≡◌, ◌-◌, ◌<◌, ◌≤◌, ◌++◌, ◌∷◌, [], List, ℕ, None, Some, IfNone, IfOk, IsTrue, MatchOption, MatchBool, ⊤};
 ghost use Rattle.droid_frame.specs.types.reply.Reply.{Reply};
 ghost use Rattle.droid_frame.specs.types.frame.Frame.{Frame};
 ghost use Rattle.droid_frame_feed.specs.Held.{Held};
@@ -90,6 +90,7 @@ impl Peer {
         ensures whole { IsWhole self.new }
         ensures id { self.new.id ≡ self.old.id }
         ensures visits { Visits C.does H.handles self.old now connections.old handler.old connections.new handler.new (λ steps. Ends idle self.new now steps result) }
+        ensures active { IfNone result (now - self.new.active < idle) }
     {
         if !self.send(connections, now) {
             return Some(Departure::Write);

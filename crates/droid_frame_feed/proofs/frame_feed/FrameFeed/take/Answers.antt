@@ -3,7 +3,7 @@ use Rattle.droid_frame.specs.declared.stream.fault.FrameFault.{FrameFault}
 use Rattle.droid_frame_feed.specs.Feeding.{Feeds}
 use Rattle.droid_frame_feed.specs.Held.{Held}
 use Rattle.droid_frame_feed.specs.Parts.{came}
-use Rattle.droid_frame_feed.proofs.Ends.{no_body}
+use Rattle.droid_frame_feed.proofs.Ends.{few_held, no_body}
 use Rattle.droid_frame_feed.proofs.Results.{bound_of, fault_of, frame_of, stays}
 use Rattle.droid_frame_feed.proofs.Streams.{reads_on}
 use Rattle.droid_frame_feed.proofs.frame_feed.FrameFeed.take.Goals as goal
@@ -36,3 +36,6 @@ pub returns-clause-reads : goal.returns-clause-reads
 returns-clause-reads c = λ stream frames reads.
     let was : came c.self.inside.parts ≡ c.args.self.now.bytes = ap (λ (h : Held). h.bytes) c.self.view_is in
     reads_on stream _ _ _ frames c.take.result reads c.take.ensures.between.no_frame (subst (λ (l : List ℕ). Feeds l c.args.piece.now (came c.take.new.self) c.take.result) was c.take.ensures.feeds)
+
+pub returns-clause-limit : goal.returns-clause-limit
+returns-clause-limit c = few_held c.take.new.self c.take.ensures.between
