@@ -1,3 +1,4 @@
 pub mod Gathered
 pub mod Moments
+pub mod Standing
 pub mod Stepping

@@ -1,5 +1,5 @@
 -- Why a connection was closed, and what each reason says of it (this project's own).
-use Rattle.std.specs.Prelude.{◌≡◌, ℕ, ◌-◌, ◌≤◌, ◌⊎◌, Bool, true, false, List, [], ◌++◌, Contains, count_by, Err, length}
+use Rattle.std.specs.Prelude.{◌≡◌, ℕ, ◌-◌, ◌≤◌, ◌⊎◌, Bool, true, false, List, [], ◌∷◌, ◌++◌, count_by, Err, length}
 use Rattle.std.specs.List.{AllByRecursion}
 use Rattle.droid_frame.specs.Replies.{HasReplySpelling}
 use Rattle.droid_frame.specs.StreamReads.{NamesSomeBody}
@@ -39,7 +39,8 @@ pub record IsServed (id : ℕ) (steps : List Step) : Type 0 where
 
 -- the event is among the steps
 abbrev pub Happened : Event → List Step → Type 0
-Happened event steps = Contains steps (Happens event)
+Happened event [] = ⊥
+Happened event (step ∷ steps) = (step ≡ Happens event) ⊎ Happened event steps
 
 -- the input ended within a frame
 pub record IsCut (id : ℕ) (steps : List Step) (held : List ℕ) : Type 0 where
