@@ -9,19 +9,25 @@ use Rattle.std.proofs.lemmas.List.{append-nil, length-append, length-take}
 use Rattle.droid_frame.specs.Streams.{length_in, version_in, why}
 use Rattle.droid_frame.specs.declared.stream.arrival.Arrival.TheVariants as arrivals
 use Rattle.droid_frame.specs.declared.stream.fault.FrameFault.{FrameFault}
-use Rattle.droid_frame.specs.declared.stream.fault.FrameFault.TheVariants.{Truncated, BadVersion, TooLong}
+use Rattle.droid_frame.specs.declared.stream.fault.FrameFault.TheVariants.{Truncated, BadVersion, TooLong, Memory, Read}
 use Rattle.droid_frame.proofs.StreamFrames.{why_nothing}
+use Rattle.droid_frame_feed.specs.Feeding.{IsOfBytes}
 use Rattle.droid_frame_feed.specs.Headers.{IsHeader, header_bytes, judged, judged_at}
 use Rattle.droid_frame_feed.specs.Parts.{IsBetween, Lacks, came}
 use Rattle.droid_frame_feed.specs.declared.parts.Parts.{Parts}
 use Rattle.droid_frame_feed.specs.declared.header.Header.{Header}
-use Rattle.droid_frame_feed.proofs.Fronts.{faulty_is, good_is, why_cut, why_short}
+use Rattle.droid_frame_feed.proofs.Fronts.{Judged, faulty_is, good_is, judged_is, other_version, too_long, why_cut, why_short}
 use Rattle.droid_frame_feed.proofs.Taking.{held_whole}
 
 pub ended_between : (parts : Parts) → IsBetween parts → parts.filled ≡ 0 → why (came parts) ≡ Ok arrivals.End
 ended_between parts is none =
     let no_body : parts.body.items ≡ [] = is.short (omega (arith, none)) in
     rw (none, no_body) why_nothing
+
+pub ended_empty : (parts : Parts) → IsBetween parts → parts.filled ≡ 0 → came parts ≡ []
+ended_empty parts is none =
+    let no_body : parts.body.items ≡ [] = is.short (omega (arith, none)) in
+    rw (none, no_body) refl
 
 pub ended_short : (parts : Parts) → IsBetween parts → length parts.header ≡ 18 → parts.filled ≢ 0 → parts.filled ≢ 18 → why (came parts) ≡ Err Truncated
 ended_short parts is size some short =
@@ -64,3 +70,14 @@ few_held parts is =
       | inl less ↦ omega (arith, is.within, ap length (is.short less), length-append (take parts.filled parts.header) parts.body.items, length-take parts.filled parts.header)
       | inr full ↦ omega (arith, is.within, lacks_few parts.header (length parts.body.items) (is.lacks (omega (arith, full, is.within))), length-append (take parts.filled parts.header) parts.body.items, length-take parts.filled parts.header)
     ]
+
+kind_by : (h : Header) (fault : FrameFault) → Judged h (Err fault) → IsOfBytes fault
+kind_by h BadVersion (other_version o) = tt
+kind_by h TooLong (too_long o l) = tt
+kind_by h Truncated j = tt
+kind_by h Memory j = elim j [ ]
+kind_by h Read j = elim j [ ]
+
+pub kind_is : {T : Type 0} (r : Result T FrameFault) (h : Header) (fault : FrameFault) → IsErrAnd r (λ e. e ≡ fault) → judged h ≡ Err fault → IfErr r IsOfBytes
+kind_is (Ok value) h fault is e = tt
+kind_is (Err other) h fault is e = subst IsOfBytes (sym is) (kind_by h fault (judged_is h (Err fault) e))

@@ -37,6 +37,14 @@ pub record Refuses (old piece new : List ℕ) (fault : FrameFault) : Type 0 wher
   pub parts : old ++ piece ≡ new ++ rest
   pub faulty : IsFaulty new fault
 
+-- the fault is one of the bytes: of their end, or of a header
+abbrev pub IsOfBytes : FrameFault → Type 0
+IsOfBytes Truncated = Unit {0}
+IsOfBytes BadVersion = Unit {0}
+IsOfBytes TooLong = Unit {0}
+IsOfBytes Memory = ⊥
+IsOfBytes Read = ⊥
+
 -- what each fault says of the bytes, and of what is held after it
 abbrev pub Fails : List ℕ → List ℕ → List ℕ → FrameFault → Type 0
 Fails old piece new BadVersion = Refuses old piece new BadVersion

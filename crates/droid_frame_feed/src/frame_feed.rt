@@ -4,7 +4,7 @@ ghost use Rattle.std.specs.Prelude.{◌≡◌, ◌≢◌, ◌≤◌, ℕ, List, 
 ghost use Rattle.droid_frame.specs.Streams.{BeginsNoFrame, Frames, why};
 ghost use Rattle.droid_frame.specs.types.frame.Frame.{Frame};
 ghost use Rattle.droid_frame.specs.declared.stream.arrival.Arrival.TheVariants as arrivals;
-ghost use Rattle.droid_frame_feed.specs.Feeding.{Brings, Fails, IsFaulty, ReadsOn, Waits};
+ghost use Rattle.droid_frame_feed.specs.Feeding.{Brings, Fails, IsFaulty, IsOfBytes, ReadsOn, Waits};
 
 use crate::fed::Fed;
 use crate::parts::Parts;
@@ -88,7 +88,9 @@ impl FrameFeed {
     pub fn end(&self) -> Result<(), FrameFault>
         ensures rest { BeginsNoFrame self.now.bytes }
         ensures closed { OnOk result (why self.now.bytes ≡ Ok arrivals.End) }
+        ensures empty { OnOk result (self.now.bytes ≡ []) }
         ensures fault { IfErr result (λ fault. why self.now.bytes ≡ Err fault) }
+        ensures kind { IfErr result IsOfBytes }
     {
         self.parts.end()
     }

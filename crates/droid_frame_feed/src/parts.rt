@@ -1,9 +1,9 @@
 //! The parts of a frame that has not come whole.
 
-ghost use Rattle.std.specs.Prelude.{◌≡◌, ◌+◌, ◌-◌, ◌≤◌, ◌++◌, Ok, Err, IfErr, OnOk, length, min, take};
+ghost use Rattle.std.specs.Prelude.{◌≡◌, ◌+◌, ◌-◌, ◌≤◌, ◌++◌, [], Ok, Err, IfErr, OnOk, length, min, take};
 ghost use Rattle.droid_frame.specs.Streams.{why};
 ghost use Rattle.droid_frame.specs.declared.stream.arrival.Arrival.TheVariants as arrivals;
-ghost use Rattle.droid_frame_feed.specs.Feeding.{Feeds};
+ghost use Rattle.droid_frame_feed.specs.Feeding.{Feeds, IsOfBytes};
 ghost use Rattle.droid_frame_feed.specs.Parts.{IsBetween, came};
 
 use crate::body::append;
@@ -76,7 +76,9 @@ impl Parts {
     pub(crate) fn end(&self) -> Result<(), FrameFault>
         requires { IsBetween self.now }
         ensures closed { OnOk result (why (came self.now) ≡ Ok arrivals.End) }
+        ensures empty { OnOk result (came self.now ≡ []) }
         ensures fault { IfErr result (λ fault. why (came self.now) ≡ Err fault) }
+        ensures kind { IfErr result IsOfBytes }
     {
         if self.filled == 0 {
             return Ok(());

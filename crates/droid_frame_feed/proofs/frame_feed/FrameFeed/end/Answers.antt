@@ -1,4 +1,4 @@
-use Rattle.std.proofs.Common.{◌≡◌, List, ℕ, Ok, Err, IfErr, OnOk, ap, subst}
+use Rattle.std.proofs.Common.{◌≡◌, List, [], ℕ, Ok, Err, IfErr, OnOk, ap, subst}
 use Rattle.droid_frame.specs.Streams.{BeginsNoFrame, why}
 use Rattle.droid_frame.specs.declared.stream.arrival.Arrival.TheVariants as arrivals
 use Rattle.droid_frame_feed.specs.Held.{Held}
@@ -13,3 +13,6 @@ returns-clause-closed c = subst (λ (l : List ℕ). OnOk c.end.result (why l ≡
 
 pub returns-clause-fault : goal.returns-clause-fault
 returns-clause-fault c = subst (λ (l : List ℕ). IfErr c.end.result (λ fault. why l ≡ Err fault)) (ap (λ (h : Held). h.bytes) c.self.view_is) c.end.ensures.fault
+
+pub returns-clause-empty : goal.returns-clause-empty
+returns-clause-empty c = subst (λ (l : List ℕ). OnOk c.end.result (l ≡ [])) (ap (λ (h : Held). h.bytes) c.self.view_is) c.end.ensures.empty

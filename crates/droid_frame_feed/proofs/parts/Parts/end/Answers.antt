@@ -2,7 +2,7 @@ use Rattle.std.proofs.Common.{◌≡◌, Err, IfErr, ap, subst, sym, ◌∙◌, 
 use Rattle.droid_frame.specs.Streams.{why}
 use Rattle.droid_frame.specs.declared.stream.fault.FrameFault.{FrameFault}
 use Rattle.droid_frame_feed.specs.Parts.{came}
-use Rattle.droid_frame_feed.proofs.Ends.{ended_between, ended_cut, ended_fault, ended_short, passed_on}
+use Rattle.droid_frame_feed.proofs.Ends.{ended_between, ended_cut, ended_empty, ended_fault, ended_short, kind_is, passed_on}
 use Rattle.droid_frame_feed.proofs.parts.Parts.end.Goals as goal
 
 pub returns-then-self-eq0-clause-closed : goal.returns-then-self-eq0-clause-closed
@@ -24,3 +24,9 @@ returns-in_ok-body_length-clause-fault c =
 pub returns-else-self-eq-HEADER_LENGTH-clause-fault : goal.returns-else-self-eq-HEADER_LENGTH-clause-fault
 returns-else-self-eq-HEADER_LENGTH-clause-fault c =
     ended_short c.args.self.now c.requires (omega arith) c.if-self-eq0.false c.if-self-eq-HEADER_LENGTH.false
+
+pub returns-then-self-eq0-clause-empty : goal.returns-then-self-eq0-clause-empty
+returns-then-self-eq0-clause-empty c = ended_empty c.args.self.now c.requires c.if-self-eq0.true
+
+pub returns-in_err-body_length-clause-kind : goal.returns-in_err-body_length-clause-kind
+returns-in_err-body_length-clause-kind c = kind_is c.from_residual.result c.from_bytes.result c.in_err-body_length.field-0.0 c.from_residual.ensures.1 (sym c.in_err-body_length.ensures)
