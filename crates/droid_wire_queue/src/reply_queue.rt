@@ -61,6 +61,7 @@ impl ReplyQueue {
         requires spelling { HasReplySpelling version reply.now }
         ensures ok { OnOk result (self.new.bytes ≡ self.old.bytes ++ reply_frame version client number reply.now) }
         ensures err { OnErr result (self.new.bytes ≡ self.old.bytes) }
+        ensures small { length (reply_frame version client number reply.now) ≤ 1048658 }
     {
         // A queue of 2^64 bytes fits no memory.
         let size = HEADER_LENGTH + reply_body_len(version, reply);

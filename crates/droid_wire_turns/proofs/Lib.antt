@@ -1,4 +1,5 @@
 pub mod Gathered
 pub mod Moments
+pub mod Moving
 pub mod Standing
 pub mod Stepping

@@ -1,8 +1,9 @@
 -- What the loop keeps of an open connection, after the steps so far (this project's own).
-use Rattle.std.specs.Prelude.{◌≡◌, ℕ, ◌+◌, ◌-◌, ◌≤◌, List, [], ◌∷◌, ◌++◌, length, take, drop, map, Option, None, Some}
+use Rattle.std.specs.Prelude.{◌≡◌, ℕ, ◌+◌, ◌-◌, ◌≤◌, List, [], ◌∷◌, ◌++◌, length, take, drop, map, Option, None, Some, Err}
 use Rattle.std.specs.List.{AllByRecursion}
 use Rattle.droid_frame.specs.Frames.{frame_bytes}
-use Rattle.droid_frame.specs.Streams.{IsReadable}
+use Rattle.droid_frame.specs.Streams.{BeginsNoFrame, IsReadable, why}
+use Rattle.droid_frame_feed.specs.Feeding.{IsOfBytes}
 use Rattle.droid_frame.specs.declared.stream.fault.FrameFault.{FrameFault}
 use Rattle.droid_frame.specs.types.frame.Frame.{Frame}
 use Rattle.droid_frame.specs.types.reply.Reply.{Reply}
@@ -76,6 +77,15 @@ pub record IsNew (id now : ℕ) (steps : List Step) : Type 0 where
   pub nothing_went : went id steps ≡ []
   pub nothing_handled : handled id steps ≡ []
   pub times : times_of id steps ≡ record { now = now; active = now }
+
+-- why a connection is over whose input ended behind these bytes
+abbrev pub EndsAs : List ℕ → Departure → Type 0
+EndsAs bytes departures.Closed = bytes ≡ []
+EndsAs bytes (departures.Frame fault) = IsOfBytes fault × BeginsNoFrame bytes × (why bytes ≡ Err fault)
+EndsAs bytes departures.Memory = ⊥
+EndsAs bytes departures.Write = ⊥
+EndsAs bytes departures.Idle = ⊥
+EndsAs bytes departures.Stopped = ⊥
 
 -- what a visit leaves: the connection stands; or it is over, for this reason
 abbrev pub Ends : ℕ → Peer → ℕ → List Step → Option Departure → Type 0

@@ -1,12 +1,12 @@
 //! One open connection: what came of it and isn't handled, and what waits to be written.
 
-ghost use Rattle.std.specs.Prelude.{◌≡◌, ◌-◌, ◌<◌, ◌≤◌, ◌++◌, ◌∷◌, [], List, ℕ, None, Some, IfNone, IfOk, IsTrue, MatchOption, MatchBool, ⊤};
+ghost use Rattle.std.specs.Prelude.{◌≡◌, ◌-◌, ◌<◌, ◌≤◌, ◌++◌, ◌∷◌, [], List, ℕ, None, Some, IfNone, IfOk, IsTrue, MatchOption, MatchBool, ⊤, length};
 ghost use Rattle.droid_frame.specs.types.reply.Reply.{Reply};
 ghost use Rattle.droid_frame.specs.types.frame.Frame.{Frame};
-ghost use Rattle.droid_frame_feed.specs.Held.{Held};
+ghost use Rattle.droid_frame.specs.Versions.{IsVersion};
 ghost use Rattle.droid_wire_turns.specs.Departures.{Explains, Happened};
 ghost use Rattle.droid_wire_turns.specs.Events.{Unwritten};
-ghost use Rattle.droid_wire_turns.specs.Peers.{Ends, IsNew, IsWhole, Lends, Moves, Stands, Visits, unread};
+ghost use Rattle.droid_wire_turns.specs.Peers.{Ends, EndsAs, IsNew, IsWhole, Lends, Moves, Stands, Visits, unread};
 ghost use Rattle.droid_wire_turns.specs.Steps.{Handles, Step};
 
 use crate::connections::{Came, Connections, Took};
@@ -123,7 +123,10 @@ impl Peer {
         let mut room = BYTES_IN_TURN;
         self.busy = false;
         for _ in 0..FRAMES_IN_TURN {
-            if self.leaving.is_some() || self.queue.len() > QUEUE_LIMIT {
+            if self.leaving.is_some() {
+                return;
+            }
+            if self.queue.len() > QUEUE_LIMIT {
                 return;
             }
             let Some(frame) = self.next_frame(connections, &mut room, now) else {
@@ -138,6 +141,8 @@ impl Peer {
     /// Handles a frame, and queues its reply.
     fn answer<H: Handler>(&mut self, handler: &mut H, frame: Frame)
         requires whole { IsWhole self.old }
+        requires version { IsVersion frame.version }
+        requires few { length self.old.queue.bytes ≤ 8388608 }
         ensures whole { IsWhole self.new }
         ensures id { self.new.id ≡ self.old.id }
         ensures answers { (reply : Reply) × H.handles handler.old frame reply handler.new
@@ -158,6 +163,7 @@ impl Peer {
         now: u64,
     ) -> Option<Frame>
         requires whole { IsWhole self.old }
+        requires stays { self.old.leaving ≡ None }
         ensures whole { IsWhole self.new }
         ensures id { self.new.id ≡ self.old.id }
         ensures moves { Moves C.does self.old now connections.old connections.new (λ events steps. MatchOption result (Stands self.new now steps) (Lends self.new now steps)) }
@@ -166,7 +172,10 @@ impl Peer {
             if let Some(frame) = self.take() {
                 return Some(frame);
             }
-            if self.leaving.is_some() || *room == 0 {
+            if self.leaving.is_some() {
+                return None;
+            }
+            if *room == 0 {
                 return None;
             }
             let count = self.receive(connections, now);
@@ -206,14 +215,14 @@ impl Peer {
         ensures whole { IsWhole self.new }
         ensures id { self.new.id ≡ self.old.id }
         ensures moves { Moves C.does self.old now connections.old connections.new (λ events steps. Stands self.new now steps) }
+        ensures goes_on { 0 < result → self.new.leaving ≡ None }
     {
         match connections.read(self.id, self.buffer.as_mut_slice()) {
+            Came::Bytes(0) => 0,
             Came::Bytes(count) => {
                 self.start = 0;
                 self.end = count;
-                if count > 0 {
-                    self.active = now;
-                }
+                self.active = now;
                 count
             }
             Came::Nothing => 0,
@@ -251,7 +260,9 @@ impl Peer {
 }
 
 /// Returns why a connection is over whose input ended here.
-fn end_of(feed: &FrameFeed) -> Departure {
+fn end_of(feed: &FrameFeed) -> Departure
+    ensures { EndsAs feed.now.bytes result }
+{
     match feed.end() {
         Ok(()) => Departure::Closed,
         Err(fault) => Departure::Frame(fault),
