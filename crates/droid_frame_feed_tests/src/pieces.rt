@@ -23,14 +23,13 @@ fn waits(feed: &mut FrameFeed, piece: &[u8]) -> bool {
 
 /// Returns whether the whole piece is taken, and ends this vector's frame.
 fn brings(feed: &mut FrameFeed, piece: &[u8], vector: &Vector) -> bool {
-    match feed.take(piece) {
-        Ok(
-            Fed {
-                frame: Some(frame),
-                taken,
-            },
-        ) => taken == piece.len() && is_frame(&frame, vector),
-        _ => false,
+    let Ok(fed) = feed.take(piece) else {
+        return false;
+    };
+    let all = fed.taken == piece.len();
+    match fed.frame {
+        Some(frame) => all && is_frame(&frame, vector),
+        None => false,
     }
 }
 
@@ -63,17 +62,18 @@ fn cut_at_each_byte(rt: HostRuntime) {
     }
 }
 
-/// Takes all of a piece, and returns how many frames of the vectors from `next` on came, or `None` if another came.
+/// Takes all of a piece, and returns how many frames of the vectors from `next` on came, or `None` if another came. Each
+/// call takes a byte at least.
 fn count_in(feed: &mut FrameFeed, piece: &[u8], vectors: &[Vector], next: usize) -> Option<usize> {
     let mut rest = piece;
     let mut count = next;
-    while !rest.is_empty() {
+    for _ in 0..piece.len() {
+        if rest.is_empty() {
+            return Some(count);
+        }
         let Ok(fed) = feed.take(rest) else {
             return None;
         };
-        if fed.taken == 0 {
-            return None;
-        }
         rest = rest.get(fed.taken..)?;
         if let Some(frame) = fed.frame {
             if !is_frame(&frame, vectors.get(count)?) {
@@ -82,7 +82,7 @@ fn count_in(feed: &mut FrameFeed, piece: &[u8], vectors: &[Vector], next: usize)
             count = count.checked_add(1)?;
         }
     }
-    Some(count)
+    if rest.is_empty() { Some(count) } else { None }
 }
 
 /// Returns how many frames of the vectors come of the stream in pieces of this width.
@@ -90,18 +90,16 @@ fn count_by_width(alloc: Global, stream: &[u8], width: usize, vectors: &[Vector]
     let mut feed = FrameFeed::new(alloc);
     let mut rest = stream;
     let mut count = 0;
-    while !rest.is_empty() {
+    for _ in 0..stream.len() {
         let (piece, more) = rest.split_at(width.min(rest.len()));
-        if piece.is_empty() {
-            return None;
-        }
         count = count_in(&mut feed, piece, vectors, count)?;
         rest = more;
     }
-    if feed.end() != Ok(()) {
-        return None;
+    if rest.is_empty() && feed.end() == Ok(()) {
+        Some(count)
+    } else {
+        None
     }
-    Some(count)
 }
 
 // All vectors, one after another, in pieces of many widths.

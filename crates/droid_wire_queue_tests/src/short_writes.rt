@@ -52,12 +52,7 @@ fn take(queue: &mut ReplyQueue, width: usize, most: usize, taken: &mut Vec<u8>) 
 }
 
 /// Queues each reply, with `between` writes after each, and returns what the connection took in the end.
-fn all_taken(
-    alloc: Global,
-    replies: &[&[u8]],
-    width: usize,
-    between: usize,
-) -> Option<Vec<u8>> {
+fn all_taken(alloc: Global, replies: &[&[u8]], width: usize, between: usize) -> Option<Vec<u8>> {
     let mut queue = ReplyQueue::new(alloc);
     let mut taken = Vec::new(alloc);
     for reply in replies {
