@@ -1,6 +1,8 @@
 //! The trait for what handles requests.
 
 ghost use Rattle.droid_frame.specs.Replies.{HasReplySpelling};
+ghost use Rattle.droid_frame.specs.types.frame.Frame.{Frame};
+ghost use Rattle.droid_frame.specs.types.reply.Reply.{Reply};
 
 use droid_frame::{Frame, Reply};
 
