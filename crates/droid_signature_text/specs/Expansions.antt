@@ -1,9 +1,7 @@
 -- Terms as patterns of a registry: bytes match the terms exactly if they match one of the patterns.
-use Rattle.std.specs.Prelude.{ℕ, ◌+◌, ◌-◌, ◌*◌, ◌==◌, ◌⊎◌, nat_lt, zero, suc, List, [], ◌∷◌, ◌++◌, length, map, replicate, Option, Some, None, option_map, if◌then◌else◌}
-use Rattle.std.specs.List.{flat_map}
-use Rattle.droid_pronom_pattern.specs.Patterns.{Element, Lang}
-use Rattle.droid_pronom_pattern.specs.Patterns as pattern
-use Rattle.droid_signature_text.specs.Terms.{Atom, Byte, AnyByte, Gap, OpenGap, Except, Outside, Between, Quoted, Term, One, OneOf}
+use Rattle.std.specs.Prelude.{ℕ, ◌+◌, ◌-◌, ◌==◌, ◌⊎◌, nat_lt, zero, suc, List, [], ◌∷◌, ◌++◌, length, map, Option, Some, None, option_map, if◌then◌else◌}
+use Rattle.droid_pronom_specs.Patterns.{Element, Byte, AnyByte, Gap, OpenGap, Range, Except, Choice, Lang}
+use Rattle.droid_signature_text.specs.Terms.{Atom, Plain, Outside, Between, Quoted, Term, One, OneOf}
 
 -- one of the patterns matches the bytes
 abbrev pub MatchesAny : List (List Element) → List ℕ → Type 0
@@ -12,7 +10,8 @@ MatchesAny (es ∷ more) bytes = Lang es bytes ⊎ MatchesAny more bytes
 
 -- each pattern of the first list with each of the second behind it
 abbrev pub joined : List (List Element) → List (List Element) → List (List Element)
-joined firsts seconds = flat_map (λ first. map (λ second. first ++ second) seconds) firsts
+joined [] seconds = []
+joined (first ∷ firsts) seconds = map (λ second. first ++ second) seconds ++ joined firsts seconds
 
 -- `count` numbers, from n on
 abbrev pub upward : ℕ → ℕ → List ℕ
@@ -25,11 +24,16 @@ runs_outside low high = map (λ b. b ∷ []) (upward 0 low ++ upward (high + 1) 
 
 -- a byte in front of each pattern
 abbrev pub with_byte : ℕ → List (List Element) → List (List Element)
-with_byte b patterns = map (λ es. pattern.Byte b ∷ es) patterns
+with_byte b patterns = map (λ es. Byte b ∷ es) patterns
+
+-- any `count` bytes
+abbrev pub any_bytes : ℕ → List Element
+any_bytes zero = []
+any_bytes (suc count) = Range 0 255 ∷ any_bytes count
 
 -- a byte from `low` on and less than `end`, if there is one, and `count` bytes behind it
 abbrev pub range_before : (low end count : ℕ) → List (List Element)
-range_before low end count = if nat_lt low end then (pattern.Range low (end - 1) ∷ replicate count (pattern.Range 0 255)) ∷ [] else []
+range_before low end count = if nat_lt low end then (Range low (end - 1) ∷ any_bytes count) ∷ [] else []
 
 -- as many bytes as there are, and no less in number
 abbrev pub upward_from : List ℕ → List (List Element)
@@ -50,22 +54,11 @@ ranges (l ∷ low) (h ∷ high) =
     if l == h then with_byte l (ranges low high)
     else with_byte l (upward_from low) ++ range_before (l + 1) h (length low) ++ with_byte h (up_to high)
 
--- the patterns of a range: one element if it is of single bytes
-abbrev pub range_patterns : (low high : List ℕ) → List (List Element)
-range_patterns [] high = []
-range_patterns (l ∷ []) [] = []
-range_patterns (l ∷ []) (h ∷ more) = (pattern.Range l h ∷ []) ∷ []
-range_patterns (l ∷ k ∷ low) high = ranges (l ∷ k ∷ low) high
-
 abbrev pub patterns_of_atom : Atom → List (List Element)
-patterns_of_atom (Byte b) = (pattern.Byte b ∷ []) ∷ []
-patterns_of_atom AnyByte = (pattern.AnyByte ∷ []) ∷ []
-patterns_of_atom (Gap least most) = (pattern.Gap least most ∷ []) ∷ []
-patterns_of_atom (OpenGap least) = (pattern.OpenGap least ∷ []) ∷ []
-patterns_of_atom (Except b) = (pattern.Except b ∷ []) ∷ []
-patterns_of_atom (Outside low high) = (pattern.Choice (runs_outside low high) ∷ []) ∷ []
-patterns_of_atom (Between low high) = range_patterns low high
-patterns_of_atom (Quoted bytes) = map pattern.Byte bytes ∷ []
+patterns_of_atom (Plain e) = (e ∷ []) ∷ []
+patterns_of_atom (Outside low high) = (Choice (runs_outside low high) ∷ []) ∷ []
+patterns_of_atom (Between low high) = ranges low high
+patterns_of_atom (Quoted bytes) = map Byte bytes ∷ []
 
 abbrev pub patterns_of_atoms : List Atom → List (List Element)
 patterns_of_atoms [] = [] ∷ []
@@ -74,14 +67,16 @@ patterns_of_atoms (a ∷ atoms) = joined (patterns_of_atom a) (patterns_of_atoms
 -- the bytes of items that stand for one run of bytes
 abbrev pub run_of : List Atom → Option (List ℕ)
 run_of [] = Some []
-run_of (Byte b ∷ atoms) = option_map (λ bytes. b ∷ bytes) (run_of atoms)
-run_of (Quoted text ∷ atoms) = option_map (λ bytes. text ++ bytes) (run_of atoms)
-run_of (AnyByte ∷ atoms) = None
-run_of (Gap least most ∷ atoms) = None
-run_of (OpenGap least ∷ atoms) = None
-run_of (Except b ∷ atoms) = None
+run_of (Plain (Byte b) ∷ atoms) = option_map (λ bytes. b ∷ bytes) (run_of atoms)
+run_of (Plain AnyByte ∷ atoms) = None
+run_of (Plain (Gap least most) ∷ atoms) = None
+run_of (Plain (OpenGap least) ∷ atoms) = None
+run_of (Plain (Range low high) ∷ atoms) = None
+run_of (Plain (Except b) ∷ atoms) = None
+run_of (Plain (Choice alternatives) ∷ atoms) = None
 run_of (Outside low high ∷ atoms) = None
 run_of (Between low high ∷ atoms) = None
+run_of (Quoted text ∷ atoms) = option_map (λ bytes. text ++ bytes) (run_of atoms)
 
 -- the runs of alternatives, if each of them is one
 abbrev pub with_run : Option (List ℕ) → Option (List (List ℕ)) → Option (List (List ℕ))
@@ -92,10 +87,15 @@ abbrev pub runs_of : List (List Atom) → Option (List (List ℕ))
 runs_of [] = Some []
 runs_of (atoms ∷ more) = with_run (run_of atoms) (runs_of more)
 
--- alternatives are one element if all are runs of bytes, and else a pattern each
+-- the patterns of each alternative
+abbrev pub patterns_of_each : List (List Atom) → List (List Element)
+patterns_of_each [] = []
+patterns_of_each (atoms ∷ more) = patterns_of_atoms atoms ++ patterns_of_each more
+
+-- alternatives are one element if all are runs of bytes, and else patterns each
 abbrev pub patterns_of_choice : Option (List (List ℕ)) → List (List Atom) → List (List Element)
-patterns_of_choice (Some runs) alternatives = (pattern.Choice runs ∷ []) ∷ []
-patterns_of_choice None alternatives = flat_map patterns_of_atoms alternatives
+patterns_of_choice (Some runs) alternatives = (Choice runs ∷ []) ∷ []
+patterns_of_choice None alternatives = patterns_of_each alternatives
 
 abbrev pub patterns_of_term : Term → List (List Element)
 patterns_of_term (One a) = patterns_of_atom a

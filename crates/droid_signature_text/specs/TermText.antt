@@ -1,13 +1,23 @@
 -- How the text of a Sequence or a fragment is written. What a registry's pattern has is written as there.
-use Rattle.std.specs.Prelude.{◌≡◌, ◌≢◌, ℕ, ◌+◌, ◌≤◌, ◌<◌, List, [], ◌∷◌, ◌++◌, length, codes}
+use Rattle.std.specs.Prelude.{◌≡◌, ◌≢◌, ℕ, ◌+◌, ◌≤◌, ◌<◌, ⊤, List, [], ◌∷◌, ◌++◌, length, codes}
 use Rattle.std.specs.List.{AllByRecursion}
-use Rattle.droid_pronom_pattern.specs.Patterns as pattern
+use Rattle.droid_pronom_pattern.specs.Patterns.{Element, Byte, AnyByte, Gap, OpenGap, Range, Except, Choice}
 use Rattle.droid_pronom_pattern.specs.PatternText.{SpellsBytes, SpellsElement}
-use Rattle.droid_signature_text.specs.Terms.{Atom, Byte, AnyByte, Gap, OpenGap, Except, Outside, Between, Quoted, Term, One, OneOf, number_after}
+use Rattle.droid_signature_text.specs.Terms.{Atom, Plain, Outside, Between, Quoted, Term, One, OneOf, number_after}
 
--- The bounds of a range of one byte or several: as many bytes each, the low one at most the high one.
+-- an element that a text writes as a registry's pattern does: any but alternatives, which may have more between their bars
+abbrev pub IsPlain : Element → Type 0
+IsPlain (Byte b) = ⊤
+IsPlain AnyByte = ⊤
+IsPlain (Gap least most) = ⊤
+IsPlain (OpenGap least) = ⊤
+IsPlain (Range low high) = ⊤
+IsPlain (Except b) = ⊤
+IsPlain (Choice alternatives) = ⊥
+
+-- The bounds of a range of several bytes: as many bytes each, the low one at most the high one.
 pub record AreBounds (low high : List ℕ) : Type 0 where
-  pub some : 0 < length low
+  pub several : 1 < length low
   pub same : length low ≡ length high
   pub ordered : number_after 0 low ≤ number_after 0 high
 
@@ -15,13 +25,9 @@ pub record AreBounds (low high : List ℕ) : Type 0 where
 abbrev pub IsQuotable : ℕ → Type 0
 IsQuotable c = (c < 128) × (c ≢ 39)
 
--- The text of one item: `61`, `??`, `{3}` or `{2-5}`, `{2-*}` or `*`, `[!61]`, `[!61:7A]`, `[61:7A]` or `[0100:0300]`, `'text'`.
+-- The text of one item: as in a registry's pattern, or `[!61:7A]`, `[0100:0300]`, `'text'`.
 abbrev pub SpellsAtom : List ℕ → Atom → Type 0
-SpellsAtom text (Byte b) = SpellsElement text (pattern.Byte b)
-SpellsAtom text AnyByte = SpellsElement text pattern.AnyByte
-SpellsAtom text (Gap n m) = SpellsElement text (pattern.Gap n m)
-SpellsAtom text (OpenGap n) = SpellsElement text (pattern.OpenGap n)
-SpellsAtom text (Except b) = SpellsElement text (pattern.Except b)
+SpellsAtom text (Plain e) = SpellsElement text e × IsPlain e
 SpellsAtom text (Outside low high) =
     (from : List ℕ) × (to : List ℕ) × (text ≡ codes "[!" ++ from ++ (codes ":" ++ to) ++ codes "]")
     × SpellsBytes from (low ∷ []) × SpellsBytes to (high ∷ []) × (low ≤ high) × (high < low + 255)

@@ -1,14 +1,11 @@
 -- What the text of a Sequence or a fragment is made of, and which bytes it stands for (the syntax of DROID's signature files).
-use Rattle.std.specs.Prelude.{◌≡◌, ◌≢◌, ◌⊎◌, ℕ, ◌+◌, ◌*◌, ◌≤◌, ◌<◌, List, [], ◌∷◌, ◌++◌, length}
+use Rattle.std.specs.Prelude.{◌≡◌, ◌⊎◌, ℕ, ◌+◌, ◌*◌, ◌≤◌, ◌<◌, List, [], ◌∷◌, ◌++◌, length}
 use Rattle.std.specs.List.{AllByRecursion}
+use Rattle.droid_pronom_pattern.specs.Patterns.{Element, Matches}
 
--- one item of a text
+-- one item of a text: an element of a registry's pattern, one byte outside a range, a range of several bytes, or quoted text
 pub data Atom : Type 0 where
-  Byte : (byte : ℕ) → Atom
-  AnyByte : Atom
-  Gap : (least most : ℕ) → Atom
-  OpenGap : (least : ℕ) → Atom
-  Except : (byte : ℕ) → Atom
+  Plain : (element : Element) → Atom
   Outside : (low high : ℕ) → Atom
   Between : (low high : List ℕ) → Atom
   Quoted : (bytes : List ℕ) → Atom
@@ -40,16 +37,8 @@ pub record IsBetween (low high bytes : List ℕ) : Type 0 where
 
 -- the bytes that one item stands for
 abbrev pub AtomMatches : Atom → List ℕ → Type 0
--- that byte
-AtomMatches (Byte b) bytes = bytes ≡ b ∷ []
--- any one byte
-AtomMatches AnyByte bytes = length bytes ≡ 1
--- any bytes, from `least` to `most` of them
-AtomMatches (Gap least most) bytes = (least ≤ length bytes) × (length bytes ≤ most)
--- any bytes, `least` of them or more
-AtomMatches (OpenGap least) bytes = least ≤ length bytes
--- one byte other than that
-AtomMatches (Except b) bytes = (x : ℕ) × (bytes ≡ x ∷ []) × (x ≢ b)
+-- what the element matches
+AtomMatches (Plain e) bytes = Matches e bytes
 -- one byte below the low or above the high one
 AtomMatches (Outside low high) bytes = (x : ℕ) × (bytes ≡ x ∷ []) × (x < 256) × ((x < low) ⊎ (high < x))
 -- bytes of a range

@@ -1,0 +1,4 @@
+-- When the signatures of a signature file hit a file of bytes.
+pub mod Meaning
+-- The byte sequences of a registry that hit the same files.
+pub mod Sequences

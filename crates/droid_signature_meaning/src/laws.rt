@@ -1,0 +1,24 @@
+//! Laws of the meaning. Each is the contract of a function that does nothing.
+
+ghost use Rattle.std.specs.Prelude.{◌↔◌, ℕ, List};
+ghost use Rattle.droid_pronom_pattern.specs.Patterns.{Element};
+ghost use Rattle.droid_pronom_formats.specs.Found.{Hits};
+ghost use Rattle.droid_pronom_formats.specs.Registry.{AnyOf};
+ghost use Rattle.droid_pronom_formats.specs.declared.rows.ByteSequence.{ByteSequence};
+ghost use Rattle.droid_pronom_formats.specs.declared.rows.Offsets.{Offsets};
+ghost use Rattle.std.specs.List.{AllByRecursion};
+ghost use Rattle.droid_signature_records.specs.Records.{ByteSequenceRecord, SignatureRecord};
+ghost use Rattle.droid_signature_meaning.specs.Meaning.{SequenceHits, SignatureHits};
+ghost use Rattle.droid_signature_meaning.specs.Sequences.{StandFor, choices, combinations, AreChoicesOf};
+
+/// States that a byte sequence hits exactly where one of the registry's byte sequences that stand for it does, under every
+/// scan limit.
+pub fn choices_hit_as_the_sequence()
+    ensures { (sequence : ByteSequenceRecord) (offsets : Offsets) (patterns : List (List Element)) (file : List ℕ) (scan_limit : ℕ) → StandFor sequence offsets patterns → AnyOf (Hits file scan_limit) (choices offsets patterns) ↔ SequenceHits file scan_limit sequence }
+{}
+
+/// States that a signature hits exactly where one of the registry's signatures that stand for it does, under every scan
+/// limit.
+pub fn combinations_hit_as_the_signature()
+    ensures { (signature : SignatureRecord) (all : List (List ByteSequence)) (file : List ℕ) (scan_limit : ℕ) → AreChoicesOf signature.sequences all → AnyOf (AllByRecursion (Hits file scan_limit)) (combinations all) ↔ SignatureHits file scan_limit signature }
+{}
