@@ -2,3 +2,5 @@
 pub mod Meaning
 -- The byte sequences of a registry that hit the same files.
 pub mod Sequences
+-- The patterns of subsequences whose texts are read.
+pub mod Pieces

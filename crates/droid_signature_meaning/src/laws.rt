@@ -7,9 +7,20 @@ ghost use Rattle.droid_pronom_formats.specs.Registry.{AnyOf};
 ghost use Rattle.droid_pronom_formats.specs.declared.rows.ByteSequence.{ByteSequence};
 ghost use Rattle.droid_pronom_formats.specs.declared.rows.Offsets.{Offsets};
 ghost use Rattle.std.specs.List.{AllByRecursion};
-ghost use Rattle.droid_signature_records.specs.Records.{ByteSequenceRecord, SignatureRecord};
-ghost use Rattle.droid_signature_meaning.specs.Meaning.{SequenceHits, SignatureHits};
-ghost use Rattle.droid_signature_meaning.specs.Sequences.{StandFor, choices, combinations, AreChoicesOf};
+ghost use Rattle.droid_signature_records.specs.Records.{SubSequenceRecord, ByteSequenceRecord, SignatureRecord};
+ghost use Rattle.droid_signature_meaning.specs.Meaning.{SequenceHits, SignatureHits, PartMatches, RowMatches};
+ghost use Rattle.droid_signature_meaning.specs.Pieces.{Piece, IsPiece, ArePieces, piece_patterns, row_patterns};
+ghost use Rattle.droid_signature_meaning.specs.Sequences.{ArePatternsOf, StandFor, choices, combinations, AreChoicesOf};
+
+/// States that the patterns of a subsequence match what it does, with all its fragments.
+pub fn a_subsequence_has_patterns()
+    ensures { (part : SubSequenceRecord) (piece : Piece) → IsPiece part piece → ArePatternsOf (PartMatches part) (piece_patterns piece) }
+{}
+
+/// States that the patterns of several subsequences match what they do, one behind the other.
+pub fn subsequences_have_patterns()
+    ensures { (part : SubSequenceRecord) (parts : List SubSequenceRecord) (piece : Piece) (pieces : List Piece) → IsPiece part piece → ArePieces parts pieces → ArePatternsOf (RowMatches part parts) (row_patterns piece pieces) }
+{}
 
 /// States that a byte sequence hits exactly where one of the registry's byte sequences that stand for it does, under every
 /// scan limit.

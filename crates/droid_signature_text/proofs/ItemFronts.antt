@@ -314,3 +314,18 @@ some_item (Plain e) front spelled = element.some_text e front spelled.0
 some_item (Outside low high) front (from, to, is, more) = omega (arith, ap length is)
 some_item (Between low high) front (from, to, is, more) = omega (arith, ap length is)
 some_item (Quoted bytes) front (is, more) = omega (arith, ap length is)
+
+-- in braces stand elements alone
+pub only_plain_braces : (body : List ℕ) → ((e : Element) → SpellsInBraces body e → ⊥) → (a : Atom) → InBraces body a → ⊥
+only_plain_braces body none (Plain e) h = none e h
+only_plain_braces body none (Outside low high) h = h
+only_plain_braces body none (Between low high) h = h
+only_plain_braces body none (Quoted bytes) h = h
+
+-- in brackets stands one of three forms
+pub no_brackets : (body : List ℕ) → ((e : Element) → SpellsInBrackets body e → ⊥) → ((low high : ℕ) → InBrackets body (Outside low high) → ⊥) → ((low high : List ℕ) → InBrackets body (Between low high) → ⊥)
+    → (a : Atom) → InBrackets body a → ⊥
+no_brackets body plain outside several (Plain e) h = plain e h
+no_brackets body plain outside several (Outside low high) h = outside low high h
+no_brackets body plain outside several (Between low high) h = several low high h
+no_brackets body plain outside several (Quoted bytes) h = h

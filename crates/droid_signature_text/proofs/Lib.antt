@@ -1,3 +1,4 @@
+pub mod FaultLemmas
 pub mod PatternSets
 pub mod Numbers
 pub mod RangeSets

@@ -67,15 +67,15 @@ fronted_nil b (es ∷ patterns) (inr other) = fronted_nil b patterns other
 
 between_where : (t : Bool) (low end count y : ℕ) (bytes : List ℕ) → (t ≡ true → low < end) → (t ≡ false → end ≤ low)
     → MatchesAny (if t then (Range low (end - 1) ∷ any_bytes count) ∷ [] else []) (y ∷ bytes) ↔ ((low ≤ y) × (y < end) × (length bytes ≡ count) × AreBytes bytes)
-between_where true low end count y bytes yes no =
-    let some : low < end = yes refl in
+between_where true low end count y bytes holds fails =
+    let some : low < end = holds refl in
     let here = Range-cons low (end - 1) (any_bytes count) y bytes in
     let more = free count bytes in (
       λ h. ⊎_elim (λ one. let (from, to, rest) = here.0 one in let (long, all) = more.0 rest in (from, omega arith, long, all)) (λ none. absurd none) h,
       λ (from, to, long, all). inl (here.1 (from, omega arith, more.1 (long, all))),
     )
-between_where false low end count y bytes yes no =
-    let none : end ≤ low = no refl in
+between_where false low end count y bytes holds fails =
+    let none : end ≤ low = fails refl in
     (λ h. absurd h, λ (from, to, long, all). absurd (omega arith))
 
 between : (low end count y : ℕ) (bytes : List ℕ) → MatchesAny (range_before low end count) (y ∷ bytes) ↔ ((low ≤ y) × (y < end) × (length bytes ≡ count) × AreBytes bytes)
@@ -163,9 +163,9 @@ ranges_where : (t : Bool) (l h : ℕ) (low high bytes : List ℕ) (n : ℕ) → 
     → length low ≡ length high → AreBytes (l ∷ low) → AreBytes (h ∷ high) → number_after n (l ∷ low) ≤ number_after n (h ∷ high)
     → ((ys : List ℕ) (m : ℕ) → number_after m low ≤ number_after m high → MatchesAny (ranges low high) ys ↔ Within m low high ys)
     → MatchesAny (if t then with_byte l (ranges low high) else with_byte l (upward_from low) ++ range_before (l + 1) h (length low) ++ with_byte h (up_to high)) bytes ↔ Within n (l ∷ low) (h ∷ high) bytes
-ranges_where true l h low high [] n yes no same ls hs ordered more = (λ w. fronted_nil l (ranges low high) w, λ (long, bs, a, b). absurd (omega arith))
-ranges_where true l h low high (y ∷ bytes) n yes no same ls hs ordered more =
-    let heads : l ≡ h = yes refl in
+ranges_where true l h low high [] n holds fails same ls hs ordered more = (λ w. fronted_nil l (ranges low high) w, λ (long, bs, a, b). absurd (omega arith))
+ranges_where true l h low high (y ∷ bytes) n holds fails same ls hs ordered more =
+    let heads : l ≡ h = holds refl in
     let small : l < 256 = ls.0 in
     let here = fronted l (ranges low high) y bytes in
     let lower : number_after (256 * n + l) low ≤ number_after (256 * n + l) high = rw (sym heads) at ordered in
@@ -181,17 +181,17 @@ ranges_where true l h low high (y ∷ bytes) n yes no same ls hs ordered more =
           (λ below. absurd (let turned = less_after bytes low (256 * n + y) (256 * n + l) tail bs.1 (omega arith) in omega arith)) differ)
           (cases_order l y),
     )
-ranges_where false l h low high [] n yes no same ls hs ordered more = (
+ranges_where false l h low high [] n holds fails same ls hs ordered more = (
   λ w. ⊎_elim
   (λ v. ⊎_elim (λ a. fronted_nil l (upward_from low) a) (λ b. between_nil (l + 1) h (length low) b) ((any_append (with_byte l (upward_from low)) (range_before (l + 1) h (length low)) []).0 v))
   (λ c. fronted_nil h (up_to high) c)
   ((any_append (with_byte l (upward_from low) ++ range_before (l + 1) h (length low)) (with_byte h (up_to high)) []).0 w),
   λ (long, bs, a, b). absurd (omega arith),
 )
-ranges_where false l h low high (y ∷ bytes) n yes no same ls hs ordered more =
+ranges_where false l h low high (y ∷ bytes) n holds fails same ls hs ordered more =
     let small : l < 256 = ls.0 in
     let small' : h < 256 = hs.0 in
-    let less : l < h = ⊎_elim (λ e. absurd (no refl e)) (λ w. ⊎_elim (λ x. x) (λ turned. absurd (let bad = less_after high low (256 * n + h) (256 * n + l) (sym same) hs.1 (omega arith) in omega arith)) w) (cases_order l h) in
+    let less : l < h = ⊎_elim (λ e. absurd (fails refl e)) (λ w. ⊎_elim (λ x. x) (λ turned. absurd (let bad = less_after high low (256 * n + h) (256 * n + l) (sym same) hs.1 (omega arith) in omega arith)) w) (cases_order l h) in
     let outer = any_append (with_byte l (upward_from low) ++ range_before (l + 1) h (length low)) (with_byte h (up_to high)) (y ∷ bytes) in
     let inner = any_append (with_byte l (upward_from low)) (range_before (l + 1) h (length low)) (y ∷ bytes) in
     let as_low = fronted l (upward_from low) y bytes in

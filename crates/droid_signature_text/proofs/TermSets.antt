@@ -3,8 +3,8 @@ use Rattle.std.proofs.Common.{◌≡◌, ◌≢◌, ◌↔◌, ◌⊎◌, ℕ, z
 use Rattle.std.specs.Prelude.{option_map}
 use Rattle.std.specs.Char.{digit_value}
 use Rattle.std.proofs.lemmas.List.Elements.{Contains-append_left, Contains-append_right, Contains-append_cases}
-use Rattle.droid_pronom_specs.Patterns.{Element, Byte, AnyByte, Gap, OpenGap, Range, Except, Choice, Lang}
-use Rattle.droid_pronom_specs.PatternText.{SpellsBytes}
+use Rattle.droid_pronom_pattern.specs.Patterns.{Element, Byte, AnyByte, Gap, OpenGap, Range, Except, Choice, Lang}
+use Rattle.droid_pronom_pattern.specs.PatternText.{SpellsBytes}
 use Rattle.droid_signature_text.specs.Terms.{Atom, Plain, Outside, Between, Quoted, Term, One, OneOf, InTurn, AreBytes, AtomMatches, AtomsMatch, AlternativesMatch, TermMatches, TermsMatch, number_after}
 use Rattle.droid_signature_text.specs.TermText.{SpellsAtom, SpellsAtoms, SpellsAlternatives, SpellsTerm, SpellsTerms}
 use Rattle.droid_signature_text.specs.Expansions.{MatchesAny, joined, upward, runs_outside, ranges, patterns_of_atom, patterns_of_atoms, patterns_of_each, patterns_of_choice, patterns_of_term, patterns_of, run_of, runs_of, with_run}
@@ -48,8 +48,8 @@ atom_match (Outside low high) text bytes (from, to, is, first, second, ordered, 
     both_ways (one_element (Choice (runs_outside low high)) bytes) (outside_has low high bytes small small')
 atom_match (Between low high) text bytes (from, to, is, first, second, bounds) =
     let all = ranges_match low high bytes 0 bounds.same (spelled_bytes low from first) (spelled_bytes high to second) bounds.ordered in (
-      λ h. let (long, bs, a, b) = all.0 h in record { long = long; bytes = bs; from_low = a; to_high = b },
-      λ w. all.1 (w.long, w.bytes, w.from_low, w.to_high),
+      λ h. let (long, bs, a, b) = all.0 h in record { long = long; each = bs; from_low = a; to_high = b },
+      λ w. all.1 (w.long, w.each, w.from_low, w.to_high),
     )
 atom_match (Quoted run) text bytes spelled = both_ways (any_one (map Byte run) bytes) (Lang-bytes run bytes)
 
@@ -67,21 +67,23 @@ atoms_match (a ∷ atoms) text bytes (front, back, is, first, second) =
 -- items that are one run of bytes
 run_match : (atoms : List Atom) (run bytes : List ℕ) → run_of atoms ≡ Some run → AtomsMatch atoms bytes ↔ (bytes ≡ run)
 run_match [] run bytes e = let none : [] ≡ run = cc in (λ is. is ∙ none, λ is. is ∙ sym none)
-run_match (Plain (Byte b) ∷ atoms) run bytes e = go (run_of atoms) refl e
+run_match (Plain (Byte b) ∷ atoms) run bytes e = go (λ rest xs is. run_match atoms rest xs is) (run_of atoms) refl e
   where
-    go : (rest : Option (List ℕ)) → run_of atoms ≡ rest → option_map (λ bs. b ∷ bs) rest ≡ Some run → AtomsMatch (Plain (Byte b) ∷ atoms) bytes ↔ (bytes ≡ run)
-    go None is bad = absurd cc
-    go (Some rest) is whole = let both : b ∷ rest ≡ run = cc in (
-      λ (front, back, cut, one, more). cut ∙ ap (λ z. z ++ back) one ∙ ap (λ z. b ∷ z) ((run_match atoms rest back is).0 more) ∙ both,
-      λ there. (b ∷ [], rest, there ∙ sym both, refl, (run_match atoms rest rest is).1 refl),
+    go : ((rest xs : List ℕ) → run_of atoms ≡ Some rest → AtomsMatch atoms xs ↔ (xs ≡ rest)) → (rest : Option (List ℕ)) → run_of atoms ≡ rest → option_map (λ bs. b ∷ bs) rest ≡ Some run
+        → AtomsMatch (Plain (Byte b) ∷ atoms) bytes ↔ (bytes ≡ run)
+    go again None is bad = absurd cc
+    go again (Some rest) is whole = let both : b ∷ rest ≡ run = cc in (
+      λ (front, back, cut, one, more). cut ∙ ap (λ z. z ++ back) one ∙ ap (λ z. b ∷ z) ((again rest back is).0 more) ∙ both,
+      λ there. (b ∷ [], rest, there ∙ sym both, refl, (again rest rest is).1 refl),
     )
-run_match (Quoted text ∷ atoms) run bytes e = go (run_of atoms) refl e
+run_match (Quoted text ∷ atoms) run bytes e = go (λ rest xs is. run_match atoms rest xs is) (run_of atoms) refl e
   where
-    go : (rest : Option (List ℕ)) → run_of atoms ≡ rest → option_map (λ bs. text ++ bs) rest ≡ Some run → AtomsMatch (Quoted text ∷ atoms) bytes ↔ (bytes ≡ run)
-    go None is bad = absurd cc
-    go (Some rest) is whole = let both : text ++ rest ≡ run = cc in (
-      λ (front, back, cut, one, more). cut ∙ ap (λ z. z ++ back) one ∙ ap (λ z. text ++ z) ((run_match atoms rest back is).0 more) ∙ both,
-      λ there. (text, rest, there ∙ sym both, refl, (run_match atoms rest rest is).1 refl),
+    go : ((rest xs : List ℕ) → run_of atoms ≡ Some rest → AtomsMatch atoms xs ↔ (xs ≡ rest)) → (rest : Option (List ℕ)) → run_of atoms ≡ rest → option_map (λ bs. text ++ bs) rest ≡ Some run
+        → AtomsMatch (Quoted text ∷ atoms) bytes ↔ (bytes ≡ run)
+    go again None is bad = absurd cc
+    go again (Some rest) is whole = let both : text ++ rest ≡ run = cc in (
+      λ (front, back, cut, one, more). cut ∙ ap (λ z. z ++ back) one ∙ ap (λ z. text ++ z) ((again rest back is).0 more) ∙ both,
+      λ there. (text, rest, there ∙ sym both, refl, (again rest rest is).1 refl),
     )
 run_match (Plain AnyByte ∷ atoms) run bytes e = absurd cc
 run_match (Plain (Gap least most) ∷ atoms) run bytes e = absurd cc
@@ -106,15 +108,16 @@ runs_match [] runs bytes e = let none : [] ≡ runs = cc in (λ h. empty (rw (sy
   where
     empty : Contains [] bytes → ⊥
     empty (k, below, is) = absurd (omega arith)
-runs_match (atoms ∷ more) runs bytes e = go (run_of atoms) (runs_of more) refl refl e
+runs_match (atoms ∷ more) runs bytes e = go (λ rest is. runs_match more rest bytes is) (run_of atoms) (runs_of more) refl refl e
   where
-    go : (run : Option (List ℕ)) (rest : Option (List (List ℕ))) → run_of atoms ≡ run → runs_of more ≡ rest → with_run run rest ≡ Some runs → Contains runs bytes ↔ AlternativesMatch (atoms ∷ more) bytes
-    go None rest is is' bad = absurd cc
-    go (Some run) None is is' bad = absurd cc
-    go (Some run) (Some rest) is is' whole =
+    go : ((rest : List (List ℕ)) → runs_of more ≡ Some rest → Contains rest bytes ↔ AlternativesMatch more bytes)
+        → (run : Option (List ℕ)) (rest : Option (List (List ℕ))) → run_of atoms ≡ run → runs_of more ≡ rest → with_run run rest ≡ Some runs → Contains runs bytes ↔ AlternativesMatch (atoms ∷ more) bytes
+    go again None rest is is' bad = absurd cc
+    go again (Some run) None is is' bad = absurd cc
+    go again (Some run) (Some rest) is is' whole =
         let both : run ∷ rest ≡ runs = cc in
         let here = run_match atoms run bytes is in
-        let others = runs_match more rest bytes is' in
+        let others = again rest is' in
         let cons = Contains-cons run bytes rest in (
           λ h. ⊎_elim (λ e'. inl (here.1 e')) (λ c. inr (others.0 c)) (cons.0 (rw (sym both) at h)),
           λ h. rw (sym both) (cons.1 (⊎_elim (λ a. inl (here.0 a)) (λ b. inr (others.1 b)) h)),

@@ -1,6 +1,6 @@
 -- Terms as patterns of a registry: bytes match the terms exactly if they match one of the patterns.
 use Rattle.std.specs.Prelude.{ℕ, ◌+◌, ◌-◌, ◌==◌, ◌⊎◌, nat_lt, zero, suc, List, [], ◌∷◌, ◌++◌, length, map, Option, Some, None, option_map, if◌then◌else◌}
-use Rattle.droid_pronom_specs.Patterns.{Element, Byte, AnyByte, Gap, OpenGap, Range, Except, Choice, Lang}
+use Rattle.droid_pronom_pattern.specs.Patterns.{Element, Byte, AnyByte, Gap, OpenGap, Range, Except, Choice, Lang}
 use Rattle.droid_signature_text.specs.Terms.{Atom, Plain, Outside, Between, Quoted, Term, One, OneOf}
 
 -- one of the patterns matches the bytes

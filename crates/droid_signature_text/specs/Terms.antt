@@ -31,7 +31,7 @@ AreBytes bytes = AllByRecursion (λ b. b < 256) bytes
 -- as many bytes as in the bounds, whose big-endian number is one from the low to the high one, both included
 pub record IsBetween (low high bytes : List ℕ) : Type 0 where
   pub long : length bytes ≡ length low
-  pub bytes : AreBytes bytes
+  pub each : AreBytes bytes
   pub from_low : number_after 0 low ≤ number_after 0 bytes
   pub to_high : number_after 0 bytes ≤ number_after 0 high
 
