@@ -3,7 +3,3 @@ pub mod Terms
 pub mod TermText
 -- Terms as patterns of a registry.
 pub mod Expansions
--- The terms that the code's values stand for.
-pub mod TermValues
--- For proofs: what the steps of reading promise each other.
-pub mod TextFronts

@@ -1,12 +1,5 @@
-//! The text of a DROID signature file's sequences and fragments: its terms, the bytes that they stand for, and their patterns.
+//! The text of a DROID signature file's sequences and fragments, as definitions: its terms, the bytes that they stand for,
+//! and the patterns of a registry that match the same bytes. `droid_signature_parser` reads such a text.
 #![tactic(auto)]
 
-mod item_parser;
 pub mod laws;
-mod parser;
-mod term;
-mod text_fault;
-
-pub use parser::read_text;
-pub use term::{TextItem, TextTerm};
-pub use text_fault::TextFault;

@@ -1,9 +1,9 @@
 -- Each form of an item, by its first character.
 use Rattle.std.proofs.Common.{◌∷◌, refl, ap, ◌∙◌, arith}
-use Rattle.droid_signature_text.specs.TextFronts.{InBraces, InBrackets, InQuotes}
-use Rattle.droid_signature_text.proofs.FaultLemmas.{passed_on}
-use Rattle.droid_signature_text.proofs.ItemFronts.{opens_braces, opens_brackets, opens_quotes, spells_braces, spells_brackets, spells_quotes, same_braces, same_brackets, same_quotes, only_plain_braces, marked_front, unmarked_front, bad_front, star_front, two_front, no_two_front}
-use Rattle.droid_signature_text.proofs.item_parser.item_of.Goals as goal
+use Rattle.droid_signature_parser.specs.TextFronts.{InBraces, InBrackets, InQuotes}
+use Rattle.droid_signature_parser.proofs.FaultLemmas.{passed_on}
+use Rattle.droid_signature_parser.proofs.ItemFronts.{opens_braces, opens_brackets, opens_quotes, spells_braces, spells_brackets, spells_quotes, same_braces, same_brackets, same_quotes, only_plain_braces, marked_front, unmarked_front, bad_front, star_front, two_front, no_two_front}
+use Rattle.droid_signature_parser.proofs.item_parser.item_of.Goals as goal
 
 pub returns-in-42-clause-front : goal.returns-in-42-clause-front
 returns-in-42-clause-front c =

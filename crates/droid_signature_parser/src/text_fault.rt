@@ -1,7 +1,7 @@
 //! The errors of reading a text.
 
 ghost use Rattle.std.specs.Prelude.{◌≡◌};
-ghost use Rattle.droid_signature_text.specs.declared.text_fault.TextFault.TheVariants.{Memory};
+ghost use Rattle.droid_signature_parser.specs.declared.text_fault.TextFault.TheVariants.{Memory};
 
 use std::alloc::{AllocError, AllocFailed};
 use thiserror::Error;

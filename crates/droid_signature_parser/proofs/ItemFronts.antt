@@ -11,7 +11,7 @@ use Rattle.droid_pronom_pattern.proofs.TextLemmas.{first_mark, mark_between, byt
 use Rattle.droid_pronom_pattern.proofs.FrontLemmas as element
 use Rattle.droid_signature_text.specs.Terms.{Atom, Plain, Outside, Between, Quoted}
 use Rattle.droid_signature_text.specs.TermText.{IsPlain, AreBounds, IsQuotable, SpellsAtom}
-use Rattle.droid_signature_text.specs.TextFronts.{IsOnlyFront, HasNoFront, InPair, InBraces, InBrackets, InQuotes}
+use Rattle.droid_signature_parser.specs.TextFronts.{IsOnlyFront, HasNoFront, InPair, InBraces, InBrackets, InQuotes}
 
 -- an item of a list is the first or a later one
 pub contains_cons : (x c : ℕ) (xs : List ℕ) → Contains (x ∷ xs) c → (x ≡ c) ⊎ Contains xs c

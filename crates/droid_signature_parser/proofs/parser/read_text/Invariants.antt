@@ -1,8 +1,8 @@
 -- What the rest spells completes what the text spells.
 use Rattle.std.proofs.Common.{length, map}
-use Rattle.droid_signature_text.specs.TermValues.{term_of}
-use Rattle.droid_signature_text.proofs.TermFronts.{TermsLeft}
-use Rattle.droid_signature_text.proofs.parser.read_text.Given as goal
+use Rattle.droid_signature_parser.specs.TermValues.{term_of}
+use Rattle.droid_signature_parser.proofs.TermFronts.{TermsLeft}
+use Rattle.droid_signature_parser.proofs.parser.read_text.Given as goal
 
 abbrev pub invariant-loop-rest : goal.invariant-loop-rest
 invariant-loop-rest l = TermsLeft l.text (map term_of l.terms.items) l.rest

@@ -2,10 +2,10 @@
 use Rattle.std.proofs.Common.{◌∷◌, [], map, ap, ◌∙◌}
 use Rattle.std.proofs.lemmas.List.{map-append}
 use Rattle.droid_pronom_pattern.proofs.TextLemmas.{is_none, is_some_list}
-use Rattle.droid_signature_text.specs.TermValues.{term_of}
-use Rattle.droid_signature_text.proofs.FaultLemmas.{passed_on}
-use Rattle.droid_signature_text.proofs.TermFronts.{terms_next, terms_bad, terms_end, terms_only}
-use Rattle.droid_signature_text.proofs.parser.read_text.Goals as goal
+use Rattle.droid_signature_parser.specs.TermValues.{term_of}
+use Rattle.droid_signature_parser.proofs.FaultLemmas.{passed_on}
+use Rattle.droid_signature_parser.proofs.TermFronts.{terms_next, terms_bad, terms_end, terms_only}
+use Rattle.droid_signature_parser.proofs.parser.read_text.Goals as goal
 
 pub returns-in_err-term-clause-bad : goal.returns-in_err-term-clause-bad
 returns-in_err-term-clause-bad c = λ was.

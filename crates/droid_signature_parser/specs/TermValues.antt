@@ -2,10 +2,10 @@
 use Rattle.std.specs.Prelude.{ℕ, Option, Some, None, map}
 use Rattle.droid_pronom_pattern.specs.Patterns.{Element, Byte, AnyByte, Gap, OpenGap, Range, Except}
 use Rattle.droid_signature_text.specs.Terms.{Atom, Plain, Outside, Between, Quoted, Term, One, OneOf}
-use Rattle.droid_signature_text.specs.declared.term.TextItem.{TextItem}
-use Rattle.droid_signature_text.specs.declared.term.TextItem.TheVariants as items
-use Rattle.droid_signature_text.specs.declared.term.TextTerm.{TextTerm}
-use Rattle.droid_signature_text.specs.declared.term.TextTerm.TheVariants as terms
+use Rattle.droid_signature_parser.specs.declared.term.TextItem.{TextItem}
+use Rattle.droid_signature_parser.specs.declared.term.TextItem.TheVariants as items
+use Rattle.droid_signature_parser.specs.declared.term.TextTerm.{TextTerm}
+use Rattle.droid_signature_parser.specs.declared.term.TextTerm.TheVariants as terms
 
 -- a gap, with an upper limit or none
 abbrev pub gap_of : ℕ → Option ℕ → Element

@@ -5,8 +5,8 @@ use Rattle.std.specs.Prelude.{◌==◌}
 use Rattle.std.proofs.lemmas.List.{append-nil, length-append}
 use Rattle.droid_signature_text.specs.Terms.{Atom, Term, One, OneOf}
 use Rattle.droid_signature_text.specs.TermText.{SpellsAtom, SpellsAtoms, SpellsAlternatives, SpellsTerm, SpellsTerms}
-use Rattle.droid_signature_text.specs.TextFronts.{IsOnlyFront, HasNoFront, AtomsTo, InParentheses, is_stop}
-use Rattle.droid_signature_text.proofs.ItemFronts.{heads, not_bar, not_closing, not_parenthesis, some_item}
+use Rattle.droid_signature_parser.specs.TextFronts.{IsOnlyFront, HasNoFront, AtomsTo, InParentheses, is_stop}
+use Rattle.droid_signature_parser.proofs.ItemFronts.{heads, not_bar, not_closing, not_parenthesis, some_item}
 
 -- no item stands at a stop
 nothing_at_stop : (text : List ℕ) → is_stop text ≡ true → (a : Atom) (front rest : List ℕ) → text ≡ front ++ rest → SpellsAtom front a → ⊥

@@ -7,8 +7,8 @@ ghost use Rattle.droid_pronom_pattern.specs.PatternText.{IsPair, IsNumber, Spell
 ghost use Rattle.droid_pronom_pattern.specs.Fronts.{SpellsInPair, SpellsInBraces, SpellsInBrackets};
 ghost use Rattle.droid_signature_text.specs.Terms.{Atom, Outside, Between, number_after};
 ghost use Rattle.droid_signature_text.specs.TermText.{AreBounds, IsQuotable, SpellsAtom};
-ghost use Rattle.droid_signature_text.specs.TermValues.{atom_of};
-ghost use Rattle.droid_signature_text.specs.TextFronts.{IsOnlyFront, HasNoFront, InPair, InBraces, InBrackets, InQuotes};
+ghost use Rattle.droid_signature_parser.specs.TermValues.{atom_of};
+ghost use Rattle.droid_signature_parser.specs.TextFronts.{IsOnlyFront, HasNoFront, InPair, InBraces, InBrackets, InQuotes};
 
 use crate::term::TextItem;
 use crate::text_fault::TextFault;

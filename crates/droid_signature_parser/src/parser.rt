@@ -3,8 +3,8 @@
 ghost use Rattle.std.specs.Prelude.{◌≡◌, ◌<◌, ℕ, List, length, map, IfOk, IsErrOf};
 ghost use Rattle.droid_signature_text.specs.Terms.{Atom, Term};
 ghost use Rattle.droid_signature_text.specs.TermText.{SpellsTerm, SpellsTerms};
-ghost use Rattle.droid_signature_text.specs.TermValues.{atom_of, term_of};
-ghost use Rattle.droid_signature_text.specs.TextFronts.{IsOnlyFront, HasNoFront, AtomsTo, InParentheses, is_stop};
+ghost use Rattle.droid_signature_parser.specs.TermValues.{atom_of, term_of};
+ghost use Rattle.droid_signature_parser.specs.TextFronts.{IsOnlyFront, HasNoFront, AtomsTo, InParentheses, is_stop};
 
 use crate::item_parser::item_of;
 use crate::term::{TextItem, TextTerm};
