@@ -122,6 +122,6 @@ parts_hit Other part further anchor low high patterns file scan_limit none botto
 pub choices_hit : (sequence : ByteSequenceRecord) (offsets : Offsets) (patterns : List (List Element)) (file : List ℕ) (scan_limit : ℕ)
     → StandFor sequence offsets patterns → AnyOf (Hits file scan_limit) (choices offsets patterns) ↔ SequenceHits file scan_limit sequence
 choices_hit sequence offsets patterns file scan_limit s =
-    let all = parts_hit sequence.reference s.part s.further offsets.anchor offsets.min offsets.max patterns file scan_limit s.anchor s.from_min s.to_max s.patterns in
+    let all = parts_hit sequence.reference s.part s.further offsets.anchor offsets.min offsets.max patterns file scan_limit s.anchor s.from_min s.to_max s.matched in
     let P : List SubSequenceRecord → Type 0 = λ parts. AnyOf (Hits file scan_limit) (choices offsets patterns) ↔ PartsHit sequence.reference parts file scan_limit in
     subst P (sym s.parts) all

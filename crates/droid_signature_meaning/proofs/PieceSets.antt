@@ -63,8 +63,8 @@ gap_match offsets least most bottom is ordered = gap_where (most == 0) offsets l
 -- patterns of a side where its position is the wanted one, and else none
 at_where : (t : Bool) (P : Type 0) (Q : List ℕ → Type 0) (xs : List (List Element)) (bytes : List ℕ) → (t ≡ true → P) → (t ≡ false → P → ⊥) → ArePatternsOf Q xs
     → MatchesAny (if t then xs else []) bytes ↔ (P × Q bytes)
-at_where true P Q xs bytes yes no says = let here = says bytes in (λ h. (yes refl, here.0 h), λ h. here.1 h.1)
-at_where false P Q xs bytes yes no says = (λ none. absurd none, λ h. absurd (no refl h.0))
+at_where true P Q xs bytes holds fails says = let here = says bytes in (λ h. (holds refl, here.0 h), λ h. here.1 h.1)
+at_where false P Q xs bytes holds fails says = (λ none. absurd none, λ h. absurd (fails refl h.0))
 
 left_at_match : (position : ℕ) (inner : List (List Element)) (P : List ℕ → Type 0) → ArePatternsOf P inner → (fragments : List Fragment) (sides : List Side) → AreSides fragments sides
     → (bytes : List ℕ) → MatchesAny (left_at position inner sides) bytes ↔ AnyOf (λ it. (it.position ≡ position) × InTurn (TextMatches it.text) (InTurn (IsGap it.offsets) P) bytes) fragments

@@ -4,3 +4,5 @@ pub mod Meaning
 pub mod Sequences
 -- The patterns of subsequences whose texts are read.
 pub mod Pieces
+-- The signatures of a registry that stand for the formats of a signature file.
+pub mod Rows

@@ -39,21 +39,22 @@ pub record StandFor (sequence : ByteSequenceRecord) (offsets : Offsets) (pattern
   pub anchor : IsAnchorOf sequence.reference offsets.anchor
   pub from_min : offsets.min ≡ lowest part.offsets
   pub to_max : part.offsets.max ≡ Some offsets.max
-  pub patterns : ArePatternsOf (WholeMatches sequence.reference part further) patterns
+  pub matched : ArePatternsOf (WholeMatches sequence.reference part further) patterns
 
 -- a byte sequence of a registry for each pattern
 abbrev pub choices : Offsets → List (List Element) → List ByteSequence
-choices offsets patterns = map (λ pattern. record { offsets = offsets; pattern = pattern }) patterns
+choices offsets [] = []
+choices offsets (elements ∷ more) = record { offsets = offsets; pattern = elements } ∷ choices offsets more
 
 -- each choice in front of each list
 abbrev pub each_before : List ByteSequence → List (List ByteSequence) → List (List ByteSequence)
 each_before [] lists = []
-each_before (choice ∷ choices) lists = map (λ list. choice ∷ list) lists ++ each_before choices lists
+each_before (choice ∷ more) lists = map (λ list. choice ∷ list) lists ++ each_before more lists
 
 -- a signature of a registry for each way to choose one of each
 abbrev pub combinations : List (List ByteSequence) → List (List ByteSequence)
 combinations [] = [] ∷ []
-combinations (choices ∷ more) = each_before choices (combinations more)
+combinations (first ∷ more) = each_before first (combinations more)
 
 -- for each byte sequence of a signature the registry's that stand for it
 abbrev pub AreChoicesOf : List ByteSequenceRecord → List (List ByteSequence) → Type 0

@@ -1,15 +1,16 @@
 //! Laws of the meaning. Each is the contract of a function that does nothing.
 
-ghost use Rattle.std.specs.Prelude.{◌↔◌, ℕ, List};
+ghost use Rattle.std.specs.Prelude.{◌≡◌, ◌↔◌, ℕ, List};
 ghost use Rattle.droid_pronom_pattern.specs.Patterns.{Element};
-ghost use Rattle.droid_pronom_formats.specs.Found.{Hits};
-ghost use Rattle.droid_pronom_formats.specs.Registry.{AnyOf};
+ghost use Rattle.droid_pronom_formats.specs.Found.{Hits, IsHit};
+ghost use Rattle.droid_pronom_formats.specs.Registry.{AnyOf, Contents};
 ghost use Rattle.droid_pronom_formats.specs.declared.rows.ByteSequence.{ByteSequence};
 ghost use Rattle.droid_pronom_formats.specs.declared.rows.Offsets.{Offsets};
 ghost use Rattle.std.specs.List.{AllByRecursion};
-ghost use Rattle.droid_signature_records.specs.Records.{SubSequenceRecord, ByteSequenceRecord, SignatureRecord};
-ghost use Rattle.droid_signature_meaning.specs.Meaning.{SequenceHits, SignatureHits, PartMatches, RowMatches};
+ghost use Rattle.droid_signature_records.specs.Records.{SubSequenceRecord, ByteSequenceRecord, SignatureRecord, FormatRecord, FileRecord};
+ghost use Rattle.droid_signature_meaning.specs.Meaning.{SequenceHits, SignatureHits, FormatHits, PartMatches, RowMatches};
 ghost use Rattle.droid_signature_meaning.specs.Pieces.{Piece, IsPiece, ArePieces, piece_patterns, row_patterns};
+ghost use Rattle.droid_signature_meaning.specs.Rows.{StandForIds, signatures_from, lists_at};
 ghost use Rattle.droid_signature_meaning.specs.Sequences.{ArePatternsOf, StandFor, choices, combinations, AreChoicesOf};
 
 /// States that the patterns of a subsequence match what it does, with all its fragments.
@@ -32,4 +33,10 @@ pub fn choices_hit_as_the_sequence()
 /// limit.
 pub fn combinations_hit_as_the_signature()
     ensures { (signature : SignatureRecord) (all : List (List ByteSequence)) (file : List ℕ) (scan_limit : ℕ) → AreChoicesOf signature.sequences all → AnyOf (AllByRecursion (Hits file scan_limit)) (combinations all) ↔ SignatureHits file scan_limit signature }
+{}
+
+/// States that a format of a registry hits exactly the files that the signatures of its format in the signature file hit,
+/// under every scan limit, if the registry's signatures stand for all of them.
+pub fn formats_hit_as_in_the_signature_file()
+    ensures { (records : FileRecord) (format : FormatRecord) (registry : Contents) (all : List (List (List ByteSequence))) (place : ℕ) (file : List ℕ) (scan_limit : ℕ) → registry.signatures ≡ signatures_from 0 all → StandForIds records.signatures format.signatures (lists_at place all) → IsHit (Hits file scan_limit) registry place ↔ FormatHits records file scan_limit format }
 {}

@@ -322,10 +322,16 @@ only_plain_braces body none (Outside low high) h = h
 only_plain_braces body none (Between low high) h = h
 only_plain_braces body none (Quoted bytes) h = h
 
--- in brackets stands one of three forms
-pub no_brackets : (body : List ℕ) → ((e : Element) → SpellsInBrackets body e → ⊥) → ((low high : ℕ) → InBrackets body (Outside low high) → ⊥) → ((low high : List ℕ) → InBrackets body (Between low high) → ⊥)
-    → (a : Atom) → InBrackets body a → ⊥
-no_brackets body plain outside several (Plain e) h = plain e h
-no_brackets body plain outside several (Outside low high) h = outside low high h
-no_brackets body plain outside several (Between low high) h = several low high h
-no_brackets body plain outside several (Quoted bytes) h = h
+-- in brackets stands one of four forms
+pub no_brackets : (body : List ℕ) → ((b : ℕ) → SpellsInBrackets body (Except b) → ⊥) → ((low high : ℕ) → SpellsInBrackets body (Range low high) → ⊥)
+    → ((low high : ℕ) → InBrackets body (Outside low high) → ⊥) → ((low high : List ℕ) → InBrackets body (Between low high) → ⊥) → (a : Atom) → InBrackets body a → ⊥
+no_brackets body except range outside several (Plain (Except b)) h = except b h
+no_brackets body except range outside several (Plain (Range low high)) h = range low high h
+no_brackets body except range outside several (Plain (Byte b)) h = h
+no_brackets body except range outside several (Plain AnyByte) h = h
+no_brackets body except range outside several (Plain (Gap n m)) h = h
+no_brackets body except range outside several (Plain (OpenGap n)) h = h
+no_brackets body except range outside several (Plain (Choice alternatives)) h = h
+no_brackets body except range outside several (Outside low high) h = outside low high h
+no_brackets body except range outside several (Between low high) h = several low high h
+no_brackets body except range outside several (Quoted bytes) h = h

@@ -1,12 +1,12 @@
 //! Reads one item of a text.
 
-ghost use Rattle.std.specs.Prelude.{◌≡◌, ◌<◌, ◌∷◌, ◌++◌, ℕ, List, length, nat_le, IfOk, IfSome, IsErrOf, MatchOption, MatchBool, Contains};
-ghost use Rattle.std.specs.List.{AllByRecursion};
-ghost use Rattle.droid_pronom_pattern.specs.Patterns.{Element};
+ghost use Rattle.std.specs.Prelude.{◌≡◌, ◌∷◌, ◌++◌, ℕ, List, length, nat_le, nat_lt, IfOk, IsErrOf, MatchOption, MatchBool, Contains};
+ghost use Rattle.std.specs.List.{list_all};
+ghost use Rattle.droid_pronom_pattern.specs.Patterns.{Element, Range, Except};
 ghost use Rattle.droid_pronom_pattern.specs.PatternText.{IsPair, IsNumber, SpellsAlternative};
 ghost use Rattle.droid_pronom_pattern.specs.Fronts.{SpellsInPair, SpellsInBraces, SpellsInBrackets};
 ghost use Rattle.droid_signature_text.specs.Terms.{Atom, Outside, Between, number_after};
-ghost use Rattle.droid_signature_text.specs.TermText.{AreBounds, IsQuotable, SpellsAtom};
+ghost use Rattle.droid_signature_text.specs.TermText.{AreBounds, SpellsAtom};
 ghost use Rattle.droid_signature_parser.specs.TermValues.{atom_of};
 ghost use Rattle.droid_signature_parser.specs.TextFronts.{IsOnlyFront, HasNoFront, InPair, InBraces, InBrackets, InQuotes};
 
@@ -104,52 +104,58 @@ fn class_of(alloc: Global, body: &[u8]) -> Result<TextItem, TextFault>
     ensures spelled { IfOk result (λ item. InBrackets body.now (atom_of item)) }
     ensures bad { IsErrOf result TextFault.BadText → (a : Atom) → InBrackets body.now a → ⊥ }
 {
-    if let Some(item) = plain_class(body) {
-        return Ok(item);
+    if let Some(byte) = except_of(body) {
+        return Ok(TextItem::Except(byte));
     }
-    if let Some(item) = outside_of(body) {
-        return Ok(item);
+    if let Some((low, high)) = range_of(body) {
+        return Ok(TextItem::Range { low, high });
+    }
+    if let Some((low, high)) = outside_of(body) {
+        return Ok(TextItem::Outside { low, high });
     }
     several_of(alloc, body)
 }
 
-/// Reads the text between brackets as in a registry's pattern: `61:7A` or `!61`.
-fn plain_class(body: &[u8]) -> Option<TextItem>
-    ensures { MatchOption result ((e : Element) → SpellsInBrackets body.now e → ⊥)
-        (λ item. InBrackets body.now (atom_of item)) }
+/// Reads the text between brackets of any byte but one: `!61`.
+fn except_of(body: &[u8]) -> Option<u8>
+    ensures { MatchOption result ((b : ℕ) → SpellsInBrackets body.now (Except b) → ⊥)
+        (λ b. SpellsInBrackets body.now (Except b)) }
 {
     match body {
-        [b'!', high, low] => Some(TextItem::Except(byte_of(*high, *low)?)),
+        [b'!', high, low] => byte_of(*high, *low),
+        _ => None,
+    }
+}
+
+/// Reads the text between brackets of a byte of a range: `61:7A`.
+fn range_of(body: &[u8]) -> Option<(u8, u8)>
+    ensures { MatchOption result ((low high : ℕ) → SpellsInBrackets body.now (Range low high) → ⊥)
+        (λ range. SpellsInBrackets body.now (Range range.0 range.1)) }
+{
+    match body {
         [high, low, b':', high_to, low_to] => {
             let low = byte_of(*high, *low)?;
             let high = byte_of(*high_to, *low_to)?;
-            if low <= high {
-                Some(TextItem::Range { low, high })
-            } else {
-                None
-            }
+            if low <= high { Some((low, high)) } else { None }
         }
         _ => None,
     }
 }
 
-/// Reads the text between brackets of a byte outside a range: `!61:7A`.
-fn outside_of(body: &[u8]) -> Option<TextItem>
+/// Reads the text between brackets of a byte outside a range: `!61:7A`. At least one byte has to be outside.
+fn outside_of(body: &[u8]) -> Option<(u8, u8)>
     ensures { MatchOption result ((low high : ℕ) → InBrackets body.now (Outside low high) → ⊥)
-        (λ item. InBrackets body.now (atom_of item)) }
+        (λ range. InBrackets body.now (Outside range.0 range.1)) }
 {
-    match body {
-        [b'!', high, low, b':', high_to, low_to] => {
-            let low = byte_of(*high, *low)?;
-            let high = byte_of(*high_to, *low_to)?;
-            let more = high.checked_sub(low)?;
-            if more == 255 {
-                return None;
-            }
-            Some(TextItem::Outside { low, high })
-        }
-        _ => None,
+    let (first, after) = body.split_first()?;
+    if *first != b'!' {
+        return None;
     }
+    let (low, high) = range_of(after)?;
+    if u16::from(high) >= u16::from(low) + 255 {
+        return None;
+    }
+    Some((low, high))
 }
 
 /// Reads the text between brackets of a range of several bytes: `0100:0300`.
@@ -170,7 +176,10 @@ fn several_of(alloc: Global, body: &[u8]) -> Result<TextItem, TextFault>
 fn are_bounds(low: &[u8], high: &[u8]) -> bool
     ensures { MatchBool result (AreBounds low.now high.now) (AreBounds low.now high.now → ⊥) }
 {
-    if low.len() < 2 || low.len() != high.len() {
+    if low.len() < 2 {
+        return false;
+    }
+    if low.len() != high.len() {
         return false;
     }
     is_no_more(low, high)
@@ -195,15 +204,19 @@ fn quoted_of(alloc: Global, body: &[u8]) -> Result<TextItem, TextFault>
     ensures spelled { IfOk result (λ item. InQuotes body.now (atom_of item)) }
     ensures bad { IsErrOf result TextFault.BadText → (a : Atom) → InQuotes body.now a → ⊥ }
 {
-    if body.is_empty() || !is_ascii(body) {
+    if body.is_empty() {
         return Err(TextFault::BadText);
     }
-    Ok(TextItem::Quoted(Vec::from_slice(alloc, body)?))
+    if !is_ascii(body) {
+        return Err(TextFault::BadText);
+    }
+    let bytes = Vec::from_slice(alloc, body)?;
+    Ok(TextItem::Quoted(bytes))
 }
 
 /// Returns whether all bytes are ASCII.
 fn is_ascii(text: &[u8]) -> bool
-    ensures { MatchBool result (AllByRecursion (λ c. c < 128) text.now) (AllByRecursion (λ c. c < 128) text.now → ⊥) }
+    ensures { result ≡ list_all (λ c. nat_lt c 128) text.now }
 {
     text.iter().all(|c| *c < 128)
 }
