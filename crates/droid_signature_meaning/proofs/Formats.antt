@@ -14,7 +14,7 @@ use Rattle.droid_signature_meaning.proofs.Combinations.{AnyOf-append, combinatio
 id_hits : (id : ℕ) (signatures : List SignatureRecord) (lists : List (List ByteSequence)) (file : List ℕ) (scan_limit : ℕ) → StandForId id signatures lists
     → AnyOf (AllByRecursion (Hits file scan_limit)) lists ↔ AnyOf (λ it. (it.id ≡ id) × SignatureHits file scan_limit it) signatures
 id_hits id [] lists file scan_limit none = (λ h. rw none at h, λ h. absurd h)
-id_hits id (signature ∷ signatures) lists file scan_limit (inl (same, all, more, is, are, rest)) =
+id_hits id (signature ∷ signatures) lists file scan_limit (inl (all, more, same, is, are, rest)) =
     let split = AnyOf-append (AllByRecursion (Hits file scan_limit)) (combinations all) more in
     let here = combinations_hit signature.sequences all file scan_limit are in
     let others = id_hits id signatures more file scan_limit rest in (

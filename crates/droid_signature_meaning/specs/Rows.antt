@@ -9,7 +9,7 @@ use Rattle.droid_signature_meaning.specs.Sequences.{combinations, AreChoicesOf}
 abbrev pub StandForId : ℕ → List SignatureRecord → List (List ByteSequence) → Type 0
 StandForId id [] lists = lists ≡ []
 StandForId id (signature ∷ signatures) lists =
-    ((signature.id ≡ id) × (all : List (List ByteSequence)) × (more : List (List ByteSequence)) × (lists ≡ combinations all ++ more)
+    ((all : List (List ByteSequence)) × (more : List (List ByteSequence)) × (signature.id ≡ id) × (lists ≡ combinations all ++ more)
     × AreChoicesOf signature.sequences all × StandForId id signatures more)
     ⊎ ((signature.id ≢ id) × StandForId id signatures lists)
 

@@ -87,7 +87,7 @@ all_outside body after first low high is found wide l h outside =
     let bottom = same.0 in let top = same.1 in absurd (omega arith)
 
 pub no_outside : (body : List ℕ) → body ≡ [] → (low high : ℕ) → InBrackets body (Outside low high) → ⊥
-no_outside body none low high (from, to, whole, more) = let bad : [] ≡ 33 ∷ (from ++ (58 ∷ to)) = sym none ∙ whole in cc
+no_outside body none low high (from, to, whole, first, second, ordered, some) = let bad : [] ≡ 33 ∷ (from ++ (58 ∷ to)) = sym none ∙ whole in cc
 
 -- a range of several bytes: the bounds round a colon
 pub several_parts : (body from to : List ℕ) → body ≡ from ++ (58 ∷ to) → (Contains from 58 → ⊥) → (low high : List ℕ) → InBrackets body (Between low high)
@@ -100,7 +100,7 @@ several_parts body from to is lacks low high (from', to', whole, bottom, top, bo
     ((rw parts.0 at bottom, omega arith), (rw parts.1 at top, omega arith), bounds)
 
 pub no_colon : (body : List ℕ) → (Contains body 58 → ⊥) → (low high : List ℕ) → InBrackets body (Between low high) → ⊥
-no_colon body lacks low high (from, to, whole, more) = lacks (rw whole (mark_between 58 from to))
+no_colon body lacks low high (from, to, whole, first, second, bounds) = lacks (rw whole (mark_between 58 from to))
 
 -- quoted text
 pub quotable : (xs : List ℕ) → true ≡ list_all (λ c. nat_lt c 128) xs → (Contains xs 39 → ⊥) → AllByRecursion IsQuotable xs

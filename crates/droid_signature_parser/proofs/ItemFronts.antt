@@ -67,8 +67,8 @@ Opens opening closing Inside = (after : List ℕ) (a : Atom) (front rest : List 
 
 pub opens_braces : Opens 123 125 InBraces
 opens_braces after (Plain e) front rest text spelled = element.opens_braces after e front rest text spelled.0
-opens_braces after (Outside low high) front rest text (from, to, is, more) = apart 123 91 after (33 ∷ ((from ++ (58 ∷ to)) ++ (93 ∷ []))) front rest (λ h. absurd (omega arith)) is text
-opens_braces after (Between low high) front rest text (from, to, is, more) = apart 123 91 after ((from ++ (58 ∷ to)) ++ (93 ∷ [])) front rest (λ h. absurd (omega arith)) is text
+opens_braces after (Outside low high) front rest text (from, to, is, first', second', ordered', some') = apart 123 91 after (33 ∷ ((from ++ (58 ∷ to)) ++ (93 ∷ []))) front rest (λ h. absurd (omega arith)) is text
+opens_braces after (Between low high) front rest text (from, to, is, first', second', bounds') = apart 123 91 after ((from ++ (58 ∷ to)) ++ (93 ∷ [])) front rest (λ h. absurd (omega arith)) is text
 opens_braces after (Quoted bytes) front rest text (is, some, all) = apart 123 39 after (bytes ++ (39 ∷ [])) front rest (λ h. absurd (omega arith)) is text
 
 pub opens_brackets : Opens 91 93 InBrackets
@@ -92,8 +92,8 @@ opens_brackets after (Quoted bytes) front rest text (is, some, all) = apart 91 3
 pub opens_quotes : Opens 39 39 InQuotes
 opens_quotes after (Plain e) front rest text spelled =
     absurd (no_element 39 (λ h. absurd (omega arith)) (λ h. absurd (omega arith)) (λ h. absurd (omega arith)) (λ h. absurd (omega arith)) (λ h. absurd (omega arith)) (omega arith) after e front rest text spelled.0)
-opens_quotes after (Outside low high) front rest text (from, to, is, more) = apart 39 91 after (33 ∷ ((from ++ (58 ∷ to)) ++ (93 ∷ []))) front rest (λ h. absurd (omega arith)) is text
-opens_quotes after (Between low high) front rest text (from, to, is, more) = apart 39 91 after ((from ++ (58 ∷ to)) ++ (93 ∷ [])) front rest (λ h. absurd (omega arith)) is text
+opens_quotes after (Outside low high) front rest text (from, to, is, first', second', ordered', some') = apart 39 91 after (33 ∷ ((from ++ (58 ∷ to)) ++ (93 ∷ []))) front rest (λ h. absurd (omega arith)) is text
+opens_quotes after (Between low high) front rest text (from, to, is, first', second', bounds') = apart 39 91 after ((from ++ (58 ∷ to)) ++ (93 ∷ [])) front rest (λ h. absurd (omega arith)) is text
 opens_quotes after (Quoted bytes) front rest text (is, some, all) =
     (bytes, after_open 39 39 after front bytes rest is text, quoted_lacks bytes all, (refl, some, all))
 
@@ -241,8 +241,8 @@ star_front text after is = record {
   where
     go : (other : Atom) (start after' : List ℕ) → text ≡ start ++ after' → SpellsAtom start other → (other ≡ Plain (OpenGap 0)) × (after' ≡ after)
     go (Plain e) start after' there spelled = let same = (element.star_front text after is).only e start after' there spelled.0 in (ap Plain same.0, same.1)
-    go (Outside low high) start after' there (from, to, is', more) = apart 42 91 after (33 ∷ ((from ++ (58 ∷ to)) ++ (93 ∷ []))) start after' (λ h. absurd (omega arith)) is' (sym is ∙ there)
-    go (Between low high) start after' there (from, to, is', more) = apart 42 91 after ((from ++ (58 ∷ to)) ++ (93 ∷ [])) start after' (λ h. absurd (omega arith)) is' (sym is ∙ there)
+    go (Outside low high) start after' there (from, to, is', first', second', ordered', some') = apart 42 91 after (33 ∷ ((from ++ (58 ∷ to)) ++ (93 ∷ []))) start after' (λ h. absurd (omega arith)) is' (sym is ∙ there)
+    go (Between low high) start after' there (from, to, is', first', second', bounds') = apart 42 91 after ((from ++ (58 ∷ to)) ++ (93 ∷ [])) start after' (λ h. absurd (omega arith)) is' (sym is ∙ there)
     go (Quoted bytes) start after' there (is', some, all) = apart 42 39 after (bytes ++ (39 ∷ [])) start after' (λ h. absurd (omega arith)) is' (sym is ∙ there)
 
 spells_pair_plain : (first second : ℕ) (e : Element) → SpellsInPair first second e → IsPlain e
@@ -267,8 +267,8 @@ module _ (first : ℕ) (a : first ≡ 42 → ⊥) (b : first ≡ 123 → ⊥) (c
     where
       go : (other : Atom) (start after' : List ℕ) → text ≡ start ++ after' → SpellsAtom start other → (other ≡ Plain e) × (after' ≡ rest)
       go (Plain e') start after' there spelled = let same = (element.two_front first a b c d text after rest second e is cut pair).only e' start after' there spelled.0 in (ap Plain same.0, same.1)
-      go (Outside low high) start after' there (from, to, is', more) = apart first 91 after (33 ∷ ((from ++ (58 ∷ to)) ++ (93 ∷ []))) start after' c is' (sym is ∙ there)
-      go (Between low high) start after' there (from, to, is', more) = apart first 91 after ((from ++ (58 ∷ to)) ++ (93 ∷ [])) start after' c is' (sym is ∙ there)
+      go (Outside low high) start after' there (from, to, is', first', second', ordered', some') = apart first 91 after (33 ∷ ((from ++ (58 ∷ to)) ++ (93 ∷ []))) start after' c is' (sym is ∙ there)
+      go (Between low high) start after' there (from, to, is', first', second', bounds') = apart first 91 after ((from ++ (58 ∷ to)) ++ (93 ∷ [])) start after' c is' (sym is ∙ there)
       go (Quoted bytes) start after' there (is', some, all) = apart first 39 after (bytes ++ (39 ∷ [])) start after' q is' (sym is ∙ there)
   two_front text after rest second (Outside low high) is cut none = absurd none
   two_front text after rest second (Between low high) is cut none = absurd none
@@ -276,8 +276,8 @@ module _ (first : ℕ) (a : first ≡ 42 → ⊥) (b : first ≡ 123 → ⊥) (c
 
   pub no_item : (text after : List ℕ) → text ≡ first ∷ after → ((e : Element) (front rest : List ℕ) → text ≡ front ++ rest → SpellsElement front e → ⊥) → HasNoFront SpellsAtom text
   no_item text after is none (Plain e) front rest there spelled = none e front rest there spelled.0
-  no_item text after is none (Outside low high) front rest there (from, to, is', more) = apart first 91 after (33 ∷ ((from ++ (58 ∷ to)) ++ (93 ∷ []))) front rest c is' (sym is ∙ there)
-  no_item text after is none (Between low high) front rest there (from, to, is', more) = apart first 91 after ((from ++ (58 ∷ to)) ++ (93 ∷ [])) front rest c is' (sym is ∙ there)
+  no_item text after is none (Outside low high) front rest there (from, to, is', first', second', ordered', some') = apart first 91 after (33 ∷ ((from ++ (58 ∷ to)) ++ (93 ∷ []))) front rest c is' (sym is ∙ there)
+  no_item text after is none (Between low high) front rest there (from, to, is', first', second', bounds') = apart first 91 after ((from ++ (58 ∷ to)) ++ (93 ∷ [])) front rest c is' (sym is ∙ there)
   no_item text after is none (Quoted bytes) front rest there (is', some, all) = apart first 39 after (bytes ++ (39 ∷ [])) front rest q is' (sym is ∙ there)
 
   pub one_front : (text after : List ℕ) → text ≡ first ∷ after → after ≡ [] → HasNoFront SpellsAtom text
@@ -291,15 +291,15 @@ pub not_parenthesis : (after : List ℕ) (a : Atom) (front rest : List ℕ) → 
 not_parenthesis after (Plain e) front rest there spelled =
     let (body, cut, lacks, (alternatives, is, choice)) = element.opens_parentheses after e front rest there spelled.0 in
     let plain : IsPlain (Choice alternatives) = rw is at spelled.1 in plain
-not_parenthesis after (Outside low high) front rest there (from, to, is, more) = apart 40 91 after (33 ∷ ((from ++ (58 ∷ to)) ++ (93 ∷ []))) front rest (λ h. absurd (omega arith)) is there
-not_parenthesis after (Between low high) front rest there (from, to, is, more) = apart 40 91 after ((from ++ (58 ∷ to)) ++ (93 ∷ [])) front rest (λ h. absurd (omega arith)) is there
+not_parenthesis after (Outside low high) front rest there (from, to, is, first', second', ordered', some') = apart 40 91 after (33 ∷ ((from ++ (58 ∷ to)) ++ (93 ∷ []))) front rest (λ h. absurd (omega arith)) is there
+not_parenthesis after (Between low high) front rest there (from, to, is, first', second', bounds') = apart 40 91 after ((from ++ (58 ∷ to)) ++ (93 ∷ [])) front rest (λ h. absurd (omega arith)) is there
 not_parenthesis after (Quoted bytes) front rest there (is, some, all) = apart 40 39 after (bytes ++ (39 ∷ [])) front rest (λ h. absurd (omega arith)) is there
 
 not_stop : (c : ℕ) → (c ≡ 42 → ⊥) → (c ≡ 123 → ⊥) → (c ≡ 91 → ⊥) → (c ≡ 40 → ⊥) → (c ≡ 63 → ⊥) → (c ≡ 39 → ⊥) → 16 ≤ digit_value c
     → (after : List ℕ) (a : Atom) (front rest : List ℕ) → c ∷ after ≡ front ++ rest → SpellsAtom front a → ⊥
 not_stop c a b d f g q high after (Plain e) front rest there spelled = no_element c a b d f g high after e front rest there spelled.0
-not_stop c a b d f g q high after (Outside low high') front rest there (from, to, is, more) = apart c 91 after (33 ∷ ((from ++ (58 ∷ to)) ++ (93 ∷ []))) front rest d is there
-not_stop c a b d f g q high after (Between low high') front rest there (from, to, is, more) = apart c 91 after ((from ++ (58 ∷ to)) ++ (93 ∷ [])) front rest d is there
+not_stop c a b d f g q high after (Outside low high') front rest there (from, to, is, first', second', ordered', some') = apart c 91 after (33 ∷ ((from ++ (58 ∷ to)) ++ (93 ∷ []))) front rest d is there
+not_stop c a b d f g q high after (Between low high') front rest there (from, to, is, first', second', bounds') = apart c 91 after ((from ++ (58 ∷ to)) ++ (93 ∷ [])) front rest d is there
 not_stop c a b d f g q high after (Quoted bytes) front rest there (is, some, all) = apart c 39 after (bytes ++ (39 ∷ [])) front rest q is there
 
 pub not_bar : (after : List ℕ) (a : Atom) (front rest : List ℕ) → 124 ∷ after ≡ front ++ rest → SpellsAtom front a → ⊥
@@ -311,9 +311,9 @@ not_closing = not_stop 41 (λ h. absurd (omega arith)) (λ h. absurd (omega arit
 -- no item is written by nothing
 pub some_item : (a : Atom) (front : List ℕ) → SpellsAtom front a → 0 < length front
 some_item (Plain e) front spelled = element.some_text e front spelled.0
-some_item (Outside low high) front (from, to, is, more) = omega (arith, ap length is)
-some_item (Between low high) front (from, to, is, more) = omega (arith, ap length is)
-some_item (Quoted bytes) front (is, more) = omega (arith, ap length is)
+some_item (Outside low high) front (from, to, is, first', second', ordered', some') = omega (arith, ap length is)
+some_item (Between low high) front (from, to, is, first', second', bounds') = omega (arith, ap length is)
+some_item (Quoted bytes) front (is, some, all) = omega (arith, ap length is)
 
 -- in braces stand elements alone
 pub only_plain_braces : (body : List ℕ) → ((e : Element) → SpellsInBraces body e → ⊥) → (a : Atom) → InBraces body a → ⊥

@@ -95,16 +95,16 @@ pub record AlternativesLeft (text : List ℕ) (done : List (List Atom)) (rest : 
 pub alternatives_start : (text : List ℕ) → AlternativesLeft text [] text
 alternatives_start text = record { taken = λ more end h. h; only = λ all end h. (all, h, refl) }
 
--- the first of alternatives: its items stand before a bar or the closing parenthesis
-data FirstOf (rest : List ℕ) (end : List ℕ) : List (List Atom) → Type 0 where
-  last : (a : List Atom) → AtomsTo rest a (41 ∷ end) → 0 < length a → FirstOf rest end (a ∷ [])
-  more : (a b : List Atom) (others : List (List Atom)) (behind : List ℕ) → AtomsTo rest a (124 ∷ behind) → 0 < length a → InParentheses behind (b ∷ others) end → FirstOf rest end (a ∷ b ∷ others)
+-- the first of alternatives: its items stand before the closing parenthesis or a bar
+data FirstOf (rest end : List ℕ) (found : List (List Atom)) : Type 0 where
+  last : (a : List Atom) → found ≡ a ∷ [] → AtomsTo rest a (41 ∷ end) → 0 < length a → FirstOf rest end found
+  earlier : (a b : List Atom) (others : List (List Atom)) (behind : List ℕ) → found ≡ a ∷ b ∷ others → AtomsTo rest a (124 ∷ behind) → 0 < length a → InParentheses behind (b ∷ others) end → FirstOf rest end found
 
 first_of_alternatives : (rest end : List ℕ) (found : List (List Atom)) → InParentheses rest found end → FirstOf rest end found
 first_of_alternatives rest end [] (body, is, none) = absurd none
-first_of_alternatives rest end (a ∷ []) (body, is, (spelled, some)) = last a (body, is, spelled, refl) some
+first_of_alternatives rest end (a ∷ []) (body, is, (spelled, some)) = last a refl (body, is, spelled, refl) some
 first_of_alternatives rest end (a ∷ b ∷ others) (body, is, (first, behind, cut, spelled, some, later)) =
-    more a b others (behind ++ (41 ∷ end)) (first, is ∙ ap (λ x. x ++ (41 ∷ end)) cut ∙ append_assoc first (124 ∷ behind) (41 ∷ end), spelled, refl) some (behind, refl, later)
+    earlier a b others (behind ++ (41 ∷ end)) refl (first, is ∙ ap (λ x. x ++ (41 ∷ end)) cut ∙ append_assoc first (124 ∷ behind) (41 ∷ end), spelled, refl) some (behind, refl, later)
 
 -- no alternatives where no items stand before a stop
 pub alternatives_bad : (text : List ℕ) (done : List (List Atom)) (rest : List ℕ) → ((all : List Atom) (end : List ℕ) → AtomsTo rest all end → 0 < length all → ⊥)
@@ -112,8 +112,8 @@ pub alternatives_bad : (text : List ℕ) (done : List (List Atom)) (rest : List 
 alternatives_bad text done rest none left all end h = let (found, there, is) = left.only all end h in go found (first_of_alternatives rest end found there)
   where
     go : (found : List (List Atom)) → FirstOf rest end found → ⊥
-    go found (last a spelled some) = none a (41 ∷ end) spelled some
-    go found (more a b others behind spelled some later) = none a (124 ∷ behind) spelled some
+    go found (last a cons spelled some) = none a (41 ∷ end) spelled some
+    go found (earlier a b others behind cons spelled some later) = none a (124 ∷ behind) spelled some
 
 -- nor where the text ends
 pub alternatives_open : (text : List ℕ) (done : List (List Atom)) (rest after : List ℕ) (atoms : List Atom) → IsOnlyItems rest atoms after → after ≡ []
@@ -121,8 +121,8 @@ pub alternatives_open : (text : List ℕ) (done : List (List Atom)) (rest after 
 alternatives_open text done rest after atoms items none left all end h = let (found, there, is) = left.only all end h in go found (first_of_alternatives rest end found there)
   where
     go : (found : List (List Atom)) → FirstOf rest end found → ⊥
-    go found (last a spelled some) = let e = (items.only a (41 ∷ end) spelled).1 in let bad : 41 ∷ end ≡ [] = e ∙ none in cc
-    go found (more a b others behind spelled some later) = let e = (items.only a (124 ∷ behind) spelled).1 in let bad : 124 ∷ behind ≡ [] = e ∙ none in cc
+    go found (last a cons spelled some) = let e = (items.only a (41 ∷ end) spelled).1 in let bad : 41 ∷ end ≡ [] = e ∙ none in cc
+    go found (earlier a b others behind cons spelled some later) = let e = (items.only a (124 ∷ behind) spelled).1 in let bad : 124 ∷ behind ≡ [] = e ∙ none in cc
 
 with_alternative : (rest after behind : List ℕ) (atoms : List Atom) → IsOnlyItems rest atoms after → after ≡ 124 ∷ behind → (later : List (List Atom)) (end : List ℕ)
     → InParentheses behind later end → InParentheses rest (atoms ∷ later) end
@@ -139,13 +139,13 @@ first_alternative : (rest after behind : List ℕ) (atoms : List Atom) → IsOnl
 first_alternative rest after behind atoms items bar found end h = go found (first_of_alternatives rest end found h)
   where
     go : (found : List (List Atom)) → FirstOf rest end found → (later : List (List Atom)) × (found ≡ atoms ∷ later) × InParentheses behind later end
-    go found (last a spelled some) =
+    go found (last a cons spelled some) =
         let e = (items.only a (41 ∷ end) spelled).1 in
         let same = (heads 41 124 end behind (e ∙ bar)).0 in absurd (omega arith)
-    go found (more a b others behind' spelled some later) =
+    go found (earlier a b others behind' cons spelled some later) =
         let both = items.only a (124 ∷ behind') spelled in
         let tail = (heads 124 124 behind' behind (both.1 ∙ bar)).1 in
-        (b ∷ others, ap (λ x. x ∷ b ∷ others) both.0, rw tail at later)
+        (b ∷ others, cons ∙ ap (λ x. x ∷ b ∷ others) both.0, rw tail at later)
 
 pub alternatives_next : (text : List ℕ) (done new : List (List Atom)) (rest after behind : List ℕ) (atoms : List Atom) → IsOnlyItems rest atoms after → after ≡ 124 ∷ behind → new ≡ done ++ atoms ∷ []
     → AlternativesLeft text done rest → AlternativesLeft text new behind
@@ -173,10 +173,10 @@ alternatives_only text done new rest after behind atoms items closing grown left
     (is ∙ ap (λ x. done ++ x) same ∙ sym grown, rest_is)
   where
     go : (found : List (List Atom)) → FirstOf rest end found → (found ≡ atoms ∷ []) × (end ≡ behind)
-    go found (last a spelled some) =
+    go found (last a cons spelled some) =
         let both = items.only a (41 ∷ end) spelled in
-        (ap (λ x. x ∷ []) both.0, (heads 41 41 end behind (both.1 ∙ closing)).1)
-    go found (more a b others behind' spelled some later) =
+        (cons ∙ ap (λ x. x ∷ []) both.0, (heads 41 41 end behind (both.1 ∙ closing)).1)
+    go found (earlier a b others behind' cons spelled some later) =
         let e = (items.only a (124 ∷ behind') spelled).1 in
         let same = (heads 124 41 behind' behind (e ∙ closing)).0 in absurd (omega arith)
 
