@@ -1,0 +1,14 @@
+pub mod Attributes
+pub mod Bytes
+pub mod Characters
+pub mod Declarations
+pub mod Documents
+pub mod LineEnds
+pub mod Names
+pub mod Nestings
+pub mod Outcomes
+pub mod Pieces
+pub mod References
+pub mod Tags
+pub mod Values
+pub mod Views

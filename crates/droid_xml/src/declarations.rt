@@ -1,0 +1,113 @@
+//! The XML declaration.
+
+ghost use Rattle.std.specs.Prelude.{◌≡◌, ◌==◌};
+ghost use Rattle.std.specs.List.{list_all};
+ghost use Rattle.std.specs.Option.{option_map};
+ghost use Rattle.std.specs.Str.{bytes_eq};
+ghost use Rattle.droid_xml.specs.Declarations.{is_word_byte, word_by, word_at, declared_at, declared_or, is_yes_or_no, declaration_end, behind_version, declaration_at, declaration_start, are_ascii, is_readable};
+
+use crate::bytes::{after, cut_at_byte, past_some_space, past_spaces};
+
+/// Whether a declared word may have this byte.
+fn is_word_byte(byte: u8) -> bool
+    ensures { result ≡ is_word_byte byte }
+{
+    matches!(byte, b'A'..=b'Z' | b'a'..=b'z' | b'0'..=b'9' | b'.' | b'-' | b'_')
+}
+
+/// Whether a declared word may have each of these bytes.
+fn is_word(bytes: &[u8]) -> bool
+    ensures { result ≡ list_all is_word_byte bytes.now }
+{
+    bytes.iter().all(|byte| is_word_byte(*byte))
+}
+
+/// Reads a word behind its first quote. Returns it and what follows its last quote.
+#[tactic(auto, unfolding(crate::specs::Declarations::word_by))]
+fn word_by(text: &[u8], quote: u8) -> Option<(&[u8], &[u8])>
+    ensures { option_map (λ x. (x.0.now, x.1.now)) result ≡ word_by quote text.now }
+{
+    let (word, rest) = cut_at_byte(text, quote)?;
+    if is_word(word) { Some((word, rest)) } else { None }
+}
+
+/// Reads a word in either kind of quotes. Returns it and what follows it.
+#[tactic(auto, unfolding(crate::specs::Declarations::word_at))]
+fn word_at(text: &[u8]) -> Option<(&[u8], &[u8])>
+    ensures { option_map (λ x. (x.0.now, x.1.now)) result ≡ word_at text.now }
+{
+    match text {
+        [b'"', rest @ ..] => word_by(rest, b'"'),
+        [b'\'', rest @ ..] => word_by(rest, b'\''),
+        _ => None,
+    }
+}
+
+/// Reads what is declared under a name. Returns it and what follows it.
+#[tactic(auto, unfolding(crate::specs::Declarations::declared_at))]
+fn declared_at<'a>(text: &'a [u8], name: &[u8]) -> Option<(&'a [u8], &'a [u8])>
+    ensures { option_map (λ x. (x.0.now, x.1.now)) result ≡ declared_at name.now text.now }
+{
+    let start = past_some_space(text)?;
+    let behind = after(start, name)?;
+    let rest = after(past_spaces(behind), b"=")?;
+    word_at(past_spaces(rest))
+}
+
+/// Reads what is declared under a name, or returns the default, and what follows.
+#[tactic(auto, unfolding(crate::specs::Declarations::declared_or))]
+fn declared_or<'a>(text: &'a [u8], name: &[u8], default: &'a [u8]) -> (&'a [u8], &'a [u8])
+    ensures { (result.0.now, result.1.now) ≡ declared_or default.now name.now text.now }
+{
+    match declared_at(text, name) {
+        Some(found) => found,
+        None => (default, text),
+    }
+}
+
+/// Whether the word is `yes` or `no`.
+fn is_yes_or_no(word: &[u8]) -> bool
+    ensures { result ≡ is_yes_or_no word.now }
+{
+    word == b"yes".as_slice() || word == b"no".as_slice()
+}
+
+/// Reads the end of a declaration behind this word for `standalone`. Returns what follows it.
+#[tactic(auto, unfolding(crate::specs::Declarations::declaration_end))]
+fn declaration_end<'a>(standalone: &[u8], text: &'a [u8]) -> Option<&'a [u8]>
+    ensures { option_map (λ x. x.now) result ≡ declaration_end (standalone.now, text.now) }
+{
+    let rest = after(past_spaces(text), b"?>")?;
+    if is_yes_or_no(standalone) { Some(rest) } else { None }
+}
+
+/// Reads a declaration behind its `<?xml`. Returns the encoding that it declares, and what follows it.
+#[tactic(auto, unfolding(crate::specs::Declarations::declaration_at, crate::specs::Declarations::behind_version))]
+pub fn declaration_at(text: &[u8]) -> Option<(&[u8], &[u8])>
+    ensures { option_map (λ x. (x.0.now, x.1.now)) result ≡ declaration_at text.now }
+{
+    let (_, rest) = declared_at(text, b"version")?;
+    let (encoding, rest) = declared_or(rest, b"encoding", b"UTF-8");
+    let (standalone, rest) = declared_or(rest, b"standalone", b"no");
+    Some((encoding, declaration_end(standalone, rest)?))
+}
+
+/// Returns what follows `<?xml`, where a declaration begins so.
+#[tactic(auto, unfolding(crate::specs::Declarations::declaration_start, crate::specs::Bytes::past_some_space))]
+pub fn declaration_start(text: &[u8]) -> Option<&[u8]>
+    ensures { option_map (λ x. x.now) result ≡ declaration_start text.now }
+{
+    let rest = after(text, b"<?xml")?;
+    if past_some_space(rest).is_some() { Some(rest) } else { None }
+}
+
+/// Whether the bytes, declared to be in this encoding, can be read as UTF-8.
+#[tactic(auto, unfolding(crate::specs::Declarations::is_readable))]
+pub fn is_readable(encoding: &[u8], text: &[u8]) -> bool
+    ensures { result ≡ is_readable encoding.now text.now }
+{
+    if encoding.eq_ignore_ascii_case(b"utf-8") {
+        return true;
+    }
+    encoding.eq_ignore_ascii_case(b"us-ascii") && text.iter().all(|byte| *byte < 128)
+}

@@ -1,0 +1,25 @@
+//! Reads XML 1.0 in UTF-8, piece by piece, without document type declarations and external entities.
+//!
+//! [`Reader`] gives the pieces of a document one after the other; [`read`] gives all of them at once.
+//! Line ends are made line feeds beforehand, by [`with_line_feeds`].
+#![tactic(auto)]
+
+mod attributes;
+mod bytes;
+mod characters;
+mod declarations;
+mod line_ends;
+mod names;
+mod pieces;
+mod problem;
+//mod reader;
+mod references;
+mod tags;
+mod values;
+
+pub use attributes::Attribute;
+pub use line_ends::with_line_feeds;
+pub use pieces::Piece;
+pub use problem::{Fault, Problem};
+
+pub use tags::Element;

@@ -1,0 +1,56 @@
+//! Names.
+
+ghost use Rattle.std.specs.Prelude.{◌≡◌, nat_le, ◌||◌};
+ghost use Rattle.std.specs.List.{prefix_len};
+ghost use Rattle.std.specs.Option.{option_map};
+ghost use Rattle.std.specs.Str.{chars};
+ghost use Rattle.droid_xml.specs.Names.{is_name_byte, are_of_name, name_at};
+
+use crate::characters::{is_name_char, is_name_start};
+use std::str;
+
+/// Whether a name may have this byte.
+fn is_name_byte(byte: u8) -> bool
+    ensures { result ≡ is_name_byte byte }
+{
+    byte >= 128 || is_name_char(u32::from(byte))
+}
+
+/// Counts the bytes of a name at the front.
+fn name_len(text: &[u8]) -> usize
+    ensures { result ≡ prefix_len is_name_byte text.now }
+{
+    for (place, byte) in text.iter().enumerate() {
+        if !is_name_byte(*byte) {
+            return place;
+        }
+    }
+    text.len()
+}
+
+/// Whether the characters are those of a name.
+fn are_of_name(text: &str) -> bool
+    ensures { result ≡ are_of_name (chars text.now) }
+{
+    let mut rest = text.chars();
+    match rest.next() {
+        Some(first) => is_name_start(u32::from(first)) && rest.all(|c| is_name_char(u32::from(c))),
+        None => false,
+    }
+}
+
+/// Returns the name at the front, and what follows it.
+#[tactic(auto, unfolding(crate::specs::Names::name_at))]
+pub fn name_at(text: &[u8]) -> Option<(&str, &[u8])>
+    ensures { option_map (λ x. (x.0.now, x.1.now)) result ≡ name_at text.now }
+{
+    let length = name_len(text);
+    let Ok(name) = str::from_utf8(&text[..length]) else {
+        return None;
+    };
+    if are_of_name(name) {
+        Some((name, &text[length..]))
+    } else {
+        None
+    }
+}

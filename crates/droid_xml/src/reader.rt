@@ -1,0 +1,140 @@
+//! A document, piece by piece.
+
+ghost use Rattle.std.specs.Prelude.{◌≡◌, List, map, IfOk, IfErr};
+ghost use Rattle.droid_xml.specs.Documents.{IsDocument, declared, line_of, past_mark, prolog, start_of};
+ghost use Rattle.droid_xml.specs.Pieces.{Part};
+ghost use Rattle.droid_xml.specs.Views.{Goes, Starts, part, place, HasFault};
+
+use crate::bytes::after;
+use crate::declarations::{declaration_at, declaration_start, is_readable};
+use crate::nesting::Open;
+use crate::pieces::{Piece, piece_at};
+use crate::problem::{Fault, Problem, Stop};
+use std::alloc::Global;
+
+/// Reads a document piece by piece.
+#[derive(Debug, Drop)]
+pub struct Reader<'a> {
+    text: &'a [u8],
+    rest: &'a [u8],
+    open: Open<'a>,
+}
+
+impl<'a> Reader<'a> {
+    /// Begins a document, whose line ends are line feeds. Skips its byte order mark and its declaration.
+    #[tactic(auto, unfolding(crate::specs::Documents::start_of))]
+    pub fn new(alloc: Global, text: &'a [u8]) -> Result<Self, Fault>
+        ensures { Starts result (start_of text.now) }
+    {
+        match prolog(text) {
+            Ok(rest) => Ok(Reader { text, rest, open: Open::new(alloc) }),
+            Err(problem) => Err(Fault::Problem { problem, line: 1 }),
+        }
+    }
+
+    /// Returns the next piece, or None at the end. A fault changes nothing: it comes again at the next call.
+    pub fn next(&mut self, alloc: Global) -> Result<Option<Piece<'a>>, Fault>
+        ensures { Goes (place self.old) result (place self.new) }
+    {
+        if self.rest.is_empty() {
+            return self.end();
+        }
+        let (piece, rest) = match piece_at(alloc, self.rest) {
+            Ok(found) => found,
+            Err(stop) => return Err(fault(self.text, self.rest, stop)),
+        };
+        match self.open.take(&piece) {
+            Ok(()) => {}
+            Err(stop) => return Err(fault(self.text, self.rest, stop)),
+        }
+        self.rest = rest;
+        Ok(Some(piece))
+    }
+
+    /// Nothing comes where nothing is left, if the document may end there.
+    fn end(&self) -> Result<Option<Piece<'a>>, Fault>
+        requires { length (place self.now).rest ≡ 0 }
+        ensures { Goes (place self.now) result (place self.now) }
+    {
+        if self.open.is_complete() {
+            return Ok(None);
+        }
+        Err(fault(self.text, self.rest, Stop::Problem(Problem::NotWellFormed)))
+    }
+}
+
+/// Returns what follows the byte order mark and the declaration, each of which may be missing.
+#[tactic(auto, unfolding(crate::specs::Documents::prolog, crate::specs::Documents::declared))]
+fn prolog(text: &[u8]) -> Result<&[u8], Problem>
+    ensures { ResultIs (λ x. x.now) result (prolog text.now) }
+{
+    let text = past_mark(text);
+    let Some(start) = declaration_start(text) else {
+        return Ok(text);
+    };
+    let Some((encoding, rest)) = declaration_at(start) else {
+        return Err(Problem::NotWellFormed);
+    };
+    if is_readable(encoding, rest) {
+        Ok(rest)
+    } else {
+        Err(Problem::Encoding)
+    }
+}
+
+/// Returns what follows the byte order mark, which may be missing.
+#[tactic(auto, unfolding(crate::specs::Documents::past_mark))]
+fn past_mark(text: &[u8]) -> &[u8]
+    ensures { result.now ≡ past_mark text.now }
+{
+    match after(text, b"\xEF\xBB\xBF") {
+        Some(rest) => rest,
+        None => text,
+    }
+}
+
+/// Returns the fault, with the line in which the rest of the text begins.
+fn fault(text: &[u8], rest: &[u8], stop: Stop) -> Fault
+    ensures { result ≡ fault_at (line_of text.now rest.now) stop }
+{
+    match stop {
+        Stop::Memory => Fault::Memory,
+        Stop::Problem(problem) => Fault::Problem {
+            problem,
+            line: 1 + line_ends(text).saturating_sub(line_ends(rest)),
+        },
+    }
+}
+
+/// Counts the line feeds.
+fn line_ends(text: &[u8]) -> usize
+    ensures { result ≡ count_by (is_byte 10) text.now }
+{
+    let mut count = 0;
+    for byte in text {
+        if *byte == b'\n' {
+            count += 1;
+        }
+    }
+    count
+}
+
+/// Reads all pieces of a document, whose line ends are line feeds.
+pub fn read(alloc: Global, text: &[u8]) -> Result<Vec<Piece<'_>>, Fault>
+    // They are the pieces of the document.
+    ensures found { IfOk result (λ pieces. IsDocument text.now (map part pieces.items)) }
+    // It has no others, and where it has some, nothing but memory stands in the way.
+    ensures only { (parts : List Part) → IsDocument text.now parts → ReadsAll result parts }
+    // A problem is the first from the left.
+    ensures fault { IfErr result (λ fault. HasFault text.now fault) }
+{
+    let mut reader = Reader::new(alloc, text)?;
+    let mut pieces = Vec::new(alloc);
+    for _ in 0..u64::MAX {
+        match reader.next(alloc)? {
+            Some(piece) => pieces.push(piece)?,
+            None => return Ok(pieces),
+        }
+    }
+    Err(Fault::Memory)
+}

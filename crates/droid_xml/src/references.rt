@@ -1,0 +1,68 @@
+//! References to characters and to the five entities.
+
+ghost use Rattle.std.specs.Prelude.{◌≡◌, ◌<◌, ◌≤◌};
+ghost use Rattle.std.specs.Option.{option_map};
+ghost use Rattle.droid_xml.specs.References.{numbered, entity, referenced, reference_at};
+
+use crate::bytes::{after, cut_at_byte};
+use crate::characters::is_char;
+
+/// Returns the character whose number these digits write.
+fn numbered(base: u32, digits: &[u8]) -> Option<char>
+    requires low { 2 ≤ base }
+    requires high { base ≤ 16 }
+    ensures { result ≡ numbered base digits.now }
+{
+    if digits.is_empty() {
+        return None;
+    }
+    let mut value = 0;
+    for digit in digits {
+        let digit = char::from(*digit).to_digit(base)?;
+        value = (value * base + digit).min(0x11_0000);
+    }
+    if is_char(value) { char::from_u32(value) } else { None }
+}
+
+/// Returns the character of one of the five entities.
+#[tactic(auto, unfolding(crate::specs::References::entity))]
+fn entity(name: &[u8]) -> Option<char>
+    ensures { result ≡ entity name.now }
+{
+    if name == b"lt".as_slice() {
+        Some('<')
+    } else if name == b"gt".as_slice() {
+        Some('>')
+    } else if name == b"amp".as_slice() {
+        Some('&')
+    } else if name == b"apos".as_slice() {
+        Some('\'')
+    } else if name == b"quot".as_slice() {
+        Some('"')
+    } else {
+        None
+    }
+}
+
+/// Returns the character that stands for what is between `&` and `;`.
+#[tactic(auto, unfolding(crate::specs::References::referenced))]
+pub fn referenced(name: &[u8]) -> Option<char>
+    ensures { result ≡ referenced name.now }
+{
+    match after(name, b"#x") {
+        Some(digits) => numbered(16, digits),
+        None => match after(name, b"#") {
+            Some(digits) => numbered(10, digits),
+            None => entity(name),
+        },
+    }
+}
+
+/// Reads a reference behind its `&`. Returns the character that it stands for, and what follows it.
+#[tactic(auto, unfolding(crate::specs::References::reference_at))]
+pub fn reference_at(text: &[u8]) -> Option<(char, &[u8])>
+    ensures { option_map (λ x. (x.0, x.1.now)) result ≡ reference_at text.now }
+{
+    let (name, rest) = cut_at_byte(text, b';')?;
+    Some((referenced(name)?, rest))
+}
