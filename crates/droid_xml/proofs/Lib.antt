@@ -1,0 +1,9 @@
+pub mod AttributeLoops
+pub mod Cuts
+pub mod Digits
+pub mod Fronts
+pub mod LineFeeds
+pub mod Reading
+pub mod Runs
+pub mod Settings
+pub mod Steps

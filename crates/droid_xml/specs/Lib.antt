@@ -3,6 +3,7 @@ pub mod Bytes
 pub mod Characters
 pub mod Declarations
 pub mod Documents
+pub mod Drafts
 pub mod LineEnds
 pub mod Names
 pub mod Nestings

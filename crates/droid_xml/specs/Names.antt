@@ -9,10 +9,14 @@ use Rattle.droid_xml.specs.Characters.{is_name_start, is_name_char}
 abbrev pub is_name_byte : ℕ → Bool
 is_name_byte byte = nat_le 128 byte || is_name_char byte
 
--- [5] Name ::= NameStartChar NameChar*
+-- a name may begin with the first character
+abbrev pub begins_name : List ℕ → Bool
+begins_name [] = false
+begins_name (c ∷ cs) = is_name_start c
+
+-- [5] Name ::= NameStartChar NameChar*, where each NameStartChar is a NameChar
 abbrev pub are_of_name : List ℕ → Bool
-are_of_name [] = false
-are_of_name (c ∷ cs) = is_name_start c && list_all is_name_char cs
+are_of_name cs = begins_name cs && list_all is_name_char cs
 
 abbrev pub is_name : List ℕ → Bool
 is_name bytes = is_utf8 bytes && are_of_name (chars bytes)

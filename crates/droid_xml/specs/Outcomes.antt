@@ -37,3 +37,13 @@ Changes (Err stop) read old new = Stops stop read × (new ≡ old)
 abbrev pub Fails : {A : Type 0} → Fault → Result A (Problem × ℕ) → Type 0
 Fails faults.Memory read = Unit {0}
 Fails (faults.Problem problem line) read = read ≡ Err (problem, line)
+
+-- the fault of a stop in this line
+abbrev pub fault_at : ℕ → Stop → Fault
+fault_at line stops.Memory = faults.Memory
+fault_at line (stops.Problem problem) = faults.Problem problem line
+
+-- what was returned, seen by view, is what the grammar reads
+abbrev pub Reads : {X A : Type 0} → (X → A) → Result X Problem → Result A Problem → Type 0
+Reads view (Ok x) read = read ≡ Ok (view x)
+Reads view (Err problem) read = read ≡ Err problem

@@ -16,7 +16,7 @@ abbrev pub with_first : Setting → Result (List Setting × (Bool × List ℕ)) 
 with_first setting more = more >>= (λ found. Ok (setting ∷ found.0, found.1))
 
 -- the attributes of a tag and the tag's end, where there are no more attributes than there is room for
-abbrev pub attributes_at : ℕ → List ℕ → Result (List Setting × (Bool × List ℕ)) Problem
+unfoldable pub attributes_at : ℕ → List ℕ → Result (List Setting × (Bool × List ℕ)) Problem
 attributes_at zero bytes = choose (tag_end bytes) (λ end. Ok ([], end)) (required (next_attribute bytes) >>= (λ found. Err problems.TooManyAttributes))
 attributes_at (suc room) bytes = choose (tag_end bytes) (λ end. Ok ([], end)) (required (next_attribute bytes) >>= (λ found. with_first found.0 (attributes_at room found.1)))
 

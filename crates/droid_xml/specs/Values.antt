@@ -12,11 +12,18 @@ pub record Partial : Type 0 where
   pub text : List ℕ
   pub name : Option (List ℕ)
 
--- a character outside of references: white space is a space, and & begins a reference
+abbrev pub nothing : Partial
+nothing = record { text = []; name = None }
+
+-- white space is a space
+abbrev pub spaced : ℕ → ℕ
+spaced c = if is_space c then 32 else c
+
+-- a character outside of references, which & begins
 abbrev pub plain : List ℕ → ℕ → Partial
 plain text c =
     if c == 38 then record { text = text; name = Some [] }
-    else record { text = text ++ encode_utf8 (if is_space c then 32 else c); name = None }
+    else record { text = text ++ encode_utf8 (spaced c); name = None }
 
 -- a character inside a reference, which ; ends
 abbrev pub inside : List ℕ → List ℕ → ℕ → Option Partial
@@ -36,7 +43,7 @@ ended value = choose value.name (λ name. None) (Some value.text)
 
 -- what these characters between quotes stand for
 unfoldable pub value_of : List ℕ → Option (List ℕ)
-value_of cs = fold after_each (Some (record { text = []; name = None })) cs >>= ended
+value_of cs = fold after_each (Some nothing) cs >>= ended
 
 -- [10] AttValue behind its first quote: no < and no such quote in it
 unfoldable pub quoted_by : ℕ → List ℕ → Option (List ℕ × List ℕ)

@@ -10,9 +10,10 @@ use Rattle.droid_xml.specs.declared.reader.Reader.{Reader}
 use Rattle.droid_xml.specs.Attributes.{Setting}
 use Rattle.droid_xml.specs.Tags.{Tag}
 use Rattle.droid_xml.specs.Nestings.{Nesting}
-use Rattle.droid_xml.specs.Documents.{Place, next_at}
+use Rattle.droid_xml.specs.Documents.{Place, HasProblem, next_at}
 use Rattle.droid_xml.specs.Outcomes.{Fails}
 use Rattle.droid_xml.specs.declared.problem.Fault.{Fault}
+use Rattle.droid_xml.specs.declared.problem.Fault.TheVariants as faults
 use Rattle.droid_xml.specs.declared.problem.Problem.{Problem}
 use Rattle.droid_xml.specs.Pieces.{Part, Start, End, Text, Data, Reference, Comment, Instruction}
 
@@ -48,3 +49,13 @@ abbrev pub Goes : Place → Result (Option Piece) Fault → Place → Type 0
 Goes old (Ok None) new = (next_at old ≡ Ok None) × (new ≡ old)
 Goes old (Ok (Some piece)) new = next_at old ≡ Ok (Some (part piece, new))
 Goes old (Err fault) new = Fails fault (next_at old) × (new ≡ old)
+
+-- nothing but memory is wrong
+abbrev pub IsMemory : Fault → Type 0
+IsMemory faults.Memory = Unit {0}
+IsMemory (faults.Problem problem line) = ⊥
+
+-- the fault is a problem of the document, unless memory ran out
+abbrev pub IsFaultOf : List ℕ → Fault → Type 0
+IsFaultOf text faults.Memory = Unit {0}
+IsFaultOf text (faults.Problem problem line) = HasProblem text problem line

@@ -1,6 +1,8 @@
 //! Attributes.
 
 ghost use Rattle.std.specs.Prelude.{◌≡◌, map};
+ghost use Rattle.std.specs.List.{list_any};
+ghost use Rattle.std.specs.Str.{bytes_eq};
 ghost use Rattle.droid_xml.specs.Attributes.{attribute_at, next_attribute, are_distinct};
 ghost use Rattle.droid_xml.specs.Outcomes.{Gives, required};
 ghost use Rattle.droid_xml.specs.Views.{setting};
@@ -12,7 +14,7 @@ use crate::values::value_at;
 use std::alloc::Global;
 
 /// An attribute of an element.
-#[derive(Debug, Drop)]
+#[derive(Drop)]
 pub struct Attribute<'a> {
     /// The name.
     pub name: &'a str,
@@ -41,7 +43,9 @@ pub fn next_attribute(alloc: Global, text: &[u8]) -> Result<(Attribute<'_>, &[u8
 }
 
 /// Whether one of the attributes has this name.
-fn has_name(attributes: &[Attribute<'_>], name: &str) -> bool {
+fn has_name(attributes: &[Attribute<'_>], name: &str) -> bool
+    ensures { result ≡ list_any (λ other. bytes_eq name.now other.name) (map setting attributes.now) }
+{
     for attribute in attributes {
         if attribute.name == name {
             return true;

@@ -1,9 +1,9 @@
 //! What stands at the front of bytes, and what stands after it.
 
 ghost use Rattle.std.specs.Prelude.{◌≡◌, nat_eq, nat_lt, length, drop};
-ghost use Rattle.std.specs.List.{prefix_len};
+ghost use Rattle.std.specs.List.{position_or_len, prefix_len};
 ghost use Rattle.std.specs.Option.{option_map};
-ghost use Rattle.droid_xml.specs.Bytes.{after, cut_at, cut_at_byte, is_space, past_spaces, past_some_space};
+ghost use Rattle.droid_xml.specs.Bytes.{after, cut_at, cut_at_byte, is_byte, is_space, past_spaces, past_some_space};
 
 /// Returns what follows `front`, where the text begins with it.
 #[tactic(auto, unfolding(crate::specs::Bytes::after))]
@@ -34,8 +34,31 @@ pub fn cut_at<'a>(text: &'a [u8], mark: &[u8]) -> Option<(&'a [u8], &'a [u8])>
 pub fn cut_at_byte(text: &[u8], byte: u8) -> Option<(&[u8], &[u8])>
     ensures { option_map (λ x. (x.0.now, x.1.now)) result ≡ cut_at_byte byte text.now }
 {
-    let place = text.iter().position(|other| *other == byte)?;
-    Some((&text[..place], &text[place + 1..]))
+    let place = len_before(text, byte);
+    if place < text.len() {
+        Some((&text[..place], &text[place + 1..]))
+    } else {
+        None
+    }
+}
+
+/// Counts the bytes before the first such byte.
+fn len_before(text: &[u8], byte: u8) -> usize
+    ensures { result ≡ position_or_len (is_byte byte) text.now }
+{
+    for (place, other) in text.iter().enumerate() {
+        if *other == byte {
+            return place;
+        }
+    }
+    text.len()
+}
+
+/// Whether the byte is white space.
+fn is_space(byte: u8) -> bool
+    ensures { result ≡ is_space byte }
+{
+    matches!(byte, b' ' | b'\t' | b'\r' | b'\n')
 }
 
 /// Counts the white space at the front.
@@ -43,7 +66,7 @@ fn space_len(text: &[u8]) -> usize
     ensures { result ≡ prefix_len is_space text.now }
 {
     for (place, byte) in text.iter().enumerate() {
-        if !matches!(*byte, b' ' | b'\t' | b'\r' | b'\n') {
+        if !is_space(*byte) {
             return place;
         }
     }

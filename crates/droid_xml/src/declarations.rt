@@ -109,5 +109,15 @@ pub fn is_readable(encoding: &[u8], text: &[u8]) -> bool
     if encoding.eq_ignore_ascii_case(b"utf-8") {
         return true;
     }
-    encoding.eq_ignore_ascii_case(b"us-ascii") && text.iter().all(|byte| *byte < 128)
+    if encoding.eq_ignore_ascii_case(b"us-ascii") {
+        return are_ascii(text);
+    }
+    false
+}
+
+/// Whether each byte is ASCII.
+fn are_ascii(text: &[u8]) -> bool
+    ensures { result ≡ are_ascii text.now }
+{
+    text.iter().all(|byte| *byte < 128)
 }

@@ -10,9 +10,10 @@ mod characters;
 mod declarations;
 mod line_ends;
 mod names;
+mod nesting;
 mod pieces;
 mod problem;
-//mod reader;
+mod reader;
 mod references;
 mod tags;
 mod values;
@@ -21,5 +22,6 @@ pub use attributes::Attribute;
 pub use line_ends::with_line_feeds;
 pub use pieces::Piece;
 pub use problem::{Fault, Problem};
+pub use reader::{Reader, read};
 
 pub use tags::Element;

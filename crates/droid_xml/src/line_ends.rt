@@ -1,7 +1,7 @@
 //! Line ends.
 
-ghost use Rattle.std.specs.Prelude.{◌≡◌, IfOk, MatchOption};
-ghost use Rattle.droid_xml.specs.LineEnds.{with_line_feeds};
+ghost use Rattle.std.specs.Prelude.{◌≡◌, ◌++◌, IfOk, MatchOption, OnOk};
+ghost use Rattle.droid_xml.specs.LineEnds.{line_feed, with_line_feeds};
 
 use std::alloc::{AllocError, Global};
 
@@ -16,19 +16,30 @@ pub fn with_line_feeds(alloc: Global, text: &[u8]) -> Result<Option<Vec<u8>>, Al
 }
 
 /// Copies the text with line feeds for its line ends.
+#[tactic(auto, unfolding(crate::specs::LineEnds::with_line_feeds))]
 fn rewritten(alloc: Global, text: &[u8]) -> Result<Vec<u8>, AllocError>
     ensures { IfOk result (λ bytes. bytes.items ≡ with_line_feeds text.now) }
 {
     let mut bytes = Vec::with_capacity(alloc, text.len())?;
     let mut is_behind = false;
     for byte in text {
-        let is_return = *byte == b'\r';
-        if is_return {
-            bytes.push(b'\n')?;
-        } else if !(is_behind & (*byte == b'\n')) {
-            bytes.push(*byte)?;
-        }
-        is_behind = is_return;
+        push_line_feed(&mut bytes, is_behind, *byte)?;
+        is_behind = *byte == b'\r';
     }
     Ok(bytes)
+}
+
+/// Adds what a byte becomes, behind a carriage return or not.
+fn push_line_feed(bytes: &mut Vec<u8>, is_behind: bool, byte: u8) -> Result<(), AllocError>
+    ensures { OnOk result (bytes.new.items ≡ bytes.old.items ++ line_feed is_behind byte) }
+{
+    if byte == b'\r' {
+        bytes.push(b'\n')?;
+        return Ok(());
+    }
+    if is_behind && byte == b'\n' {
+        return Ok(());
+    }
+    bytes.push(byte)?;
+    Ok(())
 }

@@ -1,10 +1,11 @@
 //! Names.
 
-ghost use Rattle.std.specs.Prelude.{◌≡◌, nat_le, ◌||◌};
-ghost use Rattle.std.specs.List.{prefix_len};
+ghost use Rattle.std.specs.Prelude.{◌≡◌};
+ghost use Rattle.std.specs.List.{list_all, prefix_len};
 ghost use Rattle.std.specs.Option.{option_map};
 ghost use Rattle.std.specs.Str.{chars};
-ghost use Rattle.droid_xml.specs.Names.{is_name_byte, are_of_name, name_at};
+ghost use Rattle.droid_xml.specs.Characters.{is_name_char};
+ghost use Rattle.droid_xml.specs.Names.{is_name_byte, begins_name, are_of_name, name_at};
 
 use crate::characters::{is_name_char, is_name_start};
 use std::str;
@@ -32,11 +33,28 @@ fn name_len(text: &[u8]) -> usize
 fn are_of_name(text: &str) -> bool
     ensures { result ≡ are_of_name (chars text.now) }
 {
-    let mut rest = text.chars();
-    match rest.next() {
-        Some(first) => is_name_start(u32::from(first)) && rest.all(|c| is_name_char(u32::from(c))),
+    if begins_name(text) {
+        are_name_chars(text)
+    } else {
+        false
+    }
+}
+
+/// Whether a name may begin with the first character.
+fn begins_name(text: &str) -> bool
+    ensures { result ≡ begins_name (chars text.now) }
+{
+    match text.chars().next() {
+        Some(first) => is_name_start(u32::from(first)),
         None => false,
     }
+}
+
+/// Whether a name may have each of the characters.
+fn are_name_chars(text: &str) -> bool
+    ensures { result ≡ list_all is_name_char (chars text.now) }
+{
+    text.chars().all(|c| is_name_char(u32::from(c)))
 }
 
 /// Returns the name at the front, and what follows it.

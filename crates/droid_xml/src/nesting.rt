@@ -14,7 +14,7 @@ use crate::tags::Element;
 use std::alloc::Global;
 
 /// The elements that are open, the innermost last, and whether the root has begun.
-#[derive(Debug, Drop)]
+#[derive(Drop)]
 pub struct Open<'a> {
     names: Vec<&'a str>,
     has_root: bool,

@@ -4,7 +4,7 @@ ghost use Rattle.std.specs.Prelude.{◌≡◌};
 ghost use Rattle.std.specs.Option.{option_map};
 ghost use Rattle.droid_xml.specs.Documents.{piece_at, piece_behind_less};
 ghost use Rattle.droid_xml.specs.Outcomes.{Gives};
-ghost use Rattle.droid_xml.specs.Pieces.{Part, comment_at, data_at, instruction_text, instruction_at, end_tag_at, text_len, text_at};
+ghost use Rattle.droid_xml.specs.Pieces.{Part, comment_at, data_at, instruction_text, instruction_at, end_tag_at, ends_text, text_len, text_at};
 ghost use Rattle.droid_xml.specs.Views.{part};
 
 use crate::bytes::{after, cut_at, past_some_space, past_spaces};
@@ -16,7 +16,7 @@ use crate::tags::{Element, start_tag_at};
 use std::alloc::Global;
 
 /// A piece of a document.
-#[derive(Debug, Drop)]
+#[derive(Drop)]
 pub enum Piece<'a> {
     /// An element begins.
     Start(Element<'a>),
@@ -87,12 +87,19 @@ fn end_tag_at(text: &[u8]) -> Option<(Piece<'_>, &[u8])>
     Some((Piece::End(name), rest))
 }
 
+/// Whether text ends before this byte.
+fn ends_text(byte: u8) -> bool
+    ensures { result ≡ ends_text byte }
+{
+    byte == b'<' || byte == b'&'
+}
+
 /// Counts the bytes before the first `<` or `&`.
 fn text_len(text: &[u8]) -> usize
     ensures { result ≡ text_len text.now }
 {
     for (place, byte) in text.iter().enumerate() {
-        if matches!(*byte, b'<' | b'&') {
+        if ends_text(*byte) {
             return place;
         }
     }

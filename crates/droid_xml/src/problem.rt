@@ -1,6 +1,7 @@
 //! What can be wrong with a document.
 
 ghost use Rattle.std.specs.Prelude.{◌≡◌};
+ghost use Rattle.droid_xml.specs.declared.problem.Fault.TheVariants as faults;
 ghost use Rattle.droid_xml.specs.declared.problem.Stop.TheVariants as stops;
 
 use std::alloc::{AllocError, AllocFailed};
@@ -30,10 +31,18 @@ pub enum Fault {
 }
 
 /// As [`Fault`], without a line.
-#[derive(Clone, Copy, Debug, PartialEq, Eq)]
+#[derive(Clone, Copy)]
 pub(crate) enum Stop {
     Memory,
     Problem(Problem),
+}
+
+impl<T: Drop> From<AllocFailed<T>> for Fault {
+    ghost from_gives = { λ _ e. e ≡ faults.Memory };
+
+    fn from(_: AllocFailed<T>) -> Self {
+        Fault::Memory
+    }
 }
 
 impl From<AllocError> for Stop {

@@ -1,9 +1,11 @@
 //! A document, piece by piece.
 
-ghost use Rattle.std.specs.Prelude.{◌≡◌, List, map, IfOk, IfErr};
+ghost use Rattle.std.specs.Prelude.{◌≡◌, List, length, map, IfOk, IfErr, MatchResult, count_by};
 ghost use Rattle.droid_xml.specs.Documents.{IsDocument, declared, line_of, past_mark, prolog, start_of};
+ghost use Rattle.droid_xml.specs.Bytes.{is_byte};
+ghost use Rattle.droid_xml.specs.Outcomes.{Reads, fault_at};
 ghost use Rattle.droid_xml.specs.Pieces.{Part};
-ghost use Rattle.droid_xml.specs.Views.{Goes, Starts, part, place, HasFault};
+ghost use Rattle.droid_xml.specs.Views.{Goes, IsFaultOf, IsMemory, Starts, part, place};
 
 use crate::bytes::after;
 use crate::declarations::{declaration_at, declaration_start, is_readable};
@@ -13,7 +15,7 @@ use crate::problem::{Fault, Problem, Stop};
 use std::alloc::Global;
 
 /// Reads a document piece by piece.
-#[derive(Debug, Drop)]
+#[derive(Drop)]
 pub struct Reader<'a> {
     text: &'a [u8],
     rest: &'a [u8],
@@ -66,7 +68,7 @@ impl<'a> Reader<'a> {
 /// Returns what follows the byte order mark and the declaration, each of which may be missing.
 #[tactic(auto, unfolding(crate::specs::Documents::prolog, crate::specs::Documents::declared))]
 fn prolog(text: &[u8]) -> Result<&[u8], Problem>
-    ensures { ResultIs (λ x. x.now) result (prolog text.now) }
+    ensures { Reads (λ x. x.now) result (prolog text.now) }
 {
     let text = past_mark(text);
     let Some(start) = declaration_start(text) else {
@@ -124,9 +126,9 @@ pub fn read(alloc: Global, text: &[u8]) -> Result<Vec<Piece<'_>>, Fault>
     // They are the pieces of the document.
     ensures found { IfOk result (λ pieces. IsDocument text.now (map part pieces.items)) }
     // It has no others, and where it has some, nothing but memory stands in the way.
-    ensures only { (parts : List Part) → IsDocument text.now parts → ReadsAll result parts }
+    ensures only { (parts : List Part) → IsDocument text.now parts → MatchResult result (λ pieces. map part pieces.items ≡ parts) IsMemory }
     // A problem is the first from the left.
-    ensures fault { IfErr result (λ fault. HasFault text.now fault) }
+    ensures fault { IfErr result (λ fault. IsFaultOf text.now fault) }
 {
     let mut reader = Reader::new(alloc, text)?;
     let mut pieces = Vec::new(alloc);

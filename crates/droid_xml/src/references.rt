@@ -2,7 +2,7 @@
 
 ghost use Rattle.std.specs.Prelude.{◌≡◌, ◌<◌, ◌≤◌};
 ghost use Rattle.std.specs.Option.{option_map};
-ghost use Rattle.droid_xml.specs.References.{numbered, entity, referenced, reference_at};
+ghost use Rattle.droid_xml.specs.References.{char_of, numbered, entity, referenced, reference_at};
 
 use crate::bytes::{after, cut_at_byte};
 use crate::characters::is_char;
@@ -18,10 +18,21 @@ fn numbered(base: u32, digits: &[u8]) -> Option<char>
     }
     let mut value = 0;
     for digit in digits {
-        let digit = char::from(*digit).to_digit(base)?;
-        value = (value * base + digit).min(0x11_0000);
+        let more = char::from(*digit).to_digit(base)?;
+        value = (value * base + more).min(0x11_0000);
     }
-    if is_char(value) { char::from_u32(value) } else { None }
+    char_of(value)
+}
+
+/// Returns the character of this number, if a document may have it.
+fn char_of(number: u32) -> Option<char>
+    ensures { result ≡ char_of number }
+{
+    if is_char(number) {
+        char::from_u32(number)
+    } else {
+        None
+    }
 }
 
 /// Returns the character of one of the five entities.

@@ -13,7 +13,7 @@ use crate::problem::{Problem, Stop};
 use std::alloc::Global;
 
 /// An element that begins.
-#[derive(Debug, Drop)]
+#[derive(Drop)]
 pub struct Element<'a> {
     /// The name.
     pub name: &'a str,
