@@ -1,5 +1,5 @@
 -- A number that is kept at its upper limit names no character, as the number itself does not.
-use Rattle.std.proofs.Common.{◌≡◌, ℕ, ◌+◌, ◌*◌, ◌<◌, ◌≤◌, Bool, true, false, cond, ltb, min, List, [], ◌∷◌, length, drop, get_or, Option, Some, None, refl, sym, ap, ◌∙◌, inl, inr, drop-cons, add-one, arith}
+use Rattle.std.proofs.Common.{◌≡◌, ℕ, ◌+◌, ◌*◌, ◌<◌, ◌≤◌, Bool, true, false, cond, eqb, ltb, min, suc, List, [], ◌∷◌, length, drop, get_or, Option, Some, None, refl, sym, ap, ◌∙◌, inl, inr, drop-cons, add-one, arith}
 use Rattle.std.proofs.lemmas.Bool.{cases_lt}
 use Rattle.std.proofs.lemmas.Bool.Decides.{nat_tests}
 use Rattle.std.specs.Char.{digit_value}
@@ -48,12 +48,12 @@ digit_wrong base value digits place whole inside is so_far =
 pub digits_end : (base value : ℕ) (digits : List ℕ) (place : ℕ) (whole : Option ℕ) → drop place digits ≡ [] → (more_digits base value (drop place digits) >>= char_of) ≡ whole → char_of value ≡ whole
 digits_end base value digits place whole past so_far = ap (λ rest. more_digits base value rest >>= char_of) (sym past) ∙ so_far
 
-pub no_digits : (base : ℕ) (digits : List ℕ) → length digits ≡ 0 → numbered base digits ≡ None
+pub no_digits : (base : ℕ) (digits : List ℕ) → eqb (length digits) 0 ≡ true → numbered base digits ≡ None
 unfolding numbered
 no_digits base [] none = refl
-no_digits base (b ∷ digits) none = absurd (omega arith)
+no_digits base (b ∷ digits) none = absurd (let impossible : suc (length digits) ≡ 0 = grind (arith, nat_tests) in omega arith)
 
-pub some_digits : (base : ℕ) (digits : List ℕ) → 0 < length digits → numbered base digits ≡ (more_digits base 0 digits >>= char_of)
+pub some_digits : (base : ℕ) (digits : List ℕ) → eqb (length digits) 0 ≡ false → numbered base digits ≡ (more_digits base 0 digits >>= char_of)
 unfolding numbered
-some_digits base [] some = absurd (omega arith)
+some_digits base [] some = absurd (let impossible : true ≡ false = some in cc)
 some_digits base (b ∷ digits) some = refl

@@ -7,3 +7,5 @@ pub mod Reading
 pub mod Runs
 pub mod Settings
 pub mod Steps
+pub mod Texts
+pub mod ValueLoops

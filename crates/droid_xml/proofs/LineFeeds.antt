@@ -1,5 +1,6 @@
 -- Loops over line ends.
-use Rattle.std.proofs.Common.{◌≡◌, ℕ, ◌+◌, ◌<◌, Bool, true, false, cond, eqb, List, [], ◌∷◌, ◌++◌, length, drop, get_or, refl, sym, ap, ◌∙◌, append_assoc, drop-cons, add-one}
+use Rattle.std.proofs.Common.{◌≡◌, ℕ, ◌+◌, ◌<◌, ◌≤◌, Bool, true, false, cond, eqb, List, [], ◌∷◌, ◌++◌, length, drop, get_or, refl, sym, ap, ◌∙◌, append_assoc, drop-cons, add-one}
+use Rattle.std.proofs.lemmas.List.{append-nil, drop_all}
 use Rattle.std.specs.List.{list_any}
 use Rattle.droid_xml.specs.LineEnds.{line_feed, line_feeds, with_line_feeds}
 
@@ -29,3 +30,8 @@ unchanged (b ∷ text) none = stays b text (eqb b 13) (both_false (eqb b 13) (li
 pub with_feeds : (text : List ℕ) → list_any (λ b. eqb b 13) text ≡ false → with_line_feeds text ≡ text
 unfolding with_line_feeds
 with_feeds text none = unchanged text none
+
+-- nothing is left
+pub feeds_end : (text items : List ℕ) (is_behind : Bool) (place : ℕ) → length text ≤ place → items ++ line_feeds is_behind (drop place text) ≡ line_feeds false text → items ≡ with_line_feeds text
+unfolding with_line_feeds
+feeds_end text items is_behind place past so_far = sym (ap (λ (rest : List ℕ). items ++ line_feeds is_behind rest) (drop_all place text past) ∙ append-nil items) ∙ so_far

@@ -1,6 +1,5 @@
 -- One step over a document.
-use Rattle.std.proofs.Common.{◌≡◌, ℕ, ◌<◌, Bool, true, false, cond, eqb, List, length, Option, Some, None, refl, sym, ap, ◌∙◌, arith}
-use Rattle.std.proofs.lemmas.Bool.Decides.{nat_tests}
+use Rattle.std.proofs.Common.{◌≡◌, ℕ, Bool, true, false, cond, eqb, List, length, Option, Some, None, refl, sym, ap, ◌∙◌}
 use Rattle.std.specs.Prelude.{Result, Ok, Err}
 use Rattle.droid_xml.specs.Documents.{Place, at_end, at_line, line_of, moved, next_at, piece_at}
 use Rattle.droid_xml.specs.Nestings.{Nesting, is_complete, nested}
@@ -16,10 +15,7 @@ unfolding next_at
 next_here place is_last is = ap (λ (last : Bool). at_line (line_of place.text place.rest) (cond last (at_end place) (moved place))) is
 
 none_left : (place : Place) → length place.rest ≡ 0 → eqb (length place.rest) 0 ≡ true
-none_left place none = grind (arith, nat_tests)
-
-some_left : (place : Place) → 0 < length place.rest → eqb (length place.rest) 0 ≡ false
-some_left place some = grind (arith, nat_tests)
+none_left place none = ap (λ (n : ℕ). eqb n 0) none
 
 -- nothing is left, and the document may end
 pub ends : (place : Place) → length place.rest ≡ 0 → is_complete place.nesting ≡ true → next_at place ≡ Ok None
@@ -33,31 +29,31 @@ ends_early place none open =
     next_here place true (none_left place none)
     ∙ ap (λ (c : Bool). at_line {A = Option (Part × Place)} (line_of place.text place.rest) (cond c (Ok None) (Err problems.NotWellFormed))) open
 
-goes_on : (place : Place) → 0 < length place.rest → next_at place ≡ at_line (line_of place.text place.rest) (moved place)
-goes_on place some = next_here place false (some_left place some)
+goes_on : (place : Place) → eqb (length place.rest) 0 ≡ false → next_at place ≡ at_line (line_of place.text place.rest) (moved place)
+goes_on place some = next_here place false some
 
 -- no piece comes next
-pub piece_fails : (place : Place) (stop : Stop) → 0 < length place.rest → Stops stop (piece_at place.rest) → Fails (fault_at (line_of place.text place.rest) stop) (next_at place)
+pub piece_fails : (place : Place) (stop : Stop) → eqb (length place.rest) 0 ≡ false → Stops stop (piece_at place.rest) → Fails (fault_at (line_of place.text place.rest) stop) (next_at place)
 piece_fails place stops.Memory some is = tt
 piece_fails place (stops.Problem problem) some is =
     goes_on place some
     ∙ ap (λ (read : Result (Part × List ℕ) Problem). at_line (line_of place.text place.rest) (read >>= (λ found. nested place.nesting found.0 >>= (λ nesting. Ok (Some (found.0, record { text = place.text; rest = found.1; nesting = nesting })))))) is
 
 -- what the next step is behind the piece
-behind_piece : (place : Place) (found : Part × List ℕ) → 0 < length place.rest → piece_at place.rest ≡ Ok found → next_at place ≡ at_line (line_of place.text place.rest) (nested place.nesting found.0 >>= (λ nesting. Ok (Some (found.0, record { text = place.text; rest = found.1; nesting = nesting }))))
+behind_piece : (place : Place) (found : Part × List ℕ) → eqb (length place.rest) 0 ≡ false → piece_at place.rest ≡ Ok found → next_at place ≡ at_line (line_of place.text place.rest) (nested place.nesting found.0 >>= (λ nesting. Ok (Some (found.0, record { text = place.text; rest = found.1; nesting = nesting }))))
 behind_piece place found some is =
     goes_on place some
     ∙ ap (λ (read : Result (Part × List ℕ) Problem). at_line (line_of place.text place.rest) (read >>= (λ found. nested place.nesting found.0 >>= (λ nesting. Ok (Some (found.0, record { text = place.text; rest = found.1; nesting = nesting })))))) is
 
 -- the next piece may not stand here
-pub nesting_fails : (place : Place) (found : Part × List ℕ) (stop : Stop) → 0 < length place.rest → piece_at place.rest ≡ Ok found → Stops stop (nested place.nesting found.0) → Fails (fault_at (line_of place.text place.rest) stop) (next_at place)
+pub nesting_fails : (place : Place) (found : Part × List ℕ) (stop : Stop) → eqb (length place.rest) 0 ≡ false → piece_at place.rest ≡ Ok found → Stops stop (nested place.nesting found.0) → Fails (fault_at (line_of place.text place.rest) stop) (next_at place)
 nesting_fails place found stops.Memory some read is = tt
 nesting_fails place found (stops.Problem problem) some read is =
     behind_piece place found some read
     ∙ ap (λ (nest : Result Nesting Problem). at_line (line_of place.text place.rest) (nest >>= (λ nesting. Ok (Some (found.0, record { text = place.text; rest = found.1; nesting = nesting }))))) is
 
 -- the next piece, and the place behind it
-pub piece_comes : (place : Place) (found : Part × List ℕ) (nesting : Nesting) → 0 < length place.rest → piece_at place.rest ≡ Ok found → nested place.nesting found.0 ≡ Ok nesting → next_at place ≡ Ok (Some (found.0, record { text = place.text; rest = found.1; nesting = nesting }))
+pub piece_comes : (place : Place) (found : Part × List ℕ) (nesting : Nesting) → eqb (length place.rest) 0 ≡ false → piece_at place.rest ≡ Ok found → nested place.nesting found.0 ≡ Ok nesting → next_at place ≡ Ok (Some (found.0, record { text = place.text; rest = found.1; nesting = nesting }))
 piece_comes place found nesting some read is =
     behind_piece place found some read
     ∙ ap (λ (nest : Result Nesting Problem). at_line (line_of place.text place.rest) (nest >>= (λ nesting. Ok (Some (found.0, record { text = place.text; rest = found.1; nesting = nesting }))))) is

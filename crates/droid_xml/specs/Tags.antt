@@ -15,9 +15,13 @@ tag_end bytes = choose (after (codes "/>") (past_spaces bytes)) (λ rest. Some (
 abbrev pub with_first : Setting → Result (List Setting × (Bool × List ℕ)) Problem → Result (List Setting × (Bool × List ℕ)) Problem
 with_first setting more = more >>= (λ found. Ok (setting ∷ found.0, found.1))
 
+-- where there is no room for an attribute, and no other fault
+abbrev pub one_too_many : List ℕ → Result (List Setting × (Bool × List ℕ)) Problem
+one_too_many bytes = required (next_attribute bytes) >>= (λ found. Err problems.TooManyAttributes)
+
 -- the attributes of a tag and the tag's end, where there are no more attributes than there is room for
 unfoldable pub attributes_at : ℕ → List ℕ → Result (List Setting × (Bool × List ℕ)) Problem
-attributes_at zero bytes = choose (tag_end bytes) (λ end. Ok ([], end)) (required (next_attribute bytes) >>= (λ found. Err problems.TooManyAttributes))
+attributes_at zero bytes = choose (tag_end bytes) (λ end. Ok ([], end)) (one_too_many bytes)
 attributes_at (suc room) bytes = choose (tag_end bytes) (λ end. Ok ([], end)) (required (next_attribute bytes) >>= (λ found. with_first found.0 (attributes_at room found.1)))
 
 -- a start tag: name, attributes, whether it ends its element too

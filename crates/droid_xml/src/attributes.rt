@@ -47,7 +47,7 @@ fn has_name(attributes: &[Attribute<'_>], name: &str) -> bool
     ensures { result ≡ list_any (λ other. bytes_eq name.now other.name) (map setting attributes.now) }
 {
     for attribute in attributes {
-        if attribute.name == name {
+        if name == attribute.name {
             return true;
         }
     }

@@ -1,6 +1,6 @@
 //! What stands at the front of bytes, and what stands after it.
 
-ghost use Rattle.std.specs.Prelude.{◌≡◌, nat_eq, nat_lt, length, drop};
+ghost use Rattle.std.specs.Prelude.{◌≡◌, ◌≤◌, length};
 ghost use Rattle.std.specs.List.{position_or_len, prefix_len};
 ghost use Rattle.std.specs.Option.{option_map};
 ghost use Rattle.droid_xml.specs.Bytes.{after, cut_at, cut_at_byte, is_byte, is_space, past_spaces, past_some_space};
@@ -22,8 +22,9 @@ pub fn cut_at<'a>(text: &'a [u8], mark: &[u8]) -> Option<(&'a [u8], &'a [u8])>
     ensures { option_map (λ x. (x.0.now, x.1.now)) result ≡ cut_at mark.now text.now }
 {
     for place in 0..text.len() {
-        if let Some(rest) = after(&text[place..], mark) {
-            return Some((&text[..place], rest));
+        match after(&text[place..], mark) {
+            Some(rest) => return Some((&text[..place], rest)),
+            None => {}
         }
     }
     None
@@ -55,7 +56,7 @@ fn len_before(text: &[u8], byte: u8) -> usize
 }
 
 /// Whether the byte is white space.
-fn is_space(byte: u8) -> bool
+pub fn is_space(byte: u8) -> bool
     ensures { result ≡ is_space byte }
 {
     matches!(byte, b' ' | b'\t' | b'\r' | b'\n')
@@ -63,7 +64,8 @@ fn is_space(byte: u8) -> bool
 
 /// Counts the white space at the front.
 fn space_len(text: &[u8]) -> usize
-    ensures { result ≡ prefix_len is_space text.now }
+    ensures count { result ≡ prefix_len is_space text.now }
+    ensures bound { result ≤ length text.now }
 {
     for (place, byte) in text.iter().enumerate() {
         if !is_space(*byte) {

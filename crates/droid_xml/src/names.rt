@@ -1,6 +1,6 @@
 //! Names.
 
-ghost use Rattle.std.specs.Prelude.{◌≡◌};
+ghost use Rattle.std.specs.Prelude.{◌≡◌, ◌≤◌, length};
 ghost use Rattle.std.specs.List.{list_all, prefix_len};
 ghost use Rattle.std.specs.Option.{option_map};
 ghost use Rattle.std.specs.Str.{chars};
@@ -19,7 +19,8 @@ fn is_name_byte(byte: u8) -> bool
 
 /// Counts the bytes of a name at the front.
 fn name_len(text: &[u8]) -> usize
-    ensures { result ≡ prefix_len is_name_byte text.now }
+    ensures count { result ≡ prefix_len is_name_byte text.now }
+    ensures bound { result ≤ length text.now }
 {
     for (place, byte) in text.iter().enumerate() {
         if !is_name_byte(*byte) {

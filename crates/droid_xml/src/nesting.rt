@@ -7,7 +7,7 @@ ghost use Rattle.droid_xml.specs.Nestings.{is_outside, is_complete, is_innermost
 ghost use Rattle.droid_xml.specs.Outcomes.{Changes};
 ghost use Rattle.droid_xml.specs.Views.{nesting, part, tag};
 
-use crate::bytes::past_spaces;
+use crate::bytes::is_space;
 use crate::pieces::Piece;
 use crate::problem::{Problem, Stop};
 use crate::tags::Element;
@@ -114,5 +114,5 @@ impl<'a> Open<'a> {
 fn is_white(text: &str) -> bool
     ensures { result ≡ list_all is_space text.now }
 {
-    past_spaces(text.as_bytes()).is_empty()
+    text.as_bytes().iter().all(|byte| is_space(*byte))
 }

@@ -133,9 +133,10 @@ pub fn read(alloc: Global, text: &[u8]) -> Result<Vec<Piece<'_>>, Fault>
     let mut reader = Reader::new(alloc, text)?;
     let mut pieces = Vec::new(alloc);
     for _ in 0..u64::MAX {
-        match reader.next(alloc)? {
-            Some(piece) => pieces.push(piece)?,
-            None => return Ok(pieces),
+        match reader.next(alloc) {
+            Ok(Some(piece)) => pieces.push(piece)?,
+            Ok(None) => return Ok(pieces),
+            Err(fault) => return Err(fault),
         }
     }
     Err(Fault::Memory)

@@ -1,6 +1,7 @@
 //! References to characters and to the five entities.
 
-ghost use Rattle.std.specs.Prelude.{◌≡◌, ◌<◌, ◌≤◌};
+ghost use Rattle.std.specs.Prelude.{◌≡◌, ◌<◌, ◌≤◌, MatchOption};
+ghost use Rattle.std.specs.Char.{digit_value};
 ghost use Rattle.std.specs.Option.{option_map};
 ghost use Rattle.droid_xml.specs.References.{char_of, numbered, entity, referenced, reference_at};
 
@@ -17,11 +18,23 @@ fn numbered(base: u32, digits: &[u8]) -> Option<char>
         return None;
     }
     let mut value = 0;
-    for digit in digits {
-        let more = char::from(*digit).to_digit(base)?;
-        value = (value * base + more).min(0x11_0000);
+    for byte in digits {
+        let digit = match digit(base, *byte) {
+            Some(digit) => digit,
+            None => return None,
+        };
+        value = (value * base + digit).min(0x11_0000);
     }
     char_of(value)
+}
+
+/// Returns the value of a digit of this base.
+fn digit(base: u32, byte: u8) -> Option<u32>
+    requires low { 2 ≤ base }
+    requires high { base ≤ 16 }
+    ensures { MatchOption result (base ≤ digit_value byte) (λ digit. (digit_value byte < base) × (digit ≡ digit_value byte)) }
+{
+    char::from(byte).to_digit(base)
 }
 
 /// Returns the character of this number, if a document may have it.

@@ -2,8 +2,8 @@
 
 ghost use Rattle.std.specs.Prelude.{◌≡◌, ◌≤◌, map};
 ghost use Rattle.std.specs.Option.{option_map};
-ghost use Rattle.droid_xml.specs.Outcomes.{Gives};
-ghost use Rattle.droid_xml.specs.Tags.{tag_end, attributes_at, start_tag_at};
+ghost use Rattle.droid_xml.specs.Outcomes.{Gives, Stops};
+ghost use Rattle.droid_xml.specs.Tags.{tag_end, one_too_many, attributes_at, start_tag_at};
 ghost use Rattle.droid_xml.specs.Views.{setting, tag};
 
 use crate::attributes::{Attribute, are_distinct, next_attribute};
@@ -48,10 +48,14 @@ fn attributes_at(alloc: Global, text: &[u8]) -> Result<Attributes<'_>, Stop>
     let mut attributes = Vec::new(alloc);
     let mut rest = text;
     for _ in 0..64 {
-        if let Some(end) = tag_end(rest) {
-            return Ok((attributes, end));
+        match tag_end(rest) {
+            Some(end) => return Ok((attributes, end)),
+            None => {}
         }
-        let (attribute, behind) = next_attribute(alloc, rest)?;
+        let (attribute, behind) = match next_attribute(alloc, rest) {
+            Ok(found) => found,
+            Err(stop) => return Err(stop),
+        };
         attributes.push(attribute)?;
         rest = behind;
     }
@@ -62,7 +66,9 @@ fn attributes_at(alloc: Global, text: &[u8]) -> Result<Attributes<'_>, Stop>
 }
 
 /// Returns what is wrong where a tag doesn't end behind its last attribute.
-fn one_more(alloc: Global, text: &[u8]) -> Stop {
+fn one_more(alloc: Global, text: &[u8]) -> Stop
+    ensures { Stops result (one_too_many text.now) }
+{
     match next_attribute(alloc, text) {
         Ok(_) => Stop::Problem(Problem::TooManyAttributes),
         Err(stop) => stop,

@@ -102,8 +102,10 @@ fn value_of(alloc: Global, text: &str) -> Result<String, Stop>
     if !is_right {
         return Err(Stop::Problem(Problem::NotWellFormed));
     }
-    let value = draft.finish().ok_or(Problem::NotWellFormed)?;
-    Ok(value)
+    match draft.finish() {
+        Some(value) => Ok(value),
+        None => Err(Stop::Problem(Problem::NotWellFormed)),
+    }
 }
 
 /// Whether the text has a `<`.
