@@ -70,15 +70,18 @@ front_too_many front (stops.Problem problem) read is = ap (with_front front) is
 -- there is no room for more
 pub too_many_here : (front : List Setting) (room : ℕ) (rest : List ℕ) (stop : Stop) (whole : Result Found Problem) → room ≡ zero → with_front front (attributes_at room rest) ≡ whole → tag_end rest ≡ None → Stops stop (one_too_many rest) → Stops stop whole
 unfolding other
-too_many_here front room rest stop whole no so_far none is =
+too_many_here front room rest stop whole fails so_far none is =
     let here : with_front front (one_too_many rest) ≡ whole =
-        sym (ap (with_front front) (at_end zero rest None none)) ∙ (ap (λ (n : ℕ). with_front front (attributes_at n rest)) (sym no) ∙ so_far) in
+    sym (ap (with_front front) (at_end zero rest None none)) ∙ (ap (λ (n : ℕ). with_front front (attributes_at n rest)) (sym fails) ∙ so_far) in
     subst (λ (read : Result Found Problem). Stops stop read) here (front_too_many front stop (one_too_many rest) is)
+
+abbrev pub too_many : Setting × List ℕ → Result Found Problem
+too_many found = Err problems.TooManyAttributes
 
 -- what one attribute more leads to
 pub one_too_many_is : (rest : List ℕ) (found : Setting × List ℕ) → required (next_attribute rest) ≡ Ok found → one_too_many rest ≡ Err problems.TooManyAttributes
-one_too_many_is rest found is = ap (λ (read : Result (Setting × List ℕ) Problem). read >>= (λ found. Err {A = Found} problems.TooManyAttributes)) is
+one_too_many_is rest found is = ap (λ (read : Result (Setting × List ℕ) Problem). read >>= too_many) is
 
 pub one_wrong_is : (rest : List ℕ) (stop : Stop) → Stops stop (required (next_attribute rest)) → Stops stop (one_too_many rest)
 one_wrong_is rest stops.Memory is = tt
-one_wrong_is rest (stops.Problem problem) is = ap (λ (read : Result (Setting × List ℕ) Problem). read >>= (λ found. Err {A = Found} problems.TooManyAttributes)) is
+one_wrong_is rest (stops.Problem problem) is = ap (λ (read : Result (Setting × List ℕ) Problem). read >>= too_many) is

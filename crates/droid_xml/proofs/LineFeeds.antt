@@ -1,5 +1,5 @@
 -- Loops over line ends.
-use Rattle.std.proofs.Common.{◌≡◌, ℕ, ◌+◌, ◌<◌, ◌≤◌, Bool, true, false, cond, eqb, List, [], ◌∷◌, ◌++◌, length, drop, get_or, refl, sym, ap, ◌∙◌, append_assoc, drop-cons, add-one}
+use Rattle.std.proofs.Common.{◌≡◌, ℕ, ◌+◌, ◌<◌, ◌≤◌, Bool, true, false, cond, eqb, ◌||◌, List, [], ◌∷◌, ◌++◌, length, drop, get_or, refl, sym, ap, ◌∙◌, append_assoc, drop-cons, add-one}
 use Rattle.std.proofs.lemmas.List.{append-nil, drop_all}
 use Rattle.std.specs.List.{list_any}
 use Rattle.droid_xml.specs.LineEnds.{line_feed, line_feeds, with_line_feeds}
@@ -12,20 +12,20 @@ feeds_more text items whole is_behind place inside so_far =
 
 -- a byte that is no carriage return stays where none stands before it
 stays : (b : ℕ) (rest : List ℕ) (is : Bool) → is ≡ false → cond is (10 ∷ []) (b ∷ []) ++ line_feeds is rest ≡ b ∷ line_feeds false rest
-stays b rest is no = ap (λ i. cond i (10 ∷ []) (b ∷ []) ++ line_feeds i rest) no
+stays b rest is fails = ap (λ i. cond i (10 ∷ []) (b ∷ []) ++ line_feeds i rest) fails
 
-both_false : (a b : Bool) → cond a true b ≡ false → a ≡ false
-both_false true b e = e
-both_false false b e = refl
+first_false : (a b : Bool) → (a || b) ≡ false → a ≡ false
+first_false true b is = is
+first_false false b is = refl
 
-other_false : (a b : Bool) → cond a true b ≡ false → b ≡ false
-other_false true b e = let impossible : true ≡ false = e in cc
-other_false false b e = e
+second_false : (a b : Bool) → (a || b) ≡ false → b ≡ false
+second_false true b is = absurd (let impossible : true ≡ false = is in cc)
+second_false false b is = is
 
 -- without carriage returns nothing changes
 pub unchanged : (text : List ℕ) → list_any (λ b. eqb b 13) text ≡ false → line_feeds false text ≡ text
 unchanged [] none = refl
-unchanged (b ∷ text) none = stays b text (eqb b 13) (both_false (eqb b 13) (list_any (λ b. eqb b 13) text) none) ∙ ap (λ rest. b ∷ rest) (unchanged text (other_false (eqb b 13) (list_any (λ b. eqb b 13) text) none))
+unchanged (b ∷ text) none = stays b text (eqb b 13) (first_false (eqb b 13) (list_any (λ b. eqb b 13) text) none) ∙ ap (λ rest. b ∷ rest) (unchanged text (second_false (eqb b 13) (list_any (λ b. eqb b 13) text) none))
 
 pub with_feeds : (text : List ℕ) → list_any (λ b. eqb b 13) text ≡ false → with_line_feeds text ≡ text
 unfolding with_line_feeds

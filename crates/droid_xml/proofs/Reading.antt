@@ -21,7 +21,7 @@ pub read_more : (text : List ℕ) (parts : List Part) (part : Part) (place behin
 read_more text parts part place behind has is = (has.0, has.1, run_more parts part has.0 place behind has.2 is)
 
 pub read_whole : (text : List ℕ) (parts : List Part) (place : Place) → HasRead text parts place → next_at place ≡ Ok None → IsDocument text parts
-read_whole text parts place has is = (has.0, has.1, place, has.2, is)
+read_whole text parts place has is = (has.0, has.1, (place, has.2, is))
 
 first_of_ok : Result Place (Problem × ℕ) → Place → Place
 first_of_ok (Ok first) other = first
@@ -48,7 +48,7 @@ no_document text parts others place e has is document =
 -- what a fault says of the text
 pub fault_told : (text : List ℕ) (parts : List Part) (place : Place) (fault : Fault) → HasRead text parts place → Fails fault (next_at place) → IsFaultOf text fault
 fault_told text parts place faults.Memory has is = tt
-fault_told text parts place (faults.Problem problem line) has is = inr (has.0, has.1, parts, place, has.2, is)
+fault_told text parts place (faults.Problem problem line) has is = inr (has.0, has.1, (parts, place, has.2, is))
 
 -- nothing but memory stands in the way of a document
 pub only_memory : (text : List ℕ) (parts others : List Part) (place : Place) (fault : Fault) → HasRead text parts place → Fails fault (next_at place) → IsDocument text others → IsMemory fault
@@ -63,3 +63,12 @@ start_told text (faults.Problem problem line) is = inl is
 pub no_start : (text : List ℕ) (others : List Part) (fault : Fault) → Fails fault (start_of text) → IsDocument text others → IsMemory fault
 no_start text others faults.Memory is document = tt
 no_start text others (faults.Problem problem line) is document = let start = document.1 in absurd cc
+
+-- a text has the pieces of one document at most
+pub one_document : (text : List ℕ) (parts others : List Part) → IsDocument text parts → IsDocument text others → parts ≡ others
+one_document text parts others one other = read_only text parts others one.2.0 (one.0, one.1, one.2.1) one.2.2 other
+
+-- a document has no problem
+pub no_problem : (text : List ℕ) (parts : List Part) (problem : Problem) (line : ℕ) → IsDocument text parts → HasProblem text problem line → ⊥
+no_problem text parts problem line document (inl is) = let start = document.1 in absurd cc
+no_problem text parts problem line document (inr faulty) = no_document text faulty.2.0 parts faulty.2.1 (problem, line) (faulty.0, faulty.1, faulty.2.2) faulty.2.3 document

@@ -25,9 +25,9 @@ ends place none complete =
 
 -- nothing is left, and the document may not end
 pub ends_early : (place : Place) → length place.rest ≡ 0 → is_complete place.nesting ≡ false → next_at place ≡ Err (problems.NotWellFormed, line_of place.text place.rest)
-ends_early place none open =
+ends_early place none incomplete =
     next_here place true (none_left place none)
-    ∙ ap (λ (c : Bool). at_line {A = Option (Part × Place)} (line_of place.text place.rest) (cond c (Ok None) (Err problems.NotWellFormed))) open
+    ∙ ap (λ (c : Bool). at_line {A = Option (Part × Place)} (line_of place.text place.rest) (cond c (Ok None) (Err problems.NotWellFormed))) incomplete
 
 goes_on : (place : Place) → eqb (length place.rest) 0 ≡ false → next_at place ≡ at_line (line_of place.text place.rest) (moved place)
 goes_on place some = next_here place false some

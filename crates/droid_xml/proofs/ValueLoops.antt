@@ -17,10 +17,10 @@ whole cs yielded is_right partial all is =
     ap (λ (xs : List ℕ). fold after_each (Some nothing) xs >>= ended) (sym all ∙ as_they_are yielded) ∙ ap (λ (v : Option Partial). v >>= ended) is
 
 pub value_wrong : (cs yielded : List ℕ) (is_right : Bool) (partial : Partial) → map (λ (c : ℕ). c) yielded ≡ cs → fold after_each (Some nothing) yielded ≡ only_if is_right partial → is_right ≡ false → required (value_of cs) ≡ Err problems.NotWellFormed
-value_wrong cs yielded is_right partial all is no = ap required (whole cs yielded is_right partial all is ∙ ap (λ (b : Bool). only_if b partial >>= ended) no)
+value_wrong cs yielded is_right partial all is fails = ap required (whole cs yielded is_right partial all is ∙ ap (λ (b : Bool). only_if b partial >>= ended) fails)
 
 pub value_unended : (cs yielded : List ℕ) (is_right : Bool) (partial : Partial) → map (λ (c : ℕ). c) yielded ≡ cs → fold after_each (Some nothing) yielded ≡ only_if is_right partial → is_right ≡ true → None ≡ ended partial → required (value_of cs) ≡ Err problems.NotWellFormed
-value_unended cs yielded is_right partial all is yes none = ap required (whole cs yielded is_right partial all is ∙ (ap (λ (b : Bool). only_if b partial >>= ended) yes ∙ sym none))
+value_unended cs yielded is_right partial all is holds none = ap required (whole cs yielded is_right partial all is ∙ (ap (λ (b : Bool). only_if b partial >>= ended) holds ∙ sym none))
 
 pub value_whole : (cs yielded value : List ℕ) (is_right : Bool) (partial : Partial) → map (λ (c : ℕ). c) yielded ≡ cs → fold after_each (Some nothing) yielded ≡ only_if is_right partial → is_right ≡ true → Some value ≡ ended partial → required (value_of cs) ≡ Ok value
-value_whole cs yielded value is_right partial all is yes some = ap required (whole cs yielded is_right partial all is ∙ (ap (λ (b : Bool). only_if b partial >>= ended) yes ∙ sym some))
+value_whole cs yielded value is_right partial all is holds some = ap required (whole cs yielded is_right partial all is ∙ (ap (λ (b : Bool). only_if b partial >>= ended) holds ∙ sym some))

@@ -28,7 +28,11 @@ fn word_by(text: &[u8], quote: u8) -> Option<(&[u8], &[u8])>
     ensures { option_map (λ x. (x.0.now, x.1.now)) result ≡ word_by quote text.now }
 {
     let (word, rest) = cut_at_byte(text, quote)?;
-    if is_word(word) { Some((word, rest)) } else { None }
+    if is_word(word) {
+        Some((word, rest))
+    } else {
+        None
+    }
 }
 
 /// Reads a word in either kind of quotes. Returns it and what follows it.
@@ -78,7 +82,11 @@ fn declaration_end<'a>(standalone: &[u8], text: &'a [u8]) -> Option<&'a [u8]>
     ensures { option_map (λ x. x.now) result ≡ declaration_end (standalone.now, text.now) }
 {
     let rest = after(past_spaces(text), b"?>")?;
-    if is_yes_or_no(standalone) { Some(rest) } else { None }
+    if is_yes_or_no(standalone) {
+        Some(rest)
+    } else {
+        None
+    }
 }
 
 /// Reads a declaration behind its `<?xml`. Returns the encoding that it declares, and what follows it.
@@ -98,7 +106,11 @@ pub fn declaration_start(text: &[u8]) -> Option<&[u8]>
     ensures { option_map (λ x. x.now) result ≡ declaration_start text.now }
 {
     let rest = after(text, b"<?xml")?;
-    if past_some_space(rest).is_some() { Some(rest) } else { None }
+    if past_some_space(rest).is_some() {
+        Some(rest)
+    } else {
+        None
+    }
 }
 
 /// Whether the bytes, declared to be in this encoding, can be read as UTF-8.

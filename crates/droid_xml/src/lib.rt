@@ -8,6 +8,7 @@ mod attributes;
 mod bytes;
 mod characters;
 mod declarations;
+pub mod laws;
 mod line_ends;
 mod names;
 mod nesting;
@@ -23,5 +24,4 @@ pub use line_ends::with_line_feeds;
 pub use pieces::Piece;
 pub use problem::{Fault, Problem};
 pub use reader::{Reader, read};
-
 pub use tags::Element;

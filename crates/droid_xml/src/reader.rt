@@ -29,7 +29,11 @@ impl<'a> Reader<'a> {
         ensures { Starts result (start_of text.now) }
     {
         match prolog(text) {
-            Ok(rest) => Ok(Reader { text, rest, open: Open::new(alloc) }),
+            Ok(rest) => Ok(Reader {
+                text,
+                rest,
+                open: Open::new(alloc),
+            }),
             Err(problem) => Err(Fault::Problem { problem, line: 1 }),
         }
     }

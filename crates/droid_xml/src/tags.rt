@@ -47,7 +47,7 @@ fn attributes_at(alloc: Global, text: &[u8]) -> Result<Attributes<'_>, Stop>
 {
     let mut attributes = Vec::new(alloc);
     let mut rest = text;
-    for _ in 0..64 {
+    for _ in 0..64_usize {
         match tag_end(rest) {
             Some(end) => return Ok((attributes, end)),
             None => {}
@@ -69,10 +69,10 @@ fn attributes_at(alloc: Global, text: &[u8]) -> Result<Attributes<'_>, Stop>
 fn one_more(alloc: Global, text: &[u8]) -> Stop
     ensures { Stops result (one_too_many text.now) }
 {
-    match next_attribute(alloc, text) {
-        Ok(_) => Stop::Problem(Problem::TooManyAttributes),
-        Err(stop) => stop,
-    }
+    let Err(stop) = next_attribute(alloc, text) else {
+        return Stop::Problem(Problem::TooManyAttributes);
+    };
+    stop
 }
 
 /// Reads a start tag behind its `<`. Returns the element and what follows the tag.
@@ -85,5 +85,12 @@ pub fn start_tag_at(alloc: Global, text: &[u8]) -> Result<(Element<'_>, &[u8]), 
     if !are_distinct(attributes.as_slice()) {
         return Err(Stop::Problem(Problem::NotWellFormed));
     }
-    Ok((Element { name, attributes, is_empty }, rest))
+    Ok((
+        Element {
+            name,
+            attributes,
+            is_empty,
+        },
+        rest,
+    ))
 }

@@ -76,7 +76,11 @@ impl Draft {
     fn finish(self) -> Option<String>
         ensures { option_map (λ x. string_bytes x) result ≡ ended (partial self) }
     {
-        let Draft { text, name: _, is_inside } = self;
+        let Draft {
+            text,
+            name: _,
+            is_inside,
+        } = self;
         if is_inside { None } else { Some(text) }
     }
 }
@@ -85,7 +89,11 @@ impl Draft {
 fn spaced(c: char) -> char
     ensures { result ≡ spaced c }
 {
-    if matches!(c, ' ' | '\t' | '\r' | '\n') { ' ' } else { c }
+    if matches!(c, ' ' | '\t' | '\r' | '\n') {
+        ' '
+    } else {
+        c
+    }
 }
 
 /// Replaces the references in the text between quotes, and makes white space spaces.
@@ -102,10 +110,10 @@ fn value_of(alloc: Global, text: &str) -> Result<String, Stop>
     if !is_right {
         return Err(Stop::Problem(Problem::NotWellFormed));
     }
-    match draft.finish() {
-        Some(value) => Ok(value),
-        None => Err(Stop::Problem(Problem::NotWellFormed)),
-    }
+    let Some(value) = draft.finish() else {
+        return Err(Stop::Problem(Problem::NotWellFormed));
+    };
+    Ok(value)
 }
 
 /// Whether the text has a `<`.

@@ -53,7 +53,7 @@ fn each_kind_of_piece_is_given(rt: HostRuntime) -> Result<(), Fail> {
 #[test]
 fn line_ends_are_line_feeds(rt: HostRuntime) -> Result<(), Fail> {
     let made = with_line_feeds(rt.alloc(), b"a\r\nb\rc\n\r\r\n")?;
-    assert_eq!(rt; made.map_or(0, |bytes| bytes.len()), 9);
+    assert_eq!(rt; made.map_or(0, |bytes| bytes.len()), 8);
     assert!(rt; with_line_feeds(rt.alloc(), b"a\nb")?.is_none());
     Ok(())
 }

@@ -26,4 +26,4 @@ loop-preserved c =
     let step = rw c.in-Ok-Some.field-0-is at c.in-Ok-Some.ensures in
     let more = read_more c.args.text.now (map part c.loop.pieces.items) (part c.in-Ok-Some.piece) (place c.loop.reader) (place c.next.new.self) c.loop.invariant step in
     subst (λ (parts : List Part). HasRead c.args.text.now parts (place c.next.new.self))
-    (sym (ap (map part) c.in_ok-push.ensures.items ∙ map-append part c.loop.pieces.items (c.in-Ok-Some.piece ∷ []))) more
+    (sym (ap (map part) c.in_ok-push-in-Ok-Some.ensures.items ∙ map-append part c.loop.pieces.items (c.in-Ok-Some.piece ∷ []))) more

@@ -19,8 +19,8 @@ loop-byte-preserved c = record {
   high = omega arith;
   small = omega (arith, c.min-value.ensures);
   same =
-    ap (λ (v : ℕ). more_digits c.args.base v (drop (c.loop-byte.byte-index + 1) c.args.digits.now) >>= char_of) (c.min-value.ensures ∙ ap (λ (d : ℕ). min (c.loop-byte.value * c.args.base + d) 0x11_0000) c.in-Some.ensures.1)
-    ∙ digit_more c.args.base c.loop-byte.value c.args.digits.now c.loop-byte.byte-index _ (omega arith) (omega arith) c.in-Some.ensures.0 c.loop-byte.invariant.same;
+      ap (λ (v : ℕ). more_digits c.args.base v (drop (c.loop-byte.byte-index + 1) c.args.digits.now) >>= char_of) (c.min-value.ensures ∙ ap (λ (d : ℕ). min (c.loop-byte.value * c.args.base + d) 0x11_0000) c.in-Some.ensures.1)
+      ∙ digit_more c.args.base c.loop-byte.value c.args.digits.now c.loop-byte.byte-index _ (omega arith) (omega arith) c.in-Some.ensures.0 c.loop-byte.invariant.same;
 }
 
 pub returns : goal.returns

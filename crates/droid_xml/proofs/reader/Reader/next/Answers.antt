@@ -13,10 +13,10 @@ returns-in-Err c =
 
 pub returns-in-Err-take : goal.returns-in-Err-take
 returns-in-Err-take c = (
-    subst (λ (f : Fault). Fails f (next_at (place c.args.self.now))) (sym c.fault.ensures) (nesting_fails (place c.args.self.now) (part c.in-Ok.piece, c.in-Ok.rest.now) c.in-Err-take.stop (sym c.is_empty.ensures ∙ c.if-is_empty.false) c.in-Ok.ensures c.in-Err-take.ensures.0),
-    ap (λ (n : Nesting). record { text = c.args.self.now.text.now; rest = c.args.self.now.rest.now; nesting = n }) c.in-Err-take.ensures.1,
-  )
+  subst (λ (f : Fault). Fails f (next_at (place c.args.self.now))) (sym c.fault-in-Err-take.ensures) (nesting_fails (place c.args.self.now) (part c.in-Ok.found.0, c.in-Ok.found.1.now) c.in-Err-take.stop (sym c.is_empty.ensures ∙ c.if-is_empty.false) c.in-Ok.ensures c.in-Err-take.ensures.0),
+  ap (λ (n : Nesting). record { text = c.args.self.now.text.now; rest = c.args.self.now.rest.now; nesting = n }) c.in-Err-take.ensures.1,
+)
 
 pub returns : goal.returns
 returns c =
-    piece_comes (place c.args.self.now) (part c.in-Ok.piece, c.in-Ok.rest.now) (nesting c.take.new.self) (sym c.is_empty.ensures ∙ c.if-is_empty.false) c.in-Ok.ensures c.in-Ok-take.ensures
+    piece_comes (place c.args.self.now) (part c.in-Ok.found.0, c.in-Ok.found.1.now) (nesting c.take.new.self) (sym c.is_empty.ensures ∙ c.if-is_empty.false) c.in-Ok.ensures c.in-Ok-take.ensures
