@@ -50,6 +50,11 @@ Goes old (Ok None) new = (next_at old ≡ Ok None) × (new ≡ old)
 Goes old (Ok (Some piece)) new = next_at old ≡ Ok (Some (part piece, new))
 Goes old (Err fault) new = Fails fault (next_at old) × (new ≡ old)
 
+-- the document has a problem: memory did not run out
+abbrev pub IsProblem : Fault → Type 0
+IsProblem faults.Memory = ⊥
+IsProblem (faults.Problem problem line) = Unit {0}
+
 -- nothing but memory is wrong
 abbrev pub IsMemory : Fault → Type 0
 IsMemory faults.Memory = Unit {0}

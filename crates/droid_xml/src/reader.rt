@@ -5,7 +5,7 @@ ghost use Rattle.droid_xml.specs.Documents.{IsDocument, declared, line_of, past_
 ghost use Rattle.droid_xml.specs.Bytes.{is_byte};
 ghost use Rattle.droid_xml.specs.Outcomes.{Reads, fault_at};
 ghost use Rattle.droid_xml.specs.Pieces.{Part};
-ghost use Rattle.droid_xml.specs.Views.{Goes, IsFaultOf, IsMemory, Starts, part, place};
+ghost use Rattle.droid_xml.specs.Views.{Goes, IsFaultOf, IsMemory, IsProblem, Starts, part, place};
 
 use crate::bytes::after;
 use crate::declarations::{declaration_at, declaration_start, is_readable};
@@ -26,7 +26,9 @@ impl<'a> Reader<'a> {
     /// Begins a document, whose line ends are line feeds. Skips its byte order mark and its declaration.
     #[tactic(auto, unfolding(crate::specs::Documents::start_of))]
     pub fn new(alloc: Global, text: &'a [u8]) -> Result<Self, Fault>
-        ensures { Starts result (start_of text.now) }
+        ensures start { Starts result (start_of text.now) }
+        // It allocates nothing, so memory is not the reason.
+        ensures problem { IfErr result IsProblem }
     {
         match prolog(text) {
             Ok(rest) => Ok(Reader {
