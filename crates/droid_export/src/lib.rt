@@ -9,6 +9,7 @@ mod index;
 mod laws;
 mod moment;
 mod node_uri;
+mod row_text;
 mod rows;
 mod selection;
 mod shared_columns;
@@ -18,8 +19,9 @@ mod writer;
 
 pub use fault::ExportFault;
 pub use filter::meets;
-pub use laws::text_is_read_back;
+pub use laws::{text_goes_by_records, text_is_read_back};
 pub use moment::moment_text;
 pub use node_uri::uri;
+pub use row_text::RowText;
 pub use text::export_text;
 pub use writer::export;
