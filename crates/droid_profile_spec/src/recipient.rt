@@ -1,0 +1,34 @@
+//! The trait for taking the records of a profile.
+
+ghost use Rattle.std.specs.Prelude.{IfErr, OnOk};
+ghost use Rattle.droid_frame.specs.types.record.Record.{Record};
+ghost use Rattle.droid_profile_spec.specs.declared.recipient.RecipientFault.{RecipientFault};
+
+use droid_frame::{Record, WriteFault};
+use thiserror::Error;
+
+/// Why a recipient could not take a record.
+#[derive(Clone, Copy, Debug, PartialEq, Eq, Error)]
+pub enum RecipientFault {
+    /// Out of memory.
+    #[error("out of memory")]
+    Memory,
+    /// What is made of the records could not be written.
+    #[error("the profile could not be written")]
+    Write(WriteFault),
+}
+
+/// Takes the records of a profile, one after the other.
+pub trait Recipient {
+    /// Relates the state before a record was taken, the record, and the state after it.
+    ghost takes: { Self → Record → Self → Type 0 };
+
+    /// Relates the state before a record that could not be taken, the record, the reason, and the state after it. The
+    /// record may have been taken in part.
+    ghost fails: { Self → Record → RecipientFault → Self → Type 0 };
+
+    /// Takes the next record.
+    fn take(&mut self, record: &Record) -> Result<(), RecipientFault>
+        ensures taken { OnOk result (takes self.old record.now self.new) }
+        ensures failed { IfErr result (λ fault. fails self.old record.now fault self.new) };
+}
