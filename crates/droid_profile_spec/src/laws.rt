@@ -17,7 +17,7 @@ ghost use Rattle.droid_profile_spec.specs.declared.options.Options.{Options};
 /// each file, with its path, its hash and its formats.
 pub fn a_tree_is_shown_as_its_profile()
     ensures { (registry : Contents) (setting : Setting) (options : Options) (visits : List Visit) (left : List PendingFolder) (nodes : List Node) → Identifies registry setting → InTurn (top ∷ []) visits left
-        → AllByRecursion IsVisit visits → Follow 0 (flat_map numbers_of visits) → AreNodesOf (all_lying visits) nodes
+        → Follow 0 (flat_map numbers_of visits) → AreNodesOf (all_lying visits) nodes
         → records setting (profile_with options nodes) ≡ records_of registry options visits }
 {}
 

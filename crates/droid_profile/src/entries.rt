@@ -1,0 +1,160 @@
+//! Takes one entry of a folder: a folder, a file, or something that is skipped.
+
+use crate::refusal::entry_refusal;
+use crate::row::Row;
+use crate::scan::Scan;
+use droid_frame::{Blob, HashValue, Method, NodeKind, Record, Text, Texts};
+use droid_profile_files::{FileRow, FileState};
+use droid_profile_spec::ProfileFault;
+use droid_tree::{
+    EntryKind, FolderEntry, PendingFolder, Skipped, Tree, TreeFault, add_pending, name_of,
+    path_below,
+};
+use std::alloc::{AllocError, Global};
+
+/// Takes one entry of the folder that was listed last.
+pub(crate) fn take_entry<T: Tree>(
+    alloc: Global,
+    tree: &mut T,
+    scan: &mut Scan,
+    rows: &mut Vec<Row>,
+    files: &mut Vec<FileRow>,
+    entry: FolderEntry,
+) -> Result<(), ProfileFault> {
+    let Some(name) = name_of(&entry) else {
+        push_left_below(alloc, rows, &scan.folder, &entry, Skipped::Name)?;
+        return Ok(());
+    };
+    let why = match entry.kind {
+        EntryKind::Link => Some(Skipped::Link),
+        EntryKind::Other => Some(Skipped::Kind),
+        EntryKind::Folder | EntryKind::File => {
+            match entry_refusal(scan.folder.path.as_str(), name, &entry) {
+                Some(refusal) => Some(Skipped::Refused(refusal)),
+                None => None,
+            }
+        }
+    };
+    if let Some(why) = why {
+        push_left_below(alloc, rows, &scan.folder, &entry, why)?;
+        return Ok(());
+    }
+    let path = path_below(alloc, scan.folder.path.as_str(), name)?;
+    let name = Text::copy_of(alloc, name)?;
+    match entry.kind {
+        EntryKind::File => take_file(alloc, scan, rows, files, path, name, entry),
+        _ => take_folder(alloc, tree, scan, rows, path, name, &entry),
+    }
+}
+
+/// Takes a file.
+fn take_file(
+    alloc: Global,
+    scan: &mut Scan,
+    rows: &mut Vec<Row>,
+    files: &mut Vec<FileRow>,
+    path: Text,
+    name: Text,
+    entry: FolderEntry,
+) -> Result<(), ProfileFault> {
+    let number = next_number(scan.number)?;
+    let place = files.len();
+    let record = Record {
+        id: number,
+        parent: scan.folder.number,
+        path,
+        name,
+        kind: NodeKind::File,
+        size: entry.len,
+        modified: entry.modified,
+        method: Method::Unidentified,
+        mismatch: false,
+        hash: HashValue::Nothing,
+        puids: Texts::new(alloc),
+    };
+    rows.push(Row::File(place))?;
+    files.push(FileRow {
+        record,
+        entry,
+        state: FileState::Waits,
+    })?;
+    scan.number = number;
+    Ok(())
+}
+
+/// Takes a folder, if it can be listed.
+fn take_folder<T: Tree>(
+    alloc: Global,
+    tree: &mut T,
+    scan: &mut Scan,
+    rows: &mut Vec<Row>,
+    path: Text,
+    name: Text,
+    entry: &FolderEntry,
+) -> Result<(), ProfileFault> {
+    match tree.see_folder(alloc, path.as_str()) {
+        Ok(()) => {}
+        Err(TreeFault::Memory) => return Err(ProfileFault::Memory),
+        Err(_) => {
+            push_left(alloc, rows, path.as_str(), Skipped::Unreadable)?;
+            return Ok(());
+        }
+    }
+    let number = next_number(scan.number)?;
+    let record = Record {
+        id: number,
+        parent: scan.folder.number,
+        path: path.try_clone(alloc)?,
+        name,
+        kind: NodeKind::Folder,
+        size: 0,
+        modified: entry.modified,
+        method: Method::Unidentified,
+        mismatch: false,
+        hash: HashValue::Nothing,
+        puids: Texts::new(alloc),
+    };
+    rows.push(Row::Folder(record))?;
+    add_pending(&mut scan.waiting, path, number)?;
+    scan.number = number;
+    Ok(())
+}
+
+/// Returns the number after this one.
+fn next_number(number: u32) -> Result<u32, ProfileFault>
+{
+    match number.checked_add(1) {
+        Some(next) => Ok(next),
+        None => Err(ProfileFault::Numbers),
+    }
+}
+
+/// Takes something that is skipped.
+pub(crate) fn push_left(
+    alloc: Global,
+    rows: &mut Vec<Row>,
+    path: &str,
+    why: Skipped,
+) -> Result<(), AllocError> {
+    let path = Blob::copy_of(alloc, path.as_bytes())?;
+    rows.push(Row::Left { path, why })?;
+    Ok(())
+}
+
+/// Takes an entry that is skipped. Its name may be invalid UTF-8.
+pub(crate) fn push_left_below(
+    alloc: Global,
+    rows: &mut Vec<Row>,
+    folder: &PendingFolder,
+    entry: &FolderEntry,
+    why: Skipped,
+) -> Result<(), AllocError> {
+    let mut path = Vec::from_slice(alloc, folder.path.as_str().as_bytes())?;
+    path.extend_from_slice(b"/")?;
+    path.extend_from_slice(entry.name.as_slice())?;
+    rows.push(Row::Left {
+        path: Blob::from(path),
+        why,
+    })?;
+    Ok(())
+}

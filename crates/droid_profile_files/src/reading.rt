@@ -1,0 +1,100 @@
+//! Reads on in the file of a lane.
+
+use crate::batch::Batch;
+use crate::file_lane::{FileLane, ROOM};
+use crate::file_row::{FileRow, FileState, is_read_in};
+use droid_profile_spec::ProfileFault;
+use droid_tree::{Skipped, Tree, Watcher, unread};
+
+/// What a read came to.
+#[derive(Clone, Copy, Debug, PartialEq, Eq)]
+pub(crate) enum Came {
+    /// All that was asked for, and the file goes on.
+    Piece,
+    /// The last bytes of the file.
+    Last,
+    /// The file is not as its folder lists it, or could not be read.
+    Stopped(Skipped),
+}
+
+/// Reads on in the file of a lane if all that was read before is hashed and the file has not ended. A file that cannot
+/// be read as its folder lists it is dropped.
+pub(crate) fn read_on<T: Tree, W: Watcher>(
+    tree: &mut T,
+    watcher: &mut W,
+    batch: &mut Batch,
+    lane: usize,
+) -> Result<(), ProfileFault>
+    requires { lane < 8 }
+{
+    if !is_due(&batch.lanes[lane]) {
+        return Ok(());
+    }
+    let place = batch.lanes[lane].place;
+    if !is_read_in(batch.files.as_slice(), place, lane) {
+        return Ok(());
+    }
+    match read_piece(tree, watcher, &mut batch.lanes[lane], &batch.files[place])? {
+        Came::Stopped(why) => {
+            batch.lanes[lane].busy = false;
+            batch.files[place].state = FileState::Dropped(why);
+            Ok(())
+        }
+        Came::Piece => Ok(()),
+        Came::Last => Ok(()),
+    }
+}
+
+/// Returns whether the lane has to read on.
+fn is_due(lane: &FileLane) -> bool {
+    lane.busy & !lane.at_end & lane.is_hashed()
+}
+
+/// Reads the next bytes of a file into the lane's buffer.
+fn read_piece<T: Tree, W: Watcher>(
+    tree: &mut T,
+    watcher: &mut W,
+    lane: &mut FileLane,
+    row: &FileRow,
+) -> Result<Came, ProfileFault> {
+    let wanted = next_wanted(row.entry.len, lane.from);
+    lane.buffer.clear();
+    lane.hashed = 0;
+    let path = row.record.path.as_str();
+    match tree.read(path, &row.entry, lane.from, wanted, &mut lane.buffer) {
+        Ok(()) => {
+            watcher.took_bytes(path, lane.buffer.len() as u32);
+            Ok(take_piece(lane, row.entry.len, wanted))
+        }
+        Err(fault) => match unread(fault) {
+            Ok(why) => Ok(Came::Stopped(why)),
+            Err(_) => Err(ProfileFault::Memory),
+        },
+    }
+}
+
+/// Returns how many bytes the next read asks for: one more than the file has left, if that fits the buffer.
+fn next_wanted(size: u64, from: u64) -> u32 {
+    let left = size.saturating_sub(from).saturating_add(1);
+    match u32::try_from(left) {
+        Ok(left) => left.min(ROOM),
+        Err(_) => ROOM,
+    }
+}
+
+/// Judges the bytes that came, and keeps them if they are the file's.
+fn take_piece(lane: &mut FileLane, size: u64, wanted: u32) -> Came {
+    let count = lane.buffer.len() as u64;
+    let left = size.saturating_sub(lane.from);
+    if count > left {
+        return Came::Stopped(Skipped::Changed);
+    }
+    let ended = count < u64::from(wanted);
+    if ended & (count != left) {
+        return Came::Stopped(Skipped::Changed);
+    }
+    lane.ends.take(lane.buffer.as_slice());
+    lane.from = lane.from.saturating_add(count);
+    lane.at_end = ended;
+    if ended { Came::Last } else { Came::Piece }
+}

@@ -1,0 +1,4 @@
+pub mod NodePaths
+pub mod ShownEntries
+pub mod ShownTree
+pub mod SomeNodes
