@@ -2,6 +2,7 @@ pub mod CivilDays
 pub mod CsvText
 pub mod Escapes
 pub mod Examples
+pub mod Records
 pub mod TextConcatenation
 pub mod IndexContents
 pub mod FlagMarks
