@@ -7,5 +7,6 @@ pub mod TextConcatenation
 pub mod IndexContents
 pub mod FlagMarks
 pub mod ListPlaces
+pub mod Lines
 pub mod CsvRoundTrip
 pub mod WriterStops
