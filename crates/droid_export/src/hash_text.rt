@@ -8,6 +8,7 @@ use droid_frame::HashValue;
 use std::marker::Model;
 
 /// A hash in lower-case hexadecimal digits. In contracts it is the list of the digits. It takes no memory.
+#[derive(Drop)]
 pub struct HashText {
     digits: [u8; 64],
     len: usize,
