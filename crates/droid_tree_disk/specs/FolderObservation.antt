@@ -43,7 +43,7 @@ pub record IsFileOf (entry : FolderEntry) (found : FileMetadata) : Type 0 where
 
 -- an open file is that of this entry, and was opened by this path
 pub record IsHeld {F : Type 0} (path_of : F → List ℕ) (metadata_of : F → FileMetadata) (path : List ℕ) (entry : FolderEntry) (file : F) : Type 0 where
-  pub at : path_of file ≡ path
+  pub opened_by : path_of file ≡ path
   pub its : IsFileOf entry (metadata_of file)
 
 -- the entry's file is at this path, and it is the file that was opened
