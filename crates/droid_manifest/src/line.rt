@@ -9,6 +9,7 @@ use std::alloc::AllocError;
 
 /// Appends the line of a file with this digest, in hexadecimal digits, and this path. Fails only if the buffer can't
 /// grow.
+#[tactic(auto, unfolding(crate::specs::Lines::line_text))]
 pub(crate) fn add_line(text: &mut Vec<u8>, digits: &[u8], path: &[u8]) -> Result<(), AllocError>
     ensures { OnOk result (text.new.items ≡ text.old.items ++ line digits.now path.now) }
 {
@@ -32,6 +33,7 @@ fn add_mark(text: &mut Vec<u8>, special: bool) -> Result<(), AllocError>
 }
 
 /// Appends a path. `special` says whether it has bytes that can't stand in a line as they are.
+#[tactic(auto, using(crate::proofs::Specials::plain_path))]
 fn add_path(text: &mut Vec<u8>, path: &[u8], special: bool) -> Result<(), AllocError>
     requires { special ≡ list_any is_special path.now }
     ensures { OnOk result (text.new.items ≡ text.old.items ++ flat_map escaped_byte path.now) }
@@ -58,6 +60,7 @@ fn add_byte(text: &mut Vec<u8>, byte: u8) -> Result<(), AllocError>
 }
 
 /// Returns whether a path has bytes that can't stand in a line as they are.
+#[tactic(auto, using(crate::proofs::Specials::any_nowhere, crate::proofs::Specials::any_there))]
 fn has_special(path: &[u8]) -> bool
     ensures { result ≡ list_any is_special path.now }
 {
