@@ -1,6 +1,6 @@
 //! Rows that are written as they come.
 
-ghost use Rattle.std.specs.Prelude.{◌≡◌, ◌↔◌, ◌++◌, [], IfErr, OnErr, OnOk, length};
+ghost use Rattle.std.specs.Prelude.{◌≡◌, ◌++◌, [], IfErr, OnErr, OnOk, length};
 ghost use Rattle.std.specs.Io.KnownBytes.{Appends};
 ghost use Rattle.droid_frame.specs.Seen.{IsSound, Lasts};
 ghost use Rattle.droid_frame.specs.Writes.{StopsWithin, Takes, WriterStops};
@@ -8,8 +8,8 @@ ghost use Rattle.droid_export.specs.Moments.{IsMoment};
 ghost use Rattle.droid_export.specs.Rows.{header};
 ghost use Rattle.droid_export.specs.Text.{record_text, row_text};
 
+use crate::pending_text::PendingText;
 use crate::rows::{add_header, add_rows};
-use crate::writer::write_text;
 use droid_frame::{HashKind, Record, SteadyWrite, WriteFault};
 use droid_pronom::Registry;
 use std::alloc::{AllocError, Global};
@@ -21,7 +21,7 @@ use std::marker::Model;
 #[derive(Drop)]
 pub struct RowText {
     /// The rows that are not written yet.
-    text: Vec<u8>,
+    text: PendingText,
     /// A place for the rows of the record that is added.
     rows: Vec<u8>,
     /// A place for the URI of the record that is added.
@@ -33,7 +33,7 @@ impl Model for RowText {
 
     ghost Value = { List ℕ };
 
-    ghost view = { λ rows. rows.text.items };
+    ghost view = { λ rows. rows.text };
 }
 
 impl RowText {
@@ -42,7 +42,7 @@ impl RowText {
         ensures { result ≡ [] }
     {
         RowText {
-            text: Vec::new(alloc),
+            text: PendingText::new(alloc),
             rows: Vec::new(alloc),
             uri: String::new(alloc),
         }
@@ -63,7 +63,7 @@ impl RowText {
     {
         self.rows.clear();
         add_header(&mut self.rows, hash)?;
-        self.text.extend_from_slice(self.rows.as_slice())
+        self.text.add(self.rows.as_slice())
     }
 
     /// Appends the rows of a record: one for each of its formats, in order, or one row without a format. Fails only if
@@ -77,7 +77,7 @@ impl RowText {
     {
         self.rows.clear();
         add_rows(&mut self.rows, &mut self.uri, registry, record)?;
-        self.text.extend_from_slice(self.rows.as_slice())
+        self.text.add(self.rows.as_slice())
     }
 
     /// Writes the rows, after which there are none. If not all can be written, they stay as they are, and the fault
@@ -95,9 +95,7 @@ impl RowText {
         ensures stopped { IsSound (W.seen writer.old) → OnErr result (WriterStops (W.seen writer.old).interruptions (W.seen writer.new) (W.room writer.new)) }
         ensures steady { IsSound (W.seen writer.old) → OnOk result (Lasts (W.seen writer.old).interruptions (W.seen writer.new)) }
     {
-        write_text(writer, self.text.as_slice())?;
-        self.text.clear();
-        Ok(())
+        self.text.write_to(writer)
     }
 
     /// Returns the rows that are not written yet.
@@ -105,6 +103,6 @@ impl RowText {
         ensures { result.items ≡ self }
     {
         let RowText { text, .. } = self;
-        text
+        text.into_vec()
     }
 }

@@ -14,7 +14,7 @@ use crate::extension::extension;
 use crate::filter::{found_by, mismatch};
 use crate::moment::moment_bytes;
 use crate::node_uri::add_uri;
-use crate::shared_columns::{Common, HashText, count_text, parent_text, size_text};
+use crate::shared_columns::{Common, count_text, hash_text, parent_text, size_text};
 use crate::table::add_line;
 use droid_frame::{HashKind, Method, NodeKind, Record};
 use droid_pronom::{Format, Registry};
@@ -74,7 +74,7 @@ pub(crate) fn add_rows(
     let mut parent_id = Buffer::new();
     let mut size = Buffer::new();
     let mut format_count = Buffer::new();
-    let hash = HashText::of(node);
+    let hash = hash_text(node);
     uri.clear();
     add_uri(uri, node.path.as_str(), node.kind)?;
     let common = Common {

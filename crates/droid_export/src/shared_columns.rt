@@ -1,15 +1,15 @@
 //! The columns that all rows of a record share.
 
-ghost use Rattle.std.specs.Prelude.{◌≡◌, ◌≤◌, [], length};
+ghost use Rattle.std.specs.Prelude.{◌≡◌, length};
 ghost use Rattle.std.specs.Fmt.{decimal};
 ghost use Rattle.hex.specs.Hex.{encode_lower};
 ghost use Rattle.droid_frame.specs.Hashes.{hash_bytes};
 ghost use Rattle.droid_export.specs.Rows.{of_file, parent_text};
 
 use crate::filter::is_file;
-use droid_frame::{HashValue, Record};
+use crate::hash_text::HashText;
+use droid_frame::Record;
 use itoa::Buffer;
-use std::marker::Model;
 
 /// The columns that all rows of a record share and that have to be computed from the record.
 pub(crate) struct Common<'a> {
@@ -52,62 +52,12 @@ pub(crate) fn count_text<'a>(digits: &'a mut Buffer, node: &Record) -> &'a str
     digits.format(node.puids.len())
 }
 
-/// The hash of a file in lower-case hexadecimal digits. In contracts it is the list of the digits.
-pub(crate) struct HashText {
-    digits: [u8; 64],
-    len: usize,
-}
-
-impl Model for HashText {
-    ghost use Rattle.std.specs.Prelude.{List, ℕ, ◌≤◌, take};
-
-    ghost Value = { List ℕ };
-
-    ghost view = { λ hash. take hash.len hash.digits };
-
-    ghost invariant = { λ hash. hash.len ≤ 64 };
-}
-
-impl HashText {
-    /// Writes the hash of a file, or nothing for a folder or if there is no hash.
-    pub(crate) fn of(node: &Record) -> HashText
-        ensures { result ≡ of_file node.now (encode_lower (hash_bytes node.now.hash)) }
-    {
-        if !is_file(node.kind) {
-            return HashText::none();
-        }
-        match &node.hash {
-            HashValue::Nothing => HashText::none(),
-            HashValue::Md5(digest) => HashText::of_digest(digest.as_slice()),
-            HashValue::Sha256(digest) => HashText::of_digest(digest.as_slice()),
-        }
+/// Returns the digits of the hash of a file, or nothing for a folder or if there is no hash.
+pub(crate) fn hash_text(node: &Record) -> HashText
+    ensures { result ≡ of_file node.now (encode_lower (hash_bytes node.now.hash)) }
+{
+    if !is_file(node.kind) {
+        return HashText::none();
     }
-
-    /// Returns no digits.
-    fn none() -> HashText
-        ensures { result ≡ [] }
-    {
-        HashText {
-            digits: [0; 64],
-            len: 0,
-        }
-    }
-
-    /// Writes a digest of up to 32 bytes.
-    fn of_digest(digest: &[u8]) -> HashText
-        requires { length digest.now ≤ 32 }
-        ensures { result ≡ encode_lower digest.now }
-    {
-        let mut digits = [0; 64];
-        let len = 2 * digest.len();
-        hex::encode_to_slice(digest, &mut digits[..len]).unwrap();
-        HashText { digits, len }
-    }
-
-    /// Returns the digits.
-    pub(crate) fn as_slice(&self) -> &[u8]
-        ensures { result.now ≡ self.now }
-    {
-        &self.digits[..self.len]
-    }
+    HashText::of(&node.hash)
 }

@@ -1,7 +1,7 @@
 //! Appends records of CSV to a buffer, with each field between double quotes.
 
-ghost use Rattle.std.specs.Prelude.{◌≡◌, ◌↔◌, ◌++◌, ◌∷◌, [], IsFalse, OnOk, map};
-ghost use Rattle.std.specs.List.{flat_map, Contains};
+ghost use Rattle.std.specs.Prelude.{◌≡◌, ◌++◌, ◌∷◌, [], IsTrue, OnOk, map};
+ghost use Rattle.std.specs.List.{flat_map};
 ghost use Rattle.droid_export.specs.Csv.{doubled, line, quoted};
 
 use memchr::memchr;
@@ -22,6 +22,7 @@ pub(crate) fn add_line(
 }
 
 /// Appends a field between double quotes, and the byte behind it.
+#[tactic(auto, unfolding(crate::specs::Csv::quoted))]
 fn add_field(text: &mut Vec<u8>, field: &[u8], end: u8) -> Result<(), AllocError>
     ensures { OnOk result (text.new.items ≡ text.old.items ++ (quoted field.now ++ end ∷ [])) }
 {
@@ -57,8 +58,12 @@ fn add_byte(text: &mut Vec<u8>, byte: u8) -> Result<(), AllocError>
 }
 
 /// Returns whether there is no double quote in the field.
+#[tactic(auto, using(crate::proofs::Lines::plain_field))]
 fn has_no_quote(field: &[u8]) -> bool
     ensures { IsTrue result → flat_map doubled field.now ≡ field.now }
 {
-    memchr(b'"', field).is_none()
+    match memchr(b'"', field) {
+        None => true,
+        Some(_) => false,
+    }
 }

@@ -67,6 +67,13 @@ impl<R: Files<File = File>> Disk for System<'_, R> {
         Ok(names)
     }
 
+    fn see_folder(&mut self, path: &str) -> Result<(), TreeFault> {
+        match self.place(path) {
+            Some(place) => see_folder_at(self.runtime, place.as_str()),
+            None => see_folder_at(self.runtime, path),
+        }
+    }
+
     fn look(&mut self, path: &str) -> Option<FileMetadata> {
         match self.place(path) {
             Some(place) => look_at(self.runtime, place.as_str()),
@@ -74,13 +81,10 @@ impl<R: Files<File = File>> Disk for System<'_, R> {
         }
     }
 
-    fn open(&mut self, alloc: Global, path: &str) -> Result<Opened, TreeFault> {
-        let Ok(path_kept) = Text::copy_of(alloc, path) else {
-            return Err(TreeFault::Memory);
-        };
-        match self.place(path) {
-            Some(place) => open_by(self.runtime, place.as_str(), path_kept),
-            None => open_by(self.runtime, path, path_kept),
+    fn open(&mut self, path: Text) -> Result<Opened, TreeFault> {
+        match self.place(path.as_str()) {
+            Some(place) => with_metadata(opened(self.runtime, place.as_str())?, path),
+            None => with_metadata(opened(self.runtime, path.as_str())?, path),
         }
     }
 
@@ -88,8 +92,11 @@ impl<R: Files<File = File>> Disk for System<'_, R> {
         file.metadata
     }
 
-    fn is_at(file: &Opened, path: &str) -> bool {
-        file.path.as_str() == path
+    fn is_at(file: &Opened, top: &str, path: &str) -> bool {
+        match file.path.as_str().strip_prefix(top) {
+            Some(rest) => rest == path,
+            None => false,
+        }
     }
 
     fn read_at(
@@ -99,7 +106,7 @@ impl<R: Files<File = File>> Disk for System<'_, R> {
         wanted: u32,
         bytes: &mut Vec<u8>,
     ) -> Result<(), TreeFault> {
-        add_bytes(&file.file, from, wanted, bytes)
+        add_bytes(&file.file, file.metadata.len, from, wanted, bytes)
     }
 }
 
@@ -127,6 +134,21 @@ fn names_at<R: Files>(rt: &R, alloc: Global, path: &str) -> Result<Vec<Blob>, Tr
     }
 }
 
+/// Opens the folder at this path for listing, and closes it again. Fails for a link to a folder, unless the path ends in
+/// `/`.
+fn see_folder_at<R: Files>(rt: &R, path: &str) -> Result<(), TreeFault> {
+    let Some(there) = look_at(rt, path) else {
+        return Err(TreeFault::Unreadable);
+    };
+    if there.kind != EntryKind::Folder {
+        return Err(TreeFault::Unreadable);
+    }
+    match rt.open_dir(path) {
+        Ok(_) => Ok(()),
+        Err(_) => Err(TreeFault::Unreadable),
+    }
+}
+
 /// Returns the metadata of this path, or `None` if there are none.
 fn look_at<R: Files>(rt: &R, path: &str) -> Option<FileMetadata>
     ensures { IfSome result IsOfSome }
@@ -137,14 +159,12 @@ fn look_at<R: Files>(rt: &R, path: &str) -> Option<FileMetadata>
     }
 }
 
-/// Opens the file at this place, which has this path.
-fn open_by<R: Files<File = File>>(rt: &R, place: &str, path: Text) -> Result<Opened, TreeFault>
-    ensures path { IfOk result (λ opened. opened.path ≡ path) }
-    ensures found { IfOk result (λ opened. IsOfSome opened.metadata) }
-    ensures known { IfErr result (λ fault. fault ≢ Changed) }
+/// Opens the file at this place.
+fn opened<R: Files<File = File>>(rt: &R, place: &str) -> Result<File, TreeFault>
+    ensures { IfErr result (λ fault. fault ≢ Changed) }
 {
     match fs::open(rt, place) {
-        Ok(file) => with_metadata(file, path),
+        Ok(file) => Ok(file),
         Err(_) => Err(TreeFault::Unreadable),
     }
 }
@@ -187,6 +207,9 @@ fn kind_by(metadata: &Metadata) -> EntryKind
     }
     if metadata.is_file() {
         return EntryKind::File;
+    }
+    if metadata.is_symlink() {
+        return EntryKind::Link;
     }
     EntryKind::Other
 }

@@ -1,35 +1,12 @@
-use Rattle.std.proofs.Common.{◌≡◌, ◌≢◌, ◌<◌, ◌++◌, ℕ, List, [], ◌∷◌, length, map, refl, ◌∙◌, arith, Bor, Option, Some, None}
-use Rattle.std.specs.Io.KnownBytes.{Appends}
-use Rattle.csv.specs.Writing as csv
-use Rattle.csv.specs.declared.writer.QuoteStyle.TheVariants as style
-use Rattle.droid_export.specs.Csv.{line}
-use Rattle.droid_export.specs.CsvBuffer.{always}
-use Rattle.droid_export.proofs.CsvText.{line_same}
-use Rattle.std.proofs.lemmas.List.{length-map}
-use Rattle.droid_export.proofs.table.write_record.Goals as goal
-use Rattle.droid_export.proofs.table.write_record.Goals.{in-Ok, in-Err}
-
-lines : (fields : List (List ℕ)) → 1 < length fields → csv.row_text always fields ≡ line fields
-lines [] more = absurd (omega arith)
-lines (field ∷ []) more = absurd (omega arith)
-lines (field ∷ next ∷ fields) more = line_same field next fields
-
-appended : (old new : Option (List ℕ)) (text bytes : List ℕ) → old ≡ Some text → Appends old new bytes → new ≡ Some (text ++ bytes)
-appended old None text bytes is more = absurd (rw is at more)
-appended old (Some now) text bytes is more = let grown : now ≡ text ++ bytes = rw is at more in rw grown refl
+use Rattle.std.proofs.Common.{◌≡◌, ◌++◌, ◌∙◌, ap, arith}
+use Rattle.std.specs.List.{flat_map}
+use Rattle.std.proofs.lemmas.List.{take_all}
+use Rattle.std.proofs.lemmas.Result.{on_ok_weaker}
+use Rattle.droid_export.proofs.Lines.{line_ended, with_comma}
+use Rattle.droid_export.proofs.table.add_line.Goals as goal
 
 pub returns : goal.returns
-returns c = elim c.match-write_fields.branch [
-  | in-Ok w ↦ rw w.result-is (λ text holds.
-      let plain : (csv.writer_setup c.args.writer.now).style ≢ style.NonNumeric = rw holds.setup (λ e. cc e) in
-      let bytes : List (List ℕ) = map (λ (field : Bor (List ℕ)). field.now) c.args.fields.now in
-      let long : 1 < length bytes = rw length-map c.requires in
-      let more = w.in-Ok.ensures.bytes holds.fields holds.wrote plain in
-      record {
-        setup = w.in-Ok.ensures.setup ∙ holds.setup;
-        fields = w.in-Ok.ensures.ended;
-        wrote = w.in-Ok.ensures.clean;
-        written = appended _ _ text _ holds.written (rw (holds.setup, lines bytes long) at more);
-      })
-  | in-Err w ↦ rw w.result-is tt
-]
+returns c =
+    let front : c.loop-field.text.items ≡ c.args.text.now.items ++ flat_map with_comma c.args.fields.now =
+    c.loop-field.invariant ∙ ap (λ l. c.args.text.now.items ++ flat_map with_comma l) (take_all c.loop-field.field-index c.args.fields.now (omega arith)) in
+    on_ok_weaker c.add_field-2.result (λ added. line_ended c.args.text.now.items c.loop-field.text.items c.add_field-2.new.text.items c.args.fields.now c.args.last.now front added) c.add_field-2.ensures
