@@ -1,6 +1,6 @@
 //! Laws of a tree's profile. Each stands on an empty function and is proved with it.
 
-ghost use Rattle.std.specs.Prelude.{◌≡◌, [], ◌∷◌, ◌×◌, List};
+ghost use Rattle.std.specs.Prelude.{◌≡◌, [], ◌∷◌, List};
 ghost use Rattle.std.specs.List.{flat_map, AllByRecursion};
 ghost use Rattle.droid_core_spec.specs.Records.{records};
 ghost use Rattle.droid_core_spec.specs.Setting.{Setting};

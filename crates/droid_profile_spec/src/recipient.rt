@@ -28,7 +28,7 @@ pub trait Recipient {
     ghost fails: { Self → Record → RecipientFault → Self → Type 0 };
 
     /// Takes the next record.
-    fn take(&mut self, record: &Record) -> Result<(), RecipientFault>
-        ensures taken { OnOk result (takes self.old record.now self.new) }
-        ensures failed { IfErr result (λ fault. fails self.old record.now fault self.new) };
+    fn take(&mut self, next: &Record) -> Result<(), RecipientFault>
+        ensures taken { OnOk result (takes self.old next.now self.new) }
+        ensures failed { IfErr result (λ fault. fails self.old next.now fault self.new) };
 }

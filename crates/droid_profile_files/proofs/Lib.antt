@@ -1,0 +1,3 @@
+pub mod Places
+pub mod ReadsSplit
+pub mod BatchMoves

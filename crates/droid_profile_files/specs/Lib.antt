@@ -1,0 +1,4 @@
+pub mod FileStates
+pub mod LaneSteps
+pub mod BatchFits
+pub mod FilesRead
