@@ -35,27 +35,27 @@ records_append setting profile id (x ∷ xs) ys =
     ap (λ (l : List Record). own ++ l) (records_append setting profile (id + 1) xs ys ∙ ap (λ (k : ℕ). records_from setting profile (id + 1) xs ++ records_from setting profile k ys) e)
     ∙ sym (append_assoc own (records_from setting profile (id + 1) xs) (records_from setting profile (id + suc (length xs)) ys))
 
+abbrev pub whole : Options → List Node → Profile
+whole options nodes = profile_with options nodes
+
 -- one more path
 one_more : (paths : List (List ℕ)) (path : List ℕ) → length (paths ++ path ∷ []) ≡ length paths + 1
 one_more paths path = length-append paths (path ∷ [])
 
 module _ (registry : Contents) (setting : Setting) (options : Options) (identifies : Identifies registry setting) (nodes : List Node) where
-  abbrev pub whole : Profile
-  whole = profile_with options nodes
-
   -- ---- one node
 
   folder_shown : (folder : PendingFolder) (entry : FolderEntry) (id : ℕ) → path nodes id ≡ below folder.path entry.name
-      → record_of setting whole id (Folder folder.number entry.modified entry.name) ≡ Some (folder_record folder entry id)
+      → record_of setting (whole options nodes) id (Folder folder.number entry.modified entry.name) ≡ Some (folder_record folder entry id)
   folder_shown folder entry id its = ap (λ (l : List ℕ). Some (record (folder_record folder entry id) { path = l })) its
 
   file_shown : (folder : PendingFolder) (entry : FolderEntry) (id : ℕ) (bytes : List ℕ) (node : Node) → path nodes id ≡ below folder.path entry.name → IsFileOf folder.number entry bytes node
-      → record_of setting whole id node ≡ Some (file_record options folder entry id bytes (found_of registry options entry bytes))
+      → record_of setting (whole options nodes) id node ≡ Some (file_record options folder entry id bytes (found_of registry options entry bytes))
   file_shown folder entry id bytes node its is =
       let plain : List ℕ → ℕ → List ℕ → Identification → Option Record = λ at size content found.
           Some (record { id = id; parent = folder.number; path = at; name = entry.name; kind = kinds.File; size = size; modified = entry.modified; method = found.method; mismatch = found.mismatch; hash = hash options.hash content; puids = found.puids }) in
       let identified : List ℕ → Identification = λ content. setting.identify entry.name content options.scan_limit options.match_all in
-      ap (record_of setting whole id) is.its
+      ap (record_of setting (whole options nodes) id) is.its
       ∙ (where_it_holds is.content.finished _ is.finished
       ∙ (ap (λ (l : List ℕ). plain (path nodes id) is.content.size l (identified l)) is.bytes
       ∙ (ap (λ (n : ℕ). plain (path nodes id) n bytes (identified bytes)) is.size
@@ -66,7 +66,7 @@ module _ (registry : Contents) (setting : Setting) (options : Options) (identifi
 
   -- the entry's nodes give its record; then its path is there too
   pub record ShowsKid (folder : PendingFolder) (kid : Kid) (its : List Node) (before after : List (List ℕ)) (more : List ℕ) : Type 0 where
-    pub shown : records_from setting whole (length before + 1) its ≡ records_of_kid registry options folder kid
+    pub shown : records_from setting (whole options nodes) (length before + 1) its ≡ records_of_kid registry options folder kid
     pub known : AllByRecursion (Known after) (subfolders_of_kid folder.path kid)
     pub counted : length after ≡ length before + length its
     pub follow : Follow (length after) more
@@ -122,7 +122,7 @@ module _ (registry : Contents) (setting : Setting) (options : Options) (identifi
     dropped_shown entry number reading node none is follow =
         let same : with_paths before (node ∷ []) ≡ before ++ [] ∷ [] = ap (λ (n : Node). with_paths before (n ∷ [])) is in
         record {
-          shown = ap (λ (n : Node). records_from setting whole (length before + 1) (n ∷ [])) is ∙ sym none;
+          shown = ap (λ (n : Node). records_from setting (whole options nodes) (length before + 1) (n ∷ [])) is ∙ sym none;
           known = tt;
           counted = ap length same ∙ one_more before [];
           follow = subst (λ (l : List (List ℕ)). Follow (length l) more) (sym same) (follow_one [] number follow.0 follow.1);
@@ -142,7 +142,7 @@ module _ (registry : Contents) (setting : Setting) (options : Options) (identifi
     nothing_shown kid its none no_record no_folder follow =
         let same : with_paths before its ≡ before = ap (with_paths before) none in
         record {
-          shown = ap (records_from setting whole (length before + 1)) none ∙ sym no_record;
+          shown = ap (records_from setting (whole options nodes) (length before + 1)) none ∙ sym no_record;
           known = subst (λ (l : List PendingFolder). AllByRecursion (Known (with_paths before its)) l) (sym no_folder) tt;
           counted = omega (arith, ap length same, ap length none);
           follow = subst (λ (l : List (List ℕ)). Follow (length l) more) (sym same) follow;

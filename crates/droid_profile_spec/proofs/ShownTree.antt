@@ -46,12 +46,12 @@ pub record Splits (xs ys : List Lying) (nodes : List Node) : Type 0 where
 split : (xs ys : List Lying) (nodes : List Node) → AreNodesOf (xs ++ ys) nodes → Splits xs ys nodes
 split [] ys nodes are = record { its = []; rest = nodes; are = refl; first = refl; more = are }
 split (x ∷ xs) ys nodes are =
-    let next = split xs ys are.1 are.2.2.1 in
+    let next = split xs ys are.1 are.4 in
     record {
       its = are.0 ++ next.its;
       rest = next.rest;
-      are = are.2.1 ∙ (ap (λ (l : List Node). are.0 ++ l) next.are ∙ sym (append_assoc are.0 next.its next.rest));
-      first = (are.0, next.its, are.2.0, refl, next.first);
+      are = are.3 ∙ (ap (λ (l : List Node). are.0 ++ l) next.are ∙ sym (append_assoc are.0 next.its next.rest));
+      first = (are.0, next.its, are.2, refl, next.first);
       more = next.more;
     }
 
@@ -77,15 +77,15 @@ module _ (registry : Contents) (setting : Setting) (options : Options) (identifi
       let own = are.0 in
       let rest = are.1 in
       let then : List (List ℕ) = with_paths before own in
-      let split_paths : with_paths before its ≡ with_paths then rest = ap (with_paths before) are.2.1 ∙ paths_append before own rest in
+      let split_paths : with_paths before its ≡ with_paths then rest = ap (with_paths before) are.3 ∙ paths_append before own rest in
       let end : Grows (with_paths then rest) (paths nodes) = subst (λ (l : List (List ℕ)). Grows l (paths nodes)) split_paths all in
-      let first = kid_shown registry setting options identifies nodes folder before known (flat_map numbers_in kids ++ more) kid own are.2.0
+      let first = kid_shown registry setting options identifies nodes folder before known (flat_map numbers_in kids ++ more) kid own are.2
           (subst (Follow (length before)) (append_assoc (numbers_in kid) (flat_map numbers_in kids) more) follow)
           (grows_twice then (with_paths then rest) (paths nodes) (grows then rest) end) in
-      let next = kids_shown folder kids rest then more (known_later before then folder (grows before own) known) are.2.2.1 first.follow end in
+      let next = kids_shown folder kids rest then more (known_later before then folder (grows before own) known) are.4 first.follow end in
       let at : (length before + 1) + length own ≡ length then + 1 = omega (arith, first.counted) in
       record {
-        shown = ap (records_from setting (whole options nodes) (length before + 1)) are.2.1
+        shown = ap (records_from setting (whole options nodes) (length before + 1)) are.3
             ∙ (records_append setting (whole options nodes) (length before + 1) own rest
             ∙ (ap (λ (k : ℕ). records_from setting (whole options nodes) (length before + 1) own ++ records_from setting (whole options nodes) k rest) at
             ∙ (ap (λ (l : List Record). l ++ records_from setting (whole options nodes) (length then + 1) rest) first.shown
@@ -93,7 +93,7 @@ module _ (registry : Contents) (setting : Setting) (options : Options) (identifi
         known = all_append (Known (with_paths before its)) (subfolders_of_kid folder.path kid) (flat_map (subfolders_of_kid folder.path) kids)
             (subst (λ (l : List (List ℕ)). AllByRecursion (Known l) (subfolders_of_kid folder.path kid)) (sym split_paths) (all_later then (with_paths then rest) (subfolders_of_kid folder.path kid) (grows then rest) first.known))
             (subst (λ (l : List (List ℕ)). AllByRecursion (Known l) (flat_map (subfolders_of_kid folder.path) kids)) (sym split_paths) next.known);
-        counted = omega (arith, ap length split_paths, next.counted, first.counted, ap length are.2.1, length-append own rest);
+        counted = omega (arith, ap length split_paths, next.counted, first.counted, ap length are.3, length-append own rest);
         follow = subst (λ (l : List (List ℕ)). Follow (length l) more) (sym split_paths) next.follow;
       }
 

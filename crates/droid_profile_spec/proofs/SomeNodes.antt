@@ -73,7 +73,7 @@ nodes_of : (folder : ℕ) (path : List ℕ) (kid : Kid) → MayCome path kid →
 nodes_of folder path (Subfolder entry number) may = record { its = Folder folder entry.modified entry.name ∷ []; are = refl }
 nodes_of folder path (AFile entry number reading) may =
     let node : Node = node_of (is_whole reading.ending) folder entry (bytes_of reading) in
-    record { its = node ∷ []; are = (node, refl, is_node folder entry reading reading.ending refl may.2.2.ending) }
+    record { its = node ∷ []; are = (node, refl, is_node folder entry reading reading.ending refl may.3.ending) }
 nodes_of folder path (ClosedFolder entry) may = record { its = []; are = refl }
 nodes_of folder path (AnotherKind entry) may = record { its = []; are = refl }
 nodes_of folder path (NoText entry) may = record { its = []; are = refl }

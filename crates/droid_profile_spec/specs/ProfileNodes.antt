@@ -15,12 +15,12 @@ use Rattle.droid_profile_spec.specs.Visits.{Visit}
 use Rattle.droid_profile_spec.specs.declared.options.Options.{Options}
 
 -- a finished file of this folder with the entry's name and time, and with exactly these bytes
-pub record IsFileOf (folder : ℕ) (entry : FolderEntry) (bytes : List ℕ) (node : Node) : Type 0 where
+pub record IsFileOf (folder : ℕ) (entry : FolderEntry) (read : List ℕ) (node : Node) : Type 0 where
   pub content : Content
   pub its : node ≡ File folder entry.modified entry.name content
   pub finished : content.finished ≡ true
   pub size : content.size ≡ entry.len
-  pub bytes : files.bytes_of content ≡ bytes
+  pub bytes : files.bytes_of content ≡ read
 
 -- the node of a file: all its bytes were read, or it was abandoned
 abbrev pub IsNodeOfFile : Bool → ℕ → FolderEntry → List ℕ → Node → Type 0
