@@ -1,3 +1,7 @@
-pub mod Places
-pub mod ReadsSplit
+pub mod AdvanceSteps
+pub mod BatchEnds
 pub mod BatchMoves
+pub mod BatchSteps
+pub mod Places
+pub mod ReadingSteps
+pub mod ReadsSplit

@@ -4,8 +4,11 @@ use Rattle.droid_pronom.specs.Registry.{Contents}
 use Rattle.droid_tree.specs.Heard.{Heard}
 use Rattle.droid_tree.specs.Observation.{Observation, GoesOver}
 use Rattle.droid_profile_spec.specs.Calls.{Call, folder_calls, heard_of_calls, observation_of, reads_of}
+use Rattle.droid_profile_spec.specs.EarlyEnds.{TreeStands}
 use Rattle.droid_profile_spec.specs.Kids.{found_of}
 use Rattle.droid_profile_spec.specs.Readings.{Reading, IsReading, bytes_of, is_whole, reads_in}
+use Rattle.droid_profile_spec.specs.declared.fault.ProfileFault.{ProfileFault}
+use Rattle.droid_profile_spec.specs.declared.fault.ProfileFault.TheVariants as faults
 use Rattle.droid_profile_spec.specs.declared.options.Options.{Options}
 use Rattle.droid_profile_files.specs.BatchFits.{BatchFits, IsDropped, whole_record}
 use Rattle.droid_profile_files.specs.FileStates.{numbers_in}
@@ -49,11 +52,13 @@ pub record ReadsAll {T W : Type 0} (observes : T → Observation → T → Type 
   pub counted : length files ≡ length first
   pub settled : (place : ℕ) (was row : FileRow) → slice_get first place ≡ Some was → slice_get files place ≡ Some row → Settles registry options calls was row
 
--- the reading ended early: the tree had led so far, if memory did not run out
-pub record ReadsFront {T W : Type 0} (observes : T → Observation → T → Type 0) (hears : W → Heard → W → Type 0) (first : List FileRow) (tree : T) (watcher watcher_after : W) : Type 0 where
+-- the reading ended early, with this fault
+pub record ReadsFront {T W : Type 0} (observes : T → Observation → T → Type 0) (hears : W → Heard → W → Type 0) (first : List FileRow) (fault : ProfileFault) (tree tree_after : T) (watcher watcher_after : W) : Type 0 where
   pub calls : List Call
   pub are : AreReads first calls
   pub reached : T
+  pub stands : TreeStands fault reached tree_after
+  pub explained : (fault ≡ faults.Memory) ⊎ (fault ≡ faults.Turns)
   pub observed : GoesOver observes tree (map observation_of calls) reached
   pub heard : GoesOver hears watcher (heard_of_calls calls) watcher_after
   pub begun : (place : ℕ) (was : FileRow) → slice_get first place ≡ Some was → ReadsSome calls was
@@ -66,3 +71,16 @@ pub record ReadsOn {T W : Type 0} (observes : T → Observation → T → Type 0
   pub fits : BatchFits registry options first batch calls
   pub observed : GoesOver observes tree (map observation_of calls) tree_now
   pub heard : GoesOver hears watcher (heard_of_calls calls) watcher_now
+
+-- more reads, after which the batch still fits what was read
+pub record ReadsMore {T W : Type 0} (observes : T → Observation → T → Type 0) (hears : W → Heard → W → Type 0) (registry : Contents) (options : Options) (first : List FileRow) (batch : Batch) (calls : List Call) (tree tree_after : T) (watcher watcher_after : W) : Type 0 where
+  pub more : List Call
+  pub fits : BatchFits registry options first batch (calls ++ more)
+  pub observed : GoesOver observes tree (map observation_of more) tree_after
+  pub heard : GoesOver hears watcher (heard_of_calls more) watcher_after
+
+-- the batch fits some reads of the files that it had at first
+pub record Fits (registry : Contents) (options : Options) (batch : Batch) : Type 0 where
+  pub first : List FileRow
+  pub calls : List Call
+  pub fits : BatchFits registry options first batch calls

@@ -1,5 +1,8 @@
 //! The files that are read next, and the lanes that they are read in.
 
+ghost use Rattle.std.specs.Prelude.{◌≡◌, ◌≤◌, [], IfOk};
+ghost use Rattle.droid_profile_files.specs.LaneSteps.{IsFor};
+
 use crate::file_lane::FileLane;
 use crate::file_row::FileRow;
 use droid_profile_spec::Options;
@@ -22,6 +25,7 @@ pub struct Batch {
 impl Batch {
     /// Makes an empty batch. Takes all memory for the ends of files.
     pub fn new(alloc: Global, options: Options) -> Result<Batch, AllocError>
+        requires { options.scan_limit ≤ 65536 }
         ensures empty { IfOk result (λ batch. batch.files.items ≡ []) }
         ensures made { IfOk result (λ batch. IsFor options batch) }
     {

@@ -1,5 +1,14 @@
 //! Ends the file of a lane: its hash, and what it is identified as.
 
+ghost use Rattle.std.specs.Prelude.{◌≡◌, ◌<◌, ℕ, List, IfOk, IsTrue, OnOk, length};
+ghost use Rattle.droid_scan.specs.Ends.{Came};
+ghost use Rattle.droid_profile_spec.specs.Calls.{Call};
+ghost use Rattle.droid_profile_spec.specs.Kids.{found_of};
+ghost use Rattle.droid_profile_files.specs.BatchFits.{BatchFits};
+ghost use Rattle.droid_profile_files.specs.FilesRead.{Fits};
+ghost use Rattle.droid_profile_files.specs.LaneEnds.{Completes, HasEnded, HasRead};
+ghost use Rattle.droid_profile_files.specs.declared.file_row.FileRow.{FileRow};
+
 use crate::batch::Batch;
 use crate::file_lane::FileLane;
 use crate::file_row::{FileRow, FileState, is_read_in};
@@ -16,7 +25,9 @@ pub(crate) fn end_file(
     batch: &mut Batch,
     lane: usize,
 ) -> Result<(), AllocError>
-    requires { lane < 8 }
+    requires within { lane < 8 }
+    requires fits { Fits registry.now options batch.old }
+    ensures { OnOk result ((first : List FileRow) (calls : List Call) → BatchFits registry.now options first batch.old calls → BatchFits registry.now options first batch.new calls) }
 {
     if !has_ended(&batch.lanes[lane]) {
         return Ok(());
@@ -33,8 +44,16 @@ pub(crate) fn end_file(
 }
 
 /// Returns whether all bytes of the lane's file are hashed.
-fn has_ended(lane: &FileLane) -> bool {
-    lane.busy & lane.at_end & lane.is_hashed()
+fn has_ended(lane: &FileLane) -> bool
+    ensures { IsTrue result → HasEnded lane.now }
+{
+    if !lane.busy {
+        return false;
+    }
+    if !lane.at_end {
+        return false;
+    }
+    lane.is_hashed()
 }
 
 /// Identifies the file by its first and last bytes and its name.
@@ -44,7 +63,10 @@ fn identify(
     options: Options,
     lane: &FileLane,
     row: &FileRow,
-) -> Result<Found, AllocError> {
+) -> Result<Found, AllocError>
+    requires { HasRead options lane.now row.now }
+    ensures { IfOk result (λ found. (bytes : List ℕ) → Came lane.now.ends bytes → length bytes ≡ row.now.entry.len → found ≡ found_of registry.now options row.now.entry bytes) }
+{
     let first = lane.ends.first();
     let last = lane.ends.last();
     let name = row.record.name.as_str();
@@ -52,7 +74,9 @@ fn identify(
 }
 
 /// Completes the record of a file.
-fn complete(row: &mut FileRow, hash: HashValue, found: Found) {
+fn complete(row: &mut FileRow, hash: HashValue, found: Found)
+    ensures { Completes row.old row.new hash found }
+{
     let Found {
         method,
         mismatch,

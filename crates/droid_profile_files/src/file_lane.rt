@@ -1,5 +1,8 @@
 //! One lane: the file that is read in it, and what of it is not hashed yet.
 
+ghost use Rattle.std.specs.Prelude.{◌≡◌, ◌-◌, ◌<◌, [], drop, length, false, IfOk, IsTrue};
+ghost use Rattle.droid_profile_files.specs.LaneSteps.{Begins, Passes};
+
 use droid_scan::EndBytes;
 use std::alloc::{AllocError, Global};
 
@@ -28,7 +31,7 @@ pub(crate) struct FileLane {
 impl FileLane {
     /// Makes an idle lane that keeps this many bytes of each end of a file.
     pub(crate) fn new(alloc: Global, limit: usize) -> Result<FileLane, AllocError>
-        ensures { IfOk result (λ lane. (lane.busy ≡ false) × (lane.ends.limit ≡ limit)) }
+        ensures { IfOk result (λ lane. lane.ends.limit ≡ limit) }
     {
         let ends = EndBytes::new(alloc, limit)?;
         Ok(FileLane {
@@ -57,7 +60,7 @@ impl FileLane {
 
     /// Returns the bytes that are not hashed yet.
     pub(crate) fn rest(&self) -> &[u8]
-        ensures { result.now ≡ drop self.now.hashed self.now.buffer }
+        ensures { result.now ≡ drop self.now.hashed self.now.buffer.items }
     {
         if self.hashed > self.buffer.len() {
             return &[];
@@ -67,7 +70,7 @@ impl FileLane {
 
     /// Returns whether the lane has read on as far as it can, and all of that is hashed.
     pub(crate) fn is_hashed(&self) -> bool
-        ensures { IsTrue result → drop self.now.hashed self.now.buffer ≡ [] }
+        ensures { IsTrue result → drop self.now.hashed self.now.buffer.items ≡ [] }
     {
         self.hashed >= self.buffer.len()
     }

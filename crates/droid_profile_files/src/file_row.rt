@@ -1,5 +1,9 @@
 //! A file of a tree that has its number.
 
+ghost use Rattle.std.specs.Prelude.{◌≡◌, ◌↔◌, IsTrue};
+ghost use Rattle.droid_profile_files.specs.FileStates.{HasState};
+ghost use Rattle.droid_profile_files.specs.declared.file_row.FileState.TheVariants.{Waits, InLane};
+
 use droid_frame::Record;
 use droid_tree::{FolderEntry, Skipped};
 
@@ -29,7 +33,7 @@ pub struct FileRow {
 
 /// Returns whether there is a file at this place that waits for a lane.
 pub(crate) fn waits_at(files: &[FileRow], place: usize) -> bool
-    ensures { IsTrue result → HasState files.now place Waits }
+    ensures { IsTrue result ↔ HasState files.now place Waits }
 {
     match files.get(place) {
         Some(row) => row.state == FileState::Waits,
@@ -39,7 +43,7 @@ pub(crate) fn waits_at(files: &[FileRow], place: usize) -> bool
 
 /// Returns whether there is a file at this place that is read in this lane.
 pub(crate) fn is_read_in(files: &[FileRow], place: usize, lane: usize) -> bool
-    ensures { IsTrue result → HasState files.now place (InLane lane) }
+    ensures { IsTrue result ↔ HasState files.now place (InLane lane) }
 {
     match files.get(place) {
         Some(row) => row.state == FileState::InLane(lane),

@@ -1,5 +1,15 @@
 //! Reads on in the file of a lane.
 
+ghost use Rattle.std.specs.Prelude.{◌≡◌, ◌<◌, ◌≤◌, ◌-◌, ◌+◌, [], List, IfErr, IfOk, IsTrue, OnErr, OnOk, min};
+ghost use Rattle.droid_pronom.specs.Registry.{Contents};
+ghost use Rattle.droid_profile_spec.specs.Calls.{Call};
+ghost use Rattle.droid_profile_spec.specs.declared.fault.ProfileFault.TheVariants.{Memory};
+ghost use Rattle.droid_profile_spec.specs.declared.options.Options.{Options};
+ghost use Rattle.droid_profile_files.specs.BatchFits.{BatchFits};
+ghost use Rattle.droid_profile_files.specs.FilesRead.{ReadsMore};
+ghost use Rattle.droid_profile_files.specs.LaneReads.{IsDue, ReadsOnce, TakesPiece};
+ghost use Rattle.droid_profile_files.specs.declared.file_row.FileRow.{FileRow};
+
 use crate::batch::Batch;
 use crate::file_lane::{FileLane, ROOM};
 use crate::file_row::{FileRow, FileState, is_read_in};
@@ -26,6 +36,10 @@ pub(crate) fn read_on<T: Tree, W: Watcher>(
     lane: usize,
 ) -> Result<(), ProfileFault>
     requires { lane < 8 }
+    ensures read { OnOk result ((registry : Contents) (options : Options) (first : List FileRow) (calls : List Call) → BatchFits registry options first batch.old calls
+        → ReadsMore T.observes W.hears registry options first batch.new calls tree.old tree.new watcher.old watcher.new) }
+    ensures memory { IfErr result (λ fault. fault ≡ Memory) }
+    ensures unheard { OnErr result (watcher.new ≡ watcher.old) }
 {
     if !is_due(&batch.lanes[lane]) {
         return Ok(());
@@ -46,8 +60,16 @@ pub(crate) fn read_on<T: Tree, W: Watcher>(
 }
 
 /// Returns whether the lane has to read on.
-fn is_due(lane: &FileLane) -> bool {
-    lane.busy & !lane.at_end & lane.is_hashed()
+fn is_due(lane: &FileLane) -> bool
+    ensures { IsTrue result → IsDue lane.now }
+{
+    if !lane.busy {
+        return false;
+    }
+    if lane.at_end {
+        return false;
+    }
+    lane.is_hashed()
 }
 
 /// Reads the next bytes of a file into the lane's buffer.
@@ -56,7 +78,12 @@ fn read_piece<T: Tree, W: Watcher>(
     watcher: &mut W,
     lane: &mut FileLane,
     row: &FileRow,
-) -> Result<Came, ProfileFault> {
+) -> Result<Came, ProfileFault>
+    ensures read { IfOk result (λ came. lane.old.from ≤ row.now.entry.len → ReadsOnce T.observes W.hears row.now.record.path row.now.entry came lane.old lane.new tree.old tree.new watcher.old watcher.new) }
+    ensures limit { lane.new.ends.limit ≡ lane.old.ends.limit }
+    ensures memory { IfErr result (λ fault. fault ≡ Memory) }
+    ensures unheard { OnErr result (watcher.new ≡ watcher.old) }
+{
     let wanted = next_wanted(row.entry.len, lane.from);
     lane.buffer.clear();
     lane.hashed = 0;
@@ -74,7 +101,9 @@ fn read_piece<T: Tree, W: Watcher>(
 }
 
 /// Returns how many bytes the next read asks for: one more than the file has left, if that fits the buffer.
-fn next_wanted(size: u64, from: u64) -> u32 {
+fn next_wanted(size: u64, from: u64) -> u32
+    ensures { result ≤ 65536 }
+{
     let left = size.saturating_sub(from).saturating_add(1);
     match u32::try_from(left) {
         Ok(left) => left.min(ROOM),
@@ -83,7 +112,10 @@ fn next_wanted(size: u64, from: u64) -> u32 {
 }
 
 /// Judges the bytes that came, and keeps them if they are the file's.
-fn take_piece(lane: &mut FileLane, size: u64, wanted: u32) -> Came {
+fn take_piece(lane: &mut FileLane, size: u64, wanted: u32) -> Came
+    requires { lane.old.hashed ≡ 0 }
+    ensures { TakesPiece lane.old lane.new size wanted result }
+{
     let count = lane.buffer.len() as u64;
     let left = size.saturating_sub(lane.from);
     if count > left {
