@@ -16,7 +16,7 @@ pub(crate) fn add_line(
     ensures { OnOk result (text.new.items ≡ text.old.items ++ line (map (λ field. field.now) fields.now ++ last.now ∷ [])) }
 {
     for field in fields {
-        add_field(text, field, b',')?;
+        add_field(text, *field, b',')?;
     }
     add_field(text, last, b'\n')
 }
