@@ -128,7 +128,8 @@ fn file_at<D: Disk>(
     }
     make_room(open);
     let place = kept(place_of(alloc, top, path))?;
-    open_at(disk, place, entry)
+    let file = open_at(disk, place, entry)?;
+    Ok(file)
 }
 
 /// Opens the regular file of an entry. Opens nothing else, such as a pipe or a link. Fails with `Changed` if another
