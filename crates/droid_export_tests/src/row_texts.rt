@@ -10,9 +10,11 @@ use droid_pronom_sample::SAMPLE;
 use std::alloc::{AllocError, Global};
 use std::test::Fail;
 
-const FOLDER: &str = "\"1\",\"\",\"file:/in/\",\"/in\",\"in\",\"\",\"Done\",\"\",\"Folder\",\"\",\"1970-01-01T00:00:00\",\"false\",\"\",\"\",\"\",\"\",\"\",\"\"\n";
+const FOLDER: &str =
+    "\"1\",\"\",\"file:/in/\",\"/in\",\"in\",\"\",\"Done\",\"\",\"Folder\",\"\",\"1970-01-01T00:00:00\",\"false\",\"\",\"\",\"\",\"\",\"\",\"\"\n";
 
-const FILE: &str = "\"2\",\"\",\"file:/a%22b\",\"/a\"\"b\",\"a\"\"b\",\"Signature\",\"Done\",\"3\",\"File\",\"\",\"1970-01-01T00:00:00\",\"false\",\"d41d8cd98f00b204e9800998ecf8427e\",\"1\",\"dev/9\",\"\",\"\",\"\"\n";
+const FILE: &str =
+    "\"2\",\"\",\"file:/a%22b\",\"/a\"\"b\",\"a\"\"b\",\"Signature\",\"Done\",\"3\",\"File\",\"\",\"1970-01-01T00:00:00\",\"false\",\"d41d8cd98f00b204e9800998ecf8427e\",\"1\",\"dev/9\",\"\",\"\",\"\"\n";
 
 /// A file whose name has a double quote, and whose format is unknown.
 fn quoted(alloc: Global) -> Result<Record, AllocError> {

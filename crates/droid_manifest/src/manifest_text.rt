@@ -53,12 +53,12 @@ impl ManifestText {
     ///
     /// The programs that check a manifest expect a digest in each line: a record without a hash gets a line without
     /// one.
-    pub fn add(&mut self, record: &Record) -> Result<(), AllocError>
-        ensures added { OnOk result (self.new ≡ self.old ++ record_line record.now) }
+    pub fn add(&mut self, node: &Record) -> Result<(), AllocError>
+        ensures added { OnOk result (self.new ≡ self.old ++ record_line node.now) }
         ensures unchanged { OnErr result (self.new ≡ self.old) }
     {
         self.line.clear();
-        add_record_line(&mut self.line, record)?;
+        add_record_line(&mut self.line, node)?;
         self.text.add(self.line.as_slice())
     }
 
@@ -81,23 +81,23 @@ impl ManifestText {
 
 /// Appends the line of a file, and nothing for a folder.
 #[tactic(auto, unfolding(crate::specs::Manifests::record_line))]
-fn add_record_line(text: &mut Vec<u8>, record: &Record) -> Result<(), AllocError>
-    ensures { OnOk result (text.new.items ≡ text.old.items ++ record_line record.now) }
+fn add_record_line(text: &mut Vec<u8>, node: &Record) -> Result<(), AllocError>
+    ensures { OnOk result (text.new.items ≡ text.old.items ++ record_line node.now) }
 {
-    match record.kind {
+    match node.kind {
         NodeKind::File => {
-            let digits = HashText::of(&record.hash);
-            add_line(text, digits.as_slice(), path_below(record))
+            let digits = HashText::of(&node.hash);
+            add_line(text, digits.as_slice(), path_below(node))
         }
         NodeKind::Folder => Ok(()),
     }
 }
 
 /// Returns the path of a record without the slash that it begins with.
-fn path_below(record: &Record) -> &[u8]
-    ensures { result.now ≡ path_below record.now }
+fn path_below(node: &Record) -> &[u8]
+    ensures { result.now ≡ path_below node.now }
 {
-    let path = record.path.as_str().as_bytes();
+    let path = node.path.as_str().as_bytes();
     match path.split_first() {
         Some((_, rest)) => rest,
         None => path,

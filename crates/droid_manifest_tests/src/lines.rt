@@ -21,7 +21,10 @@ const LINES: [(&str, &str); 11] = [
     ("/a", "d41d8cd98f00b204e9800998ecf8427e  a\n"),
     ("/ lead", "d41d8cd98f00b204e9800998ecf8427e   lead\n"),
     ("/*star", "d41d8cd98f00b204e9800998ecf8427e  *star\n"),
-    ("/tab\there", "d41d8cd98f00b204e9800998ecf8427e  tab\there\n"),
+    (
+        "/tab\there",
+        "d41d8cd98f00b204e9800998ecf8427e  tab\there\n",
+    ),
     ("/\u{e4}", "d41d8cd98f00b204e9800998ecf8427e  \u{e4}\n"),
     ("/\\", "\\d41d8cd98f00b204e9800998ecf8427e  \\\\\n"),
     ("/\n", "\\d41d8cd98f00b204e9800998ecf8427e  \\n\n"),

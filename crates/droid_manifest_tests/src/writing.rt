@@ -8,8 +8,7 @@ use std::alloc::{AllocError, Global};
 use std::test::Fail;
 
 /// The lines of `/a` and `/b\n`.
-const TWO: &str =
-    "d41d8cd98f00b204e9800998ecf8427e  a\n\\d41d8cd98f00b204e9800998ecf8427e  b\\n\n";
+const TWO: &str = "d41d8cd98f00b204e9800998ecf8427e  a\n\\d41d8cd98f00b204e9800998ecf8427e  b\\n\n";
 
 /// The two lines, not written yet.
 fn two_lines(alloc: Global) -> Result<ManifestText, AllocError> {
