@@ -26,6 +26,7 @@ pub(crate) fn take_open<D: Disk>(
 }
 
 /// Returns the place of the open file of this entry, if it was opened by the path that these two make.
+#[tactic(auto, using(crate::proofs::HeldFiles::held_there))]
 fn place_in<D: Disk>(files: &[D::File], top: &str, path: &str, entry: &FolderEntry) -> Option<usize>
     ensures within { IfSome result (λ place. place < length files.now) }
     ensures held { IfSome result (λ place. (file : D.File) → file ≡ slice_index_or files.now place file → IsHeld D.path_of D.metadata_of (top.now ++ path.now) entry.now file) }
