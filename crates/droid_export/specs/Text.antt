@@ -16,7 +16,7 @@ row_text row = line (fields row)
 
 -- the text of the rows of one record
 abbrev pub record_text : Contents → Record → List ℕ
-record_text registry record = flat_map row_text (rows registry record)
+record_text registry node = flat_map row_text (rows registry node)
 
 -- the rows of each record that meets the filter
 abbrev pub chosen_rows : Contents → Filter → List Record → List Row

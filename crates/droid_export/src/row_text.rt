@@ -70,13 +70,13 @@ impl RowText {
     /// memory runs out, and then changes nothing.
     ///
     /// The caller ensures that the record was modified from 0001-01-01T00:00:00 to 9999-12-31T23:59:59.
-    pub fn add(&mut self, registry: &Registry, record: &Record) -> Result<(), AllocError>
-        requires { IsMoment record.now.modified }
-        ensures added { OnOk result (self.new ≡ self.old ++ record_text registry.now record.now) }
+    pub fn add(&mut self, registry: &Registry, node: &Record) -> Result<(), AllocError>
+        requires { IsMoment node.now.modified }
+        ensures added { OnOk result (self.new ≡ self.old ++ record_text registry.now node.now) }
         ensures unchanged { OnErr result (self.new ≡ self.old) }
     {
         self.rows.clear();
-        add_rows(&mut self.rows, &mut self.uri, registry, record)?;
+        add_rows(&mut self.rows, &mut self.uri, registry, node)?;
         self.text.add(self.rows.as_slice())
     }
 

@@ -12,6 +12,7 @@ use droid_frame::Record;
 use itoa::Buffer;
 
 /// The columns that all rows of a record share and that have to be computed from the record.
+#[derive(Clone, Copy)]
 pub(crate) struct Common<'a> {
     pub(crate) id: &'a str,
     pub(crate) parent_id: &'a str,

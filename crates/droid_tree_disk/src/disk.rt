@@ -1,6 +1,6 @@
 //! The file system calls that reading a tree needs.
 
-ghost use Rattle.std.specs.Prelude.{◌≡◌, ◌≢◌, ◌++◌, ℕ, List, IfErr, IfOk, IsTrue, OnErr, OnOk};
+ghost use Rattle.std.specs.Prelude.{◌≡◌, ◌≢◌, ◌++◌, ℕ, List, IfErr, IfOk, IsTrue, OnOk};
 
 use droid_frame::{Blob, Text};
 use droid_tree::{EntryKind, TreeFault};
@@ -49,7 +49,7 @@ pub trait Disk {
     /// Opens a folder for listing, and closes it again. Fails for a link to a folder, unless the path ends in `/`.
     fn see_folder(&mut self, path: &str) -> Result<(), TreeFault>
         ensures opened { OnOk result (says self.old (FolderOpened path.now) self.new) }
-        ensures failed { OnErr result (says self.old (FolderNotOpened path.now) self.new) };
+        ensures failed { IfErr result (λ fault. fault ≢ Memory → says self.old (FolderNotOpened path.now) self.new) };
 
     /// Returns the metadata of a path, or `None` if there are none. Does not follow links.
     fn look(&mut self, path: &str) -> Option<FileMetadata>

@@ -112,7 +112,7 @@ fn folder_at(alloc: Global, top: &str, path: &str) -> Result<Text, AllocError>
 fn file_at<D: Disk>(
     alloc: Global,
     disk: &mut D,
-    open: &mut Vec<D::File>,
+    files: &mut Vec<D::File>,
     top: &str,
     path: &str,
     entry: &FolderEntry,
@@ -123,12 +123,13 @@ fn file_at<D: Disk>(
     ensures failed { IfErr result (λ fault. fault ≡ Unreadable → OpensNone D.says (top.now ++ path.now) entry.now disk.old disk.new) }
     ensures other { IfErr result (λ fault. fault ≡ Changed → IsExchanged D.says (top.now ++ path.now) entry.now disk.old disk.new) }
 {
-    if let Some(file) = take_open::<D>(open, top, path, entry) {
+    if let Some(file) = take_open::<D>(files, top, path, entry) {
         return Ok(file);
     }
-    make_room(open);
+    make_room(files);
     let place = kept(place_of(alloc, top, path))?;
-    open_at(disk, place, entry)
+    let file = open_at(disk, place, entry)?;
+    Ok(file)
 }
 
 /// Opens the regular file of an entry. Opens nothing else, such as a pipe or a link. Fails with `Changed` if another

@@ -12,31 +12,27 @@ const OPEN_FILES: usize = 8;
 
 /// Takes out the open file of this entry, if it was opened by the path that these two make.
 pub(crate) fn take_open<D: Disk>(
-    open: &mut Vec<D::File>,
+    files: &mut Vec<D::File>,
     top: &str,
     path: &str,
     entry: &FolderEntry,
 ) -> Option<D::File>
     ensures { IfSome result (IsHeld D.path_of D.metadata_of (top.now ++ path.now) entry.now) }
 {
-    match place_in::<D>(open.as_slice(), top, path, entry) {
-        Some(place) => Some(open.remove(place)),
+    match place_in::<D>(files.as_slice(), top, path, entry) {
+        Some(place) => Some(files.remove(place)),
         None => None,
     }
 }
 
 /// Returns the place of the open file of this entry, if it was opened by the path that these two make.
-fn place_in<D: Disk>(
-    open: &[D::File],
-    top: &str,
-    path: &str,
-    entry: &FolderEntry,
-) -> Option<usize>
-    ensures within { IfSome result (λ place. place < length open.now) }
-    ensures held { IfSome result (λ place. (file : D.File) → file ≡ slice_index_or open.now place file → IsHeld D.path_of D.metadata_of (top.now ++ path.now) entry.now file) }
+#[tactic(auto, using(crate::proofs::HeldFiles::held_there))]
+fn place_in<D: Disk>(files: &[D::File], top: &str, path: &str, entry: &FolderEntry) -> Option<usize>
+    ensures within { IfSome result (λ place. place < length files.now) }
+    ensures held { IfSome result (λ place. (file : D.File) → file ≡ slice_index_or files.now place file → IsHeld D.path_of D.metadata_of (top.now ++ path.now) entry.now file) }
 {
-    for place in 0..open.len() {
-        if is_open_for::<D>(&open[place], top, path, entry) {
+    for place in 0..files.len() {
+        if is_open_for::<D>(&files[place], top, path, entry) {
             return Some(place);
         }
     }
@@ -54,15 +50,15 @@ fn is_open_for<D: Disk>(file: &D::File, top: &str, path: &str, entry: &FolderEnt
 }
 
 /// Closes the file that was read longest ago, if as many are open as may be.
-pub(crate) fn make_room<F: Drop>(open: &mut Vec<F>) {
-    if open.len() >= OPEN_FILES {
-        let _file = open.remove(0);
+pub(crate) fn make_room<F: Drop>(files: &mut Vec<F>) {
+    if files.len() >= OPEN_FILES {
+        let _file = files.remove(0);
     }
 }
 
 /// Keeps a file open that has not ended. Closes it if there is no memory for that.
-pub(crate) fn keep<F: Drop>(open: &mut Vec<F>, file: F, goes_on: bool) {
+pub(crate) fn keep<F: Drop>(files: &mut Vec<F>, file: F, goes_on: bool) {
     if goes_on {
-        let _ = open.push(file);
+        let _ = files.push(file);
     }
 }

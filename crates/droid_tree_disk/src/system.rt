@@ -47,6 +47,14 @@ impl<'a, R: Files<File = File>> System<'a, R> {
             None => None,
         }
     }
+
+    /// Returns whether the folder at this path can be opened for listing.
+    fn can_list(&self, path: &str) -> bool {
+        match self.place(path) {
+            Some(place) => can_list_at(self.runtime, place.as_str()),
+            None => can_list_at(self.runtime, path),
+        }
+    }
 }
 
 impl<R: Files<File = File>> Disk for System<'_, R> {
@@ -68,9 +76,10 @@ impl<R: Files<File = File>> Disk for System<'_, R> {
     }
 
     fn see_folder(&mut self, path: &str) -> Result<(), TreeFault> {
-        match self.place(path) {
-            Some(place) => see_folder_at(self.runtime, place.as_str()),
-            None => see_folder_at(self.runtime, path),
+        if self.can_list(path) {
+            Ok(())
+        } else {
+            Err(TreeFault::Unreadable)
         }
     }
 
@@ -134,18 +143,12 @@ fn names_at<R: Files>(rt: &R, alloc: Global, path: &str) -> Result<Vec<Blob>, Tr
     }
 }
 
-/// Opens the folder at this path for listing, and closes it again. Fails for a link to a folder, unless the path ends in
-/// `/`.
-fn see_folder_at<R: Files>(rt: &R, path: &str) -> Result<(), TreeFault> {
-    let Some(there) = look_at(rt, path) else {
-        return Err(TreeFault::Unreadable);
-    };
-    if there.kind != EntryKind::Folder {
-        return Err(TreeFault::Unreadable);
-    }
-    match rt.open_dir(path) {
-        Ok(_) => Ok(()),
-        Err(_) => Err(TreeFault::Unreadable),
+/// Opens the folder at this path for listing, and closes it again. Returns whether it could be opened: a link to a
+/// folder is not, unless the path ends in `/`.
+fn can_list_at<R: Files>(rt: &R, path: &str) -> bool {
+    match look_at(rt, path) {
+        Some(there) => there.kind == EntryKind::Folder && rt.open_dir(path).is_ok(),
+        None => false,
     }
 }
 

@@ -1,2 +1,0 @@
-pub mod LinesRead
-pub mod Specials
