@@ -1,0 +1,4 @@
+pub mod RowsTaken
+pub mod ScanFits
+pub mod HandedOut
+pub mod Walking
