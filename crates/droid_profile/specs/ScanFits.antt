@@ -8,8 +8,11 @@ use Rattle.droid_tree.specs.Observation.{Observation, GoesOver}
 use Rattle.droid_tree.specs.Paths.{top}
 use Rattle.droid_tree.specs.declared.folder_entry.FolderEntry.{FolderEntry}
 use Rattle.droid_profile_spec.specs.Calls.{Call, OfFolder, folder_calls, observation_of, reads_of}
+use Rattle.droid_profile_spec.specs.EarlyEnds.{TreeStands}
 use Rattle.droid_profile_spec.specs.ProfileRecords.{records_of}
 use Rattle.droid_profile_spec.specs.Visits.{Visit, Follow, InTurn, IsBegun, IsVisit, folder_calls_of, heard_of_visit, is_complete, numbers_of, reads_of_visit}
+use Rattle.droid_profile_spec.specs.declared.fault.ProfileFault.{ProfileFault}
+use Rattle.droid_profile_spec.specs.declared.fault.ProfileFault.TheVariants as faults
 use Rattle.droid_profile_spec.specs.declared.options.Options.{Options}
 use Rattle.droid_profile_files.specs.FileStates.{AreFresh}
 use Rattle.droid_profile_files.specs.declared.file_row.FileRow.{FileRow}
@@ -60,3 +63,14 @@ pub record TakesMore {T : Type 0} (observes : T → Observation → T → Type 0
   pub more : List Observation
   pub fits : ScanFits registry options (calls ++ map OfFolder more) heard given scan rows files
   pub observed : GoesOver observes tree more tree_after
+
+-- The taking ended early, with this fault: up to some entry all was taken as it should. The last number was given if the
+-- fault is that numbers end.
+pub record TakesFront {T : Type 0} (observes : T → Observation → T → Type 0) (registry : Contents) (options : Options) (calls : List Call) (heard : List Heard) (given : List Record) (fault : ProfileFault) (tree tree_after : T) : Type 0 where
+  pub scan : Scan
+  pub rows : List Row
+  pub files : List FileRow
+  pub reached : T
+  pub takes : TakesMore observes registry options calls heard given scan rows files tree reached
+  pub stands : TreeStands fault reached tree_after
+  pub explained : (fault ≡ faults.Memory) ⊎ ((fault ≡ faults.Numbers) × (scan.number ≡ 4294967295))

@@ -1,5 +1,17 @@
 //! Takes one entry of a folder: a folder, a file, or something that is skipped.
 
+ghost use Rattle.std.specs.Prelude.{◌≡◌, ◌+◌, ◌++◌, [], ◌∷◌, List, IfErr, IfOk, OnErr, OnOk};
+ghost use Rattle.droid_frame.specs.types.record.Record.{Record};
+ghost use Rattle.droid_pronom.specs.Registry.{Contents};
+ghost use Rattle.droid_tree.specs.Heard.{Heard};
+ghost use Rattle.droid_profile_spec.specs.Calls.{Call};
+ghost use Rattle.droid_profile_spec.specs.declared.options.Options.{Options};
+ghost use Rattle.droid_profile.specs.ScanFits.{ScanFits, TakesFront, TakesMore};
+ghost use Rattle.droid_profile_spec.specs.declared.fault.ProfileFault.TheVariants.{Numbers};
+ghost use Rattle.droid_profile.specs.RowsPushed.{left_row};
+ghost use Rattle.droid_profile.specs.declared.row.Row.TheVariants as row_forms;
+ghost use Rattle.droid_profile.specs.declared.scan.Scan.{Scan};
+
 use crate::refusal::entry_refusal;
 use crate::row::Row;
 use crate::scan::Scan;
@@ -20,7 +32,12 @@ pub(crate) fn take_entry<T: Tree>(
     rows: &mut Vec<Row>,
     files: &mut Vec<FileRow>,
     entry: FolderEntry,
-) -> Result<(), ProfileFault> {
+) -> Result<(), ProfileFault>
+    ensures taken { OnOk result ((registry : Contents) (options : Options) (calls : List Call) (heard : List Heard) (given : List Record) (before : Scan) → before ≡ record scan.old { entries = before.entries } → before.entries.items ≡ scan.old.entries.items ++ entry ∷ []
+        → ScanFits registry options calls heard given before rows.old.items files.old.items → TakesMore T.observes registry options calls heard given scan.new rows.new.items files.new.items tree.old tree.new) }
+    ensures ended { IfErr result (λ fault. (registry : Contents) (options : Options) (calls : List Call) (heard : List Heard) (given : List Record) (before : Scan) → before ≡ record scan.old { entries = before.entries } → before.entries.items ≡ scan.old.entries.items ++ entry ∷ []
+        → ScanFits registry options calls heard given before rows.old.items files.old.items → TakesFront T.observes registry options calls heard given fault tree.old tree.new) }
+{
     let Some(name) = name_of(&entry) else {
         push_left_below(alloc, rows, &scan.folder, &entry, Skipped::Name)?;
         return Ok(());
@@ -92,6 +109,7 @@ fn take_folder<T: Tree>(
     name: Text,
     entry: &FolderEntry,
 ) -> Result<(), ProfileFault> {
+    let number = next_number(scan.number)?;
     match tree.see_folder(alloc, path.as_str()) {
         Ok(()) => {}
         Err(TreeFault::Memory) => return Err(ProfileFault::Memory),
@@ -100,7 +118,6 @@ fn take_folder<T: Tree>(
             return Ok(());
         }
     }
-    let number = next_number(scan.number)?;
     let record = Record {
         id: number,
         parent: scan.folder.number,
@@ -122,6 +139,8 @@ fn take_folder<T: Tree>(
 
 /// Returns the number after this one.
 fn next_number(number: u32) -> Result<u32, ProfileFault>
+    ensures next { IfOk result (λ next. next ≡ number + 1) }
+    ensures last { IfErr result (λ fault. (fault ≡ Numbers) × (number ≡ 4294967295)) }
 {
     match number.checked_add(1) {
         Some(next) => Ok(next),
@@ -135,7 +154,9 @@ pub(crate) fn push_left(
     rows: &mut Vec<Row>,
     path: &str,
     why: Skipped,
-) -> Result<(), AllocError> {
+) -> Result<(), AllocError>
+    ensures { OnOk result (rows.new.items ≡ rows.old.items ++ row_forms.Left path.now why ∷ []) }
+{
     let path = Blob::copy_of(alloc, path.as_bytes())?;
     rows.push(Row::Left { path, why })?;
     Ok(())
@@ -148,7 +169,9 @@ pub(crate) fn push_left_below(
     folder: &PendingFolder,
     entry: &FolderEntry,
     why: Skipped,
-) -> Result<(), AllocError> {
+) -> Result<(), AllocError>
+    ensures { OnOk result (rows.new.items ≡ rows.old.items ++ left_row folder.now.path entry.now why ∷ []) }
+{
     let mut path = Vec::from_slice(alloc, folder.path.as_str().as_bytes())?;
     path.extend_from_slice(b"/")?;
     path.extend_from_slice(entry.name.as_slice())?;

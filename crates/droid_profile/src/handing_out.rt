@@ -1,6 +1,13 @@
 //! Hands rows out: records to the recipient, and reports to the watcher.
 
-ghost use Rattle.std.specs.Prelude.{◌≡◌, ◌&&◌};
+ghost use Rattle.std.specs.Prelude.{◌≡◌, ◌&&◌, [], ◌∷◌, List, IfErr, IfOk};
+ghost use Rattle.droid_frame.specs.types.reply.Reply.TheVariants as replies;
+ghost use Rattle.droid_pronom.specs.Registry.{Contents};
+ghost use Rattle.droid_profile_spec.specs.declared.options.Options.{Options};
+ghost use Rattle.droid_profile_spec.specs.declared.fault.ProfileFault.TheVariants.{Memory};
+ghost use Rattle.droid_profile.specs.HandedOut.{AreSettled, HandsFront, HandsOut};
+ghost use Rattle.droid_profile.specs.RowsTaken.{Readings};
+ghost use Rattle.droid_profile_files.specs.declared.file_row.FileRow.{FileRow};
 
 use crate::row::Row;
 use droid_frame::{Record, Reply};
@@ -16,7 +23,12 @@ pub(crate) fn hand_out<W: Watcher, R: Recipient>(
     recipient: &mut R,
     rows: &[Row],
     files: &[FileRow],
-) -> Result<bool, ProfileFault> {
+) -> Result<bool, ProfileFault>
+    ensures handed { IfOk result (λ kept. (registry : Contents) (options : Options) (readings : Readings) (first : List FileRow) → AreSettled registry options readings first files.now
+        → HandsOut W.hears R.takes registry options readings first rows.now kept watcher.old watcher.new recipient.old recipient.new) }
+    ensures ended { IfErr result (λ fault. (registry : Contents) (options : Options) (readings : Readings) (first : List FileRow) → AreSettled registry options readings first files.now
+        → HandsFront W.hears R.takes R.fails registry options readings first rows.now fault watcher.old watcher.new recipient.old recipient.new) }
+{
     let mut whole = true;
     for row in rows {
         let kept = hand_row(alloc, watcher, recipient, row, files)?;
@@ -39,7 +51,12 @@ fn hand_row<W: Watcher, R: Recipient>(
     recipient: &mut R,
     row: &Row,
     files: &[FileRow],
-) -> Result<bool, ProfileFault> {
+) -> Result<bool, ProfileFault>
+    ensures handed { IfOk result (λ kept. (registry : Contents) (options : Options) (readings : Readings) (first : List FileRow) → AreSettled registry options readings first files.now
+        → HandsOut W.hears R.takes registry options readings first (row.now ∷ []) kept watcher.old watcher.new recipient.old recipient.new) }
+    ensures ended { IfErr result (λ fault. (registry : Contents) (options : Options) (readings : Readings) (first : List FileRow) → AreSettled registry options readings first files.now
+        → HandsFront W.hears R.takes R.fails registry options readings first (row.now ∷ []) fault watcher.old watcher.new recipient.old recipient.new) }
+{
     match row {
         Row::Left { path, why } => {
             watcher.skipped(path.as_slice(), *why);
@@ -88,11 +105,13 @@ fn give<R: Recipient>(recipient: &mut R, record: &Record) -> Result<(), ProfileF
 }
 
 /// Returns what a service replies when it has finished the file.
-fn reply_of(alloc: Global, record: &Record) -> Result<Reply, AllocError> {
+fn reply_of(alloc: Global, shown: &Record) -> Result<Reply, AllocError>
+    ensures { IfOk result (λ reply. reply ≡ replies.Finished shown.now.method shown.now.mismatch shown.now.hash shown.now.puids) }
+{
     Ok(Reply::Finished {
-        method: record.method,
-        mismatch: record.mismatch,
-        hash: record.hash,
-        puids: record.puids.try_clone(alloc)?,
+        method: shown.method,
+        mismatch: shown.mismatch,
+        hash: shown.hash,
+        puids: shown.puids.try_clone(alloc)?,
     })
 }

@@ -1,5 +1,8 @@
 //! What is still to be taken of a tree.
 
+ghost use Rattle.std.specs.Prelude.{◌≡◌, [], ◌∷◌, IfOk};
+ghost use Rattle.droid_tree.specs.Paths.{top};
+
 use droid_frame::Text;
 use droid_tree::{FolderEntry, PendingFolder, only_the_top};
 use std::alloc::{AllocError, Global};
@@ -19,7 +22,10 @@ pub(crate) struct Scan {
 }
 
 /// Returns what is to be taken of a whole tree.
-pub(crate) fn whole_tree(alloc: Global) -> Result<Scan, AllocError> {
+pub(crate) fn whole_tree(alloc: Global) -> Result<Scan, AllocError>
+    ensures waiting { IfOk result (λ scan. scan.waiting.items ≡ top ∷ []) }
+    ensures begun { IfOk result (λ scan. (scan.entries.items ≡ []) × (scan.number ≡ 0)) }
+{
     Ok(Scan {
         waiting: only_the_top(alloc)?,
         folder: PendingFolder {

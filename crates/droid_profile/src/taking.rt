@@ -1,5 +1,13 @@
 //! Takes entries of a tree in order, folder by folder.
 
+ghost use Rattle.std.specs.Prelude.{◌≡◌, [], false, List, IfErr, IfOk, OnOk};
+ghost use Rattle.droid_frame.specs.types.record.Record.{Record};
+ghost use Rattle.droid_pronom.specs.Registry.{Contents};
+ghost use Rattle.droid_tree.specs.Heard.{Heard};
+ghost use Rattle.droid_profile_spec.specs.Calls.{Call};
+ghost use Rattle.droid_profile_spec.specs.declared.options.Options.{Options};
+ghost use Rattle.droid_profile.specs.ScanFits.{ScanFits, TakesFront, TakesMore};
+
 use crate::entries::take_entry;
 use crate::folders::list_next;
 use crate::row::Row;
@@ -19,7 +27,13 @@ pub(crate) fn take_rows<T: Tree>(
     scan: &mut Scan,
     rows: &mut Vec<Row>,
     files: &mut Vec<FileRow>,
-) -> Result<bool, ProfileFault> {
+) -> Result<bool, ProfileFault>
+    ensures taken { OnOk result ((registry : Contents) (options : Options) (calls : List Call) (heard : List Heard) (given : List Record) → ScanFits registry options calls heard given scan.old rows.old.items files.old.items
+        → TakesMore T.observes registry options calls heard given scan.new rows.new.items files.new.items tree.old tree.new) }
+    ensures all { IfOk result (λ more. more ≡ false → (scan.new.entries.items ≡ []) × (scan.new.waiting.items ≡ [])) }
+    ensures ended { IfErr result (λ fault. (registry : Contents) (options : Options) (calls : List Call) (heard : List Heard) (given : List Record) → ScanFits registry options calls heard given scan.old rows.old.items files.old.items
+        → TakesFront T.observes registry options calls heard given fault tree.old tree.new) }
+{
     for _ in 0..TAKEN {
         let more = take_next(alloc, tree, scan, rows, files)?;
         if !more {
@@ -36,7 +50,13 @@ fn take_next<T: Tree>(
     scan: &mut Scan,
     rows: &mut Vec<Row>,
     files: &mut Vec<FileRow>,
-) -> Result<bool, ProfileFault> {
+) -> Result<bool, ProfileFault>
+    ensures taken { OnOk result ((registry : Contents) (options : Options) (calls : List Call) (heard : List Heard) (given : List Record) → ScanFits registry options calls heard given scan.old rows.old.items files.old.items
+        → TakesMore T.observes registry options calls heard given scan.new rows.new.items files.new.items tree.old tree.new) }
+    ensures all { IfOk result (λ more. more ≡ false → (scan.new.entries.items ≡ []) × (scan.new.waiting.items ≡ [])) }
+    ensures ended { IfErr result (λ fault. (registry : Contents) (options : Options) (calls : List Call) (heard : List Heard) (given : List Record) → ScanFits registry options calls heard given scan.old rows.old.items files.old.items
+        → TakesFront T.observes registry options calls heard given fault tree.old tree.new) }
+{
     match scan.entries.pop() {
         Some(entry) => {
             take_entry(alloc, tree, scan, rows, files, entry)?;

@@ -1,5 +1,9 @@
 //! The profile of a tree.
 
+ghost use Rattle.std.specs.Prelude.{◌≡◌, ◌≤◌, [], List, IfErr, IfOk};
+ghost use Rattle.droid_profile_spec.specs.EarlyEnds.{EndsEarly};
+ghost use Rattle.droid_profile_spec.specs.Profiles.{ProfilesTree};
+
 use crate::handing_out::{both, hand_out};
 use crate::profiler::Profiler;
 use crate::row::Row;
@@ -19,7 +23,15 @@ pub fn profile<T: Tree, W: Watcher, R: Recipient>(
     profiler: &mut Profiler<T, W, R>,
     registry: &Registry,
     options: Options,
-) -> Result<bool, ProfileFault> {
+) -> Result<bool, ProfileFault>
+    requires { options.scan_limit ≤ 65536 }
+    // The records are those of the tree as it was read, without what was skipped; the watcher was informed of each entry.
+    ensures profiled { IfOk result (λ whole. ProfilesTree T.observes W.hears R.takes registry.now options whole
+        profiler.old.tree profiler.new.tree profiler.old.watcher profiler.new.watcher profiler.old.recipient profiler.new.recipient) }
+    // After an error they are the first of these, and the fault says why there are no more.
+    ensures ended { IfErr result (λ fault. EndsEarly T.observes W.hears R.takes R.fails registry.now options fault
+        profiler.old.tree profiler.new.tree profiler.old.watcher profiler.new.watcher profiler.old.recipient profiler.new.recipient) }
+{
     let mut scan = whole_tree(profiler.alloc)?;
     let mut batch = Batch::new(profiler.alloc, options)?;
     let mut rows = Vec::new(profiler.alloc);

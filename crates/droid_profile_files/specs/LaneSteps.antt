@@ -8,14 +8,14 @@ use Rattle.droid_profile_files.specs.declared.batch.Batch.{Batch}
 use Rattle.droid_profile_files.specs.declared.file_lane.FileLane.{FileLane}
 
 -- the lane begins the file at this place, of this size
-pub record Begins (old new : FileLane) (place size : ℕ) : Type 0 where
+pub record Begins (old new : FileLane) (place len : ℕ) : Type 0 where
   pub busy : new.busy ≡ true
   pub its : new.place ≡ place
   pub from : new.from ≡ 0
   pub at_end : new.at_end ≡ false
   pub empty : new.buffer.items ≡ []
   pub came : Came new.ends []
-  pub size : new.ends.size ≡ size
+  pub size : new.ends.size ≡ len
   pub limit : new.ends.limit ≡ old.ends.limit
 
 -- so many more bytes of what is left are hashed

@@ -1,12 +1,13 @@
 //! Ends the file of a lane: its hash, and what it is identified as.
 
-ghost use Rattle.std.specs.Prelude.{◌≡◌, ◌<◌, ℕ, List, IfOk, IsTrue, OnOk, length};
+ghost use Rattle.std.specs.Prelude.{◌≡◌, ◌<◌, ℕ, List, Some, IfOk, IsTrue, OnOk, length, slice_get};
 ghost use Rattle.droid_scan.specs.Ends.{Came};
 ghost use Rattle.droid_profile_spec.specs.Calls.{Call};
 ghost use Rattle.droid_profile_spec.specs.Kids.{found_of};
 ghost use Rattle.droid_profile_files.specs.BatchFits.{BatchFits};
 ghost use Rattle.droid_profile_files.specs.FilesRead.{Fits};
 ghost use Rattle.droid_profile_files.specs.LaneEnds.{Completes, HasEnded, HasRead};
+ghost use Rattle.droid_profile_files.specs.declared.file_lane.FileLane.{FileLane};
 ghost use Rattle.droid_profile_files.specs.declared.file_row.FileRow.{FileRow};
 
 use crate::batch::Batch;
@@ -36,7 +37,7 @@ pub(crate) fn end_file(
     if !is_read_in(batch.files.as_slice(), place, lane) {
         return Ok(());
     }
-    let found = identify(alloc, registry, options, &batch.lanes[lane], &batch.files[place])?;
+    let found = identify_at(alloc, registry, options, batch, lane, place)?;
     let hash = batch.hashes.end(lane);
     complete(&mut batch.files[place], hash, found);
     batch.lanes[lane].busy = false;
@@ -56,7 +57,25 @@ fn has_ended(lane: &FileLane) -> bool
     lane.is_hashed()
 }
 
-/// Identifies the file by its first and last bytes and its name.
+/// Identifies the file at this place, which is read in this lane.
+fn identify_at(
+    alloc: Global,
+    registry: &Registry,
+    options: Options,
+    batch: &Batch,
+    lane: usize,
+    place: usize,
+) -> Result<Found, AllocError>
+    requires within { lane < 8 }
+    requires there { place < length batch.now.files.items }
+    requires read { (its : FileLane) (row : FileRow) → slice_get batch.now.lanes lane ≡ Some its → slice_get batch.now.files.items place ≡ Some row → HasRead options its row }
+    ensures { IfOk result (λ found. (its : FileLane) (row : FileRow) (bytes : List ℕ) → slice_get batch.now.lanes lane ≡ Some its → slice_get batch.now.files.items place ≡ Some row
+        → Came its.ends bytes → length bytes ≡ row.entry.len → found ≡ found_of registry.now options row.entry bytes) }
+{
+    identify(alloc, registry, options, &batch.lanes[lane], &batch.files[place])
+}
+
+/// Identifies a file by its first and last bytes and its name.
 fn identify(
     alloc: Global,
     registry: &Registry,
@@ -70,7 +89,8 @@ fn identify(
     let first = lane.ends.first();
     let last = lane.ends.last();
     let name = row.record.name.as_str();
-    registry.identify(alloc, name, first, last, row.entry.len, options.match_all)
+    let size = row.entry.len;
+    registry.identify(alloc, name, first, last, size, options.match_all)
 }
 
 /// Completes the record of a file.

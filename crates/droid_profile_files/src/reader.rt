@@ -77,7 +77,7 @@ fn read_turn<T: Tree, W: Watcher>(
     for lane in 0..8 {
         end_file(alloc, registry, options, batch, lane)?;
         begin_file(batch, lane);
-        read_on(tree, watcher, batch, lane)?;
+        read_on(tree, watcher, &mut batch.lanes, &mut batch.files, lane)?;
     }
     advance(&mut batch.lanes, &mut batch.hashes);
     Ok(())

@@ -8,9 +8,9 @@ ghost use Rattle.droid_profile_spec.specs.declared.options.Options.{Options};
 ghost use Rattle.droid_profile_files.specs.BatchFits.{BatchFits};
 ghost use Rattle.droid_profile_files.specs.FilesRead.{ReadsMore};
 ghost use Rattle.droid_profile_files.specs.LaneReads.{IsDue, ReadsOnce, TakesPiece};
+ghost use Rattle.droid_profile_files.specs.declared.batch.Batch.{Batch};
 ghost use Rattle.droid_profile_files.specs.declared.file_row.FileRow.{FileRow};
 
-use crate::batch::Batch;
 use crate::file_lane::{FileLane, ROOM};
 use crate::file_row::{FileRow, FileState, is_read_in};
 use droid_profile_spec::ProfileFault;
@@ -32,26 +32,27 @@ pub(crate) enum Came {
 pub(crate) fn read_on<T: Tree, W: Watcher>(
     tree: &mut T,
     watcher: &mut W,
-    batch: &mut Batch,
+    lanes: &mut [FileLane; 8],
+    files: &mut Vec<FileRow>,
     lane: usize,
 ) -> Result<(), ProfileFault>
     requires { lane < 8 }
-    ensures read { OnOk result ((registry : Contents) (options : Options) (first : List FileRow) (calls : List Call) → BatchFits registry options first batch.old calls
-        → ReadsMore T.observes W.hears registry options first batch.new calls tree.old tree.new watcher.old watcher.new) }
+    ensures read { OnOk result ((registry : Contents) (options : Options) (first : List FileRow) (calls : List Call) (batch : Batch) → BatchFits registry options first (record batch { lanes = lanes.old; files = files.old }) calls
+        → ReadsMore T.observes W.hears registry options first (record batch { lanes = lanes.new; files = files.new }) calls tree.old tree.new watcher.old watcher.new) }
     ensures memory { IfErr result (λ fault. fault ≡ Memory) }
     ensures unheard { OnErr result (watcher.new ≡ watcher.old) }
 {
-    if !is_due(&batch.lanes[lane]) {
+    if !is_due(&lanes[lane]) {
         return Ok(());
     }
-    let place = batch.lanes[lane].place;
-    if !is_read_in(batch.files.as_slice(), place, lane) {
+    let place = lanes[lane].place;
+    if !is_read_in(files.as_slice(), place, lane) {
         return Ok(());
     }
-    match read_piece(tree, watcher, &mut batch.lanes[lane], &batch.files[place])? {
+    match read_piece(tree, watcher, &mut lanes[lane], &files.as_slice()[place])? {
         Came::Stopped(why) => {
-            batch.lanes[lane].busy = false;
-            batch.files[place].state = FileState::Dropped(why);
+            lanes[lane].busy = false;
+            files[place].state = FileState::Dropped(why);
             Ok(())
         }
         Came::Piece => Ok(()),

@@ -2,3 +2,4 @@ pub mod NodePaths
 pub mod ShownEntries
 pub mod ShownTree
 pub mod SomeNodes
+pub mod VisitSteps
