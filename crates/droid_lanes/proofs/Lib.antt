@@ -5,6 +5,7 @@ pub mod Majority
 pub mod Schedule
 pub mod Blocks
 pub mod Parts
+pub mod Alone
 pub mod Updating
 pub mod Ending
 pub mod Sha256Blocks

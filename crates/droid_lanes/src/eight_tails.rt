@@ -7,6 +7,24 @@ ghost use Rattle.droid_lanes.specs.Tails.{joining, IsJoined};
 
 use crate::tails;
 
+// The lengths of the pieces.
+pub(crate) fn lens(pieces: [&[u8]; 8]) -> [usize; 8]
+    ensures value { (j : ℕ) → j < 8 → slice_index result j ≡ length (piece j pieces.entry) }
+    ensures count { length result ≡ 8 }
+{
+    let [a, b, c, d, e, f, g, h] = pieces;
+    [
+        a.len(),
+        b.len(),
+        c.len(),
+        d.len(),
+        e.len(),
+        f.len(),
+        g.len(),
+        h.len(),
+    ]
+}
+
 // How many bytes of a block each message has begun.
 pub(crate) fn used_of(totals: &[u64; 8]) -> [usize; 8]
     ensures value { (j : ℕ) → j < 8 → slice_index result j ≡ slice_index totals.now j % 64 }

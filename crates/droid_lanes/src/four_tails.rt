@@ -7,6 +7,20 @@ ghost use Rattle.droid_lanes.specs.Tails.{joining, IsJoined};
 
 use crate::tails;
 
+// The lengths of the pieces.
+pub(crate) fn lens(pieces: [&[u8]; 4]) -> [usize; 4]
+    ensures value { (j : ℕ) → j < 4 → slice_index result j ≡ length (piece j pieces.entry) }
+    ensures count { length result ≡ 4 }
+{
+    let [a, b, c, d] = pieces;
+    [
+        a.len(),
+        b.len(),
+        c.len(),
+        d.len(),
+    ]
+}
+
 // How many bytes of a block each message has begun.
 pub(crate) fn used_of(totals: &[u64; 4]) -> [usize; 4]
     ensures value { (j : ℕ) → j < 4 → slice_index result j ≡ slice_index totals.now j % 64 }

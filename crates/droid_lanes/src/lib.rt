@@ -6,10 +6,12 @@ mod four_tails;
 mod md5_kernel;
 pub mod md5_lanes;
 mod md5_runs;
+mod md5_scalar;
 mod runs;
 mod sha256_kernel;
 pub mod sha256_lanes;
 mod sha256_runs;
+mod sha256_scalar;
 mod tails;
 
 pub use md5_lanes::Md5Lanes;

@@ -8,7 +8,7 @@ ghost use Rattle.droid_lanes.specs.Lanes.{lane, piece, words};
 use std::simd::u32x8;
 
 // T, the constants of the steps.
-const K: [u32; 64] = [
+pub(crate) const K: [u32; 64] = [
     0xd76a_a478,
     0xe8c7_b756,
     0x2420_70db,
@@ -76,7 +76,7 @@ const K: [u32; 64] = [
 ];
 
 // The shift of each step.
-const S: [u32; 64] = [
+pub(crate) const S: [u32; 64] = [
     7, 12, 17, 22, 7, 12, 17, 22, 7, 12, 17, 22, 7, 12, 17, 22, 5, 9, 14, 20, 5, 9, 14, 20, 5, 9,
     14, 20, 5, 9, 14, 20, 4, 11, 16, 23, 4, 11, 16, 23, 4, 11, 16, 23, 4, 11, 16, 23, 6, 10, 15,
     21, 6, 10, 15, 21, 6, 10, 15, 21, 6, 10, 15, 21,
@@ -180,7 +180,7 @@ fn four_steps(w: &[u32x8; 16], v: [u32x8; 4], t: usize) -> [u32x8; 4]
 }
 
 #[inline(always)]
-fn load_le(block: &[u8; 64], i: usize) -> u32
+pub(crate) fn load_le(block: &[u8; 64], i: usize) -> u32
     requires { i + 4 ≤ 64 }
     ensures { result ≡ word_at block.now i }
 {
@@ -261,7 +261,7 @@ pub(crate) fn compress_eight(state: &mut [u32x8; 4], blocks: [&[u8; 64]; 8])
 }
 
 #[inline(always)]
-fn item(run: &[[u8; 64]], i: usize) -> &[u8; 64]
+pub(crate) fn item(run: &[[u8; 64]], i: usize) -> &[u8; 64]
     requires { i < length run.now }
     ensures { result.now ≡ slice_index_or run.now i [] }
 {

@@ -1,6 +1,6 @@
 //! One run of blocks beside others.
 
-ghost use Rattle.std.specs.Prelude.{◌≡◌, ◌+◌, ◌<◌, ◌≤◌, nat_lt, length, drop, if◌then◌else◌};
+ghost use Rattle.std.specs.Prelude.{◌≡◌, ◌≢◌, ℕ, ◌+◌, ◌<◌, ◌≤◌, nat_lt, length, drop, slice_index, IfSome, if◌then◌else◌};
 
 // The longer of two runs.
 pub(crate) fn longer<'a>(one: &'a [[u8; 64]], other: &'a [[u8; 64]]) -> &'a [[u8; 64]]
@@ -41,4 +41,34 @@ pub(crate) fn one_of(named: bool, new: u32, old: u32) -> u32
     ensures { result ≡ (if named then new else old) }
 {
     if named { new } else { old }
+}
+
+// The first place from `from` on whose length isn't 0, or the number of lengths.
+fn busy(lens: &[usize], from: usize) -> usize
+    requires { from ≤ length lens.now }
+    ensures within { result ≤ length lens.now }
+    ensures before { (k : ℕ) → from ≤ k → k < result → slice_index lens.now k ≡ 0 }
+{
+    for place in from..lens.len() {
+        if lens[place] != 0 {
+            return place;
+        }
+    }
+    lens.len()
+}
+
+// The place of the only length that isn't 0, if there is exactly one.
+pub(crate) fn only(lens: &[usize]) -> Option<usize>
+    ensures inside { IfSome result (λ index. index < length lens.now) }
+    ensures alone { IfSome result (λ index. (j : ℕ) → j < length lens.now → j ≢ index → slice_index lens.now j ≡ 0) }
+{
+    let first = busy(lens, 0);
+    if first == lens.len() {
+        return None;
+    }
+    let second = busy(lens, first + 1);
+    if second < lens.len() {
+        return None;
+    }
+    Some(first)
 }

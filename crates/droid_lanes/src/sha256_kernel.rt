@@ -8,7 +8,7 @@ ghost use Rattle.droid_lanes.specs.Lanes.{lane8, piece, words};
 use std::simd::u32x4;
 
 // The constants of the rounds (FIPS 180-4, 4.2.2).
-const K: [u32; 64] = [
+pub(crate) const K: [u32; 64] = [
     0x428a_2f98,
     0x7137_4491,
     0xb5c0_fbcf,
@@ -149,7 +149,7 @@ fn small_sigma1_lanes(x: u32x4) -> u32x4
 }
 
 #[inline(always)]
-fn load_be(block: &[u8; 64], i: usize) -> u32
+pub(crate) fn load_be(block: &[u8; 64], i: usize) -> u32
     requires { i + 4 ≤ 64 }
     ensures { result ≡ word_at block.now i }
 {
@@ -301,7 +301,7 @@ pub(crate) fn compress_four(state: &mut [u32x4; 8], blocks: [&[u8; 64]; 4])
 }
 
 #[inline(always)]
-fn item(run: &[[u8; 64]], i: usize) -> &[u8; 64]
+pub(crate) fn item(run: &[[u8; 64]], i: usize) -> &[u8; 64]
     requires { i < length run.now }
     ensures { result.now ≡ slice_index_or run.now i [] }
 {

@@ -1,2 +1,5 @@
+pub mod Pieces
+pub mod Halves
 pub mod Scanning
 pub mod Ends
+pub mod Rooms

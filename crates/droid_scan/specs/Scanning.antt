@@ -1,9 +1,9 @@
--- Eight files, of whose bytes the hashes are made side by side.
-use Rattle.std.specs.Prelude.{ℕ, ◌-◌, List, nat_lt, if◌then◌else◌}
+-- Eight files that are hashed side by side.
+use Rattle.std.specs.Prelude.{ℕ, List}
 use Rattle.droid_frame.specs.types.hash_kind.HashKind.{HashKind}
 use Rattle.droid_frame.specs.types.hash_kind.HashKind.TheVariants as kinds
-use Rattle.droid_lanes.specs.Md5 as md5
-use Rattle.droid_lanes.specs.Sha256 as sha256
+use Rattle.droid_lanes.specs.Md5.{Holds}
+use Rattle.droid_scan.specs.Halves.{HoldsOf}
 use Rattle.droid_scan.specs.declared.hash_lanes.HashLanes.{HashLanes}
 use Rattle.droid_scan.specs.declared.hash_lanes.HashLanes.TheVariants as lanes
 
@@ -11,10 +11,10 @@ use Rattle.droid_scan.specs.declared.hash_lanes.HashLanes.TheVariants as lanes
 abbrev pub lanes_kind : HashLanes → HashKind
 lanes_kind lanes.Nothing = kinds.Nothing
 lanes_kind (lanes.Md5 eight) = kinds.Md5
-lanes_kind (lanes.Sha256 low high) = kinds.Sha256
+lanes_kind (lanes.Sha256 eight) = kinds.Sha256
 
 -- exactly these bytes were taken in lane j; without a hash, any bytes
 unfoldable pub Scanned : HashLanes → ℕ → List ℕ → Type 0
 Scanned lanes.Nothing j bytes = Unit {0}
-Scanned (lanes.Md5 eight) j bytes = md5.Holds eight j bytes
-Scanned (lanes.Sha256 low high) j bytes = if nat_lt j 4 then sha256.Holds low j bytes else sha256.Holds high (j - 4) bytes
+Scanned (lanes.Md5 eight) j bytes = Holds eight j bytes
+Scanned (lanes.Sha256 eight) j bytes = HoldsOf eight j bytes

@@ -1,8 +1,9 @@
 //! The first and the last bytes of a file whose bytes come in pieces.
 
-ghost use Rattle.std.specs.Prelude.{◌≡◌, ℕ, ◌-◌, List, [], ◌++◌, length, take, drop, IfOk};
+ghost use Rattle.std.specs.Prelude.{◌≡◌, ℕ, ◌+◌, ◌-◌, ◌≤◌, List, [], ◌++◌, length, take, drop, min, IfOk, vec_len, vec_capacity};
 ghost use Rattle.droid_scan.specs.Ends.{Came, width};
 
+use crate::pieces::{front, rest};
 use std::alloc::{AllocError, Global};
 use std::marker::Model;
 
@@ -19,14 +20,42 @@ pub struct EndBytes {
 }
 
 impl Model for EndBytes {
-    ghost use Rattle.std.specs.Prelude.{◌≤◌, vec_capacity};
     ghost use Rattle.droid_scan.specs.Ends.{Ends};
+    ghost use Rattle.droid_scan.specs.Rooms.{HasRoom, shown};
 
     ghost Value = { Ends };
 
-    ghost view = { λ ends. record { limit = ends.limit; size = ends.size; count = ends.count; first = ends.first.items; last = ends.last.items } };
+    ghost view = { shown };
 
-    ghost invariant = { λ ends. (ends.limit ≤ vec_capacity ends.first) × (ends.limit ≤ vec_capacity ends.last) };
+    ghost invariant = { HasRoom };
+}
+
+// Adds bytes for which there is room.
+fn append(window: &mut Vec<u8>, bytes: &[u8])
+    requires { vec_len window.old + length bytes.now ≤ vec_capacity window.old }
+    ensures items { window.new.items ≡ window.old.items ++ bytes.now }
+    ensures len { vec_len window.new ≡ vec_len window.old + length bytes.now }
+    ensures capacity { vec_capacity window.old ≤ vec_capacity window.new }
+{
+    window.extend_from_slice(bytes).unwrap()
+}
+
+// How many of `len` bytes are among the next `left` ones.
+fn within(len: usize, left: u64) -> usize
+    ensures { result ≡ min left len }
+{
+    if left < len as u64 {
+        left as usize
+    } else {
+        len
+    }
+}
+
+// How many bytes each end of a file has.
+fn width_of(limit: usize, size: u64) -> u64
+    ensures { result ≡ min limit size }
+{
+    (limit as u64).min(size)
 }
 
 impl EndBytes {
@@ -35,9 +64,11 @@ impl EndBytes {
         ensures limit { IfOk result (λ ends. ends.limit ≡ limit) }
         ensures empty { IfOk result (λ ends. Came ends []) }
     {
+        let first = Vec::with_capacity(alloc, limit)?;
+        let last = Vec::with_capacity(alloc, limit)?;
         Ok(EndBytes {
-            first: Vec::with_capacity(alloc, limit)?,
-            last: Vec::with_capacity(alloc, limit)?,
+            first,
+            last,
             limit,
             size: 0,
             count: 0,
@@ -62,9 +93,18 @@ impl EndBytes {
         ensures size { self.new.size ≡ self.old.size }
         ensures came { (bytes : List ℕ) → Came self.old bytes → Came self.new (bytes ++ piece.now) }
     {
+        let fresh = front(piece, within(piece.len(), self.size - self.count));
+        let width = width_of(self.limit, self.size);
+        let first_left = width.saturating_sub(self.count);
+        let early = front(fresh, within(fresh.len(), first_left));
+        append(&mut self.first, early);
+        let last_left = (self.size - width).saturating_sub(self.count);
+        let late = rest(fresh, within(fresh.len(), last_left));
+        append(&mut self.last, late);
+        self.count += fresh.len() as u64;
     }
 
-    /// Returns the file's first bytes: `limit` of them, or all of a smaller file.
+    /// Returns the file's first bytes, of those that came: at most `limit`.
     pub fn first(&self) -> &[u8]
         ensures value { result.now ≡ self.now.first }
         ensures all { (bytes : List ℕ) → Came self.now bytes → length bytes ≡ self.now.size
@@ -74,7 +114,7 @@ impl EndBytes {
         self.first.as_slice()
     }
 
-    /// Returns the file's last bytes: `limit` of them, or all of a smaller file.
+    /// Returns the file's last bytes, of those that came: at most `limit`.
     pub fn last(&self) -> &[u8]
         ensures value { result.now ≡ self.now.last }
         ensures all { (bytes : List ℕ) → Came self.now bytes → length bytes ≡ self.now.size

@@ -5,8 +5,10 @@ ghost use Rattle.droid_frame.specs.Hashes.{hash};
 ghost use Rattle.droid_lanes.specs.Lanes.{piece};
 ghost use Rattle.droid_scan.specs.Scanning.{Scanned, lanes_kind};
 
+use crate::pieces::{fronts, shortest};
+use crate::sha256_eight::Sha256Eight;
 use droid_frame::{HashKind, HashValue};
-use droid_lanes::{Md5Lanes, Sha256Lanes};
+use droid_lanes::Md5Lanes;
 
 /// How many files are hashed side by side.
 pub const LANES: usize = 8;
@@ -18,12 +20,13 @@ pub enum HashLanes {
     Nothing,
     /// Eight MD5s (RFC 1321).
     Md5(Md5Lanes),
-    /// Eight SHA-256s (FIPS 180-4): lanes 0 to 3, and lanes 4 to 7.
-    Sha256(Sha256Lanes, Sha256Lanes),
+    /// Eight SHA-256s (FIPS 180-4).
+    Sha256(Sha256Eight),
 }
 
 impl HashLanes {
     /// Makes eight hashes of this kind, each of no bytes.
+    #[tactic(auto, unfolding(crate::specs::Scanning::Scanned))]
     pub fn new(kind: HashKind) -> HashLanes
         ensures kind { lanes_kind result ≡ kind }
         ensures empty { (j : ℕ) → j < 8 → Scanned result j [] }
@@ -31,11 +34,12 @@ impl HashLanes {
         match kind {
             HashKind::Nothing => HashLanes::Nothing,
             HashKind::Md5 => HashLanes::Md5(Md5Lanes::new()),
-            HashKind::Sha256 => HashLanes::Sha256(Sha256Lanes::new(), Sha256Lanes::new()),
+            HashKind::Sha256 => HashLanes::Sha256(Sha256Eight::new()),
         }
     }
 
     /// Begins a new file in a lane, and forgets the lane's old one. The other lanes keep theirs.
+    #[tactic(auto, unfolding(crate::specs::Scanning::Scanned))]
     pub fn begin(&mut self, lane: usize)
         requires { lane < 8 }
         ensures kind { lanes_kind self.new ≡ lanes_kind self.old }
@@ -45,13 +49,21 @@ impl HashLanes {
         match self {
             HashLanes::Nothing => {}
             HashLanes::Md5(eight) => eight.begin(lane),
-            HashLanes::Sha256(low, high) => {
-                if lane < 4 {
-                    low.begin(lane)
-                } else {
-                    high.begin(lane - 4)
-                }
-            }
+            HashLanes::Sha256(eight) => eight.begin(lane),
+        }
+    }
+
+    // Takes each lane's piece.
+    #[tactic(auto, unfolding(crate::specs::Scanning::Scanned))]
+    fn update(&mut self, pieces: [&[u8]; 8])
+        ensures kind { lanes_kind self.new ≡ lanes_kind self.old }
+        ensures taken { (j : ℕ) → j < 8 → (bytes : List ℕ) → Scanned self.old j bytes
+            → Scanned self.new j (bytes ++ piece j pieces.entry) }
+    {
+        match self {
+            HashLanes::Nothing => {}
+            HashLanes::Md5(eight) => eight.update(pieces),
+            HashLanes::Sha256(eight) => eight.update(pieces),
         }
     }
 
@@ -64,12 +76,15 @@ impl HashLanes {
         ensures some { (j : ℕ) → j < 8 → 0 < length (piece j pieces.entry) → 0 < result }
         ensures least { (j : ℕ) → j < 8 → 0 < length (piece j pieces.entry) → result ≤ length (piece j pieces.entry) }
         // It is the length of one of the pieces.
-        ensures exact { 0 < result → (j : ℕ) × ((j < 8) × (length (piece j pieces.entry) ≡ result)) }
+        ensures exact { (j : ℕ) × ((j < 8) × (length (piece j pieces.entry) ≡ result)) }
     {
-        0
+        let count = shortest(pieces);
+        self.update(fronts(pieces, count));
+        count
     }
 
     /// Ends a lane's file, returns the hash of its bytes, and begins a new file in the lane. The other lanes keep theirs.
+    #[tactic(auto, unfolding(crate::specs::Scanning::Scanned))]
     pub fn end(&mut self, lane: usize) -> HashValue
         requires { lane < 8 }
         ensures value { (bytes : List ℕ) → Scanned self.old lane bytes → result ≡ hash (lanes_kind self.old) bytes }
@@ -80,11 +95,7 @@ impl HashLanes {
         match self {
             HashLanes::Nothing => HashValue::Nothing,
             HashLanes::Md5(eight) => HashValue::Md5(eight.end(lane)),
-            HashLanes::Sha256(low, high) => HashValue::Sha256(if lane < 4 {
-                low.end(lane)
-            } else {
-                high.end(lane - 4)
-            }),
+            HashLanes::Sha256(eight) => HashValue::Sha256(eight.end(lane)),
         }
     }
 }

@@ -3,6 +3,9 @@
 
 mod end_bytes;
 mod hash_lanes;
+mod pieces;
+mod sha256_eight;
 
 pub use end_bytes::EndBytes;
 pub use hash_lanes::{HashLanes, LANES};
+pub use sha256_eight::Sha256Eight;

@@ -1,13 +1,19 @@
-use Rattle.std.proofs.Common.{slice_index_or, []}
-use Rattle.droid_lanes.specs.Lanes.{lane, piece}
-use Rattle.droid_lanes.specs.Md5.{Holds, state_of}
-use Rattle.droid_lanes.proofs.Updating.{lane_updates}
+use Rattle.std.proofs.Common.{◌++◌, ℕ, List, ◌<◌, length, sym, ap, subst, arith}
+use Rattle.std.proofs.Math.ListN.{get_or-map}
+use Rattle.droid_lanes.specs.Lanes.{piece}
+use Rattle.droid_lanes.specs.Md5.{Holds}
+use Rattle.droid_lanes.proofs.Alone.{at_each, nothing_more}
 use Rattle.droid_lanes.proofs.md5_lanes.Md5Lanes.update.Goals as goal
 
-pub returns : goal.returns
-unfolding Holds
-returns c = λ j low m held.
-    lane_updates _ _ _ (lane j (state_of c.args.self.now)) _ _ (slice_index_or c.args.self.now.tails j []) _ _ m (piece j c.args.pieces) _ _ _
-    held.0 held.1 (c.longer.ensures j low) (c.used_of-used.ensures.value j low) (c.joined-blocks.ensures j low)
-    (c.completed.ensures.full j low) (c.completed.ensures.none j low) (c.take_runs.ensures j low) (c.rests-rests.ensures j low)
-    (c.chunks.ensures j low) (c.take_runs-2.ensures j low) (c.kept.ensures j low)
+pub update_one-requires : goal.update_one-requires
+update_one-requires c = omega (arith, c.in-Some.ensures.inside, c.lens-lens.ensures.count)
+
+pub returns-in-Some : goal.returns-in-Some
+returns-in-Some c =
+    let given = c.args.pieces in
+    let new = c.update_one.new.self in
+    at_each (λ j. (m : List ℕ) → Holds c.args.self.now j m → Holds new j (m ++ piece j given)) c.in-Some.index 8
+    (λ m held. subst (λ (x : List ℕ). Holds new c.in-Some.index (m ++ x)) (sym (get_or-map (λ x. x.now) given c.in-Some.index _)) (c.update_one.ensures.taken m held))
+    (λ j low other m held.
+    let there : j < length c.lens-lens.result = omega (arith, c.lens-lens.ensures.count) in
+    nothing_more (Holds new j) m (piece j given) _ (c.in-Some.ensures.alone j there other) (c.lens-lens.ensures.value j low) (c.update_one.ensures.others j low other m held))

@@ -1,0 +1,3 @@
+pub mod Halving
+pub mod Places
+pub mod Growing

@@ -1,0 +1,6 @@
+-- The lengths of pieces.
+use Rattle.std.specs.Prelude.{ℕ, ◌<◌, ◌≤◌, List, slice_index}
+
+-- if piece k is not empty, then piece `best` isn't either, and is no longer
+abbrev pub Beats : List ℕ → ℕ → ℕ → Type 0
+Beats lens best k = 0 < slice_index lens k → (0 < slice_index lens best) × (slice_index lens best ≤ slice_index lens k)

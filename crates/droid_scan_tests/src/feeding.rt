@@ -1,0 +1,39 @@
+//! What the tests do with the lanes.
+
+use droid_frame::{HashKind, HashValue};
+use droid_scan::HashLanes;
+use md5::{Digest as Md5Digest, Md5};
+use sha2::{Digest as Sha2Digest, Sha256};
+
+// The hash of all bytes at once.
+pub(crate) fn whole(kind: HashKind, bytes: &[u8]) -> HashValue {
+    match kind {
+        HashKind::Nothing => HashValue::Nothing,
+        HashKind::Md5 => HashValue::Md5(Md5::digest(bytes)),
+        HashKind::Sha256 => HashValue::Sha256(Sha256::digest(bytes)),
+    }
+}
+
+fn rest(piece: &[u8], taken: usize) -> &[u8] {
+    if taken < piece.len() {
+        &piece[taken..]
+    } else {
+        &piece[..0]
+    }
+}
+
+// Takes all of each piece. Each call empties one of those that are not empty, so eight are enough.
+pub(crate) fn feed(lanes: &mut HashLanes, pieces: [&[u8]; 8]) {
+    let [mut a, mut b, mut c, mut d, mut e, mut f, mut g, mut h] = pieces;
+    for _ in 0..8 {
+        let taken = lanes.advance([a, b, c, d, e, f, g, h]);
+        a = rest(a, taken);
+        b = rest(b, taken);
+        c = rest(c, taken);
+        d = rest(d, taken);
+        e = rest(e, taken);
+        f = rest(f, taken);
+        g = rest(g, taken);
+        h = rest(h, taken);
+    }
+}

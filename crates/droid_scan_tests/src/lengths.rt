@@ -1,0 +1,73 @@
+//! Every length up to 300 in every lane, beside files of seven other lengths, for each kind of hash.
+
+use crate::chance::{LEN, filled, part};
+use crate::feeding::{feed, whole};
+use droid_frame::HashKind;
+use droid_scan::{HashLanes, LANES};
+
+// A file of its own for each lane and each turn: over 301 turns a lane has each length once.
+fn file(bytes: &[u8; LEN], lane: usize, turn: usize) -> &[u8] {
+    let len = (turn % 1000 + 37 * (lane % 8)) % 301;
+    part(bytes, lane % 8, lane % 8 + len)
+}
+
+// Whether each lane's hash is that of its file, for each turn.
+fn every_length(kind: HashKind) -> bool {
+    let bytes = filled();
+    let mut lanes = HashLanes::new(kind);
+    let mut right = true;
+    for turn in 0..301 {
+        feed(&mut lanes, [
+            file(&bytes, 0, turn),
+            file(&bytes, 1, turn),
+            file(&bytes, 2, turn),
+            file(&bytes, 3, turn),
+            file(&bytes, 4, turn),
+            file(&bytes, 5, turn),
+            file(&bytes, 6, turn),
+            file(&bytes, 7, turn),
+        ]);
+        for lane in 0..LANES {
+            let found = lanes.end(lane);
+            right &= found == whole(kind, file(&bytes, lane, turn));
+        }
+    }
+    right
+}
+
+// Whether the hash of a file that is alone in its lane is right, in each lane, in two pieces cut at each place.
+fn every_cut(kind: HashKind) -> bool {
+    let bytes = filled();
+    let none = &bytes[..0];
+    let mut lanes = HashLanes::new(kind);
+    let mut right = true;
+    for cut in 0..301 {
+        let first = part(&bytes, 0, cut);
+        let second = part(&bytes, cut, 300);
+        feed(&mut lanes, [none, none, none, first, none, none, none, none]);
+        feed(&mut lanes, [none, none, none, second, none, none, none, none]);
+        feed(&mut lanes, [none, none, none, none, none, none, none, first]);
+        feed(&mut lanes, [second, none, none, none, none, none, none, second]);
+        let all = whole(kind, part(&bytes, 0, 300));
+        right &= lanes.end(3) == all;
+        right &= lanes.end(7) == all;
+        right &= lanes.end(1) == whole(kind, none);
+        lanes.begin(0);
+        right &= lanes.end(0) == whole(kind, none);
+    }
+    right
+}
+
+#[test]
+fn every_length_in_every_lane(rt: HostRuntime) {
+    assert!(rt; every_length(HashKind::Md5));
+    assert!(rt; every_length(HashKind::Sha256));
+    assert!(rt; every_length(HashKind::Nothing));
+}
+
+#[test]
+fn one_lane_alone(rt: HostRuntime) {
+    assert!(rt; every_cut(HashKind::Md5));
+    assert!(rt; every_cut(HashKind::Sha256));
+    assert!(rt; every_cut(HashKind::Nothing));
+}

@@ -1,0 +1,14 @@
+//! Tests of the hashes of eight files and of a file's ends. They use only the public calls of `droid_scan`, and compare
+//! with the kit's `md5` and `sha2` and with slices of the whole file.
+#![tactic(auto)]
+
+#[cfg(test)]
+mod chance;
+#[cfg(test)]
+mod ends;
+#[cfg(test)]
+mod feeding;
+#[cfg(test)]
+mod lengths;
+#[cfg(test)]
+mod schedules;
