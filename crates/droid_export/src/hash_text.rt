@@ -31,8 +31,8 @@ impl HashText {
     {
         match hash {
             HashValue::Nothing => HashText::none(),
-            HashValue::Md5(digest) => HashText::of_digest(digest.as_slice()),
-            HashValue::Sha256(digest) => HashText::of_digest(digest.as_slice()),
+            HashValue::Md5(digest) => HashText::of_md5(*digest),
+            HashValue::Sha256(digest) => HashText::of_sha256(*digest),
         }
     }
 
@@ -44,6 +44,18 @@ impl HashText {
             digits: [0; 64],
             len: 0,
         }
+    }
+
+    fn of_md5(digest: [u8; 16]) -> HashText
+        ensures { result ≡ encode_lower digest }
+    {
+        HashText::of_digest(digest.as_slice())
+    }
+
+    fn of_sha256(digest: [u8; 32]) -> HashText
+        ensures { result ≡ encode_lower digest }
+    {
+        HashText::of_digest(digest.as_slice())
     }
 
     /// Returns the digits of a digest of up to 32 bytes.

@@ -48,7 +48,8 @@ impl PendingText {
         ensures added { OnOk result (self.new ≡ self.old ++ bytes.now) }
         ensures unchanged { OnErr result (self.new ≡ self.old) }
     {
-        self.bytes.extend_from_slice(bytes)
+        self.bytes.extend_from_slice(bytes)?;
+        Ok(())
     }
 
     /// Writes the text, after which it is empty. If not all can be written, it stays as it is, and the fault says how

@@ -63,7 +63,8 @@ impl RowText {
     {
         self.rows.clear();
         add_header(&mut self.rows, hash)?;
-        self.text.add(self.rows.as_slice())
+        self.text.add(self.rows.as_slice())?;
+        Ok(())
     }
 
     /// Appends the rows of a record: one for each of its formats, in order, or one row without a format. Fails only if
@@ -77,7 +78,8 @@ impl RowText {
     {
         self.rows.clear();
         add_rows(&mut self.rows, &mut self.uri, registry, node)?;
-        self.text.add(self.rows.as_slice())
+        self.text.add(self.rows.as_slice())?;
+        Ok(())
     }
 
     /// Writes the rows, after which there are none. If not all can be written, they stay as they are, and the fault

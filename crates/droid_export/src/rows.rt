@@ -86,15 +86,15 @@ pub(crate) fn add_rows(
         hash: hash.as_slice(),
         format_count: count_text(&mut format_count, node),
     };
-    add_rows_with(text, registry, node, &common)
+    add_rows_with(text, &*registry, &*node, &common)
 }
 
 /// Appends the rows of a record with these shared columns.
-fn add_rows_with(
+fn add_rows_with<'a>(
     text: &mut Vec<u8>,
-    registry: &Registry,
-    node: &Record,
-    common: &Common<'_>,
+    registry: &'a Registry,
+    node: &'a Record,
+    common: &'a Common<'a>,
 ) -> Result<(), AllocError>
     requires { IsCommon node.now common.now }
     ensures { OnOk result (text.new.items ≡ text.old.items ++ record_text registry.now node.now) }
@@ -106,11 +106,11 @@ fn add_rows_with(
 }
 
 /// Appends a row for each format of a record.
-fn add_format_rows(
+fn add_format_rows<'a>(
     text: &mut Vec<u8>,
-    registry: &Registry,
-    node: &Record,
-    common: &Common<'_>,
+    registry: &'a Registry,
+    node: &'a Record,
+    common: &'a Common<'a>,
 ) -> Result<(), AllocError>
     requires { IsCommon node.now common.now }
     ensures { OnOk result (text.new.items ≡ text.old.items ++ flat_map row_text (map (λ puid. row node.now (shown registry.now puid)) node.now.puids)) }

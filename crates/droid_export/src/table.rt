@@ -34,7 +34,8 @@ fn add_doubled(text: &mut Vec<u8>, field: &[u8]) -> Result<(), AllocError>
     ensures { OnOk result (text.new.items ≡ text.old.items ++ flat_map doubled field.now) }
 {
     if has_no_quote(field) {
-        return text.extend_from_slice(field);
+        text.extend_from_slice(field)?;
+        return Ok(());
     }
     for byte in field {
         add_byte(text, *byte)?;
