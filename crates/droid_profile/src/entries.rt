@@ -1,6 +1,6 @@
 //! Takes one entry of a folder: a folder, a file, or something that is skipped.
 
-ghost use Rattle.std.specs.Prelude.{◌≡◌, ◌+◌, ◌++◌, [], ◌∷◌, List, IfErr, IfOk, OnErr, OnOk};
+ghost use Rattle.std.specs.Prelude.{◌≡◌, ◌+◌, ◌++◌, [], ◌∷◌, List, IfErr, IfOk, OnErr, OnOk, length};
 ghost use Rattle.droid_frame.specs.types.record.Record.{Record};
 ghost use Rattle.droid_pronom.specs.Registry.{Contents};
 ghost use Rattle.droid_tree.specs.Heard.{Heard};
@@ -75,7 +75,6 @@ fn take_file(
     entry: FolderEntry,
 ) -> Result<(), ProfileFault> {
     let number = next_number(scan.number)?;
-    let place = files.len();
     let record = Record {
         id: number,
         parent: scan.folder.number,
@@ -89,12 +88,15 @@ fn take_file(
         hash: HashValue::Nothing,
         puids: Texts::new(alloc),
     };
-    rows.push(Row::File(place))?;
-    files.push(FileRow {
-        record,
-        entry,
-        state: FileState::Waits,
-    })?;
+    push_file(
+        rows,
+        files,
+        FileRow {
+            record,
+            entry,
+            state: FileState::Waits,
+        },
+    )?;
     scan.number = number;
     Ok(())
 }
@@ -131,9 +133,32 @@ fn take_folder<T: Tree>(
         hash: HashValue::Nothing,
         puids: Texts::new(alloc),
     };
-    rows.push(Row::Folder(record))?;
+    push_folder(rows, record)?;
     add_pending(&mut scan.waiting, path, number)?;
     scan.number = number;
+    Ok(())
+}
+
+/// Takes a file.
+fn push_file(
+    rows: &mut Vec<Row>,
+    files: &mut Vec<FileRow>,
+    file: FileRow,
+) -> Result<(), AllocError>
+    ensures rows { OnOk result (rows.new.items ≡ rows.old.items ++ row_forms.File (length files.old.items) ∷ []) }
+    ensures files { OnOk result (files.new.items ≡ files.old.items ++ file ∷ []) }
+{
+    let place = files.len();
+    rows.push(Row::File(place))?;
+    files.push(file)?;
+    Ok(())
+}
+
+/// Takes a folder.
+fn push_folder(rows: &mut Vec<Row>, shown: Record) -> Result<(), AllocError>
+    ensures { OnOk result (rows.new.items ≡ rows.old.items ++ row_forms.Folder shown ∷ []) }
+{
+    rows.push(Row::Folder(shown))?;
     Ok(())
 }
 

@@ -20,22 +20,21 @@ module _ (registry : Contents) (options : Options) (old new : Batch) (same_files
   lane_on j place entry reading fits =
       let next = advances.passed.each j fits.lane fits.there in
       let rest : List ℕ = drop fits.lane.hashed fits.lane.buffer.items in
-      let same : {A : Type 0} (part : FileLane → A) → part next.after ≡ part (record fits.lane { hashed = next.after.hashed }) = λ part. ap part next.passes.same in
       record {
         within = fits.within;
         lane = next.after;
         there = next.there;
-        busy = same (λ l. l.busy) ∙ fits.busy;
-        its = same (λ l. l.place) ∙ fits.its;
+        busy = ap (λ (l : FileLane). l.busy) next.passes.same ∙ fits.busy;
+        its = ap (λ (l : FileLane). l.place) next.passes.same ∙ fits.its;
         ending = subst (λ (l : FileLane). MatchBool l.at_end (is_whole reading.ending ≡ true) ((reading.ending ≡ NotYet) × (l.from ≡ length (joined reading.pieces)))) (sym next.passes.same) fits.ending;
         hashed = fits.hashed ++ take advances.count rest;
         scanned = subst (λ (l : List ℕ). Scanned new.hashes j (fits.hashed ++ take advances.count l)) (ap rest_in fits.there) (advances.taken j fits.within fits.hashed fits.scanned);
         bytes = fits.bytes
             ∙ (ap (λ (l : List ℕ). fits.hashed ++ l) (sym (take-append-drop advances.count rest))
             ∙ (sym (append_assoc fits.hashed (take advances.count rest) (drop advances.count rest))
-            ∙ ap (λ (l : List ℕ). (fits.hashed ++ take advances.count rest) ++ l) (sym next.passes.rest ∙ ap (λ (l : List ℕ). drop next.after.hashed l) (sym (same (λ l. l.buffer.items))))));
+            ∙ ap (λ (l : List ℕ). (fits.hashed ++ take advances.count rest) ++ l) (sym next.passes.rest ∙ ap (λ (l : List ℕ). drop next.after.hashed l) (sym (ap (λ (l : FileLane). l.buffer.items) next.passes.same)))));
         came = subst (λ (l : FileLane). Came l.ends (bytes_of reading)) (sym next.passes.same) fits.came;
-        size = same (λ l. l.ends.size) ∙ fits.size;
+        size = ap (λ (l : FileLane). l.ends.size) next.passes.same ∙ fits.size;
       }
 
   state_on : (place : ℕ) (was row : FileRow) (reading : Reading) (state : FileState) → StateFits registry options old place was row reading state → StateFits registry options new place was row reading state

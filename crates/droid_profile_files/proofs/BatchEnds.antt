@@ -109,6 +109,7 @@ module _ {T W : Type 0} (observes : T → Observation → T → Type 0) (hears :
           subst (ReadsSome on.calls) (same_item (slice_get first place) its.was was its.there there) (record { reading = its.reading; is_reading = its.is_reading; reads = its.reads })
 
   pub front_by_turns : (batch : Batch) (start tree : T) (begun watcher : W) → ReadsOn observes hears registry options first batch start tree begun watcher → ReadsFront observes hears first faults.Turns start tree begun watcher
+  unfolding front
   front_by_turns batch start tree begun watcher on =
       let it = front batch faults.Memory start tree tree begun watcher refl on in
       record { calls = it.calls; are = it.are; reached = tree; stands = inl refl; explained = inr refl; observed = on.observed; heard = on.heard; begun = it.begun }

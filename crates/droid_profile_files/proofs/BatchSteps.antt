@@ -33,9 +33,10 @@ use Rattle.droid_profile_files.proofs.Places.{same_item, set_else, set_here}
 use Rattle.droid_profile_files.proofs.ReadingSteps.{ended_by, ended_is, ended_reads, is_open, longer_bytes, longer_is, longer_joined, longer_reads, open_bytes, opened}
 use Rattle.droid_profile_files.proofs.ReadsSplit.{read_else, read_more, reads_append}
 
-drop_none : (n : ℕ) → drop n ([] : List ℕ) ≡ []
-drop_none zero = refl
-drop_none (suc n) = refl
+drop_none : (n : ℕ) (bytes : List ℕ) → bytes ≡ [] → drop n bytes ≡ []
+drop_none zero bytes none = none
+drop_none (suc n) [] none = refl
+drop_none (suc n) (byte ∷ bytes) none = absurd cc
 
 -- no more calls
 no_calls : (registry : Contents) (options : Options) (first : List FileRow) (batch : Batch) (calls : List Call) → BatchFits registry options first batch (calls ++ []) → BatchFits registry options first batch calls
@@ -121,7 +122,7 @@ module _ (registry : Contents) (options : Options) (first : List FileRow) (old n
             (ap (λ (r : Reading). r.ending) state.0, begins.from ∙ sym (ap (λ (r : Reading). length (joined r.pieces)) state.0));
         hashed = [];
         scanned = scanned;
-        bytes = none ∙ sym (ap (drop lane_after.hashed) begins.empty ∙ drop_none lane_after.hashed);
+        bytes = none ∙ sym (drop_none lane_after.hashed lane_after.buffer.items begins.empty);
         came = subst (Came lane_after.ends) (sym none) begins.came;
         size = begins.size ∙ ap (λ (e : FolderEntry). e.len) its.entry;
       } in

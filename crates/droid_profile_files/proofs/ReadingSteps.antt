@@ -37,9 +37,10 @@ module _ (path : List ℕ) (entry : FolderEntry) (pieces : List (List ℕ)) wher
   module _ (piece : List ℕ) (from : ℕ) (at : from ≡ length (joined pieces)) where
     pub longer_reads : reads_in path entry (opened (pieces ++ piece ∷ [])) ≡ reads_in path entry (opened pieces) ++ Read path entry from (length piece) piece ∷ []
     longer_reads =
+        let e : 0 + length (joined pieces) ≡ from = omega (arith, at) in
         append-nil (reads_from path entry 0 (pieces ++ piece ∷ []))
         ∙ (reads_more path entry 0 pieces piece
-        ∙ (ap (λ (k : ℕ). reads_from path entry 0 pieces ++ Read path entry k (length piece) piece ∷ []) (sym at)
+        ∙ (ap (λ (k : ℕ). reads_from path entry 0 pieces ++ Read path entry k (length piece) piece ∷ []) e
         ∙ ap (λ (l : List Observation). l ++ Read path entry from (length piece) piece ∷ []) (sym open_reads)))
 
     pub longer_bytes : bytes_of (opened (pieces ++ piece ∷ [])) ≡ joined pieces ++ piece

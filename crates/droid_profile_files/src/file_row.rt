@@ -8,7 +8,7 @@ use droid_frame::Record;
 use droid_tree::{FolderEntry, Skipped};
 
 /// How far a file is.
-#[derive(Clone, Copy, Debug, PartialEq, Eq)]
+#[derive(Clone, Copy, PartialEq, Eq)]
 pub enum FileState {
     /// It waits for a lane.
     Waits,

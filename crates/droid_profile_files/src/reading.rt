@@ -17,7 +17,7 @@ use droid_profile_spec::ProfileFault;
 use droid_tree::{Skipped, Tree, Watcher, unread};
 
 /// What a read came to.
-#[derive(Clone, Copy, Debug, PartialEq, Eq)]
+#[derive(Clone, Copy)]
 pub(crate) enum Came {
     /// All that was asked for, and the file goes on.
     Piece,
