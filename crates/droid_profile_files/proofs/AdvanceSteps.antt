@@ -15,7 +15,7 @@ use Rattle.droid_profile_files.specs.declared.file_row.FileRow.{FileRow}
 use Rattle.droid_profile_files.specs.declared.file_row.FileState.{FileState}
 use Rattle.droid_profile_files.specs.declared.file_row.FileState.TheVariants.{Waits, InLane, Whole, Dropped}
 
-module _ (registry : Contents) (options : Options) (old new : Batch) (same_files : new.files.items ≡ old.files.items) (same_waiting : new.waiting.items ≡ old.waiting.items) (advances : Advances old.lanes new.lanes old.hashes new.hashes) where
+module _ (registry : Contents) (options : Options) (old new : Batch) (same_files : new.files.items ≡ old.files.items) (same_waiting : new.waiting.items ≡ old.waiting.items) (advances : Advances old.lanes.items new.lanes.items old.hashes new.hashes) where
   lane_on : (j place : ℕ) (entry : FolderEntry) (reading : Reading) → LaneFits options old j place entry reading → LaneFits options new j place entry reading
   lane_on j place entry reading fits =
       let next = advances.passed.each j fits.lane fits.there in
@@ -48,6 +48,7 @@ module _ (registry : Contents) (options : Options) (old new : Batch) (same_files
     fresh = fits.fresh;
     made = record {
       few = fits.made.few;
+      eight = advances.passed.counted ∙ fits.made.eight;
       kind = advances.kind ∙ fits.made.kind;
       limits = λ j after there.
           let before = advances.passed.back j after there in

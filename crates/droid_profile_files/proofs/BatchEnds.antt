@@ -116,7 +116,7 @@ module _ {T W : Type 0} (observes : T → Observation → T → Type 0) (hears :
 
   -- ---- the end
 
-  settled_by : (batch : Batch) (calls : List Call) (place : ℕ) (was row : FileRow) (reading : Reading) (state : FileState) → batch.waiting.items ≡ [] → AreIdle batch.lanes → (state ≡ Waits → Contains batch.waiting.items place)
+  settled_by : (batch : Batch) (calls : List Call) (place : ℕ) (was row : FileRow) (reading : Reading) (state : FileState) → batch.waiting.items ≡ [] → AreIdle batch.lanes.items → (state ≡ Waits → Contains batch.waiting.items place)
       → StateFits registry options batch place was row reading state → IsSettled registry options was row reading state
   settled_by batch calls place was row reading Waits none idle queued fits = absurd (empty batch.waiting.items none (queued refl))
     where
@@ -129,7 +129,7 @@ module _ {T W : Type 0} (observes : T → Observation → T → Type 0) (hears :
   settled_by batch calls place was row reading Whole none idle queued fits = fits
   settled_by batch calls place was row reading (Dropped why) none idle queued fits = fits
 
-  pub all_read : (batch : Batch) (start tree : T) (begun watcher : W) → batch.waiting.items ≡ [] → AreIdle batch.lanes → ReadsOn observes hears registry options first batch start tree begun watcher
+  pub all_read : (batch : Batch) (start tree : T) (begun watcher : W) → batch.waiting.items ≡ [] → AreIdle batch.lanes.items → ReadsOn observes hears registry options first batch start tree begun watcher
       → ReadsAll observes hears registry options first batch.files.items start tree begun watcher
   all_read batch start tree begun watcher none idle on = record {
     calls = on.calls;

@@ -22,15 +22,15 @@ pub record Moves (old new : Batch) (j place : ℕ) (row : FileRow) : Type 0 wher
   pub row_at : slice_get new.files.items place ≡ Some row
   pub rows_else : (other : ℕ) → (other ≡ place → ⊥) → slice_get new.files.items other ≡ slice_get old.files.items other
   pub counted : length new.files.items ≡ length old.files.items
-  pub lanes_else : (i : ℕ) → (i ≡ j → ⊥) → slice_get new.lanes i ≡ slice_get old.lanes i
+  pub lanes_else : (i : ℕ) → (i ≡ j → ⊥) → slice_get new.lanes.items i ≡ slice_get old.lanes.items i
   pub hashes_else : (i : ℕ) → i < 8 → (i ≡ j → ⊥) → (bytes : List ℕ) → Scanned old.hashes i bytes → Scanned new.hashes i bytes
-  pub free : (other : ℕ) (lane : FileLane) → slice_get old.lanes j ≡ Some lane → lane.busy ≡ true → lane.place ≡ other → other ≡ place
+  pub free : (other : ℕ) (lane : FileLane) → slice_get old.lanes.items j ≡ Some lane → lane.busy ≡ true → lane.place ≡ other → other ≡ place
   pub waiting : (other : ℕ) → (other ≡ place → ⊥) → Contains old.waiting.items other → Contains new.waiting.items other
 
 module _ (registry : Contents) (options : Options) (first : List FileRow) (old new : Batch) (j place : ℕ) (row : FileRow) (moves : Moves old new j place row) where
   lane_still : (other i : ℕ) (was : FileRow) (reading : Reading) → (other ≡ place → ⊥) → LaneFits options old i other was.entry reading → LaneFits options new i other was.entry reading
   lane_still other i was reading apart fits =
-      let elsewhere : i ≡ j → ⊥ = λ same. apart (moves.free other fits.lane (subst (λ (k : ℕ). slice_get old.lanes k ≡ Some fits.lane) same fits.there) fits.busy fits.its) in
+      let elsewhere : i ≡ j → ⊥ = λ same. apart (moves.free other fits.lane (subst (λ (k : ℕ). slice_get old.lanes.items k ≡ Some fits.lane) same fits.there) fits.busy fits.its) in
       record {
         within = fits.within;
         lane = fits.lane;

@@ -50,26 +50,27 @@ listed files place row there =
 
 -- one lane was changed
 pub record LaneSet (old new : Batch) (j : ℕ) (lane lane_after : FileLane) : Type 0 where
-  pub within : j < length old.lanes
-  pub was : slice_get old.lanes j ≡ Some lane
-  pub lanes : new.lanes ≡ set old.lanes j lane_after
+  pub within : j < length old.lanes.items
+  pub was : slice_get old.lanes.items j ≡ Some lane
+  pub lanes : new.lanes.items ≡ set old.lanes.items j lane_after
   pub limit : lane_after.ends.limit ≡ lane.ends.limit
   pub kind : lanes_kind new.hashes ≡ lanes_kind old.hashes
   pub hashes_else : (i : ℕ) → i < 8 → (i ≡ j → ⊥) → (bytes : List ℕ) → Scanned old.hashes i bytes → Scanned new.hashes i bytes
 
 module _ (old new : Batch) (j : ℕ) (lane lane_after : FileLane) (lanes : LaneSet old new j lane lane_after) where
-  pub lane_there : slice_get new.lanes j ≡ Some lane_after
-  lane_there = ap (λ (l : List FileLane). slice_get l j) lanes.lanes ∙ set_here old.lanes j lane_after lanes.within
+  pub lane_there : slice_get new.lanes.items j ≡ Some lane_after
+  lane_there = ap (λ (l : List FileLane). slice_get l j) lanes.lanes ∙ set_here old.lanes.items j lane_after lanes.within
 
-  pub lanes_else : (i : ℕ) → (i ≡ j → ⊥) → slice_get new.lanes i ≡ slice_get old.lanes i
-  lanes_else i apart = ap (λ (l : List FileLane). slice_get l i) lanes.lanes ∙ set_else old.lanes j i lane_after apart
+  pub lanes_else : (i : ℕ) → (i ≡ j → ⊥) → slice_get new.lanes.items i ≡ slice_get old.lanes.items i
+  lanes_else i apart = ap (λ (l : List FileLane). slice_get l i) lanes.lanes ∙ set_else old.lanes.items j i lane_after apart
 
   pub still_for : (options : Options) → IsFor options old → IsFor options new
   still_for options made = record {
     few = made.few;
+    eight = ap length lanes.lanes ∙ (length-set old.lanes.items j lane_after ∙ made.eight);
     kind = lanes.kind ∙ made.kind;
     limits = λ i its there. elim (eqb_tells i j) [
-      | inl t ↦ ap (λ (l : FileLane). l.ends.limit) (same_item (slice_get new.lanes j) its lane_after (subst (λ (k : ℕ). slice_get new.lanes k ≡ Some its) t.1 there) lane_there) ∙ (lanes.limit ∙ made.limits j lane lanes.was)
+      | inl t ↦ ap (λ (l : FileLane). l.ends.limit) (same_item (slice_get new.lanes.items j) its lane_after (subst (λ (k : ℕ). slice_get new.lanes.items k ≡ Some its) t.1 there) lane_there) ∙ (lanes.limit ∙ made.limits j lane lanes.was)
       | inr t ↦ made.limits i its (sym (lanes_else i t.1) ∙ there)
     ];
   }
@@ -92,7 +93,7 @@ moves_of old new j place lane lane_after row row_after lanes files free waiting 
   counted = ap length files.files ∙ length-set old.files.items place row_after;
   lanes_else = lanes_else old new j lane lane_after lanes;
   hashes_else = lanes.hashes_else;
-  free = λ other its there busy at. let same = same_item (slice_get old.lanes j) its lane there lanes.was in
+  free = λ other its there busy at. let same = same_item (slice_get old.lanes.items j) its lane there lanes.was in
       free other (sym (ap (λ (l : FileLane). l.busy) same) ∙ busy) (sym (ap (λ (l : FileLane). l.place) same) ∙ at);
   waiting = waiting;
 }
@@ -163,7 +164,7 @@ module _ (registry : Contents) (options : Options) (first : List FileRow) (old n
   is_read : row.state ≡ InLane j → IsRead
   is_read in_lane =
       let state : StateFits registry options old place its_fits.was row its_fits.reading (InLane j) = subst (StateFits registry options old place its_fits.was row its_fits.reading) in_lane its_fits.state in
-      record { fits_lane = state.0; plain = state.1; same = same_item (slice_get old.lanes j) state.0.lane lane state.0.there lanes.was }
+      record { fits_lane = state.0; plain = state.1; same = same_item (slice_get old.lanes.items j) state.0.lane lane state.0.there lanes.was }
 
   -- the others' reads are none of these
   others_none : (its : ℕ) (observation : Observation) (number : ℕ) → (number ≡ its → ⊥) → reads_of number (OfFile its observation ∷ []) ≡ []

@@ -5,3 +5,4 @@ pub mod BatchSteps
 pub mod Places
 pub mod ReadingSteps
 pub mod ReadsSplit
+pub mod WaitingSteps

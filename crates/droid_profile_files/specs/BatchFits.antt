@@ -38,7 +38,7 @@ IsDropped _ why = ⊥
 pub record LaneFits (options : Options) (batch : Batch) (j place : ℕ) (entry : FolderEntry) (reading : Reading) : Type 0 where
   pub within : j < 8
   pub lane : FileLane
-  pub there : slice_get batch.lanes j ≡ Some lane
+  pub there : slice_get batch.lanes.items j ≡ Some lane
   pub busy : lane.busy ≡ true
   pub its : lane.place ≡ place
   pub ending : MatchBool lane.at_end (is_whole reading.ending ≡ true) ((reading.ending ≡ NotYet) × (lane.from ≡ length (joined reading.pieces)))

@@ -26,8 +26,9 @@ pub record Passes (old new : FileLane) (count : ℕ) : Type 0 where
 -- all lanes keep as many bytes of each end as is scanned, and make the hash that is wanted
 pub record IsFor (options : Options) (batch : Batch) : Type 0 where
   pub few : options.scan_limit ≤ 65536
+  pub eight : length batch.lanes.items ≡ 8
   pub kind : lanes_kind batch.hashes ≡ options.hash
-  pub limits : (j : ℕ) (lane : FileLane) → slice_get batch.lanes j ≡ Some lane → lane.ends.limit ≡ options.scan_limit
+  pub limits : (j : ℕ) (lane : FileLane) → slice_get batch.lanes.items j ≡ Some lane → lane.ends.limit ≡ options.scan_limit
 
 -- the bytes of this lane that are not hashed yet
 abbrev pub rest_in : Option FileLane → List ℕ
@@ -51,6 +52,7 @@ pub record IsAfter (new : List FileLane) (j : ℕ) (lane : FileLane) (count : �
 
 -- in each lane so many more bytes of what is left are hashed
 pub record AllPass (old new : List FileLane) (count : ℕ) : Type 0 where
+  pub counted : length new ≡ length old
   pub each : (j : ℕ) (lane : FileLane) → slice_get old j ≡ Some lane → IsAfter new j lane count
   pub back : (j : ℕ) (after : FileLane) → slice_get new j ≡ Some after → WasBefore old j after count
 

@@ -1,7 +1,8 @@
 //! The files that are read next, and the lanes that they are read in.
 
-ghost use Rattle.std.specs.Prelude.{◌≡◌, ◌≤◌, [], IfOk};
+ghost use Rattle.std.specs.Prelude.{◌≡◌, ◌≤◌, ℕ, [], Some, IfOk, length, slice_get};
 ghost use Rattle.droid_profile_files.specs.LaneSteps.{IsFor};
+ghost use Rattle.droid_profile_files.specs.declared.file_lane.FileLane.{FileLane};
 
 use crate::file_lane::FileLane;
 use crate::file_row::FileRow;
@@ -17,7 +18,7 @@ pub struct Batch {
     /// The places of files that wait for a lane. The last one is next.
     pub(crate) waiting: Vec<usize>,
     /// The lanes.
-    pub(crate) lanes: [FileLane; 8],
+    pub(crate) lanes: Vec<FileLane>,
     /// The hashes, so far, of the files in the lanes.
     pub(crate) hashes: HashLanes,
 }
@@ -30,16 +31,7 @@ impl Batch {
         ensures made { IfOk result (λ batch. IsFor options batch) }
     {
         let limit = options.scan_limit as usize;
-        let lanes = [
-            FileLane::new(alloc, limit)?,
-            FileLane::new(alloc, limit)?,
-            FileLane::new(alloc, limit)?,
-            FileLane::new(alloc, limit)?,
-            FileLane::new(alloc, limit)?,
-            FileLane::new(alloc, limit)?,
-            FileLane::new(alloc, limit)?,
-            FileLane::new(alloc, limit)?,
-        ];
+        let lanes = idle_lanes(alloc, limit)?;
         Ok(Batch {
             files: Vec::new(alloc),
             waiting: Vec::new(alloc),
@@ -47,4 +39,16 @@ impl Batch {
             hashes: HashLanes::new(options.hash),
         })
     }
+}
+
+/// Makes eight idle lanes that keep this many bytes of each end of a file.
+fn idle_lanes(alloc: Global, limit: usize) -> Result<Vec<FileLane>, AllocError>
+    ensures eight { IfOk result (λ lanes. length lanes.items ≡ 8) }
+    ensures limits { IfOk result (λ lanes. (j : ℕ) (lane : FileLane) → slice_get lanes.items j ≡ Some lane → lane.ends.limit ≡ limit) }
+{
+    let mut lanes = Vec::new(alloc);
+    for _ in 0..8 {
+        lanes.push(FileLane::new(alloc, limit)?)?;
+    }
+    Ok(lanes)
 }

@@ -1,6 +1,6 @@
 //! Begins a file in a lane.
 
-ghost use Rattle.std.specs.Prelude.{◌<◌, List};
+ghost use Rattle.std.specs.Prelude.{◌<◌, List, length};
 ghost use Rattle.droid_pronom.specs.Registry.{Contents};
 ghost use Rattle.droid_profile_spec.specs.Calls.{Call};
 ghost use Rattle.droid_profile_spec.specs.declared.options.Options.{Options};
@@ -12,7 +12,7 @@ use crate::file_row::{FileState, waits_at};
 
 /// Begins the next of the files that wait, if the lane is idle.
 pub(crate) fn begin_file(batch: &mut Batch, lane: usize)
-    requires { lane < 8 }
+    requires { lane < length batch.old.lanes.items }
     ensures { (registry : Contents) (options : Options) (first : List FileRow) (calls : List Call) → BatchFits registry options first batch.old calls → BatchFits registry options first batch.new calls }
 {
     if batch.lanes[lane].busy {

@@ -26,7 +26,7 @@ pub(crate) fn end_file(
     batch: &mut Batch,
     lane: usize,
 ) -> Result<(), AllocError>
-    requires within { lane < 8 }
+    requires within { lane < length batch.old.lanes.items }
     requires fits { Fits registry.now options batch.old }
     ensures { OnOk result ((first : List FileRow) (calls : List Call) → BatchFits registry.now options first batch.old calls → BatchFits registry.now options first batch.new calls) }
 {
@@ -66,10 +66,10 @@ fn identify_at(
     lane: usize,
     place: usize,
 ) -> Result<Found, AllocError>
-    requires within { lane < 8 }
+    requires within { lane < length batch.now.lanes.items }
     requires there { place < length batch.now.files.items }
-    requires read { (its : FileLane) (row : FileRow) → slice_get batch.now.lanes lane ≡ Some its → slice_get batch.now.files.items place ≡ Some row → HasRead options its row }
-    ensures { IfOk result (λ found. (its : FileLane) (row : FileRow) (bytes : List ℕ) → slice_get batch.now.lanes lane ≡ Some its → slice_get batch.now.files.items place ≡ Some row
+    requires read { (its : FileLane) (row : FileRow) → slice_get batch.now.lanes.items lane ≡ Some its → slice_get batch.now.files.items place ≡ Some row → HasRead options its row }
+    ensures { IfOk result (λ found. (its : FileLane) (row : FileRow) (bytes : List ℕ) → slice_get batch.now.lanes.items lane ≡ Some its → slice_get batch.now.files.items place ≡ Some row
         → Came its.ends bytes → length bytes ≡ row.entry.len → found ≡ found_of registry.now options row.entry bytes) }
 {
     identify(alloc, registry, options, &batch.lanes[lane], &batch.files[place])

@@ -50,12 +50,12 @@ pub fn read_files<T: Tree, W: Watcher>(
 /// Returns whether no file waits and all lanes are idle.
 fn are_read(batch: &Batch) -> bool
     ensures none { IsTrue result → batch.now.waiting.items ≡ [] }
-    ensures idle { IsTrue result → AreIdle batch.now.lanes }
+    ensures idle { IsTrue result → AreIdle batch.now.lanes.items }
 {
     if !batch.waiting.is_empty() {
         return false;
     }
-    are_idle(&batch.lanes)
+    are_idle(batch.lanes.as_slice())
 }
 
 /// Fills each lane that is empty, and hashes the next bytes of all.
@@ -74,7 +74,7 @@ fn read_turn<T: Tree, W: Watcher>(
     ensures ended { OnErr result ((first : List FileRow) (start : T) (heard : W) → ReadsOn T.observes W.hears registry.now options first batch.old start tree.old heard watcher.old
         → ReadsFront T.observes W.hears first Memory start tree.new heard watcher.new) }
 {
-    for lane in 0..8 {
+    for lane in 0..batch.lanes.len() {
         end_file(alloc, registry, options, batch, lane)?;
         begin_file(batch, lane);
         read_on(tree, watcher, &mut batch.lanes, &mut batch.files, lane)?;

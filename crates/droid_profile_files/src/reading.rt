@@ -1,6 +1,6 @@
 //! Reads on in the file of a lane.
 
-ghost use Rattle.std.specs.Prelude.{◌≡◌, ◌<◌, ◌≤◌, ◌-◌, ◌+◌, [], List, IfErr, IfOk, IsTrue, OnErr, OnOk, min};
+ghost use Rattle.std.specs.Prelude.{◌≡◌, ◌<◌, ◌≤◌, ◌-◌, ◌+◌, [], List, IfErr, IfOk, IsTrue, OnErr, OnOk, length};
 ghost use Rattle.droid_pronom.specs.Registry.{Contents};
 ghost use Rattle.droid_profile_spec.specs.Calls.{Call};
 ghost use Rattle.droid_profile_spec.specs.declared.fault.ProfileFault.TheVariants.{Memory};
@@ -32,11 +32,11 @@ pub(crate) enum Came {
 pub(crate) fn read_on<T: Tree, W: Watcher>(
     tree: &mut T,
     watcher: &mut W,
-    lanes: &mut [FileLane; 8],
+    lanes: &mut Vec<FileLane>,
     files: &mut Vec<FileRow>,
     lane: usize,
 ) -> Result<(), ProfileFault>
-    requires { lane < 8 }
+    requires { lane < length lanes.old.items }
     ensures read { OnOk result ((registry : Contents) (options : Options) (first : List FileRow) (calls : List Call) (batch : Batch) → BatchFits registry options first (record batch { lanes = lanes.old; files = files.old }) calls
         → ReadsMore T.observes W.hears registry options first (record batch { lanes = lanes.new; files = files.new }) calls tree.old tree.new watcher.old watcher.new) }
     ensures memory { IfErr result (λ fault. fault ≡ Memory) }
