@@ -12,7 +12,8 @@ use crate::file_row::{FileState, waits_at};
 
 /// Begins the next of the files that wait, if the lane is idle.
 pub(crate) fn begin_file(batch: &mut Batch, lane: usize)
-    requires { lane < length batch.old.lanes.items }
+    requires there { lane < length batch.old.lanes.items }
+    requires small { lane < 8 }
     ensures { (registry : Contents) (options : Options) (first : List FileRow) (calls : List Call) → BatchFits registry options first batch.old calls → BatchFits registry options first batch.new calls }
 {
     if batch.lanes[lane].busy {
