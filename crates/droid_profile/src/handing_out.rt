@@ -1,10 +1,12 @@
 //! Hands rows out: records to the recipient, and reports to the watcher.
 
-ghost use Rattle.std.specs.Prelude.{◌≡◌, ◌&&◌, [], ◌∷◌, List, IfErr, IfOk};
+ghost use Rattle.std.specs.Prelude.{◌≡◌, ◌&&◌, [], ◌∷◌, List, IfErr, IfOk, IsTrue, OnOk};
 ghost use Rattle.droid_frame.specs.types.reply.Reply.TheVariants as replies;
 ghost use Rattle.droid_pronom.specs.Registry.{Contents};
 ghost use Rattle.droid_profile_spec.specs.declared.options.Options.{Options};
-ghost use Rattle.droid_profile_spec.specs.declared.fault.ProfileFault.TheVariants.{Memory};
+ghost use Rattle.droid_core_spec.specs.Conditions.{is_moment};
+ghost use Rattle.droid_profile_spec.specs.declared.fault.ProfileFault.TheVariants as faults;
+ghost use Rattle.droid_profile_spec.specs.declared.recipient.RecipientFault.{RecipientFault};
 ghost use Rattle.droid_profile.specs.HandedOut.{AreSettled, HandsFront, HandsOut};
 ghost use Rattle.droid_profile.specs.RowsTaken.{Readings};
 ghost use Rattle.droid_profile_files.specs.declared.file_row.FileRow.{FileRow};
@@ -97,8 +99,12 @@ fn hand_file<W: Watcher, R: Recipient>(
 }
 
 /// Gives a record to the recipient.
-fn give<R: Recipient>(recipient: &mut R, record: &Record) -> Result<(), ProfileFault> {
-    match recipient.take(record) {
+fn give<R: Recipient>(recipient: &mut R, shown: &Record) -> Result<(), ProfileFault>
+    requires { IsTrue (is_moment shown.now.modified) }
+    ensures taken { OnOk result (R.takes recipient.old shown.now recipient.new) }
+    ensures failed { IfErr result (λ fault. (why : RecipientFault) × (fault ≡ faults.Recipient why) × R.fails recipient.old shown.now why recipient.new) }
+{
+    match recipient.take(shown) {
         Ok(()) => Ok(()),
         Err(why) => Err(ProfileFault::Recipient(why)),
     }

@@ -1,6 +1,7 @@
 //! The trait for taking the records of a profile.
 
-ghost use Rattle.std.specs.Prelude.{IfErr, OnOk};
+ghost use Rattle.std.specs.Prelude.{IfErr, IsTrue, OnOk};
+ghost use Rattle.droid_core_spec.specs.Conditions.{is_moment};
 ghost use Rattle.droid_frame.specs.types.record.Record.{Record};
 ghost use Rattle.droid_profile_spec.specs.declared.recipient.RecipientFault.{RecipientFault};
 
@@ -27,8 +28,9 @@ pub trait Recipient {
     /// record may have been taken in part.
     ghost fails: { Self → Record → RecipientFault → Self → Type 0 };
 
-    /// Takes the next record.
+    /// Takes the next record. It was modified from 0001-01-01T00:00:00 to 9999-12-31T23:59:59.
     fn take(&mut self, next: &Record) -> Result<(), RecipientFault>
+        requires { IsTrue (is_moment next.now.modified) }
         ensures taken { OnOk result (takes self.old next.now self.new) }
         ensures failed { IfErr result (λ fault. fails self.old next.now fault self.new) };
 }
