@@ -30,7 +30,7 @@ use Rattle.droid_profile_files.specs.declared.file_row.FileState.{FileState}
 use Rattle.droid_profile_files.specs.declared.file_row.FileState.TheVariants.{Waits, InLane, Whole, Dropped}
 use Rattle.droid_profile_files.proofs.BatchMoves.{Moves, moved}
 use Rattle.droid_profile_files.proofs.Places.{same_item, set_else, set_here}
-use Rattle.droid_profile_files.proofs.ReadingSteps.{ended_by, ended_is, ended_reads, is_open, longer_bytes, longer_is, longer_joined, longer_reads, open_bytes, opened}
+use Rattle.droid_profile_files.proofs.ReadingSteps.{ended_by, ended_is, ended_reads, is_open, longer_bytes, longer_is, longer_joined, longer_reads, open_bytes, opened, whole_length}
 use Rattle.droid_profile_files.proofs.ReadsSplit.{read_else, read_more, reads_append}
 
 drop_none : (n : ℕ) (bytes : List ℕ) → bytes ≡ [] → drop n bytes ≡ []
@@ -352,8 +352,3 @@ module _ (registry : Contents) (options : Options) (first : List FileRow) (old n
       where
         is_no_wait : Whole ≡ Waits → ⊥
         is_no_wait is = cc
-
-        whole_length : (reading : Reading) (size : ℕ) (ending : Ending) → reading.ending ≡ ending → is_whole ending ≡ true → IsEnding size (length (joined reading.pieces)) ending → length (bytes_of reading) ≡ size
-        whole_length reading size (AtEnd wanted bytes) is whole at =
-            omega (arith, ap (λ (e : Ending). length (joined reading.pieces ++ last_bytes e)) is, length-append (joined reading.pieces) bytes, at.1)
-        whole_length reading size _ is whole at = absurd cc

@@ -1,10 +1,10 @@
 -- A reading with one read more.
-use Rattle.std.proofs.Common.{◌≡◌, ℕ, zero, suc, ◌+◌, ◌<◌, ◌≤◌, List, [], ◌∷◌, ◌++◌, length, length-append, append-nil, append_assoc, refl, sym, ap, subst, ◌∙◌, arith}
+use Rattle.std.proofs.Common.{◌≡◌, ℕ, zero, suc, ◌+◌, ◌<◌, ◌≤◌, true, List, [], ◌∷◌, ◌++◌, length, length-append, append-nil, append_assoc, refl, sym, ap, subst, ◌∙◌, arith}
 use Rattle.std.specs.List.{flat_map}
 use Rattle.std.proofs.lemmas.List.Concat.{flat_map-append}
 use Rattle.droid_tree.specs.Observation.{Observation, Read}
 use Rattle.droid_tree.specs.declared.folder_entry.FolderEntry.{FolderEntry}
-use Rattle.droid_profile_spec.specs.Readings.{Reading, Ending, AtEnd, NotYet, IsEnding, IsReading, bytes_of, joined, last_bytes, last_read, reads_from, reads_in}
+use Rattle.droid_profile_spec.specs.Readings.{Reading, Ending, AtEnd, NotYet, IsEnding, IsReading, bytes_of, is_whole, joined, last_bytes, last_read, reads_from, reads_in}
 
 joined_more : (pieces : List (List ℕ)) (piece : List ℕ) → joined (pieces ++ piece ∷ []) ≡ joined pieces ++ piece
 joined_more pieces piece = flat_map-append (λ (p : List ℕ). p) pieces (piece ∷ []) ∙ ap (λ (l : List ℕ). joined pieces ++ l) (append-nil piece)
@@ -64,3 +64,9 @@ module _ (path : List ℕ) (entry : FolderEntry) (pieces : List (List ℕ)) wher
 -- a reading that has not ended yet is given by its pieces
 pub is_open : (reading : Reading) → reading.ending ≡ NotYet → reading ≡ opened reading.pieces
 is_open reading not_yet = ap (λ (e : Ending). record reading { ending = e }) not_yet
+
+-- a reading that came to the file's end has all its bytes
+pub whole_length : (reading : Reading) (size : ℕ) (ending : Ending) → reading.ending ≡ ending → is_whole ending ≡ true → IsEnding size (length (joined reading.pieces)) ending → length (bytes_of reading) ≡ size
+whole_length reading size (AtEnd wanted bytes) is whole at =
+    omega (arith, ap (λ (e : Ending). length (joined reading.pieces ++ last_bytes e)) is, length-append (joined reading.pieces) bytes, at.1)
+whole_length reading size _ is whole at = absurd cc

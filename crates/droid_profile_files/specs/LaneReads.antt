@@ -74,7 +74,7 @@ Keeps old new bytes (outcomes.Stopped why) = new.ends.limit ≡ old.ends.limit
 -- at most as many bytes came as were asked for; they were judged, and the lane keeps those of the file
 pub record TakesPiece (old new : FileLane) (size wanted : ℕ) (outcome : Outcome) : Type 0 where
   pub judged : length old.buffer.items ≤ wanted → old.from ≤ size → IsJudged size old.from old.buffer.items wanted outcome
-  pub keeps : old.from + length old.buffer.items < 18446744073709551616 → Keeps old new old.buffer.items outcome
+  pub keeps : old.from ≤ size → Keeps old new old.buffer.items outcome
   pub limit : new.ends.limit ≡ old.ends.limit
 
 -- the lane has to read on
