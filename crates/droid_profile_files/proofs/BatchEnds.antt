@@ -20,18 +20,12 @@ use Rattle.droid_profile_files.specs.declared.file_lane.FileLane.{FileLane}
 use Rattle.droid_profile_files.specs.declared.file_row.FileRow.{FileRow}
 use Rattle.droid_profile_files.specs.declared.file_row.FileState.{FileState}
 use Rattle.droid_profile_files.specs.declared.file_row.FileState.TheVariants.{Waits, InLane, Whole, Dropped}
-use Rattle.droid_profile_files.proofs.Places.{same_item}
+use Rattle.droid_profile_files.proofs.Places.{item_at, same_item}
 
 -- a run after a run
 pub over_more : {S A : Type 0} (step : S → A → S → Type 0) (first middle last : S) (xs ys : List A) → GoesOver step first xs middle → GoesOver step middle ys last → GoesOver step first (xs ++ ys) last
 over_more step first middle last [] ys p q = subst (λ (s : _). GoesOver step s ys last) p q
 over_more step first middle last (x ∷ xs) ys p q = (p.0, p.1, over_more step p.0 middle last xs ys p.2 q)
-
--- an item at each place within
-item_at : {A : Type 0} (xs : List A) (place : ℕ) → place < length xs → (x : A) × (slice_get xs place ≡ Some x)
-item_at [] place within = absurd (omega (arith, within))
-item_at (x ∷ xs) zero within = (x, refl)
-item_at (x ∷ xs) (suc place) within = item_at xs place (omega (arith, within))
 
 within_list : {A : Type 0} (xs : List A) (place : ℕ) (x : A) → slice_get xs place ≡ Some x → place < length xs
 within_list [] place x there = absurd cc

@@ -6,6 +6,7 @@ pub mod FileFound
 pub mod LaneEnd
 pub mod LaneRead
 pub mod MoreReads
+pub mod PassSteps
 pub mod Places
 pub mod ReadingSteps
 pub mod ReadsSplit

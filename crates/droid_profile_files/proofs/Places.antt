@@ -18,6 +18,12 @@ pub same_item : {A : Type 0} (found : Option A) (x y : A) → found ≡ Some x �
 same_item None x y is_x is_y = absurd cc
 same_item (Some z) x y is_x is_y = cc
 
+-- an item at each place within
+pub item_at : {A : Type 0} (xs : List A) (place : ℕ) → place < length xs → (x : A) × (slice_get xs place ≡ Some x)
+item_at [] place within = absurd (omega (arith, within))
+item_at (x ∷ xs) zero within = (x, refl)
+item_at (x ∷ xs) (suc place) within = item_at xs place (omega (arith, within))
+
 -- the last change counts
 pub set_twice : {A : Type 0} (xs : List A) (place : ℕ) (x y : A) → set (set xs place x) place y ≡ set xs place y
 set_twice [] place x y = refl

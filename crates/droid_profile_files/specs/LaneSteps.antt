@@ -56,6 +56,12 @@ pub record AllPass (old new : List FileLane) (count : ℕ) : Type 0 where
   pub each : (j : ℕ) (lane : FileLane) → slice_get old j ≡ Some lane → IsAfter new j lane count
   pub back : (j : ℕ) (after : FileLane) → slice_get new j ≡ Some after → WasBefore old j after count
 
+-- the same for the lanes below this one; the others are as they were
+pub record PassedBelow (old new : List FileLane) (count below : ℕ) : Type 0 where
+  pub counted : length new ≡ length old
+  pub each : (j : ℕ) (lane : FileLane) → j < below → slice_get old j ≡ Some lane → IsAfter new j lane count
+  pub still : (j : ℕ) → below ≤ j → slice_get new j ≡ slice_get old j
+
 -- all lanes hash as many bytes of what is left
 pub record Advances (lanes lanes_after : List FileLane) (hashes hashes_after : HashLanes) : Type 0 where
   pub count : ℕ

@@ -87,10 +87,26 @@ fn read_turn<T: Tree, W: Watcher>(
 fn places_of(alloc: Global, files: &[FileRow]) -> Result<Vec<usize>, AllocError>
     ensures { IfOk result (λ places. (place : ℕ) → place < length files.now → Contains places.items place) }
 {
+    let mut places = places_below(alloc, files.len())?;
+    places.sort_by_key(|place| size_at(files, *place))?;
+    Ok(places)
+}
+
+/// Returns the places below this one.
+fn places_below(alloc: Global, count: usize) -> Result<Vec<usize>, AllocError>
+    ensures { IfOk result (λ places. (place : ℕ) → place < count → Contains places.items place) }
+{
     let mut places = Vec::new(alloc);
-    for place in 0..files.len() {
+    for place in 0..count {
         places.push(place)?;
     }
-    places.sort_by(|first, second| files[*first].entry.len.cmp(&files[*second].entry.len))?;
     Ok(places)
+}
+
+/// Returns the size of the file at this place, as its folder lists it.
+fn size_at(files: &[FileRow], place: usize) -> u64 {
+    match files.get(place) {
+        Some(row) => row.entry.len,
+        None => 0,
+    }
 }
