@@ -102,6 +102,19 @@ module _ {T W : Type 0} (observes : T → Observation → T → Type 0) (hears :
       some place was there {row} its =
           subst (ReadsSome on.calls) (same_item (slice_get first place) its.was was its.there there) (record { reading = its.reading; is_reading = its.is_reading; reads = its.reads })
 
+  -- before the first read
+  pub front_at_once : (start : T) (begun : W) → ReadsFront observes hears first faults.Memory start start begun begun
+  front_at_once start begun = record {
+    calls = [];
+    are = record { others = λ number absent. refl; no_folders = refl };
+    reached = start;
+    stands = inr refl;
+    explained = inl refl;
+    observed = refl;
+    heard = refl;
+    begun = λ place was there. record { reading = unread; is_reading = record { within = omega arith; ending = tt }; reads = refl };
+  }
+
   pub front_by_turns : (batch : Batch) (start tree : T) (begun watcher : W) → ReadsOn observes hears registry options first batch start tree begun watcher → ReadsFront observes hears first faults.Turns start tree begun watcher
   unfolding front
   front_by_turns batch start tree begun watcher on =
