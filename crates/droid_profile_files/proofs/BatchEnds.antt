@@ -1,5 +1,5 @@
 -- What a batch says when all its files were read, and when the reading ends early.
-use Rattle.std.proofs.Common.{◌≡◌, inl, inr, ℕ, zero, suc, ◌<◌, true, false, List, [], ◌∷◌, ◌++◌, length, map, slice_get, Some, None, Option, Contains, refl, sym, ap, subst, ◌∙◌, arith}
+use Rattle.std.proofs.Common.{◌≡◌, inl, inr, ℕ, zero, suc, ◌<◌, true, false, List, [], ◌∷◌, ◌++◌, length, map, slice_get, Some, None, Option, Contains, Result, Ok, Err, IfErr, OnErr, refl, sym, ap, subst, ◌∙◌, arith}
 use Rattle.std.specs.List.{flat_map}
 use Rattle.std.proofs.lemmas.List.{map-append}
 use Rattle.std.proofs.lemmas.List.Concat.{flat_map-append}
@@ -21,6 +21,15 @@ use Rattle.droid_profile_files.specs.declared.file_row.FileRow.{FileRow}
 use Rattle.droid_profile_files.specs.declared.file_row.FileState.{FileState}
 use Rattle.droid_profile_files.specs.declared.file_row.FileState.TheVariants.{Waits, InLane, Whole, Dropped}
 use Rattle.droid_profile_files.proofs.Places.{item_at, same_item}
+
+-- what holds, holds after an error too
+pub always : {A E P : Type 0} (result : Result A E) → P → OnErr result P
+always (Ok a) it = tt
+always (Err e) it = it
+
+-- what holds of this fault holds of the result that has it
+pub ends_by : {A E : Type 0} (P : E → Type 0) (result : Result A E) (y : E) → result ≡ Err y → P y → IfErr result P
+ends_by {A = A} {E = E} P result y is it = subst (λ (r : Result A E). IfErr r P) (sym is) it
 
 -- a run after a run
 pub over_more : {S A : Type 0} (step : S → A → S → Type 0) (first middle last : S) (xs ys : List A) → GoesOver step first xs middle → GoesOver step middle ys last → GoesOver step first (xs ++ ys) last

@@ -1,5 +1,5 @@
 -- Loops over all lanes.
-use Rattle.std.proofs.Common.{◌≡◌, inl, inr, ℕ, zero, suc, ◌+◌, ◌-◌, ◌<◌, ◌≤◌, false, List, [], ◌∷◌, ◌++◌, length, drop, min, set, get_or, slice_get, Some, Contains, length-set, refl, sym, ap, subst, ◌∙◌, arith}
+use Rattle.std.proofs.Common.{◌≡◌, inl, inr, ℕ, zero, suc, ◌+◌, ◌<◌, ◌≤◌, false, List, [], ◌∷◌, ◌++◌, length, set, get_or, slice_get, Some, Contains, length-set, refl, sym, ap, subst, ◌∙◌, arith}
 use Rattle.std.proofs.lemmas.Bool.Decides.{leb_tells}
 use Rattle.std.proofs.lemmas.List.Elements.{Contains-append_left, Contains-push}
 use Rattle.std.proofs.lemmas.Option.{slice_get_read, slice_get_within}
@@ -41,27 +41,6 @@ all_passed old new count n passed all = record {
       let next = passed.each j at.0 (omega (arith, all, slice_get_within old j at.0 at.1)) at.1 in
       record { lane = at.0; there = at.1; passes = subst (λ (l : FileLane). Passes at.0 l count) (same_item (slice_get new j) next.after after next.there there) next.passes };
 }
-
--- ---- one lane passes on
-
-drop_past : (xs : List ℕ) (n : ℕ) → length xs ≤ n → drop n xs ≡ []
-drop_past [] zero past = refl
-drop_past [] (suc n) past = refl
-drop_past (x ∷ xs) zero past = absurd (omega (arith, past))
-drop_past (x ∷ xs) (suc n) past = drop_past xs n (omega (arith, past))
-
-drop_on : (h count : ℕ) (xs : List ℕ) → drop (h + count) xs ≡ drop count (drop h xs)
-drop_on zero count xs = refl
-drop_on (suc h) count [] = sym (drop_past [] count (omega arith))
-drop_on (suc h) count (x ∷ xs) = drop_on h count xs
-
-pub passed_on : (xs : List ℕ) (hashed count after : ℕ) → after ≡ hashed + min (length xs - hashed) count → drop after xs ≡ drop count (drop hashed xs)
-passed_on xs hashed count after is = elim (leb_tells count (length xs - hashed)) [
-  | inl t ↦
-      let e : after ≡ hashed + count = omega (arith, is, t.1) in
-      ap (λ (n : ℕ). drop n xs) e ∙ drop_on hashed count xs
-  | inr t ↦ drop_past xs after (omega (arith, is, t.1)) ∙ (sym (drop_past xs (hashed + count) (omega (arith, t.1))) ∙ drop_on hashed count xs)
-]
 
 -- ---- lanes that are made, and lanes that are looked at
 

@@ -26,12 +26,12 @@ item_at (x ∷ xs) (suc place) within = item_at xs place (omega (arith, within))
 
 -- the last change counts
 pub set_twice : {A : Type 0} (xs : List A) (place : ℕ) (x y : A) → set (set xs place x) place y ≡ set xs place y
-set_twice [] place x y = refl
-set_twice (z ∷ zs) zero x y = refl
-set_twice (z ∷ zs) (suc place) x y = ap (λ (l : List A). z ∷ l) (set_twice zs place x y)
+set_twice {A = A} [] place x y = refl
+set_twice {A = A} (z ∷ zs) zero x y = refl
+set_twice {A = A} (z ∷ zs) (suc place) x y = ap (λ (l : List A). z ∷ l) (set_twice zs place x y)
 
 -- an item set where it stands
 pub set_same : {A : Type 0} (xs : List A) (place : ℕ) (x : A) → slice_get xs place ≡ Some x → xs ≡ set xs place x
-set_same [] place x there = refl
-set_same (y ∷ ys) zero x there = ap (λ (z : A). z ∷ ys) (same_item (Some y) y x refl there)
-set_same (y ∷ ys) (suc place) x there = ap (λ (l : List A). y ∷ l) (set_same ys place x there)
+set_same {A = A} [] place x there = refl
+set_same {A = A} (y ∷ ys) zero x there = ap (λ (z : A). z ∷ ys) (same_item (Some y) y x refl there)
+set_same {A = A} (y ∷ ys) (suc place) x there = ap (λ (l : List A). y ∷ l) (set_same ys place x there)

@@ -47,8 +47,9 @@ fn idle_lanes(alloc: Global, limit: usize) -> Result<Vec<FileLane>, AllocError>
     ensures limits { IfOk result (λ lanes. (j : ℕ) (lane : FileLane) → slice_get lanes.items j ≡ Some lane → lane.ends.limit ≡ limit) }
 {
     let mut lanes = Vec::new(alloc);
-    for _ in 0..8 {
-        lanes.push(FileLane::new(alloc, limit)?)?;
+    for _ in 0..8_usize {
+        let lane = FileLane::new(alloc, limit)?;
+        lanes.push(lane)?;
     }
     Ok(lanes)
 }

@@ -1,4 +1,4 @@
-use Rattle.std.proofs.Common.{◌≡◌, ◌<◌, List, ℕ, ◌++◌, length, refl, sym, ap, subst, ◌∙◌, arith}
+use Rattle.std.proofs.Common.{List, ◌++◌, refl, sym, subst, arith}
 use Rattle.droid_profile_spec.specs.Calls.{Call}
 use Rattle.droid_profile_spec.specs.declared.fault.ProfileFault.TheVariants as faults
 use Rattle.droid_profile_files.specs.BatchFits.{BatchFits}
@@ -6,7 +6,7 @@ use Rattle.droid_profile_files.specs.FilesRead.{ReadsFront, ReadsMore}
 use Rattle.droid_profile_files.specs.declared.batch.Batch.{Batch}
 use Rattle.droid_profile_files.specs.declared.file_row.FileRow.{FileRow}
 use Rattle.droid_profile_files.proofs.AdvanceSteps.{advanced}
-use Rattle.droid_profile_files.proofs.BatchEnds.{front, read_on, still_on}
+use Rattle.droid_profile_files.proofs.BatchEnds.{always, front, read_on, still_on}
 use Rattle.droid_profile_files.proofs.reader.read_turn.Goals as goal
 
 pub loop-lane-init : goal.loop-lane-init
@@ -41,12 +41,18 @@ returns-clause-read g c = λ first start heard on.
     (λ calls fits. advanced c.args.registry.now c.args.options now.batch new refl refl c.advance.ensures first calls fits)
 
 pub returns-in_err-end_file-clause-ended : goal.returns-in_err-end_file-clause-ended
-returns-in_err-end_file-clause-ended g c = λ first start heard on.
+returns-in_err-end_file-clause-ended g c = always c.from_residual.result (λ first start heard on.
     let now = c.loop-lane in
-    front g.T.Tree.observes g.W.Watcher.hears c.args.registry.now c.args.options first now.batch faults.Memory start now.tree now.tree heard now.watcher refl (now.invariant.goes_on first start heard on)
+    front g.T.Tree.observes g.W.Watcher.hears c.args.registry.now c.args.options first now.batch faults.Memory start now.tree now.tree heard now.watcher refl (now.invariant.goes_on first start heard on))
 
 pub returns-in_err-read_on-clause-ended : goal.returns-in_err-read_on-clause-ended
-returns-in_err-read_on-clause-ended g c = λ first start heard on.
+returns-in_err-read_on-clause-ended g c = always c.from_residual-in_err-read_on.result (λ first start heard on.
     let now = c.loop-lane in
     subst (λ (w : g.row.W.Denot). ReadsFront g.T.Tree.observes g.W.Watcher.hears first faults.Memory start c.read_on.new.tree heard w) (sym c.in_err-read_on.ensures.unheard)
-    (front g.T.Tree.observes g.W.Watcher.hears c.args.registry.now c.args.options first now.batch faults.Memory start now.tree c.read_on.new.tree heard now.watcher refl (now.invariant.goes_on first start heard on))
+    (front g.T.Tree.observes g.W.Watcher.hears c.args.registry.now c.args.options first now.batch faults.Memory start now.tree c.read_on.new.tree heard now.watcher refl (now.invariant.goes_on first start heard on)))
+
+pub read_on-requires : goal.read_on-requires
+read_on-requires g c =
+    let before = c.loop-lane.invariant.fits in
+    let after = c.begin_file.ensures c.args.registry.now c.args.options before.first before.calls (c.in_ok-end_file.ensures before.first before.calls before.fits) in
+    omega (arith, after.made.eight, c.loop-lane-test.true, c.len-lane-end.ensures, c.requires.fits.made.eight, c.args.batch.now.lanes.ok.0)
