@@ -1,5 +1,5 @@
 -- All lanes hash some bytes more.
-use Rattle.std.proofs.Common.{◌≡◌, ℕ, ◌+◌, ◌<◌, Bool, true, false, List, [], ◌++◌, length, take, drop, slice_get, Some, Option, Contains, MatchBool, take-append-drop, append_assoc, refl, sym, ap, subst, ◌∙◌}
+use Rattle.std.proofs.Common.{◌≡◌, ℕ, true, List, ◌++◌, length, take, drop, slice_get, Contains, MatchBool, take-append-drop, append_assoc, sym, ap, subst, ◌∙◌}
 use Rattle.droid_pronom.specs.Registry.{Contents}
 use Rattle.droid_scan.specs.Ends.{Came}
 use Rattle.droid_scan.specs.Scanning.{Scanned}
@@ -7,8 +7,8 @@ use Rattle.droid_tree.specs.declared.folder_entry.FolderEntry.{FolderEntry}
 use Rattle.droid_profile_spec.specs.Calls.{Call}
 use Rattle.droid_profile_spec.specs.Readings.{Reading, NotYet, bytes_of, is_whole, joined}
 use Rattle.droid_profile_spec.specs.declared.options.Options.{Options}
-use Rattle.droid_profile_files.specs.BatchFits.{BatchFits, LaneFits, RowFits, StateFits}
-use Rattle.droid_profile_files.specs.LaneSteps.{Advances, IsFor, Passes, rest_in, rest_of}
+use Rattle.droid_profile_files.specs.BatchFits.{BatchFits, LaneFits, StateFits}
+use Rattle.droid_profile_files.specs.LaneSteps.{Advances, rest_in}
 use Rattle.droid_profile_files.specs.declared.batch.Batch.{Batch}
 use Rattle.droid_profile_files.specs.declared.file_lane.FileLane.{FileLane}
 use Rattle.droid_profile_files.specs.declared.file_row.FileRow.{FileRow}

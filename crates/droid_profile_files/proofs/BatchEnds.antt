@@ -1,6 +1,5 @@
 -- What a batch says when all its files were read, and when the reading ends early.
-use Rattle.std.proofs.Common.{◌≡◌, inl, inr, ℕ, zero, suc, ◌<◌, true, false, List, [], ◌∷◌, ◌++◌, length, map, slice_get, Some, None, Option, Contains, Result, Ok, Err, IfErr, OnErr, refl, sym, ap, subst, ◌∙◌, arith}
-use Rattle.std.specs.List.{flat_map}
+use Rattle.std.proofs.Common.{◌≡◌, inl, inr, ℕ, zero, suc, ◌<◌, true, false, List, [], ◌∷◌, ◌++◌, length, map, slice_get, Some, Contains, Result, Ok, Err, IfErr, OnErr, refl, sym, ap, subst, ◌∙◌, arith}
 use Rattle.std.proofs.lemmas.List.{map-append}
 use Rattle.std.proofs.lemmas.List.Concat.{flat_map-append}
 use Rattle.droid_pronom.specs.Registry.{Contents}
@@ -16,7 +15,6 @@ use Rattle.droid_profile_files.specs.FileStates.{AreFresh}
 use Rattle.droid_profile_files.specs.FilesRead.{IsSettled, ReadsAll, ReadsFront, ReadsMore, ReadsOn, ReadsSome, Settles}
 use Rattle.droid_profile_files.specs.LaneSteps.{AreIdle, IsFor}
 use Rattle.droid_profile_files.specs.declared.batch.Batch.{Batch}
-use Rattle.droid_profile_files.specs.declared.file_lane.FileLane.{FileLane}
 use Rattle.droid_profile_files.specs.declared.file_row.FileRow.{FileRow}
 use Rattle.droid_profile_files.specs.declared.file_row.FileState.{FileState}
 use Rattle.droid_profile_files.specs.declared.file_row.FileState.TheVariants.{Waits, InLane, Whole, Dropped}
@@ -157,6 +155,10 @@ module _ {T W : Type 0} (observes : T → Observation → T → Type 0) (hears :
         let its = on.fits.rows place row there in
         let same = same_item (slice_get first place) its.was was its.there was_there in
         subst (λ (w : FileRow). Settles registry options on.calls w row) same
-            (record { reading = its.reading; is_reading = its.is_reading; reads = its.reads;
-              state = settled_by batch on.calls place its.was row its.reading row.state none idle (on.fits.queued place row there) its.state });
+        (record {
+          reading = its.reading;
+          is_reading = its.is_reading;
+          reads = its.reads;
+          state = settled_by batch on.calls place its.was row its.reading row.state none idle (on.fits.queued place row there) its.state;
+        });
   }

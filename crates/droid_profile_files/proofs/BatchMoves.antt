@@ -1,5 +1,5 @@
 -- One file and one lane move on, and all others stay as they are.
-use Rattle.std.proofs.Common.{◌≡◌, inl, inr, ℕ, ◌<◌, true, List, [], ◌++◌, length, Some, slice_get, Contains, refl, sym, ap, subst, ◌∙◌}
+use Rattle.std.proofs.Common.{◌≡◌, inl, inr, ℕ, ◌<◌, true, List, [], ◌++◌, length, Some, slice_get, Contains, sym, ap, subst, ◌∙◌}
 use Rattle.std.proofs.lemmas.Bool.Decides.{eqb_tells}
 use Rattle.droid_pronom.specs.Registry.{Contents}
 use Rattle.droid_scan.specs.Scanning.{Scanned}
@@ -7,7 +7,7 @@ use Rattle.droid_profile_spec.specs.Calls.{Call, folder_calls, reads_of}
 use Rattle.droid_profile_spec.specs.Readings.{Reading}
 use Rattle.droid_profile_spec.specs.declared.options.Options.{Options}
 use Rattle.droid_profile_files.specs.BatchFits.{BatchFits, LaneFits, RowFits, StateFits}
-use Rattle.droid_profile_files.specs.FileStates.{AreDistinct, AreFresh, numbers_in}
+use Rattle.droid_profile_files.specs.FileStates.{numbers_in}
 use Rattle.droid_profile_files.specs.LaneSteps.{IsFor}
 use Rattle.droid_profile_files.specs.declared.batch.Batch.{Batch}
 use Rattle.droid_profile_files.specs.declared.file_lane.FileLane.{FileLane}
@@ -89,4 +89,4 @@ module _ (registry : Contents) (options : Options) (first : List FileRow) (old n
         row_is : (other : ℕ) (found : FileRow) → other ≡ place → slice_get new.files.items other ≡ Some found → RowFits registry options first new (calls ++ more) other found
         row_is other found same at =
             subst (λ (k : ℕ). RowFits registry options first new (calls ++ more) k found) (sym same)
-                (subst (RowFits registry options first new (calls ++ more) place) (same_row other found same at) its)
+            (subst (RowFits registry options first new (calls ++ more) place) (same_row other found same at) its)

@@ -1,6 +1,5 @@
 -- The steps of one lane, each over a batch that fits what was read.
-use Rattle.std.proofs.Common.{◌≡◌, ◌⊎◌, inl, inr, ℕ, zero, suc, ◌+◌, ◌<◌, ◌≤◌, Bool, true, false, List, [], ◌∷◌, ◌++◌, length, map, drop, set, slice_get, Some, Option, option_map, Contains, MatchBool, length-set, length-append, append-nil, append_assoc, refl, sym, ap, ap₂, subst, ◌∙◌, arith}
-use Rattle.std.specs.List.{flat_map}
+use Rattle.std.proofs.Common.{◌≡◌, inl, inr, ℕ, zero, suc, ◌+◌, ◌<◌, ◌≤◌, Bool, true, false, List, [], ◌∷◌, ◌++◌, length, drop, set, slice_get, Some, option_map, Contains, MatchBool, length-set, append-nil, refl, sym, ap, subst, ◌∙◌, arith}
 use Rattle.std.proofs.lemmas.Bool.Decides.{eqb_tells}
 use Rattle.std.proofs.lemmas.List.Elements.{Contains-push_cases}
 use Rattle.std.proofs.lemmas.Option.{get_or_from_slice_get, slice_get-map, slice_get_within}
@@ -16,17 +15,16 @@ use Rattle.droid_tree.specs.declared.folder_entry.FolderEntry.{FolderEntry}
 use Rattle.droid_tree.specs.declared.skipped.Skipped.{Skipped}
 use Rattle.droid_profile_spec.specs.Calls.{Call, OfFile, folder_calls, reads_of}
 use Rattle.droid_profile_spec.specs.Kids.{found_of}
-use Rattle.droid_profile_spec.specs.Readings.{Reading, Ending, AtEnd, NotYet, IsEnding, IsReading, bytes_of, is_whole, joined, last_bytes, last_read, reads_in, unread}
+use Rattle.droid_profile_spec.specs.Readings.{Reading, Ending, AtEnd, NotYet, IsEnding, IsReading, bytes_of, is_whole, joined, last_read, reads_in}
 use Rattle.droid_profile_spec.specs.declared.options.Options.{Options}
 use Rattle.droid_profile_files.specs.BatchFits.{BatchFits, IsDropped, LaneFits, RowFits, StateFits, whole_record}
-use Rattle.droid_profile_files.specs.FileStates.{AreFresh, numbers_in}
+use Rattle.droid_profile_files.specs.FileStates.{numbers_in}
 use Rattle.droid_profile_files.specs.LaneEnds.{Completes, HasEnded}
 use Rattle.droid_profile_files.specs.LaneReads.{GetsBytes, IsDue}
 use Rattle.droid_profile_files.specs.LaneSteps.{Begins, IsFor}
 use Rattle.droid_profile_files.specs.declared.batch.Batch.{Batch}
 use Rattle.droid_profile_files.specs.declared.file_lane.FileLane.{FileLane}
 use Rattle.droid_profile_files.specs.declared.file_row.FileRow.{FileRow}
-use Rattle.droid_profile_files.specs.declared.file_row.FileState.{FileState}
 use Rattle.droid_profile_files.specs.declared.file_row.FileState.TheVariants.{Waits, InLane, Whole, Dropped}
 use Rattle.droid_profile_files.proofs.BatchMoves.{Moves, moved}
 use Rattle.droid_profile_files.proofs.Places.{same_item, set_else, set_here}
@@ -112,7 +110,7 @@ module _ (registry : Contents) (options : Options) (first : List FileRow) (old n
       let state : StateFits registry options old place its.was row its.reading Waits = subst (StateFits registry options old place its.was row its.reading) waits its.state in
       let none : bytes_of its.reading ≡ [] = ap bytes_of state.0 in
       let moves : Moves old new j place row_after = moves_of old new j place lane lane_after row row_after lanes files (λ other busy at. absurd (not_both lane.busy idle busy))
-          (λ other apart has. waiting_else other apart (subst (λ (l : List ℕ). Contains l other) popped has)) in
+      (λ other apart has. waiting_else other apart (subst (λ (l : List ℕ). Contains l other) popped has)) in
       let lane_fits : LaneFits options new j place its.was.entry its.reading = record {
         within = small;
         lane = lane_after;
@@ -137,9 +135,9 @@ module _ (registry : Contents) (options : Options) (first : List FileRow) (old n
         state = (lane_fits, state.1);
       } in
       no_calls registry options first new calls
-          (moved registry options first old new j place row_after moves calls [] fits its.was its.there (λ number apart. refl) refl (listed first place its.was its.there)
-          (subst (RowFits registry options first new (calls ++ []) place) (sym after) fits_now)
-          (λ is. in_lane (sym (ap (λ (r : FileRow). r.state) after) ∙ is)) (still_for old new j lane lane_after lanes options fits.made))
+      (moved registry options first old new j place row_after moves calls [] fits its.was its.there (λ number apart. refl) refl (listed first place its.was its.there)
+      (subst (RowFits registry options first new (calls ++ []) place) (sym after) fits_now)
+      (λ is. in_lane (sym (ap (λ (r : FileRow). r.state) after) ∙ is)) (still_for old new j lane lane_after lanes options fits.made))
     where
       not_both : (b : Bool) → b ≡ false → b ≡ true → ⊥
       not_both true is_false is_true = cc
@@ -199,7 +197,7 @@ module _ (registry : Contents) (options : Options) (first : List FileRow) (old n
     all_hashed none =
         let rest : drop read.fits_lane.lane.hashed read.fits_lane.lane.buffer.items ≡ [] = subst (λ (l : FileLane). drop l.hashed l.buffer.items ≡ []) (sym read.same) none in
         let all : bytes_of its_fits.reading ≡ read.fits_lane.hashed =
-            read.fits_lane.bytes ∙ (ap (λ (l : List ℕ). read.fits_lane.hashed ++ l) rest ∙ append-nil read.fits_lane.hashed) in
+        read.fits_lane.bytes ∙ (ap (λ (l : List ℕ). read.fits_lane.hashed ++ l) rest ∙ append-nil read.fits_lane.hashed) in
         subst (Scanned old.hashes j) (sym all) read.fits_lane.scanned
 
     module _ (due : IsDue lane) where
@@ -281,8 +279,8 @@ module _ (registry : Contents) (options : Options) (first : List FileRow) (old n
             row_now (length bytes) reading (longer_is path entry pieces bytes lane.from open_now.1 in_file)
             (ap (λ (r : Reading). reads_in path entry r ++ Read path entry lane.from (length bytes) bytes ∷ []) reading_is ∙ sym (longer_reads path entry pieces bytes lane.from open_now.1))
             (lane_holds reading (longer_bytes path entry pieces bytes lane.from open_now.1)
-                (subst (λ (b : Bool). MatchBool b (is_whole reading.ending ≡ true) ((reading.ending ≡ NotYet) × (lane_after.from ≡ length (joined reading.pieces)))) (sym goes_on)
-                    (refl, gets.from ∙ sym (longer_joined path entry pieces bytes lane.from open_now.1))))
+            (subst (λ (b : Bool). MatchBool b (is_whole reading.ending ≡ true) ((reading.ending ≡ NotYet) × (lane_after.from ≡ length (joined reading.pieces)))) (sym goes_on)
+            (refl, gets.from ∙ sym (longer_joined path entry pieces bytes lane.from open_now.1))))
 
         pub last_piece_read : (wanted : ℕ) → IsEnding row.entry.len lane.from (AtEnd wanted bytes) → lane_after.at_end ≡ true → BatchFits registry options first new (calls ++ seen wanted ∷ [])
         last_piece_read wanted is ended =
@@ -303,7 +301,7 @@ module _ (registry : Contents) (options : Options) (first : List FileRow) (old n
           let entry = its_fits.was.entry in
           let path_is : row.record.path ≡ path = ap (λ (r : Record). r.path) read.plain in
           let last_is : last_read path entry lane.from ending ≡ observation ∷ [] =
-              sym (ap (λ (p : List ℕ). last_read p row.entry lane.from ending) path_is ∙ ap (λ (e : FolderEntry). last_read path e lane.from ending) its_fits.entry) ∙ one in
+          sym (ap (λ (p : List ℕ). last_read p row.entry lane.from ending) path_is ∙ ap (λ (e : FolderEntry). last_read path e lane.from ending) its_fits.entry) ∙ one in
           let now : RowFits registry options first new (calls ++ OfFile its_fits.was.record.id observation ∷ []) place (record row { state = Dropped why }) = record {
             was = its_fits.was;
             there = its_fits.there;
@@ -332,7 +330,7 @@ module _ (registry : Contents) (options : Options) (first : List FileRow) (old n
         let all = bytes_of its_fits.reading in
         let at_end : FileLane → Type 0 = λ l. MatchBool l.at_end (is_whole its_fits.reading.ending ≡ true) ((its_fits.reading.ending ≡ NotYet) × (l.from ≡ length (joined its_fits.reading.pieces))) in
         let whole : is_whole its_fits.reading.ending ≡ true =
-            subst (λ (b : Bool). MatchBool b (is_whole its_fits.reading.ending ≡ true) ((its_fits.reading.ending ≡ NotYet) × (lane.from ≡ length (joined its_fits.reading.pieces)))) ended.at_end (subst at_end read.same read.fits_lane.ending) in
+        subst (λ (b : Bool). MatchBool b (is_whole its_fits.reading.ending ≡ true) ((its_fits.reading.ending ≡ NotYet) × (lane.from ≡ length (joined its_fits.reading.pieces)))) ended.at_end (subst at_end read.same read.fits_lane.ending) in
         let counted : length all ≡ entry.len = whole_length its_fits.reading entry.len its_fits.reading.ending refl whole its_fits.is_reading.ending in
         let hash_is : digest ≡ hash options.hash all = hashes all (all_hashed ended.hashed) in
         let found_is : found ≡ found_of registry options entry all = finds all came_is (counted ∙ sym (ap (λ (e : FolderEntry). e.len) its_fits.entry)) ∙ ap (λ (e : FolderEntry). found_of registry options e all) its_fits.entry in
@@ -343,10 +341,12 @@ module _ (registry : Contents) (options : Options) (first : List FileRow) (old n
           reading = its_fits.reading;
           is_reading = its_fits.is_reading;
           reads = ap (reads_of its_fits.was.record.id) (append-nil calls) ∙ its_fits.reads;
-          state = subst (StateFits registry options new place its_fits.was row_after its_fits.reading) (sym completes.state)
-              (whole, completes.record_is ∙ (ap (λ (r : Record). record r { method = found.method; mismatch = found.mismatch; hash = digest; puids = found.puids }) read.plain
-              ∙ (ap (λ (d : HashValue). record its_fits.was.record { method = found.method; mismatch = found.mismatch; hash = d; puids = found.puids }) hash_is
-              ∙ ap (λ (f : Found). whole_record options its_fits.was.record f all) found_is)));
+          state = subst (StateFits registry options new place its_fits.was row_after its_fits.reading) (sym completes.state) (
+            whole,
+            completes.record_is ∙ (ap (λ (r : Record). record r { method = found.method; mismatch = found.mismatch; hash = digest; puids = found.puids }) read.plain
+                ∙ (ap (λ (d : HashValue). record its_fits.was.record { method = found.method; mismatch = found.mismatch; hash = d; puids = found.puids }) hash_is
+                ∙ ap (λ (f : Found). whole_record options its_fits.was.record f all) found_is)),
+          );
         } in
         no_calls registry options first new calls (moved_to [] (λ number apart. refl) refl now (λ waits. absurd (is_no_wait (sym completes.state ∙ waits))))
       where

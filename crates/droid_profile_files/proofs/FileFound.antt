@@ -26,8 +26,8 @@ module _ (registry : Contents) (options : Options) (entry : FolderEntry) (ends :
       let long : length first ≡ width ends = counted bytes came sized in
       found_once (Hits bytes options.scan_limit) registry entry.name options.match_all found (found_of registry options entry bytes)
       (tells bytes options.scan_limit whole
-          (ap (λ (n : ℕ). min n entry.len) (sym limit) ∙ (ap (λ (n : ℕ). min ends.limit n) (sym size) ∙ sym long))
-          (ap (λ (n : ℕ). take n bytes) long ∙ sym (begun bytes came sized))
-          (ap (λ (n : ℕ). drop (n - length first) bytes) (sym size) ∙ (ap (λ (n : ℕ). drop (ends.size - n) bytes) long ∙ sym (ended bytes came sized))))
+      (ap (λ (n : ℕ). min n entry.len) (sym limit) ∙ (ap (λ (n : ℕ). min ends.limit n) (sym size) ∙ sym long))
+      (ap (λ (n : ℕ). take n bytes) long ∙ sym (begun bytes came sized))
+      (ap (λ (n : ℕ). drop (n - length first) bytes) (sym size) ∙ (ap (λ (n : ℕ). drop (ends.size - n) bytes) long ∙ sym (ended bytes came sized))))
       (found_is registry entry.name bytes options.scan_limit options.match_all)
   found_at_ends (Err e) tells = tt

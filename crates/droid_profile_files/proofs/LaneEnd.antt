@@ -1,11 +1,11 @@
 -- A lane whose file has ended holds that file's ends.
-use Rattle.std.proofs.Common.{◌≡◌, ℕ, Bool, true, List, length, length-append, slice_get, Some, MatchBool, refl, sym, ap, subst, ◌∙◌, arith}
+use Rattle.std.proofs.Common.{◌≡◌, ℕ, Bool, true, List, length, slice_get, Some, MatchBool, refl, sym, ap, subst, ◌∙◌}
 use Rattle.droid_pronom.specs.Registry.{Contents}
 use Rattle.droid_scan.specs.Ends.{Came}
 use Rattle.droid_frame.specs.types.record.Record.{Record}
 use Rattle.droid_tree.specs.declared.folder_entry.FolderEntry.{FolderEntry}
 use Rattle.droid_profile_spec.specs.Calls.{Call}
-use Rattle.droid_profile_spec.specs.Readings.{Reading, Ending, AtEnd, NotYet, IsEnding, bytes_of, is_whole, joined, last_bytes}
+use Rattle.droid_profile_spec.specs.Readings.{NotYet, bytes_of, is_whole, joined}
 use Rattle.droid_profile_spec.specs.declared.options.Options.{Options}
 use Rattle.droid_profile_files.specs.BatchFits.{BatchFits, StateFits}
 use Rattle.droid_profile_files.specs.LaneEnds.{HasEnded, HasRead}
@@ -23,7 +23,7 @@ has_read registry options first batch calls fits j place lane row lane_there row
     let state : StateFits registry options batch place its.was row its.reading (InLane j) = subst (StateFits registry options batch place its.was row its.reading) in_lane its.state in
     let same : state.0.lane ≡ lane = same_item (slice_get batch.lanes.items j) state.0.lane lane state.0.there lane_there in
     let whole : is_whole its.reading.ending ≡ true =
-        subst (λ (b : Bool). MatchBool b (is_whole its.reading.ending ≡ true) ((its.reading.ending ≡ NotYet) × (state.0.lane.from ≡ length (joined its.reading.pieces)))) (ap (λ (l : FileLane). l.at_end) same ∙ ended.at_end) state.0.ending in
+    subst (λ (b : Bool). MatchBool b (is_whole its.reading.ending ≡ true) ((its.reading.ending ≡ NotYet) × (state.0.lane.from ≡ length (joined its.reading.pieces)))) (ap (λ (l : FileLane). l.at_end) same ∙ ended.at_end) state.0.ending in
     record {
       bytes = bytes_of its.reading;
       came = subst (λ (l : FileLane). Came l.ends (bytes_of its.reading)) same state.0.came;

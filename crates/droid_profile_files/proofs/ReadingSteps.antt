@@ -1,6 +1,5 @@
 -- A reading with one read more.
-use Rattle.std.proofs.Common.{◌≡◌, ℕ, zero, suc, ◌+◌, ◌<◌, ◌≤◌, true, List, [], ◌∷◌, ◌++◌, length, length-append, append-nil, append_assoc, refl, sym, ap, subst, ◌∙◌, arith}
-use Rattle.std.specs.List.{flat_map}
+use Rattle.std.proofs.Common.{◌≡◌, ℕ, ◌+◌, ◌≤◌, true, List, [], ◌∷◌, ◌++◌, length, length-append, append-nil, sym, ap, subst, ◌∙◌, arith}
 use Rattle.std.proofs.lemmas.List.Concat.{flat_map-append}
 use Rattle.droid_tree.specs.Observation.{Observation, Read}
 use Rattle.droid_tree.specs.declared.folder_entry.FolderEntry.{FolderEntry}
@@ -17,8 +16,8 @@ reads_more path entry from [] piece =
 reads_more path entry from (first ∷ pieces) piece =
     let e : (from + length first) + length (joined pieces) ≡ from + length (first ++ joined pieces) = omega (arith, length-append first (joined pieces)) in
     ap (λ (l : List Observation). Read path entry from (length first) first ∷ l)
-        (reads_more path entry (from + length first) pieces piece
-        ∙ ap (λ (k : ℕ). reads_from path entry (from + length first) pieces ++ Read path entry k (length piece) piece ∷ []) e)
+    (reads_more path entry (from + length first) pieces piece
+    ∙ ap (λ (k : ℕ). reads_from path entry (from + length first) pieces ++ Read path entry k (length piece) piece ∷ []) e)
 
 abbrev pub ended_by : List (List ℕ) → Ending → Reading
 ended_by pieces ending = record { pieces = pieces; ending = ending }

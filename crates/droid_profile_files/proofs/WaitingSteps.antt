@@ -1,5 +1,5 @@
 -- A batch of which only the list of waiting files is another.
-use Rattle.std.proofs.Common.{◌≡◌, ℕ, List, [], ◌∷◌, ◌++◌, length, slice_get, Some, Contains, subst, sym, ap, refl, ◌∙◌}
+use Rattle.std.proofs.Common.{◌≡◌, ℕ, List, length, slice_get, Some, Contains, subst, sym, ap, ◌∙◌}
 use Rattle.droid_pronom.specs.Registry.{Contents}
 use Rattle.droid_scan.specs.Scanning.{Scanned, lanes_kind}
 use Rattle.droid_scan.specs.declared.hash_lanes.HashLanes.{HashLanes}
@@ -7,7 +7,7 @@ use Rattle.droid_tree.specs.declared.folder_entry.FolderEntry.{FolderEntry}
 use Rattle.droid_profile_spec.specs.Calls.{Call}
 use Rattle.droid_profile_spec.specs.Readings.{Reading}
 use Rattle.droid_profile_spec.specs.declared.options.Options.{Options}
-use Rattle.droid_profile_files.specs.BatchFits.{BatchFits, LaneFits, RowFits, StateFits}
+use Rattle.droid_profile_files.specs.BatchFits.{BatchFits, LaneFits, StateFits}
 use Rattle.droid_profile_files.specs.declared.batch.Batch.{Batch}
 use Rattle.droid_profile_files.specs.declared.file_lane.FileLane.{FileLane}
 use Rattle.droid_profile_files.specs.declared.file_row.FileRow.{FileRow}

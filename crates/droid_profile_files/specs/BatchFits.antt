@@ -1,18 +1,17 @@
 -- How a batch fits what was read of its files so far.
-use Rattle.std.specs.Prelude.{◌≡◌, ℕ, ◌<◌, true, false, List, [], ◌++◌, length, drop, Some, slice_get, MatchBool, Contains}
+use Rattle.std.specs.Prelude.{◌≡◌, ℕ, ◌<◌, true, List, [], ◌++◌, length, drop, Some, slice_get, MatchBool, Contains}
 use Rattle.droid_frame.specs.Hashes.{hash}
 use Rattle.droid_frame.specs.types.record.Record.{Record}
 use Rattle.droid_pronom.specs.Registry.{Contents}
 use Rattle.droid_pronom.specs.types.identification.Found.{Found}
 use Rattle.droid_scan.specs.Ends.{Came}
 use Rattle.droid_scan.specs.Scanning.{Scanned}
-use Rattle.droid_tree.specs.Observation.{Observation}
 use Rattle.droid_tree.specs.declared.folder_entry.FolderEntry.{FolderEntry}
 use Rattle.droid_tree.specs.declared.skipped.Skipped.{Skipped}
 use Rattle.droid_tree.specs.declared.skipped.Skipped.TheVariants as reasons
 use Rattle.droid_profile_spec.specs.Calls.{Call, folder_calls, reads_of}
 use Rattle.droid_profile_spec.specs.Kids.{found_of}
-use Rattle.droid_profile_spec.specs.Readings.{Reading, Ending, AtEnd, TooShort, TooLong, NoneCame, OtherFile, NotYet, IsReading, bytes_of, is_whole, joined, reads_in, unread}
+use Rattle.droid_profile_spec.specs.Readings.{Reading, Ending, TooShort, TooLong, NoneCame, OtherFile, NotYet, IsReading, bytes_of, is_whole, joined, reads_in, unread}
 use Rattle.droid_profile_spec.specs.declared.options.Options.{Options}
 use Rattle.droid_profile_files.specs.FileStates.{AreFresh, numbers_in}
 use Rattle.droid_profile_files.specs.LaneSteps.{IsFor}

@@ -1,7 +1,5 @@
 -- How far the files of a batch are.
-use Rattle.std.specs.Prelude.{◌≡◌, ℕ, true, false, List, [], map, Some, slice_get}
-use Rattle.std.specs.List.{AllByRecursion}
-use Rattle.droid_frame.specs.types.record.Record.{Record}
+use Rattle.std.specs.Prelude.{◌≡◌, ℕ, List, map, Some, slice_get}
 use Rattle.droid_profile_files.specs.declared.file_row.FileRow.{FileRow}
 use Rattle.droid_profile_files.specs.declared.file_row.FileState.{FileState}
 use Rattle.droid_profile_files.specs.declared.file_row.FileState.TheVariants.{Waits}

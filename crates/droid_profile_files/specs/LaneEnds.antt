@@ -1,7 +1,6 @@
 -- How the file of a lane ends.
 use Rattle.std.specs.Prelude.{◌≡◌, ℕ, ◌≤◌, true, List, [], length, drop}
 use Rattle.droid_frame.specs.types.hash_value.HashValue.{HashValue}
-use Rattle.droid_frame.specs.types.record.Record.{Record}
 use Rattle.droid_pronom.specs.types.identification.Found.{Found}
 use Rattle.droid_scan.specs.Ends.{Came}
 use Rattle.droid_profile_spec.specs.declared.options.Options.{Options}

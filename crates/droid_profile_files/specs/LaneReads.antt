@@ -1,5 +1,5 @@
 -- What a lane reads.
-use Rattle.std.specs.Prelude.{◌≡◌, ◌⊎◌, ℕ, ◌+◌, ◌<◌, ◌≤◌, Bool, true, false, List, [], ◌++◌, length, drop}
+use Rattle.std.specs.Prelude.{◌≡◌, ◌⊎◌, ℕ, ◌+◌, ◌≤◌, true, false, List, [], ◌++◌, length, drop}
 use Rattle.std.specs.List.{flat_map}
 use Rattle.droid_scan.specs.Ends.{Came}
 use Rattle.droid_tree.specs.Heard.{Heard, TookBytes}
@@ -8,7 +8,7 @@ use Rattle.droid_tree.specs.declared.folder_entry.FolderEntry.{FolderEntry}
 use Rattle.droid_tree.specs.declared.skipped.Skipped.{Skipped}
 use Rattle.droid_tree.specs.declared.skipped.Skipped.TheVariants as reasons
 use Rattle.droid_profile_spec.specs.Calls.{heard_of_observation}
-use Rattle.droid_profile_spec.specs.Readings.{Ending, AtEnd, TooShort, TooLong, NoneCame, OtherFile, NotYet, IsEnding, is_whole, last_bytes, last_read}
+use Rattle.droid_profile_spec.specs.Readings.{Ending, AtEnd, TooShort, TooLong, IsEnding, last_read}
 use Rattle.droid_profile_files.specs.BatchFits.{IsDropped}
 use Rattle.droid_profile_files.specs.declared.file_lane.FileLane.{FileLane}
 use Rattle.droid_profile_files.specs.declared.reading.Came.{Came as Outcome}

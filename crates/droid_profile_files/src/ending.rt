@@ -72,7 +72,13 @@ fn identify_at(
     ensures { IfOk result (λ found. (its : FileLane) (row : FileRow) (bytes : List ℕ) → slice_get batch.now.lanes.items lane ≡ Some its → slice_get batch.now.files.items place ≡ Some row
         → Came its.ends bytes → length bytes ≡ row.entry.len → found ≡ found_of registry.now options row.entry bytes) }
 {
-    identify(alloc, registry, options, &batch.lanes[lane], &batch.files[place])
+    identify(
+        alloc,
+        registry,
+        options,
+        &batch.lanes[lane],
+        &batch.files[place],
+    )
 }
 
 /// Identifies a file by its first and last bytes and its name.

@@ -28,15 +28,15 @@ pub returns-then-not-waits_at : goal.returns-then-not-waits_at
 returns-then-not-waits_at c = λ registry options first calls fits.
     waiting_changed registry options first c.args.batch.now _ refl refl refl calls fits
     (λ place row there waits has. not_last c.args.batch.now.waiting.items c.pop.new.self.items c.in-Some.place place c.in-Some.ensures.items
-        (λ same. let here : HasState c.as_slice.result.now c.in-Some.place Waits = record {
-            row = row;
-            there = ap (λ (l : List FileRow). slice_get l c.in-Some.place) c.as_slice.ensures.value ∙ subst (λ (k : ℕ). slice_get c.args.batch.now.files.items k ≡ Some row) (sym same) there;
-            its = waits;
-          } in
-          let yes = c.waits_at.ensures.1 here in
-          let no = c.if-not-waits_at.true in
-          absurd cc)
-        has)
+    (λ same. let here : HasState c.as_slice.result.now c.in-Some.place Waits = record {
+      row = row;
+      there = ap (λ (l : List FileRow). slice_get l c.in-Some.place) c.as_slice.ensures.value ∙ subst (λ (k : ℕ). slice_get c.args.batch.now.files.items k ≡ Some row) (sym same) there;
+      its = waits;
+    } in
+    let yes = c.waits_at.ensures.1 here in
+    let no = c.if-not-waits_at.true in
+    absurd cc)
+    has)
 
 pub index-requires-2 : goal.index-requires-2
 index-requires-2 c =

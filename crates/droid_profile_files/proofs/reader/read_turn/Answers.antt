@@ -20,8 +20,8 @@ loop-lane-preserved g c =
     let begun : Batch = c.begin_file.new.batch in
     let new : Batch = record begun { lanes = c.read_on.new.lanes; files = c.read_on.new.files } in
     let step : (first : List FileRow) (calls : List Call) → BatchFits registry options first now.batch calls
-        → ReadsMore g.T.Tree.observes g.W.Watcher.hears registry options first new calls now.tree c.read_on.new.tree now.watcher c.read_on.new.watcher =
-        λ first calls fits. c.in_ok-read_on.ensures.read registry options first calls begun (c.begin_file.ensures registry options first calls (c.in_ok-end_file.ensures first calls fits)) in
+    → ReadsMore g.T.Tree.observes g.W.Watcher.hears registry options first new calls now.tree c.read_on.new.tree now.watcher c.read_on.new.watcher =
+    λ first calls fits. c.in_ok-read_on.ensures.read registry options first calls begun (c.begin_file.ensures registry options first calls (c.in_ok-end_file.ensures first calls fits)) in
     let before = now.invariant.fits in
     let more = step before.first before.calls before.fits in
     record {

@@ -1,4 +1,4 @@
-use Rattle.std.proofs.Common.{◌≡◌, ◌<◌, false, List, ℕ, length, get_or, set, slice_get, Some, length-set, ap, refl, sym, subst, ◌∙◌, arith}
+use Rattle.std.proofs.Common.{◌≡◌, ◌<◌, false, List, length, get_or, set, slice_get, Some, length-set, ap, refl, sym, subst, ◌∙◌, arith}
 use Rattle.std.specs.Vec.{with_item}
 use Rattle.std.proofs.lemmas.Option.{slice_get_read, slice_get_within}
 use Rattle.droid_profile_files.specs.LaneReads.{IsDue, ReadsOnce}
@@ -23,7 +23,7 @@ returns-in-Piece-clause-read g c = λ registry options first calls batch fits.
     let within : place < length files = slice_get_within files place has.row there in
     let row : FileRow = c.index-as_slice-place.result in
     let row_there : slice_get files place ≡ Some row =
-        slice_get_read files (length files) place row refl within (c.index-as_slice-place.is ∙ ap (λ (l : List FileRow). get_or l place row) c.as_slice-2.ensures.value) in
+    slice_get_read files (length files) place row refl within (c.index-as_slice-place.is ∙ ap (λ (l : List FileRow). get_or l place row) c.as_slice-2.ensures.value) in
     let lane = c.index_mut.result.now in
     let lane_there : slice_get lanes j ≡ Some lane = slice_get_read lanes (length lanes) j lane refl c.requires c.index_mut.ensures.value in
     let first_there : slice_get lanes j ≡ Some c.index.result.now = slice_get_read lanes (length lanes) j c.index.result.now refl c.requires c.index.ensures in
@@ -58,7 +58,7 @@ returns-in-Last-clause-read g c = λ registry options first calls batch fits.
     let within : place < length files = slice_get_within files place has.row there in
     let row : FileRow = c.index-as_slice-place.result in
     let row_there : slice_get files place ≡ Some row =
-        slice_get_read files (length files) place row refl within (c.index-as_slice-place.is ∙ ap (λ (l : List FileRow). get_or l place row) c.as_slice-2.ensures.value) in
+    slice_get_read files (length files) place row refl within (c.index-as_slice-place.is ∙ ap (λ (l : List FileRow). get_or l place row) c.as_slice-2.ensures.value) in
     let lane = c.index_mut.result.now in
     let lane_there : slice_get lanes j ≡ Some lane = slice_get_read lanes (length lanes) j lane refl c.requires c.index_mut.ensures.value in
     let first_there : slice_get lanes j ≡ Some c.index.result.now = slice_get_read lanes (length lanes) j c.index.result.now refl c.requires c.index.ensures in
@@ -93,7 +93,7 @@ returns-in-Stopped-clause-read g c = λ registry options first calls batch fits.
     let within : place < length files = slice_get_within files place has.row there in
     let row : FileRow = c.index-as_slice-place.result in
     let row_there : slice_get files place ≡ Some row =
-        slice_get_read files (length files) place row refl within (c.index-as_slice-place.is ∙ ap (λ (l : List FileRow). get_or l place row) c.as_slice-2.ensures.value) in
+    slice_get_read files (length files) place row refl within (c.index-as_slice-place.is ∙ ap (λ (l : List FileRow). get_or l place row) c.as_slice-2.ensures.value) in
     let lane = c.index_mut.result.now in
     let lane_there : slice_get lanes j ≡ Some lane = slice_get_read lanes (length lanes) j lane refl c.requires c.index_mut.ensures.value in
     let first_there : slice_get lanes j ≡ Some c.index.result.now = slice_get_read lanes (length lanes) j c.index.result.now refl c.requires c.index.ensures in
@@ -106,7 +106,7 @@ returns-in-Stopped-clause-read g c = λ registry options first calls batch fits.
     let held = c.index_mut-in-Stopped.result.now in
     let read_there : slice_get (set lanes j read) j ≡ Some read = set_here lanes j read c.requires in
     let held_there : slice_get (set lanes j read) j ≡ Some held =
-        slice_get_read (set lanes j read) (length (set lanes j read)) j held refl (omega (arith, c.requires, length-set lanes j read)) c.index_mut-in-Stopped.ensures.value in
+    slice_get_read (set lanes j read) (length (set lanes j read)) j held refl (omega (arith, c.requires, length-set lanes j read)) c.index_mut-in-Stopped.ensures.value in
     let held_is : held ≡ read = same_item (slice_get (set lanes j read) j) held read held_there read_there in
     let after : FileLane = record held { busy = false } in
     let found = c.index_mut-in-Stopped-2.result.now in
