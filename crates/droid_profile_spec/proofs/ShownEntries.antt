@@ -1,11 +1,9 @@
 -- The records of the nodes of one folder's entries.
-use Rattle.std.proofs.Common.{◌≡◌, ℕ, zero, suc, ◌+◌, ◌≤◌, Bool, true, false, cond, List, [], ◌∷◌, ◌++◌, length, map, fold, Option, Some, None, length-append, refl, sym, ap, subst, ◌∙◌, append-nil, append_assoc, arith}
-use Rattle.std.specs.List.{flat_map, AllByRecursion}
-use Rattle.std.proofs.lemmas.List.Sums.{fold-append}
-use Rattle.droid_core_spec.specs.Files as files
+use Rattle.std.proofs.Common.{◌≡◌, ℕ, suc, ◌+◌, Bool, true, false, cond, List, [], ◌∷◌, ◌++◌, length, Option, Some, None, length-append, refl, sym, ap, subst, ◌∙◌, append_assoc, arith}
+use Rattle.std.specs.List.{AllByRecursion}
 use Rattle.droid_core_spec.specs.Records.{option_list, record_of, records_from}
 use Rattle.droid_core_spec.specs.Setting.{Setting, Identification}
-use Rattle.droid_core_spec.specs.World.{Content, Node, Folder, File, Abandoned, Profile, path, path_among, paths}
+use Rattle.droid_core_spec.specs.World.{Node, Folder, Abandoned, Profile, path, path_among, paths}
 use Rattle.droid_frame.specs.types.record.Record.{Record}
 use Rattle.droid_frame.specs.Hashes.{hash}
 use Rattle.droid_frame.specs.types.node_kind.NodeKind.TheVariants as kinds
@@ -14,12 +12,12 @@ use Rattle.droid_tree.specs.Paths.{below}
 use Rattle.droid_tree.specs.declared.folder_entry.FolderEntry.{FolderEntry}
 use Rattle.droid_tree.specs.declared.pending_folder.PendingFolder.{PendingFolder}
 use Rattle.droid_profile_spec.specs.Kids.{Kid, Subfolder, AFile, ClosedFolder, AnotherKind, NoText, RefusedEntry, found_of, numbers_in, subfolders_of_kid}
-use Rattle.droid_profile_spec.specs.ProfileNodes.{AreNodesOf, AreNodesOfKid, Identifies, IsFileOf, IsNodeOfFile, Lying, profile_with}
+use Rattle.droid_profile_spec.specs.ProfileNodes.{AreNodesOfKid, Identifies, IsFileOf, IsNodeOfFile, profile_with}
 use Rattle.droid_profile_spec.specs.ProfileRecords.{file_record, folder_record, records_of_file, records_of_kid}
 use Rattle.droid_profile_spec.specs.Readings.{Reading, Ending, AtEnd, TooShort, TooLong, NoneCame, OtherFile, NotYet, bytes_of, is_whole}
 use Rattle.droid_profile_spec.specs.Visits.{Follow}
 use Rattle.droid_profile_spec.specs.declared.options.Options.{Options}
-use Rattle.droid_profile_spec.proofs.NodePaths.{Grows, Known, grows, grows_length, known_later, path_next, path_stays, with_paths}
+use Rattle.droid_profile_spec.proofs.NodePaths.{Grows, Known, path_next, path_stays, with_paths}
 
 where_it_holds : (b : Bool) (shown : Option Record) → b ≡ true → cond b shown None ≡ shown
 where_it_holds true shown is = refl
@@ -53,7 +51,7 @@ module _ (registry : Contents) (setting : Setting) (options : Options) (identifi
       → record_of setting (whole options nodes) id node ≡ Some (file_record options folder entry id bytes (found_of registry options entry bytes))
   file_shown folder entry id bytes node its is =
       let plain : List ℕ → ℕ → List ℕ → Identification → Option Record = λ at size content found.
-          Some (record { id = id; parent = folder.number; path = at; name = entry.name; kind = kinds.File; size = size; modified = entry.modified; method = found.method; mismatch = found.mismatch; hash = hash options.hash content; puids = found.puids }) in
+      Some (record { id = id; parent = folder.number; path = at; name = entry.name; kind = kinds.File; size = size; modified = entry.modified; method = found.method; mismatch = found.mismatch; hash = hash options.hash content; puids = found.puids }) in
       let identified : List ℕ → Identification = λ content. setting.identify entry.name content options.scan_limit options.match_all in
       ap (record_of setting (whole options nodes) id) is.its
       ∙ (where_it_holds is.content.finished _ is.finished
@@ -93,10 +91,13 @@ module _ (registry : Contents) (setting : Setting) (options : Options) (identifi
         let at : length before + 1 ≡ number = sym follow.0 in
         record {
           shown = ap (λ (o : Option Record). option_list o ++ []) (folder_shown folder entry (length before + 1) (here entry all) ∙ ap (λ (k : ℕ). Some (folder_record folder entry k)) at);
-          known = (record {
-            there = omega (arith, follow.0, one_more before (its_path entry));
-            its = path_next before (its_path entry) [] number follow.0 ∙ path_is entry;
-          }, tt);
+          known = (
+            record {
+              there = omega (arith, follow.0, one_more before (its_path entry));
+              its = path_next before (its_path entry) [] number follow.0 ∙ path_is entry;
+            },
+            tt,
+          );
           counted = one_more before (its_path entry);
           follow = follow_one (its_path entry) number follow.0 follow.1;
         }
@@ -152,10 +153,10 @@ module _ (registry : Contents) (setting : Setting) (options : Options) (identifi
         → ShowsKid folder kid its before (with_paths before its) more
     kid_shown (Subfolder entry number) its are follow all =
         subst (λ (l : List Node). ShowsKid folder (Subfolder entry number) l before (with_paths before l) more) (sym are)
-            (subfolder_shown entry number follow (subst (λ (l : List Node). Grows (with_paths before l) (paths nodes)) are all))
+        (subfolder_shown entry number follow (subst (λ (l : List Node). Grows (with_paths before l) (paths nodes)) are all))
     kid_shown (AFile entry number reading) its are follow all =
         subst (λ (l : List Node). ShowsKid folder (AFile entry number reading) l before (with_paths before l) more) (sym are.1)
-            (file_kid_shown entry number reading reading.ending are.0 refl are.2 follow (subst (λ (l : List Node). Grows (with_paths before l) (paths nodes)) are.1 all))
+        (file_kid_shown entry number reading reading.ending are.0 refl are.2 follow (subst (λ (l : List Node). Grows (with_paths before l) (paths nodes)) are.1 all))
     kid_shown (ClosedFolder entry) its are follow all = nothing_shown (ClosedFolder entry) its are refl refl follow
     kid_shown (AnotherKind entry) its are follow all = nothing_shown (AnotherKind entry) its are refl refl follow
     kid_shown (NoText entry) its are follow all = nothing_shown (NoText entry) its are refl refl follow

@@ -1,5 +1,5 @@
 -- The records of the nodes of a tree, folder by folder.
-use Rattle.std.proofs.Common.{◌≡◌, ℕ, suc, ◌+◌, List, [], ◌∷◌, ◌++◌, length, map, length-append, refl, sym, ap, subst, ◌∙◌, append_assoc, arith}
+use Rattle.std.proofs.Common.{◌≡◌, ℕ, ◌+◌, List, [], ◌∷◌, ◌++◌, length, map, length-append, refl, sym, ap, subst, ◌∙◌, append_assoc, arith}
 use Rattle.std.specs.List.{flat_map, AllByRecursion}
 use Rattle.std.proofs.lemmas.List.Sums.{fold-append}
 use Rattle.droid_core_spec.specs.Records.{records_from}
@@ -80,8 +80,8 @@ module _ (registry : Contents) (setting : Setting) (options : Options) (identifi
       let split_paths : with_paths before its ≡ with_paths then rest = ap (with_paths before) are.3 ∙ paths_append before own rest in
       let end : Grows (with_paths then rest) (paths nodes) = subst (λ (l : List (List ℕ)). Grows l (paths nodes)) split_paths all in
       let first = kid_shown registry setting options identifies nodes folder before known (flat_map numbers_in kids ++ more) kid own are.2
-          (subst (Follow (length before)) (append_assoc (numbers_in kid) (flat_map numbers_in kids) more) follow)
-          (grows_twice then (with_paths then rest) (paths nodes) (grows then rest) end) in
+      (subst (Follow (length before)) (append_assoc (numbers_in kid) (flat_map numbers_in kids) more) follow)
+      (grows_twice then (with_paths then rest) (paths nodes) (grows then rest) end) in
       let next = kids_shown folder kids rest then more (known_later before then folder (grows before own) known) are.4 first.follow end in
       let at : (length before + 1) + length own ≡ length then + 1 = omega (arith, first.counted) in
       record {
@@ -108,9 +108,9 @@ module _ (registry : Contents) (setting : Setting) (options : Options) (identifi
       let split_paths : with_paths before its ≡ with_paths then parts.rest = ap (with_paths before) parts.are ∙ paths_append before parts.its parts.rest in
       let end : Grows (with_paths then parts.rest) (paths nodes) = subst (λ (l : List (List ℕ)). Grows l (paths nodes)) split_paths all in
       let first = kids_shown visit.folder visit.kids parts.its before (flat_map numbers_of visits) (subst (Known before) (sym turn.0) known.0) parts.first follow
-          (grows_twice then (with_paths then parts.rest) (paths nodes) (grows then parts.rest) end) in
+      (grows_twice then (with_paths then parts.rest) (paths nodes) (grows then parts.rest) end) in
       let rest = visits_shown visits (waiting ++ subfolders_of visit) left parts.rest then turn.1
-          (all_append (Known then) waiting (subfolders_of visit) (all_later before then waiting (grows before parts.its) known.1) first.known) first.follow parts.more end in
+      (all_append (Known then) waiting (subfolders_of visit) (all_later before then waiting (grows before parts.its) known.1) first.known) first.follow parts.more end in
       let at : (length before + 1) + length parts.its ≡ length then + 1 = omega (arith, first.counted) in
       ap (records_from setting (whole options nodes) (length before + 1)) parts.are
       ∙ (records_append setting (whole options nodes) (length before + 1) parts.its parts.rest

@@ -1,14 +1,13 @@
 -- Each tree has nodes.
-use Rattle.std.proofs.Common.{◌≡◌, inl, inr, ℕ, zero, suc, ◌+◌, ◌/◌, ◌%◌, ◌≤◌, min, Bool, true, false, List, [], ◌∷◌, ◌++◌, length, map, unwrap_or, div-one, length-append, refl, sym, ap, subst, ◌∙◌, append-nil, arith}
+use Rattle.std.proofs.Common.{◌≡◌, inl, inr, ℕ, zero, suc, ◌+◌, ◌/◌, ◌≤◌, Bool, true, false, List, [], ◌∷◌, ◌++◌, length, map, unwrap_or, div-one, length-append, refl, ap, ◌∙◌, append-nil, arith}
 use Rattle.std.specs.List.{flat_map, range_with_len, AllByRecursion}
 use Rattle.std.proofs.lemmas.Bool.Decides.{eqb_tells}
 use Rattle.droid_assembly.specs.Pieces.{bytes_at, file_bytes, piece_count}
-use Rattle.droid_core_spec.specs.Files as files
 use Rattle.droid_core_spec.specs.World.{Content, Node, Folder, File, Abandoned}
 use Rattle.droid_tree.specs.declared.folder_entry.FolderEntry.{FolderEntry}
 use Rattle.droid_tree.specs.declared.pending_folder.PendingFolder.{PendingFolder}
 use Rattle.droid_profile_spec.specs.Kids.{Kid, Subfolder, AFile, ClosedFolder, AnotherKind, NoText, RefusedEntry, MayCome}
-use Rattle.droid_profile_spec.specs.ProfileNodes.{AreNodesOf, AreNodesOfKid, IsFileOf, IsNodeOfFile, Lying, all_lying, lying_in}
+use Rattle.droid_profile_spec.specs.ProfileNodes.{AreNodesOf, AreNodesOfKid, IsFileOf, IsNodeOfFile, Lying, all_lying}
 use Rattle.droid_profile_spec.specs.Readings.{Reading, Ending, AtEnd, TooShort, TooLong, NoneCame, OtherFile, NotYet, IsEnding, bytes_of, is_whole, joined, last_bytes}
 use Rattle.droid_profile_spec.specs.Visits.{Visit, IsVisit}
 

@@ -1,12 +1,12 @@
 -- One entry more, and one folder more: for whoever makes a profile.
-use Rattle.std.proofs.Common.{◌≡◌, ℕ, ◌+◌, Bool, List, [], ◌∷◌, ◌++◌, length, map, length-append, append-nil, append_assoc, refl, sym, ap, subst, ◌∙◌, arith}
+use Rattle.std.proofs.Common.{◌≡◌, ℕ, ◌+◌, List, [], ◌∷◌, ◌++◌, length, map, append-nil, append_assoc, refl, sym, ap, subst, ◌∙◌, arith}
 use Rattle.std.specs.List.{flat_map, AllByRecursion}
 use Rattle.std.proofs.lemmas.List.{map-append}
 use Rattle.std.proofs.lemmas.List.Concat.{flat_map-append}
 use Rattle.droid_tree.specs.declared.folder_entry.FolderEntry.{FolderEntry}
 use Rattle.droid_tree.specs.declared.pending_folder.PendingFolder.{PendingFolder}
-use Rattle.droid_profile_spec.specs.Kids.{Kid, MayCome, entry_of, numbers_in, subfolders_of_kid}
-use Rattle.droid_profile_spec.specs.Visits.{Visit, AreListed, Follow, InTurn, IsBegun, IsVisit, numbers_of, subfolders_of}
+use Rattle.droid_profile_spec.specs.Kids.{Kid, MayCome, entry_of}
+use Rattle.droid_profile_spec.specs.Visits.{Visit, AreListed, Follow, InTurn, IsBegun, subfolders_of}
 
 -- this came of one entry more
 abbrev pub with_kid : Visit → Kid → Visit

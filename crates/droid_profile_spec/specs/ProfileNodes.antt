@@ -9,8 +9,8 @@ use Rattle.droid_pronom.specs.Registry.{Contents}
 use Rattle.droid_pronom.specs.types.identification.Found.{Found}
 use Rattle.droid_tree.specs.declared.folder_entry.FolderEntry.{FolderEntry}
 use Rattle.droid_tree.specs.declared.pending_folder.PendingFolder.{PendingFolder}
-use Rattle.droid_profile_spec.specs.Kids.{Kid, Subfolder, AFile, ClosedFolder, AnotherKind, NoText, RefusedEntry}
-use Rattle.droid_profile_spec.specs.Readings.{Reading, Ending, bytes_of, is_whole}
+use Rattle.droid_profile_spec.specs.Kids.{Kid, Subfolder, AFile}
+use Rattle.droid_profile_spec.specs.Readings.{bytes_of, is_whole}
 use Rattle.droid_profile_spec.specs.Visits.{Visit}
 use Rattle.droid_profile_spec.specs.declared.options.Options.{Options}
 

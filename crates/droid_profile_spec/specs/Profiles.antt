@@ -6,7 +6,6 @@ use Rattle.droid_pronom.specs.Registry.{Contents}
 use Rattle.droid_tree.specs.Heard.{Heard, Left, Held, TookBytes, TookFolder, TookFile}
 use Rattle.droid_tree.specs.Observation.{Observation, GoesOver}
 use Rattle.droid_tree.specs.Paths.{top}
-use Rattle.droid_tree.specs.declared.pending_folder.PendingFolder.{PendingFolder}
 use Rattle.droid_profile_spec.specs.Calls.{Call, folder_calls, heard_of_calls, observation_of, reads_of}
 use Rattle.droid_profile_spec.specs.ProfileRecords.{records_of}
 use Rattle.droid_profile_spec.specs.Visits.{Visit, Follow, InTurn, IsVisit, folder_calls_of, heard_of_visit, is_complete, is_whole_visit, numbers_of, reads_of_visit}

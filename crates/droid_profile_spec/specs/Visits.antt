@@ -1,11 +1,11 @@
 -- The folders of a tree that is profiled, in the order in which they are visited (this project's own).
-use Rattle.std.specs.Prelude.{◌≡◌, ℕ, ◌+◌, ◌==◌, ◌&&◌, Bool, List, [], ◌∷◌, ◌++◌, length, map, Option, Some, None, is_some, IsTrue}
+use Rattle.std.specs.Prelude.{◌≡◌, ℕ, ◌+◌, ◌==◌, ◌&&◌, Bool, List, [], ◌∷◌, ◌++◌, length, map, Option, Some, None, is_some}
 use Rattle.std.specs.List.{flat_map, list_all, AllByRecursion}
 use Rattle.droid_pronom.specs.Registry.{Contents}
 use Rattle.droid_tree.specs.Heard.{Heard, Left}
 use Rattle.droid_tree.specs.Listings.{AreInOrder, AreRepeated, AreThose, observed_of_folder}
 use Rattle.droid_tree.specs.Observation.{Observation}
-use Rattle.droid_tree.specs.Paths.{below, top}
+use Rattle.droid_tree.specs.Paths.{below}
 use Rattle.droid_tree.specs.declared.folder_entry.FolderEntry.{FolderEntry}
 use Rattle.droid_tree.specs.declared.pending_folder.PendingFolder.{PendingFolder}
 use Rattle.droid_tree.specs.declared.skipped.Skipped.TheVariants as reasons

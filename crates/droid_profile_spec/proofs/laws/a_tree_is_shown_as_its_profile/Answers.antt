@@ -1,4 +1,4 @@
-use Rattle.std.proofs.Common.{List, [], refl, append-nil, sym}
+use Rattle.std.proofs.Common.{[], append-nil, sym}
 use Rattle.droid_profile_spec.proofs.NodePaths.{known_top}
 use Rattle.droid_profile_spec.proofs.ShownTree.{visits_shown}
 use Rattle.droid_tree.specs.Paths.{top}
