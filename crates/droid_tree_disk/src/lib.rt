@@ -10,6 +10,7 @@ mod file_bytes;
 mod folder;
 mod folder_check;
 mod names;
+mod open_files;
 mod open_folder;
 mod output;
 mod system;

@@ -7,12 +7,14 @@ use Rattle.droid_frame.specs.types.request.Request.{Request}
 use Rattle.droid_frame.specs.types.request.Request.TheVariants.{AddFolder, AddFile, Finish, Abandon}
 use Rattle.droid_tree_walk.specs.Asked.{Asked}
 use Rattle.droid_tree.specs.Heard.{Heard, Left, Held, TookFolder, TookFile}
+use Rattle.droid_tree.specs.Kinds.{IsNoNode, reason_of_kind}
 use Rattle.droid_tree_walk.specs.Steps.{AddsNode, AddsFolder, Finishes, ResumesFile, ResumesWhere, SendsAll, SendsPart, TakesKid}
 use Rattle.droid_tree.specs.Observation.{Observation, GoesOver}
 use Rattle.droid_tree.specs.Paths.{below}
 use Rattle.droid_tree.specs.Reading.{begin_of, reason_of}
 use Rattle.droid_tree_walk.specs.Visits.{Subfolder, WholeFile, OtherKind, NoText, RefusedFolder, RefusedFile, DroppedFile, WholeRest, DroppedRest, Sent, GoesOn, first_missing, whole_read, part_read, pieces_from, pieces_heard}
 use Rattle.droid_tree.specs.declared.folder_entry.FolderEntry.{FolderEntry}
+use Rattle.droid_tree.specs.declared.folder_entry.EntryKind.{EntryKind}
 use Rattle.droid_tree.specs.declared.folder_entry.EntryKind.TheVariants as kinds
 use Rattle.droid_tree.specs.declared.skipped.Skipped.{Skipped}
 use Rattle.droid_tree.specs.declared.skipped.Skipped.TheVariants as reasons
@@ -263,15 +265,15 @@ module _ {X W : Type 0} (asks : X → Asked → X → Type 0) (hears : W → Hea
         pending = sym (append-nil waiting);
       }
 
-      pub kid_of_other : (path : List ℕ) → path ≡ below folder.path entry.name → entry.kind ≡ kinds.Other → hears watcher (Left path reasons.Kind) watcher_after
+      pub kid_of_other : (path : List ℕ) → path ≡ below folder.path entry.name → (kind : EntryKind) → entry.kind ≡ kind → IsNoNode kind → hears watcher (Left path (reason_of_kind kind)) watcher_after
           → TakesKid observes asks hears goes_on profile piece_size folder entry false tree tree exchange exchange watcher watcher_after waiting waiting
-      kid_of_other path here is_other left = record {
+      kid_of_other path here kind is none left = record {
         kid = OtherKind entry;
         its = refl;
-        is_outcome = is_other;
+        is_outcome = subst IsNoNode (sym is) none;
         taken_is = refl;
         observed = refl;
         asked = refl;
-        heard = over_one hears watcher watcher_after _ (subst (λ (p : List ℕ). hears watcher (Left p reasons.Kind) watcher_after) here left);
+        heard = over_one hears watcher watcher_after _ (subst (λ (k : EntryKind). hears watcher (Left (below folder.path entry.name) (reason_of_kind k)) watcher_after) (sym is) (subst (λ (p : List ℕ). hears watcher (Left p (reason_of_kind kind)) watcher_after) here left));
         pending = sym (append-nil waiting);
       }

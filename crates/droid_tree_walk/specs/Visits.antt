@@ -8,6 +8,7 @@ use Rattle.droid_frame.specs.types.reply.Reply.TheVariants as replies
 use Rattle.droid_frame.specs.types.request.Request.TheVariants.{AddFolder, AddFile, Piece, Finish, Abandon, Status}
 use Rattle.droid_tree_walk.specs.Asked.{Asked}
 use Rattle.droid_tree.specs.Heard.{Heard, Left, Held, TookBytes, TookFolder, TookFile}
+use Rattle.droid_tree.specs.Kinds.{IsNoNode, reason_of_kind}
 use Rattle.droid_tree.specs.Listings.{AreInOrder, AreRepeated, AreThose, observed_of_folder}
 use Rattle.droid_tree.specs.Observation.{Observation, Read}
 use Rattle.droid_tree.specs.Paths.{below}
@@ -160,7 +161,7 @@ asked_of_kid profile piece_size folder (DroppedRest entry number status from sen
 abbrev pub heard_of_kid : List ℕ → Kid → List Heard
 heard_of_kid path (Subfolder entry number) = TookFolder (below path entry.name) ∷ []
 heard_of_kid path (WholeFile entry number sent found) = pieces_heard (below path entry.name) sent ++ TookFile (below path entry.name) found ∷ []
-heard_of_kid path (OtherKind entry) = Left (below path entry.name) reasons.Kind ∷ []
+heard_of_kid path (OtherKind entry) = Left (below path entry.name) (reason_of_kind entry.kind) ∷ []
 heard_of_kid path (NoText entry) = Left (below path entry.name) reasons.Name ∷ []
 heard_of_kid path (RefusedFolder entry refusal) = Left (below path entry.name) (reasons.Refused refusal) ∷ []
 heard_of_kid path (RefusedFile entry refusal) = Left (below path entry.name) (reasons.Refused refusal) ∷ []
@@ -193,7 +194,7 @@ pub record GoesOn (goes_on : Bool) (piece_size : ℕ) (entry : FolderEntry) (sta
 abbrev pub MayCome : Bool → ℕ → Kid → Type 0
 MayCome goes_on piece_size (Subfolder entry number) = IsKid piece_size (Subfolder entry number)
 MayCome goes_on piece_size (WholeFile entry number sent found) = IsKid piece_size (WholeFile entry number sent found)
-MayCome goes_on piece_size (OtherKind entry) = entry.kind ≡ kinds.Other
+MayCome goes_on piece_size (OtherKind entry) = IsNoNode entry.kind
 MayCome goes_on piece_size (NoText entry) = ¬ (IsUtf8 entry.name)
 MayCome goes_on piece_size (RefusedFolder entry refusal) = (entry.kind ≡ kinds.Folder) × (refusal ≢ refusals.Memory)
 MayCome goes_on piece_size (RefusedFile entry refusal) = (entry.kind ≡ kinds.File) × (refusal ≢ refusals.Memory)

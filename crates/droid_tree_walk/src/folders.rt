@@ -126,6 +126,10 @@ fn take_entry<T: Tree, X: Exchange, W: Watcher>(
             let taken = take_file(tree, exchange, watcher, into, path, name, entry)?;
             Ok(taken)
         }
+        EntryKind::Link => {
+            watcher.skipped(path.as_str().as_bytes(), Skipped::Link);
+            Ok(false)
+        }
         EntryKind::Other => {
             watcher.skipped(path.as_str().as_bytes(), Skipped::Kind);
             Ok(false)

@@ -1,0 +1,208 @@
+//! Takes one entry of a folder: a folder, a file, or something that is skipped.
+
+ghost use Rattle.std.specs.Prelude.{◌≡◌, ◌+◌, ◌++◌, [], ◌∷◌, List, IfErr, IfOk, OnErr, OnOk, length};
+ghost use Rattle.droid_frame.specs.types.record.Record.{Record};
+ghost use Rattle.droid_pronom.specs.Registry.{Contents};
+ghost use Rattle.droid_tree.specs.Heard.{Heard};
+ghost use Rattle.droid_profile_spec.specs.Calls.{Call};
+ghost use Rattle.droid_profile_spec.specs.declared.options.Options.{Options};
+ghost use Rattle.droid_profile.specs.ScanFits.{ScanFits, TakesFront, TakesMore};
+ghost use Rattle.droid_profile_spec.specs.declared.fault.ProfileFault.TheVariants.{Numbers};
+ghost use Rattle.droid_profile.specs.RowsPushed.{left_row};
+ghost use Rattle.droid_profile.specs.declared.row.Row.TheVariants as row_forms;
+ghost use Rattle.droid_profile.specs.declared.scan.Scan.{Scan};
+
+use crate::refusal::entry_refusal;
+use crate::row::Row;
+use crate::scan::Scan;
+use droid_frame::{Blob, HashValue, Method, NodeKind, Record, Text, Texts};
+use droid_profile_files::{FileRow, FileState};
+use droid_profile_spec::ProfileFault;
+use droid_tree::{
+    EntryKind, FolderEntry, PendingFolder, Skipped, Tree, TreeFault, add_pending, name_of,
+    path_below,
+};
+use std::alloc::{AllocError, Global};
+
+/// Takes one entry of the folder that was listed last.
+pub(crate) fn take_entry<T: Tree>(
+    alloc: Global,
+    tree: &mut T,
+    scan: &mut Scan,
+    rows: &mut Vec<Row>,
+    files: &mut Vec<FileRow>,
+    entry: FolderEntry,
+) -> Result<(), ProfileFault>
+    ensures taken { OnOk result ((registry : Contents) (options : Options) (calls : List Call) (heard : List Heard) (given : List Record) (before : Scan) → before ≡ record scan.old { entries = before.entries } → before.entries.items ≡ scan.old.entries.items ++ entry ∷ []
+        → ScanFits registry options calls heard given before rows.old.items files.old.items → TakesMore T.observes registry options calls heard given scan.new rows.new.items files.new.items tree.old tree.new) }
+    ensures ended { IfErr result (λ fault. (registry : Contents) (options : Options) (calls : List Call) (heard : List Heard) (given : List Record) (before : Scan) → before ≡ record scan.old { entries = before.entries } → before.entries.items ≡ scan.old.entries.items ++ entry ∷ []
+        → ScanFits registry options calls heard given before rows.old.items files.old.items → TakesFront T.observes registry options calls heard given fault tree.old tree.new) }
+{
+    let Some(name) = name_of(&entry) else {
+        push_left_below(alloc, rows, &scan.folder, &entry, Skipped::Name)?;
+        return Ok(());
+    };
+    let why = match entry.kind {
+        EntryKind::Link => Some(Skipped::Link),
+        EntryKind::Other => Some(Skipped::Kind),
+        EntryKind::Folder | EntryKind::File => {
+            match entry_refusal(scan.folder.path.as_str(), name, &entry) {
+                Some(refusal) => Some(Skipped::Refused(refusal)),
+                None => None,
+            }
+        }
+    };
+    if let Some(why) = why {
+        push_left_below(alloc, rows, &scan.folder, &entry, why)?;
+        return Ok(());
+    }
+    let path = path_below(alloc, scan.folder.path.as_str(), name)?;
+    let name = Text::copy_of(alloc, name)?;
+    match entry.kind {
+        EntryKind::File => take_file(alloc, scan, rows, files, path, name, entry),
+        _ => take_folder(alloc, tree, scan, rows, path, name, &entry),
+    }
+}
+
+/// Takes a file.
+fn take_file(
+    alloc: Global,
+    scan: &mut Scan,
+    rows: &mut Vec<Row>,
+    files: &mut Vec<FileRow>,
+    path: Text,
+    name: Text,
+    entry: FolderEntry,
+) -> Result<(), ProfileFault> {
+    let number = next_number(scan.number)?;
+    let record = Record {
+        id: number,
+        parent: scan.folder.number,
+        path,
+        name,
+        kind: NodeKind::File,
+        size: entry.len,
+        modified: entry.modified,
+        method: Method::Unidentified,
+        mismatch: false,
+        hash: HashValue::Nothing,
+        puids: Texts::new(alloc),
+    };
+    push_file(
+        rows,
+        files,
+        FileRow {
+            record,
+            entry,
+            state: FileState::Waits,
+        },
+    )?;
+    scan.number = number;
+    Ok(())
+}
+
+/// Takes a folder, if it can be listed.
+fn take_folder<T: Tree>(
+    alloc: Global,
+    tree: &mut T,
+    scan: &mut Scan,
+    rows: &mut Vec<Row>,
+    path: Text,
+    name: Text,
+    entry: &FolderEntry,
+) -> Result<(), ProfileFault> {
+    let number = next_number(scan.number)?;
+    match tree.see_folder(alloc, path.as_str()) {
+        Ok(()) => {}
+        Err(TreeFault::Memory) => return Err(ProfileFault::Memory),
+        Err(_) => {
+            push_left(alloc, rows, path.as_str(), Skipped::Unreadable)?;
+            return Ok(());
+        }
+    }
+    let record = Record {
+        id: number,
+        parent: scan.folder.number,
+        path: path.try_clone(alloc)?,
+        name,
+        kind: NodeKind::Folder,
+        size: 0,
+        modified: entry.modified,
+        method: Method::Unidentified,
+        mismatch: false,
+        hash: HashValue::Nothing,
+        puids: Texts::new(alloc),
+    };
+    push_folder(rows, record)?;
+    add_pending(&mut scan.waiting, path, number)?;
+    scan.number = number;
+    Ok(())
+}
+
+/// Takes a file.
+fn push_file(
+    rows: &mut Vec<Row>,
+    files: &mut Vec<FileRow>,
+    file: FileRow,
+) -> Result<(), AllocError>
+    ensures rows { OnOk result (rows.new.items ≡ rows.old.items ++ row_forms.File (length files.old.items) ∷ []) }
+    ensures files { OnOk result (files.new.items ≡ files.old.items ++ file ∷ []) }
+{
+    let place = files.len();
+    rows.push(Row::File(place))?;
+    files.push(file)?;
+    Ok(())
+}
+
+/// Takes a folder.
+fn push_folder(rows: &mut Vec<Row>, shown: Record) -> Result<(), AllocError>
+    ensures { OnOk result (rows.new.items ≡ rows.old.items ++ row_forms.Folder shown ∷ []) }
+{
+    rows.push(Row::Folder(shown))?;
+    Ok(())
+}
+
+/// Returns the number after this one.
+fn next_number(number: u32) -> Result<u32, ProfileFault>
+    ensures next { IfOk result (λ next. next ≡ number + 1) }
+    ensures last { IfErr result (λ fault. (fault ≡ Numbers) × (number ≡ 4294967295)) }
+{
+    match number.checked_add(1) {
+        Some(next) => Ok(next),
+        None => Err(ProfileFault::Numbers),
+    }
+}
+
+/// Takes something that is skipped.
+pub(crate) fn push_left(
+    alloc: Global,
+    rows: &mut Vec<Row>,
+    path: &str,
+    why: Skipped,
+) -> Result<(), AllocError>
+    ensures { OnOk result (rows.new.items ≡ rows.old.items ++ row_forms.Left path.now why ∷ []) }
+{
+    let path = Blob::copy_of(alloc, path.as_bytes())?;
+    rows.push(Row::Left { path, why })?;
+    Ok(())
+}
+
+/// Takes an entry that is skipped. Its name may be invalid UTF-8.
+pub(crate) fn push_left_below(
+    alloc: Global,
+    rows: &mut Vec<Row>,
+    folder: &PendingFolder,
+    entry: &FolderEntry,
+    why: Skipped,
+) -> Result<(), AllocError>
+    ensures { OnOk result (rows.new.items ≡ rows.old.items ++ left_row folder.now.path entry.now why ∷ []) }
+{
+    let mut path = Vec::from_slice(alloc, folder.path.as_str().as_bytes())?;
+    path.extend_from_slice(b"/")?;
+    path.extend_from_slice(entry.name.as_slice())?;
+    rows.push(Row::Left {
+        path: Blob::from(path),
+        why,
+    })?;
+    Ok(())
+}

@@ -1,0 +1,67 @@
+//! Takes entries of a tree in order, folder by folder.
+
+ghost use Rattle.std.specs.Prelude.{◌≡◌, [], false, List, IfErr, IfOk, OnOk};
+ghost use Rattle.droid_frame.specs.types.record.Record.{Record};
+ghost use Rattle.droid_pronom.specs.Registry.{Contents};
+ghost use Rattle.droid_tree.specs.Heard.{Heard};
+ghost use Rattle.droid_profile_spec.specs.Calls.{Call};
+ghost use Rattle.droid_profile_spec.specs.declared.options.Options.{Options};
+ghost use Rattle.droid_profile.specs.ScanFits.{ScanFits, TakesFront, TakesMore};
+
+use crate::entries::take_entry;
+use crate::folders::list_next;
+use crate::row::Row;
+use crate::scan::Scan;
+use droid_profile_files::FileRow;
+use droid_profile_spec::ProfileFault;
+use droid_tree::Tree;
+use std::alloc::Global;
+
+/// How many entries and folders are taken for one batch.
+const TAKEN: usize = 1_024;
+
+/// Takes the next entries of a tree. Returns whether something is left.
+pub(crate) fn take_rows<T: Tree>(
+    alloc: Global,
+    tree: &mut T,
+    scan: &mut Scan,
+    rows: &mut Vec<Row>,
+    files: &mut Vec<FileRow>,
+) -> Result<bool, ProfileFault>
+    ensures taken { OnOk result ((registry : Contents) (options : Options) (calls : List Call) (heard : List Heard) (given : List Record) → ScanFits registry options calls heard given scan.old rows.old.items files.old.items
+        → TakesMore T.observes registry options calls heard given scan.new rows.new.items files.new.items tree.old tree.new) }
+    ensures all { IfOk result (λ more. more ≡ false → (scan.new.entries.items ≡ []) × (scan.new.waiting.items ≡ [])) }
+    ensures ended { IfErr result (λ fault. (registry : Contents) (options : Options) (calls : List Call) (heard : List Heard) (given : List Record) → ScanFits registry options calls heard given scan.old rows.old.items files.old.items
+        → TakesFront T.observes registry options calls heard given fault tree.old tree.new) }
+{
+    for _ in 0..TAKEN {
+        let more = take_next(alloc, tree, scan, rows, files)?;
+        if !more {
+            return Ok(false);
+        }
+    }
+    Ok(true)
+}
+
+/// Takes the next entry, or lists the next folder. Returns whether there was one.
+fn take_next<T: Tree>(
+    alloc: Global,
+    tree: &mut T,
+    scan: &mut Scan,
+    rows: &mut Vec<Row>,
+    files: &mut Vec<FileRow>,
+) -> Result<bool, ProfileFault>
+    ensures taken { OnOk result ((registry : Contents) (options : Options) (calls : List Call) (heard : List Heard) (given : List Record) → ScanFits registry options calls heard given scan.old rows.old.items files.old.items
+        → TakesMore T.observes registry options calls heard given scan.new rows.new.items files.new.items tree.old tree.new) }
+    ensures all { IfOk result (λ more. more ≡ false → (scan.new.entries.items ≡ []) × (scan.new.waiting.items ≡ [])) }
+    ensures ended { IfErr result (λ fault. (registry : Contents) (options : Options) (calls : List Call) (heard : List Heard) (given : List Record) → ScanFits registry options calls heard given scan.old rows.old.items files.old.items
+        → TakesFront T.observes registry options calls heard given fault tree.old tree.new) }
+{
+    match scan.entries.pop() {
+        Some(entry) => {
+            take_entry(alloc, tree, scan, rows, files, entry)?;
+            Ok(true)
+        }
+        None => list_next(alloc, tree, scan, rows),
+    }
+}
