@@ -92,8 +92,8 @@ impl<R: Files<File = File>> Disk for System<'_, R> {
 
     fn open(&mut self, path: Text) -> Result<Opened, TreeFault> {
         match self.place(path.as_str()) {
-            Some(place) => with_metadata(opened(self.runtime, place.as_str())?, path),
-            None => with_metadata(opened(self.runtime, path.as_str())?, path),
+            Some(place) => with_metadata(file_by(self.runtime, place.as_str())?, path),
+            None => with_metadata(file_by(self.runtime, path.as_str())?, path),
         }
     }
 
@@ -163,7 +163,7 @@ fn look_at<R: Files>(rt: &R, path: &str) -> Option<FileMetadata>
 }
 
 /// Opens the file at this place.
-fn opened<R: Files<File = File>>(rt: &R, place: &str) -> Result<File, TreeFault>
+fn file_by<R: Files<File = File>>(rt: &R, place: &str) -> Result<File, TreeFault>
     ensures { IfErr result (λ fault. fault ≢ Changed) }
 {
     match fs::open(rt, place) {

@@ -24,10 +24,10 @@ returns-in_err-path-clause-ended g c =
 
 pub returns-in-Link-clause-taken : goal.returns-in-Link-clause-taken
 returns-in-Link-clause-taken g c =
-    other_taken (Does g.T.Tree.observes g.C.Client.calls g.W.Watcher.hears) c.args.into c.args.folder.now c.args.entry.now c.args.upload.now c.report-in-Link.new.upload c.args.found.now c.as_bytes-in-Link.result.now
-    (c.as_bytes-in-Link.ensures.value ∙ (c.as_str-in-Link.ensures.value ∙ (c.in_ok-path.ensures
+    other_taken (Does g.T.Tree.observes g.C.Client.calls g.W.Watcher.hears) c.args.into c.args.folder.now c.args.entry.now c.args.upload.now c.report.new.upload c.args.found.now c.as_bytes.result.now
+    (c.as_bytes.ensures.value ∙ (c.as_str-in-Link.ensures.value ∙ (c.in_ok-path.ensures
     ∙ (ap (λ (l : List ℕ). l ++ 47 ∷ c.in-Some.name.now) c.as_str.ensures.value ∙ ap (λ (l : List ℕ). c.args.folder.now.path ++ 47 ∷ l) c.in-Some.ensures.0))))
-    c.in-Some.ensures.1 kinds.Link c.in-Link.is tt c.report-in-Link.ensures
+    c.in-Some.ensures.1 kinds.Link c.in-Link.is tt c.report.ensures
 
 pub returns-in-Other-clause-taken : goal.returns-in-Other-clause-taken
 returns-in-Other-clause-taken g c =
