@@ -11,8 +11,8 @@ use Rattle.droid_profile_spec.specs.declared.options.Options.{Options}
 use Rattle.droid_profile_spec.specs.declared.recipient.RecipientFault.{RecipientFault}
 use Rattle.droid_profile_files.specs.FilesRead.{IsSettled}
 use Rattle.droid_profile_files.specs.declared.file_row.FileRow.{FileRow}
-use Rattle.droid_profile.specs.RowsTaken.{Readings, heard_of_row, is_kept, reading_of, records_of_row}
-use Rattle.droid_profile.specs.declared.row.Row.{Row}
+use Rattle.droid_profile_rows.specs.RowsTaken.{Readings, heard_of_row, is_kept, reading_of, records_of_row}
+use Rattle.droid_profile_rows.specs.declared.row.Row.{Row}
 
 -- these files were those, and each was settled as it was read
 pub record AreSettled (registry : Contents) (options : Options) (readings : Readings) (first files : List FileRow) : Type 0 where

@@ -1,5 +1,2 @@
-pub mod RowsPushed
-pub mod RowsTaken
-pub mod ScanFits
 pub mod HandedOut
 pub mod Walking

@@ -8,9 +8,9 @@ use Rattle.droid_tree.specs.Observation.{Observation, GoesOver}
 use Rattle.droid_profile_spec.specs.Calls.{Call, heard_of_calls, observation_of}
 use Rattle.droid_profile_spec.specs.Profiles.{is_of_bytes, is_of_entry}
 use Rattle.droid_profile_spec.specs.declared.options.Options.{Options}
-use Rattle.droid_profile.specs.RowsTaken.{is_kept}
-use Rattle.droid_profile.specs.ScanFits.{ScanFits}
-use Rattle.droid_profile.specs.declared.scan.Scan.{Scan}
+use Rattle.droid_profile_rows.specs.RowsTaken.{is_kept}
+use Rattle.droid_profile_rows.specs.ScanFits.{ScanFits}
+use Rattle.droid_profile_rows.specs.declared.scan.Scan.{Scan}
 
 -- all that was taken so far was read and handed out
 pub record StandsAt {T W R : Type 0} (observes : T → Observation → T → Type 0) (hears : W → Heard → W → Type 0) (takes : R → Record → R → Type 0) (registry : Contents) (options : Options) (whole : Bool) (scan : Scan)

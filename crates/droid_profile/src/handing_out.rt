@@ -8,10 +8,10 @@ ghost use Rattle.droid_core_spec.specs.Conditions.{is_moment};
 ghost use Rattle.droid_profile_spec.specs.declared.fault.ProfileFault.TheVariants as faults;
 ghost use Rattle.droid_profile_spec.specs.declared.recipient.RecipientFault.{RecipientFault};
 ghost use Rattle.droid_profile.specs.HandedOut.{AreSettled, HandsFront, HandsOut};
-ghost use Rattle.droid_profile.specs.RowsTaken.{Readings};
+ghost use Rattle.droid_profile_rows.specs.RowsTaken.{Readings};
 ghost use Rattle.droid_profile_files.specs.declared.file_row.FileRow.{FileRow};
 
-use crate::row::Row;
+use droid_profile_rows::Row;
 use droid_frame::{Record, Reply};
 use droid_profile_files::{FileRow, FileState};
 use droid_profile_spec::{ProfileFault, Recipient};

@@ -1,14 +1,8 @@
 //! The profile of a tree: its folders and files in order, eight files read at a time, no service.
 #![tactic(auto)]
 
-mod entries;
-mod folders;
 mod handing_out;
 mod profiler;
-mod refusal;
-mod row;
-mod scan;
-mod taking;
 mod tree_profile;
 
 pub use droid_profile_spec::{Options, ProfileFault, Recipient, RecipientFault};

@@ -6,9 +6,9 @@ ghost use Rattle.droid_profile_spec.specs.Profiles.{ProfilesTree};
 
 use crate::handing_out::{both, hand_out};
 use crate::profiler::Profiler;
-use crate::row::Row;
-use crate::scan::whole_tree;
-use crate::taking::take_rows;
+use droid_profile_rows::Row;
+use droid_profile_rows::whole_tree;
+use droid_profile_rows::take_rows;
 use droid_profile_files::{Batch, read_files};
 use droid_profile_spec::{Options, ProfileFault, Recipient};
 use droid_pronom::Registry;

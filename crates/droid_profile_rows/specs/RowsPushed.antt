@@ -4,8 +4,8 @@ use Rattle.droid_tree.specs.Paths.{below}
 use Rattle.droid_tree.specs.declared.folder_entry.FolderEntry.{FolderEntry}
 use Rattle.droid_tree.specs.declared.skipped.Skipped.{Skipped}
 use Rattle.droid_tree.specs.declared.skipped.Skipped.TheVariants as reasons
-use Rattle.droid_profile.specs.declared.row.Row.{Row}
-use Rattle.droid_profile.specs.declared.row.Row.TheVariants as rows
+use Rattle.droid_profile_rows.specs.declared.row.Row.{Row}
+use Rattle.droid_profile_rows.specs.declared.row.Row.TheVariants as rows
 
 -- an entry of the folder at this path was skipped
 abbrev pub left_row : List ℕ → FolderEntry → Skipped → Row

@@ -16,9 +16,9 @@ use Rattle.droid_profile_spec.specs.declared.fault.ProfileFault.TheVariants as f
 use Rattle.droid_profile_spec.specs.declared.options.Options.{Options}
 use Rattle.droid_profile_files.specs.FileStates.{AreFresh}
 use Rattle.droid_profile_files.specs.declared.file_row.FileRow.{FileRow}
-use Rattle.droid_profile.specs.RowsTaken.{HaveEnded, MayBeRead, Readings, heard_of_row, reads_of_files, records_of_row}
-use Rattle.droid_profile.specs.declared.row.Row.{Row}
-use Rattle.droid_profile.specs.declared.scan.Scan.{Scan}
+use Rattle.droid_profile_rows.specs.RowsTaken.{HaveEnded, MayBeRead, Readings, heard_of_row, reads_of_files, records_of_row}
+use Rattle.droid_profile_rows.specs.declared.row.Row.{Row}
+use Rattle.droid_profile_rows.specs.declared.scan.Scan.{Scan}
 
 -- the entries that are left of the folder that was listed last, the next one first
 abbrev pub entries_left : Scan → List FolderEntry

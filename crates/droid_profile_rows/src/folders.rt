@@ -6,9 +6,9 @@ ghost use Rattle.droid_pronom.specs.Registry.{Contents};
 ghost use Rattle.droid_tree.specs.Heard.{Heard};
 ghost use Rattle.droid_profile_spec.specs.Calls.{Call};
 ghost use Rattle.droid_profile_spec.specs.declared.options.Options.{Options};
-ghost use Rattle.droid_profile.specs.ScanFits.{ScanFits, TakesFront, TakesMore};
+ghost use Rattle.droid_profile_rows.specs.ScanFits.{ScanFits, TakesFront, TakesMore};
 ghost use Rattle.droid_profile_files.specs.declared.file_row.FileRow.{FileRow};
-ghost use Rattle.droid_profile.specs.RowsPushed.{repeated_row};
+ghost use Rattle.droid_profile_rows.specs.RowsPushed.{repeated_row};
 
 use crate::entries::{push_left, push_left_below};
 use crate::scan::Scan;

@@ -6,7 +6,7 @@ ghost use Rattle.droid_pronom.specs.Registry.{Contents};
 ghost use Rattle.droid_tree.specs.Heard.{Heard};
 ghost use Rattle.droid_profile_spec.specs.Calls.{Call};
 ghost use Rattle.droid_profile_spec.specs.declared.options.Options.{Options};
-ghost use Rattle.droid_profile.specs.ScanFits.{ScanFits, TakesFront, TakesMore};
+ghost use Rattle.droid_profile_rows.specs.ScanFits.{ScanFits, TakesFront, TakesMore};
 
 use crate::entries::take_entry;
 use crate::folders::list_next;
@@ -21,7 +21,7 @@ use std::alloc::Global;
 const TAKEN: usize = 1_024;
 
 /// Takes the next entries of a tree. Returns whether something is left.
-pub(crate) fn take_rows<T: Tree>(
+pub fn take_rows<T: Tree>(
     alloc: Global,
     tree: &mut T,
     scan: &mut Scan,

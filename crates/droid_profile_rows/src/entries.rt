@@ -6,11 +6,11 @@ ghost use Rattle.droid_pronom.specs.Registry.{Contents};
 ghost use Rattle.droid_tree.specs.Heard.{Heard};
 ghost use Rattle.droid_profile_spec.specs.Calls.{Call};
 ghost use Rattle.droid_profile_spec.specs.declared.options.Options.{Options};
-ghost use Rattle.droid_profile.specs.ScanFits.{ScanFits, TakesFront, TakesMore};
+ghost use Rattle.droid_profile_rows.specs.ScanFits.{ScanFits, TakesFront, TakesMore};
 ghost use Rattle.droid_profile_spec.specs.declared.fault.ProfileFault.TheVariants.{Numbers};
-ghost use Rattle.droid_profile.specs.RowsPushed.{left_row};
-ghost use Rattle.droid_profile.specs.declared.row.Row.TheVariants as row_forms;
-ghost use Rattle.droid_profile.specs.declared.scan.Scan.{Scan};
+ghost use Rattle.droid_profile_rows.specs.RowsPushed.{left_row};
+ghost use Rattle.droid_profile_rows.specs.declared.row.Row.TheVariants as row_forms;
+ghost use Rattle.droid_profile_rows.specs.declared.scan.Scan.{Scan};
 
 use crate::refusal::entry_refusal;
 use crate::row::Row;

@@ -5,7 +5,7 @@ use droid_tree::Skipped;
 
 /// What is handed out of one entry, when its turn has come.
 #[derive(Drop)]
-pub(crate) enum Row {
+pub enum Row {
     /// It was skipped.
     Left {
         /// Its path, which may be invalid UTF-8.

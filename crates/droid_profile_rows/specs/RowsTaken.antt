@@ -12,8 +12,8 @@ use Rattle.droid_profile_spec.specs.Readings.{Reading, Ending, AtEnd, IsReading,
 use Rattle.droid_profile_spec.specs.declared.options.Options.{Options}
 use Rattle.droid_profile_files.specs.BatchFits.{whole_record}
 use Rattle.droid_profile_files.specs.declared.file_row.FileRow.{FileRow}
-use Rattle.droid_profile.specs.declared.row.Row.{Row}
-use Rattle.droid_profile.specs.declared.row.Row.TheVariants as rows
+use Rattle.droid_profile_rows.specs.declared.row.Row.{Row}
+use Rattle.droid_profile_rows.specs.declared.row.Row.TheVariants as rows
 
 -- how the file with each number is read
 abbrev pub Readings : Type 0

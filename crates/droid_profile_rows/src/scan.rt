@@ -10,7 +10,7 @@ use std::collections::VecDeque;
 
 /// What is still to be taken of a tree: the folders that wait, and the rest of the one that was listed last.
 #[derive(Drop)]
-pub(crate) struct Scan {
+pub struct Scan {
     /// The folders that wait to be listed.
     pub waiting: VecDeque<PendingFolder>,
     /// The folder that was listed last.
@@ -22,7 +22,7 @@ pub(crate) struct Scan {
 }
 
 /// Returns what is to be taken of a whole tree.
-pub(crate) fn whole_tree(alloc: Global) -> Result<Scan, AllocError>
+pub fn whole_tree(alloc: Global) -> Result<Scan, AllocError>
     ensures waiting { IfOk result (λ scan. scan.waiting.items ≡ top ∷ []) }
     ensures begun { IfOk result (λ scan. (scan.entries.items ≡ []) × (scan.number ≡ 0)) }
 {

@@ -1,0 +1,3 @@
+pub mod RowsPushed
+pub mod RowsTaken
+pub mod ScanFits
