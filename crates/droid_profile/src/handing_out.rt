@@ -1,19 +1,23 @@
 //! Hands rows out: records to the recipient, and reports to the watcher.
 
-ghost use Rattle.std.specs.Prelude.{◌≡◌, ◌&&◌, [], ◌∷◌, List, IfErr, IfOk, IsTrue, OnOk};
+ghost use Rattle.std.specs.Prelude.{◌≡◌, ◌&&◌, List, IfErr, IfOk, IsTrue, OnOk, length};
+ghost use Rattle.std.specs.List.{flat_map, AllByRecursion};
+ghost use Rattle.droid_core_spec.specs.Conditions.{is_moment};
 ghost use Rattle.droid_frame.specs.types.reply.Reply.TheVariants as replies;
 ghost use Rattle.droid_pronom.specs.Registry.{Contents};
-ghost use Rattle.droid_profile_spec.specs.declared.options.Options.{Options};
-ghost use Rattle.droid_core_spec.specs.Conditions.{is_moment};
+ghost use Rattle.droid_profile_spec.specs.Kids.{heard_of_file};
+ghost use Rattle.droid_profile_spec.specs.Readings.{Reading};
 ghost use Rattle.droid_profile_spec.specs.declared.fault.ProfileFault.TheVariants as faults;
+ghost use Rattle.droid_profile_spec.specs.declared.options.Options.{Options};
 ghost use Rattle.droid_profile_spec.specs.declared.recipient.RecipientFault.{RecipientFault};
-ghost use Rattle.droid_profile.specs.HandedOut.{AreSettled, HandsFront, HandsOut};
-ghost use Rattle.droid_profile_rows.specs.RowsTaken.{Readings};
+ghost use Rattle.droid_profile_files.specs.FilesRead.{IsSettled};
 ghost use Rattle.droid_profile_files.specs.declared.file_row.FileRow.{FileRow};
+ghost use Rattle.droid_profile_rows.specs.RowsTaken.{HasMoment, IsReady, Readings, heard_of_row, is_link_reason, records_by, records_of_row};
+ghost use Rattle.droid_profile.specs.HandedOut.{AreSettled, Hands, HandsFront};
 
-use droid_profile_rows::Row;
 use droid_frame::{Record, Reply};
 use droid_profile_files::{FileRow, FileState};
+use droid_profile_rows::Row;
 use droid_profile_spec::{ProfileFault, Recipient};
 use droid_tree::{Skipped, Watcher};
 use std::alloc::{AllocError, Global};
@@ -26,10 +30,13 @@ pub(crate) fn hand_out<W: Watcher, R: Recipient>(
     rows: &[Row],
     files: &[FileRow],
 ) -> Result<bool, ProfileFault>
+    requires ready { AllByRecursion (IsReady (length files.now)) rows.now }
+    requires moments { AllByRecursion HasMoment files.now }
+    // However the files were read.
     ensures handed { IfOk result (λ kept. (registry : Contents) (options : Options) (readings : Readings) (first : List FileRow) → AreSettled registry options readings first files.now
-        → HandsOut W.hears R.takes registry options readings first rows.now kept watcher.old watcher.new recipient.old recipient.new) }
+        → Hands W.hears R.takes (flat_map (heard_of_row registry options readings first) rows.now) (flat_map (records_of_row registry options readings first) rows.now) kept watcher.old watcher.new recipient.old recipient.new) }
     ensures ended { IfErr result (λ fault. (registry : Contents) (options : Options) (readings : Readings) (first : List FileRow) → AreSettled registry options readings first files.now
-        → HandsFront W.hears R.takes R.fails registry options readings first rows.now fault watcher.old watcher.new recipient.old recipient.new) }
+        → HandsFront W.hears R.takes R.fails (flat_map (heard_of_row registry options readings first) rows.now) (flat_map (records_of_row registry options readings first) rows.now) fault watcher.old watcher.new recipient.old recipient.new) }
 {
     let mut whole = true;
     for row in rows {
@@ -54,26 +61,35 @@ fn hand_row<W: Watcher, R: Recipient>(
     row: &Row,
     files: &[FileRow],
 ) -> Result<bool, ProfileFault>
+    requires ready { IsReady (length files.now) row.now }
+    requires moments { AllByRecursion HasMoment files.now }
     ensures handed { IfOk result (λ kept. (registry : Contents) (options : Options) (readings : Readings) (first : List FileRow) → AreSettled registry options readings first files.now
-        → HandsOut W.hears R.takes registry options readings first (row.now ∷ []) kept watcher.old watcher.new recipient.old recipient.new) }
+        → Hands W.hears R.takes (heard_of_row registry options readings first row.now) (records_of_row registry options readings first row.now) kept watcher.old watcher.new recipient.old recipient.new) }
     ensures ended { IfErr result (λ fault. (registry : Contents) (options : Options) (readings : Readings) (first : List FileRow) → AreSettled registry options readings first files.now
-        → HandsFront W.hears R.takes R.fails registry options readings first (row.now ∷ []) fault watcher.old watcher.new recipient.old recipient.new) }
+        → HandsFront W.hears R.takes R.fails (heard_of_row registry options readings first row.now) (records_of_row registry options readings first row.now) fault watcher.old watcher.new recipient.old recipient.new) }
 {
     match row {
         Row::Left { path, why } => {
             watcher.skipped(path.as_slice(), *why);
-            Ok(*why == Skipped::Link)
+            Ok(is_link(*why))
         }
         Row::Folder(record) => {
             give(recipient, record)?;
             watcher.took_folder(record.path.as_str());
             Ok(true)
         }
-        Row::File(place) => match files.get(*place) {
-            Some(file) => hand_file(alloc, watcher, recipient, file),
-            None => Ok(false),
-        },
+        Row::File(place) => {
+            let kept = hand_file(alloc, watcher, recipient, &files[*place])?;
+            Ok(kept)
+        }
     }
+}
+
+/// Returns whether something was skipped as a symbolic link.
+fn is_link(why: Skipped) -> bool
+    ensures { result ≡ is_link_reason why }
+{
+    why == Skipped::Link
 }
 
 /// Hands out a file, or reports why it was dropped.
@@ -82,7 +98,13 @@ fn hand_file<W: Watcher, R: Recipient>(
     watcher: &mut W,
     recipient: &mut R,
     file: &FileRow,
-) -> Result<bool, ProfileFault> {
+) -> Result<bool, ProfileFault>
+    requires { HasMoment file.now }
+    ensures handed { IfOk result (λ kept. (registry : Contents) (options : Options) (was : FileRow) (reading : Reading) → IsSettled registry options was file.now reading file.now.state
+        → Hands W.hears R.takes (heard_of_file registry options was.record.path was.entry reading reading.ending) (records_by registry options was reading reading.ending) kept watcher.old watcher.new recipient.old recipient.new) }
+    ensures ended { IfErr result (λ fault. (registry : Contents) (options : Options) (was : FileRow) (reading : Reading) → IsSettled registry options was file.now reading file.now.state
+        → HandsFront W.hears R.takes R.fails (heard_of_file registry options was.record.path was.entry reading reading.ending) (records_by registry options was reading reading.ending) fault watcher.old watcher.new recipient.old recipient.new) }
+{
     match file.state {
         FileState::Dropped(why) => {
             watcher.skipped(file.record.path.as_str().as_bytes(), why);

@@ -1,15 +1,19 @@
 //! The profile of a tree.
 
-ghost use Rattle.std.specs.Prelude.{◌≡◌, ◌≤◌, [], List, IfErr, IfOk};
+ghost use Rattle.std.specs.Prelude.{◌≡◌, ◌≤◌, ◌&&◌, [], Bool, IfErr, IfOk, OnOk, length};
+ghost use Rattle.std.specs.List.{AllByRecursion};
 ghost use Rattle.droid_profile_spec.specs.EarlyEnds.{EndsEarly};
 ghost use Rattle.droid_profile_spec.specs.Profiles.{ProfilesTree};
+ghost use Rattle.droid_profile_files.specs.FileStates.{AreFresh};
+ghost use Rattle.droid_profile_files.specs.LaneSteps.{IsFor};
+ghost use Rattle.droid_profile_rows.specs.RowsTaken.{HasMoment, IsReady};
+ghost use Rattle.droid_profile_rows.specs.declared.scan.Scan.{Scan};
+ghost use Rattle.droid_profile.specs.Walking.{StandsAt};
 
 use crate::handing_out::{both, hand_out};
 use crate::profiler::Profiler;
-use droid_profile_rows::Row;
-use droid_profile_rows::whole_tree;
-use droid_profile_rows::take_rows;
 use droid_profile_files::{Batch, read_files};
+use droid_profile_rows::{Row, take_rows, whole_tree};
 use droid_profile_spec::{Options, ProfileFault, Recipient};
 use droid_pronom::Registry;
 use droid_tree::{Tree, Watcher};
@@ -60,7 +64,18 @@ fn settle<T: Tree, W: Watcher, R: Recipient>(
     options: Options,
     rows: &mut Vec<Row>,
     batch: &mut Batch,
-) -> Result<bool, ProfileFault> {
+) -> Result<bool, ProfileFault>
+    requires made { IsFor options batch.old }
+    requires fresh { AreFresh batch.old.files.items }
+    requires moments { AllByRecursion HasMoment batch.old.files.items }
+    requires ready { AllByRecursion (IsReady (length batch.old.files.items)) rows.old.items }
+    ensures settled { IfOk result (λ kept. (whole : Bool) (scan : Scan) (start : T) (begun : W) (first : R) → StandsAt T.observes W.hears R.takes registry.now options whole scan rows.old.items batch.old.files.items start profiler.old.tree begun profiler.old.watcher first profiler.old.recipient
+        → StandsAt T.observes W.hears R.takes registry.now options (whole && kept) scan [] [] start profiler.new.tree begun profiler.new.watcher first profiler.new.recipient) }
+    ensures empty { OnOk result ((rows.new.items ≡ []) × (batch.new.files.items ≡ [])) }
+    ensures made { OnOk result (IsFor options batch.new) }
+    ensures ended { IfErr result (λ fault. (whole : Bool) (scan : Scan) (start : T) (begun : W) (first : R) → StandsAt T.observes W.hears R.takes registry.now options whole scan rows.old.items batch.old.files.items start profiler.old.tree begun profiler.old.watcher first profiler.old.recipient
+        → EndsEarly T.observes W.hears R.takes R.fails registry.now options fault start profiler.new.tree begun profiler.new.watcher first profiler.new.recipient) }
+{
     let alloc = profiler.alloc;
     read_files(
         alloc,

@@ -1,0 +1,6 @@
+pub mod ChosenReadings
+pub mod FileHanded
+pub mod Handing
+pub mod ReportKinds
+pub mod Walks
+pub mod WholeVisits
