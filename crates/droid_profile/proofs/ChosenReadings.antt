@@ -66,28 +66,21 @@ the_rest_is number other its readings apart = elim (eqb_tells other number) [
   | inr t ↦ rw t.0 refl
 ]
 
-pub choose : (P : ℕ → FileRow → Reading → Type 0) (files : List FileRow) → AreDistinct files → ((place : ℕ) (was : FileRow) → slice_get files place ≡ Some was → (reading : Reading) × P place was reading) → Chosen P files
+each_more : (P : ℕ → FileRow → Reading → Type 0) (file : FileRow) (files : List FileRow) → AreDistinct (file ∷ files) → (first : Reading) → P zero file first → (readings : Readings)
+    → ((place : ℕ) (was : FileRow) → slice_get files place ≡ Some was → P (suc place) was (readings was.record.id))
+    → (place : ℕ) (was : FileRow) → slice_get (file ∷ files) place ≡ Some was → P place was (with_reading file.record.id first readings was.record.id)
+each_more P file files distinct first its readings rest zero was there =
+    subst (λ (w : FileRow). P zero w (with_reading file.record.id first readings w.record.id)) (same_item (Some file) file was refl there) (subst (P zero file) (sym (it_is file.record.id first readings)) its)
+each_more P file files distinct first its readings rest (suc place) was there =
+    let apart : was.record.id ≡ file.record.id → ⊥ = λ same. omega (arith, distinct (suc place) zero was file there refl same) in
+    subst (P (suc place) was) (sym (the_rest_is file.record.id was.record.id first readings apart)) (rest place was there)
+
+choose : (P : ℕ → FileRow → Reading → Type 0) (files : List FileRow) → AreDistinct files → ((place : ℕ) (was : FileRow) → slice_get files place ≡ Some was → (reading : Reading) × P place was reading) → Chosen P files
 choose P [] distinct some = record { readings = λ (n : ℕ). unread; each = λ place was there. absurd (none_there place was there) }
-choose P (file ∷ files) distinct some = record { readings = all; each = each }
-  where
-    first : (reading : Reading) × P zero file reading
-    first = some zero file refl
-
-    rest : Chosen (λ (place : ℕ). P (suc place)) files
-    rest = choose (λ (place : ℕ). P (suc place)) files (distinct_rest file files distinct) (λ place was there. some (suc place) was there)
-
-    all : Readings
-    all = with_reading file.record.id first.0 rest.readings
-
-    each : (place : ℕ) (was : FileRow) → slice_get (file ∷ files) place ≡ Some was → P place was (all was.record.id)
-    unfolding all
-    each zero was there = subst (λ (w : FileRow). P zero w (all w.record.id)) (same_item (Some file) file was refl there)
-        (subst (P zero file) (sym (it_is file.record.id first.0 rest.readings)) first.1)
-    each (suc place) was there =
-        subst (P (suc place) was) (sym (the_rest_is file.record.id was.record.id first.0 rest.readings (λ same. apart place was there same))) (rest.each place was there)
-
-    apart : (place : ℕ) (was : FileRow) → slice_get files place ≡ Some was → was.record.id ≡ file.record.id → ⊥
-    apart place was there same = omega (arith, distinct (suc place) zero was file there refl same)
+choose P (file ∷ files) distinct some =
+    let first : (reading : Reading) × P zero file reading = some zero file refl in
+    let rest : Chosen (λ (place : ℕ). P (suc place)) files = choose (λ (place : ℕ). P (suc place)) files (distinct_rest file files distinct) (λ place was there. some (suc place) was there) in
+    record { readings = with_reading file.record.id first.0 rest.readings; each = each_more P file files distinct first.0 first.1 rest.readings rest.each }
 
 -- ---- the reads of each number
 
@@ -196,36 +189,33 @@ record SettledLike (registry : Contents) (options : Options) (files : List FileR
   pub there : slice_get files place ≡ Some row
   pub settled : IsSettled registry options was row reading row.state
 
+one_settled : (registry : Contents) (options : Options) (first files : List FileRow) (calls : List Call) → length files ≡ length first
+    → ((place : ℕ) (was row : FileRow) → slice_get first place ≡ Some was → slice_get files place ≡ Some row → Settles registry options calls was row)
+    → (place : ℕ) (was : FileRow) → slice_get first place ≡ Some was → (reading : Reading) × SettledLike registry options files calls place was reading
+one_settled registry options first files calls counted settles place was there =
+    let at = item_at files place (subst (λ (n : ℕ). place < n) (sym counted) (within_list first place was there)) in
+    let its = settles place was at.0 there at.1 in
+    (its.reading, record { read = record { is_reading = its.is_reading; reads = its.reads }; row = at.0; there = at.1; settled = its.state })
+
+each_settled : (registry : Contents) (options : Options) (first files : List FileRow) (calls : List Call) → length files ≡ length first → (chosen : Chosen (SettledLike registry options files calls) first)
+    → (place : ℕ) (row : FileRow) → slice_get files place ≡ Some row → WasRead registry options chosen.readings first place row
+each_settled registry options first files calls counted chosen place row there =
+    let at = item_at first place (subst (λ (n : ℕ). place < n) counted (within_list files place row there)) in
+    let its = chosen.each place at.0 at.1 in
+    record {
+      was = at.0;
+      there = at.1;
+      settled = subst (λ (r : FileRow). IsSettled registry options at.0 r (chosen.readings at.0.record.id) r.state) (same_item (slice_get files place) its.row row its.there there) its.settled;
+    }
+
 pub read_as : (registry : Contents) (options : Options) (first files : List FileRow) (calls : List Call) → AreDistinct first → AreReads first calls → length files ≡ length first
     → ((place : ℕ) (was row : FileRow) → slice_get first place ≡ Some was → slice_get files place ≡ Some row → Settles registry options calls was row) → ReadAs registry options first files calls
-read_as registry options first files calls distinct are counted settles = record {
-  readings = chosen.readings;
-  like = like chosen.readings first calls distinct are (λ place was there. (chosen.each place was there).read);
-  ended = all_from_places (λ (file : FileRow). has_ended (chosen.readings file.record.id).ending ≡ true) first
-      (λ place was there. let its = chosen.each place was there in ended_if_settled registry options was its.row (chosen.readings was.record.id) its.row.state its.settled);
-  settled = record { each = each };
-}
-  where
-    P : ℕ → FileRow → Reading → Type 0
-    P place was reading = SettledLike registry options files calls place was reading
-
-    one : (place : ℕ) (was : FileRow) → slice_get first place ≡ Some was → (reading : Reading) × P place was reading
-    unfolding P
-    one place was there =
-        let at = item_at files place (subst (λ (n : ℕ). place < n) (sym counted) (within_list first place was there)) in
-        let its = settles place was at.0 there at.1 in
-        (its.reading, record { read = record { is_reading = its.is_reading; reads = its.reads }; row = at.0; there = at.1; settled = its.state })
-
-    chosen : Chosen P first
-    chosen = choose P first distinct one
-
-    each : (place : ℕ) (row : FileRow) → slice_get files place ≡ Some row → WasRead registry options chosen.readings first place row
-    unfolding P
-    each place row there =
-        let at = item_at first place (subst (λ (n : ℕ). place < n) counted (within_list files place row there)) in
-        let its = chosen.each place at.0 at.1 in
-        record {
-          was = at.0;
-          there = at.1;
-          settled = subst (λ (r : FileRow). IsSettled registry options at.0 r (chosen.readings at.0.record.id) r.state) (same_item (slice_get files place) its.row row its.there there) its.settled;
-        }
+read_as registry options first files calls distinct are counted settles =
+    let chosen : Chosen (SettledLike registry options files calls) first = choose (SettledLike registry options files calls) first distinct (one_settled registry options first files calls counted settles) in
+    record {
+      readings = chosen.readings;
+      like = like chosen.readings first calls distinct are (λ place was there. (chosen.each place was there).read);
+      ended = all_from_places (λ (file : FileRow). has_ended (chosen.readings file.record.id).ending ≡ true) first
+          (λ place was there. let its = chosen.each place was there in ended_if_settled registry options was its.row (chosen.readings was.record.id) its.row.state its.settled);
+      settled = record { each = each_settled registry options first files calls counted chosen };
+    }

@@ -27,10 +27,6 @@ use Rattle.droid_profile_rows.specs.RowsTaken.{HasMoment, records_by}
 use Rattle.droid_profile.specs.HandedOut.{Hands, HandsFront}
 use Rattle.droid_profile.proofs.ChosenReadings.{all_at, all_from_places, within_list}
 
--- what the service would reply when it has finished the file of this record
-abbrev pub finished : Record → Reply
-finished shown = replies.Finished shown.method shown.mismatch shown.hash shown.puids
-
 -- nothing was handed out, since memory ran out
 pub front_of_memory : {W R : Type 0} (hears : W → Heard → W → Type 0) (takes : R → Record → R → Type 0) (fails : R → Record → RecipientFault → R → Type 0) (entries : List Heard) (records : List Record) (watcher : W) (recipient : R)
     → HandsFront hears takes fails entries records faults.Memory watcher watcher recipient recipient
@@ -60,31 +56,9 @@ module _ {W R : Type 0} (hears : W → Heard → W → Type 0) (takes : R → Re
   abbrev given_of : Ending → List Record
   given_of ending = records_by registry options was reading ending
 
-  pub hands_dropped : (ending : Ending) (why : Skipped) (shown : Record) (watcher watcher_after : W) (recipient : R) → IsDropped ending why → shown ≡ was.record → hears watcher (Left shown.path why) watcher_after
-      → Hands hears takes (entries_of ending) (given_of ending) false watcher watcher_after recipient recipient
-  hands_dropped (TooShort wanted bytes) why shown watcher watcher_after recipient dropped same heard = record { informed = (watcher_after, subst (λ (h : Heard). hears watcher h watcher_after) (ap₂ Left (ap (λ (r : Record). r.path) same) dropped) heard, refl); taken = refl; kept_is = refl }
-  hands_dropped (TooLong wanted bytes) why shown watcher watcher_after recipient dropped same heard = record { informed = (watcher_after, subst (λ (h : Heard). hears watcher h watcher_after) (ap₂ Left (ap (λ (r : Record). r.path) same) dropped) heard, refl); taken = refl; kept_is = refl }
-  hands_dropped (NoneCame wanted) why shown watcher watcher_after recipient dropped same heard = record { informed = (watcher_after, subst (λ (h : Heard). hears watcher h watcher_after) (ap₂ Left (ap (λ (r : Record). r.path) same) dropped) heard, refl); taken = refl; kept_is = refl }
-  hands_dropped (OtherFile wanted) why shown watcher watcher_after recipient dropped same heard = record { informed = (watcher_after, subst (λ (h : Heard). hears watcher h watcher_after) (ap₂ Left (ap (λ (r : Record). r.path) same) dropped) heard, refl); taken = refl; kept_is = refl }
-  hands_dropped (AtEnd wanted bytes) why shown watcher watcher_after recipient dropped same heard = absurd dropped
-  hands_dropped NotYet why shown watcher watcher_after recipient dropped same heard = absurd dropped
-
   -- the record of the file that was read whole
   abbrev whole : Record
   whole = whole_record options was.record (found_of registry options was.entry (bytes_of reading)) (bytes_of reading)
-
-  pub hands_whole : (ending : Ending) (shown : Record) (reply : Reply) (watcher watcher_after : W) (recipient recipient_after : R) → is_whole ending ≡ true → shown ≡ whole → takes recipient shown recipient_after → reply ≡ finished shown
-      → hears watcher (TookFile shown.path reply) watcher_after → Hands hears takes (entries_of ending) (given_of ending) true watcher watcher_after recipient recipient_after
-  hands_whole (AtEnd wanted bytes) shown reply watcher watcher_after recipient recipient_after is same took its heard = record {
-    informed = (watcher_after, subst (λ (h : Heard). hears watcher h watcher_after) (ap (λ (r : Reply). TookFile shown.path r) its ∙ ap (λ (r : Record). TookFile r.path (finished r)) same) heard, refl);
-    taken = (recipient_after, subst (λ (r : Record). takes recipient r recipient_after) same took, refl);
-    kept_is = refl;
-  }
-  hands_whole (TooShort wanted bytes) shown reply watcher watcher_after recipient recipient_after is same took its heard = absurd cc
-  hands_whole (TooLong wanted bytes) shown reply watcher watcher_after recipient recipient_after is same took its heard = absurd cc
-  hands_whole (NoneCame wanted) shown reply watcher watcher_after recipient recipient_after is same took its heard = absurd cc
-  hands_whole (OtherFile wanted) shown reply watcher watcher_after recipient recipient_after is same took its heard = absurd cc
-  hands_whole NotYet shown reply watcher watcher_after recipient recipient_after is same took its heard = absurd cc
 
   pub front_whole : (ending : Ending) (shown : Record) (why : RecipientFault) (fault : ProfileFault) (watcher : W) (recipient recipient_after : R) → is_whole ending ≡ true → shown ≡ whole → fault ≡ faults.Recipient why → fails recipient shown why recipient_after
       → HandsFront hears takes fails (entries_of ending) (given_of ending) fault watcher watcher recipient recipient_after

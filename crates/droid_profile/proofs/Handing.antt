@@ -1,5 +1,5 @@
 -- What is handed out one after the other.
-use Rattle.std.proofs.Common.{◌≡◌, inl, inr, ℕ, ◌+◌, ◌<◌, ◌&&◌, Bool, true, List, [], ◌∷◌, ◌++◌, length, take, drop, get_or, append_assoc, take-append-drop, refl, sym, ap, ap₂, subst, ◌∙◌}
+use Rattle.std.proofs.Common.{◌≡◌, ℕ, ◌+◌, ◌<◌, ◌&&◌, Bool, true, List, [], ◌∷◌, ◌++◌, length, take, drop, get_or, append_assoc, take-append-drop, refl, sym, ap, ap₂, subst, ◌∙◌}
 use Rattle.std.specs.List.{flat_map, list_all}
 use Rattle.std.proofs.lemmas.List.{drop_more, take_more}
 use Rattle.std.proofs.lemmas.List.Concat.{flat_map-append}
@@ -84,12 +84,13 @@ module _ {W R : Type 0} (hears : W → Heard → W → Type 0) (takes : R → Re
   module _ {A : Type 0} (entries_of : A → List Heard) (records_of : A → List Record) (rows : List A) (i : ℕ) (row : A) (within : i < length rows) (is : row ≡ get_or rows i row) (kept : Bool) (watcher watcher_now watcher_after : W) (recipient recipient_now recipient_after : R)
       (first : Hands hears takes (flat_map entries_of (take i rows)) (flat_map records_of (take i rows)) kept watcher watcher_now recipient recipient_now) where
     -- one row more
-    pub hands_row : (then : Bool) → Hands hears takes (entries_of row) (records_of row) then watcher_now watcher_after recipient_now recipient_after
-        → Hands hears takes (flat_map entries_of (take (i + 1) rows)) (flat_map records_of (take (i + 1) rows)) (kept && then) watcher watcher_after recipient recipient_after
-    hands_row then next =
-        subst (λ (l : List Heard). Hands hears takes l (flat_map records_of (take (i + 1) rows)) (kept && then) watcher watcher_after recipient recipient_after) (sym (one_more entries_of))
+    pub hands_row : (then both : Bool) → both ≡ (kept && then) → Hands hears takes (entries_of row) (records_of row) then watcher_now watcher_after recipient_now recipient_after
+        → Hands hears takes (flat_map entries_of (take (i + 1) rows)) (flat_map records_of (take (i + 1) rows)) both watcher watcher_after recipient recipient_after
+    hands_row then both are next =
+        subst (λ (b : Bool). Hands hears takes (flat_map entries_of (take (i + 1) rows)) (flat_map records_of (take (i + 1) rows)) b watcher watcher_after recipient recipient_after) (sym are)
+        (subst (λ (l : List Heard). Hands hears takes l (flat_map records_of (take (i + 1) rows)) (kept && then) watcher watcher_after recipient recipient_after) (sym (one_more entries_of))
         (subst (λ (l : List Record). Hands hears takes (flat_map entries_of (take i rows) ++ entries_of row) l (kept && then) watcher watcher_after recipient recipient_after) (sym (one_more records_of))
-        (hands_more (flat_map entries_of (take i rows)) (entries_of row) (flat_map records_of (take i rows)) (records_of row) kept then watcher watcher_now watcher_after recipient recipient_now recipient_after first next))
+        (hands_more (flat_map entries_of (take i rows)) (entries_of row) (flat_map records_of (take i rows)) (records_of row) kept then watcher watcher_now watcher_after recipient recipient_now recipient_after first next)))
       where
         one_more : {B : Type 0} (f : A → List B) → flat_map f (take (i + 1) rows) ≡ flat_map f (take i rows) ++ f row
         one_more {B = B} f = ap (flat_map f) (take_more rows i row within ∙ ap (λ (y : A). take i rows ++ y ∷ []) (sym is)) ∙ given_more f (take i rows) row

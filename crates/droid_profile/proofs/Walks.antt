@@ -169,7 +169,7 @@ module _ {T W R : Type 0} (observes : T → Observation → T → Type 0) (hears
         visited = λ later may. record {
           visits = visited.visits;
           in_turn = visited.in_turn;
-          open = visited.open;
+          opened = visited.opened;
           numbered = visited.numbered;
           counted = visited.counted;
           complete = λ all. visited.complete ended;
@@ -215,7 +215,7 @@ module _ {T W R : Type 0} (observes : T → Observation → T → Type 0) (hears
       → ProfilesTree observes hears takes registry options whole start tree begun watcher first recipient
   all_profiled whole scan start tree begun watcher first recipient on none_left none_waits =
       let visited = on.fits.visited none_read tt in
-      let visits = visits_whole visited.visits scan none_left visited.open in
+      let visits = visits_whole visited.visits scan none_left visited.opened in
       let complete = visited.complete tt in
       let entries = visited.entries ∙ append-nil (filter is_of_entry on.heard) in
       record {
@@ -267,7 +267,7 @@ module _ {T W R : Type 0} (observes : T → Observation → T → Type 0) (hears
       visits = visited.visits;
       waiting = scan.waiting.items;
       in_turn = visited.in_turn;
-      begun = visits_begun visited.visits scan visited.open;
+      begun = visits_begun visited.visits scan visited.opened;
       numbered = visited.numbered;
       calls = calls ++ reads;
       are_calls = calls_of registry options readings calls reads entries given scan rows files visited read;

@@ -1,6 +1,7 @@
 -- Whether nothing was skipped shows in what the watcher learned.
-use Rattle.std.proofs.Common.{◌≡◌, ◌&&◌, ◌==◌, Bool, true, false, List, [], ◌∷◌, ◌++◌, ℕ, length, Option, Some, None, is_some, refl, sym, ap, ap₂, ◌∙◌}
+use Rattle.std.proofs.Common.{◌≡◌, inl, inr, ◌&&◌, ◌==◌, Bool, true, false, List, [], ◌∷◌, ◌++◌, ℕ, length, Option, Some, None, is_some, refl, sym, ap, ap₂, ◌∙◌, arith}
 use Rattle.std.specs.List.{flat_map, list_all, AllByRecursion}
+use Rattle.std.proofs.lemmas.Bool.Decides.{eqb_tells}
 use Rattle.std.proofs.lemmas.List.Folds.{list_all-append}
 use Rattle.droid_pronom.specs.Registry.{Contents}
 use Rattle.droid_tree.specs.Heard.{Heard}
@@ -31,10 +32,10 @@ file_kept registry options path entry reading (OtherFile wanted) ended = refl
 file_kept registry options path entry reading NotYet ended = absurd cc
 
 link_kept : (kind : EntryKind) → IsNoNode kind → is_link_reason (reason_of_kind kind) ≡ is_link kind
-link_kept kinds.Folder no = absurd no
-link_kept kinds.File no = absurd no
-link_kept kinds.Link no = refl
-link_kept kinds.Other no = refl
+link_kept kinds.Folder is = absurd is
+link_kept kinds.File is = absurd is
+link_kept kinds.Link is = refl
+link_kept kinds.Other is = refl
 
 kid_kept : (registry : Contents) (options : Options) (path : List ℕ) (kid : Kid) → MayCome path kid → is_done kid ≡ true → list_all is_kept (heard_of_kid registry options path kid) ≡ is_taken kid
 kid_kept registry options path (Subfolder entry number) may done = refl
@@ -57,7 +58,10 @@ listing_kept path (Some entries) = refl
 
 repeated_kept : (path : List ℕ) (repeated : List FolderEntry) → list_all is_kept (heard_of_repeated path repeated) ≡ (length repeated == 0)
 repeated_kept path [] = refl
-repeated_kept path (entry ∷ repeated) = refl
+repeated_kept path (entry ∷ repeated) = elim (eqb_tells (length (entry ∷ repeated)) 0) [
+  | inl t ↦ absurd (omega (arith, t.1))
+  | inr t ↦ sym t.0
+]
 
 visit_kept : (registry : Contents) (options : Options) (visit : Visit) → IsVisit visit → is_complete visit ≡ true → list_all is_kept (heard_of_visit registry options visit) ≡ is_whole_visit visit
 visit_kept registry options visit is complete =
