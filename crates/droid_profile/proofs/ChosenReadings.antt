@@ -1,9 +1,8 @@
 -- How the files of a batch were read, as a function of their numbers.
-use Rattle.std.proofs.Common.{◌≡◌, inl, inr, ℕ, zero, suc, ◌+◌, ◌<◌, ◌==◌, if◌then◌else◌, Bool, true, false, List, [], ◌∷◌, ◌++◌, length, slice_get, slice_index_or, Some, None, Contains, append-nil, refl, sym, ap, subst, ◌∙◌, arith}
+use Rattle.std.proofs.Common.{◌≡◌, inl, inr, ℕ, zero, suc, ◌<◌, ◌==◌, if◌then◌else◌, true, List, [], ◌∷◌, ◌++◌, length, slice_get, slice_index_or, Some, Contains, append-nil, refl, sym, ap, subst, ◌∙◌, arith}
 use Rattle.std.specs.List.{AllByRecursion}
 use Rattle.std.proofs.lemmas.Bool.Decides.{eqb_tells}
 use Rattle.droid_pronom.specs.Registry.{Contents}
-use Rattle.droid_tree.specs.Heard.{Heard}
 use Rattle.droid_tree.specs.Observation.{Observation}
 use Rattle.droid_tree.specs.declared.skipped.Skipped.{Skipped}
 use Rattle.droid_profile_spec.specs.Calls.{Call, folder_calls, reads_of}
@@ -104,8 +103,8 @@ reads_at number readings [] distinct reads each none = none (λ has. omega (arit
 reads_at number readings (file ∷ files) distinct reads each none = elim (eqb_tells file.record.id number) [
   | inl t ↦
       let absent : ¬ (Contains (numbers_in files) number) = λ has.
-          let other = with_number files has.0 number has.1 has.2 in
-          omega (arith, distinct zero (suc has.0) file other.0 refl other.1 (t.1 ∙ sym other.2)) in
+      let other = with_number files has.0 number has.1 has.2 in
+      omega (arith, distinct zero (suc has.0) file other.0 refl other.1 (t.1 ∙ sym other.2)) in
       let its : List Observation = reads_in file.record.path file.entry (readings file.record.id) in
       rw t.0 (each zero file refl t.1 ∙ sym (ap (λ (l : List Observation). its ++ l) (no_reads number readings files absent) ∙ append-nil its))
   | inr t ↦
@@ -147,8 +146,8 @@ pub begun_as : (files : List FileRow) (calls : List Call) → AreDistinct files 
 begun_as files calls distinct are some =
     let P : ℕ → FileRow → Reading → Type 0 = λ place was reading. IsRead calls was reading in
     let chosen : Chosen P files = choose P files distinct (λ place was there.
-        let its = some place was there in
-        (its.reading, record { is_reading = its.is_reading; reads = its.reads })) in
+    let its = some place was there in
+    (its.reading, record { is_reading = its.is_reading; reads = its.reads })) in
     record { readings = chosen.readings; like = like chosen.readings files calls distinct are chosen.each }
 
 -- ---- each file read to its end

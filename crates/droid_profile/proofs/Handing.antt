@@ -1,6 +1,6 @@
 -- What is handed out one after the other.
 use Rattle.std.proofs.Common.{◌≡◌, ℕ, ◌+◌, ◌<◌, ◌&&◌, Bool, true, List, [], ◌∷◌, ◌++◌, length, take, drop, get_or, append_assoc, take-append-drop, refl, sym, ap, ap₂, subst, ◌∙◌}
-use Rattle.std.specs.List.{flat_map, list_all}
+use Rattle.std.specs.List.{flat_map}
 use Rattle.std.proofs.lemmas.List.{drop_more, take_more}
 use Rattle.std.proofs.lemmas.List.Concat.{flat_map-append}
 use Rattle.std.proofs.lemmas.List.Folds.{list_all-append}
@@ -9,7 +9,6 @@ use Rattle.droid_tree.specs.Heard.{Heard}
 use Rattle.droid_tree.specs.Observation.{GoesOver}
 use Rattle.droid_profile_spec.specs.EarlyEnds.{AreFirst, TakesFirst, Took, Failed}
 use Rattle.droid_profile_spec.specs.declared.fault.ProfileFault.{ProfileFault}
-use Rattle.droid_profile_spec.specs.declared.fault.ProfileFault.TheVariants as faults
 use Rattle.droid_profile_spec.specs.declared.recipient.RecipientFault.{RecipientFault}
 use Rattle.droid_profile_spec.proofs.VisitSteps.{given_more}
 use Rattle.droid_profile_files.proofs.BatchEnds.{over_more}

@@ -1,12 +1,11 @@
 -- Which reports are of entries, and which of bytes.
-use Rattle.std.proofs.Common.{◌≡◌, Bool, true, false, List, [], ◌∷◌, ◌++◌, ℕ, filter, map, Option, Some, None, slice_get, append-nil, refl, sym, ap, subst, ◌∙◌}
+use Rattle.std.proofs.Common.{◌≡◌, true, false, List, [], ◌∷◌, ◌++◌, ℕ, filter, map, Option, Some, None, slice_get, refl, ap}
 use Rattle.std.specs.List.{flat_map, AllByRecursion}
-use Rattle.std.proofs.lemmas.List.Concat.{flat_map-append}
 use Rattle.droid_pronom.specs.Registry.{Contents}
 use Rattle.droid_tree.specs.Heard.{Heard}
 use Rattle.droid_tree.specs.Observation.{Observation, Listed, Unlisted, Opened, Unopened, Read, Unread, Exchanged}
 use Rattle.droid_tree.specs.declared.folder_entry.FolderEntry.{FolderEntry}
-use Rattle.droid_profile_spec.specs.Calls.{Call, OfFolder, OfFile, folder_calls, folder_observed, heard_of_call, heard_of_calls, heard_of_observation, observation_of, read_for, reads_of}
+use Rattle.droid_profile_spec.specs.Calls.{Call, OfFolder, OfFile, heard_of_call, heard_of_calls, heard_of_observation, observation_of}
 use Rattle.droid_profile_spec.specs.Kids.{heard_of_file}
 use Rattle.droid_profile_spec.specs.Profiles.{is_of_bytes, is_of_entry}
 use Rattle.droid_profile_spec.specs.Readings.{Reading, Ending, AtEnd, TooShort, TooLong, NoneCame, OtherFile, NotYet}

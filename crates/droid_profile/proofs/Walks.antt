@@ -1,5 +1,5 @@
 -- One batch after the other: how a profile goes on, ends, and ends early.
-use Rattle.std.proofs.Common.{◌≡◌, ◌⊎◌, inl, inr, ⊎_elim, ℕ, zero, suc, ◌&&◌, Bool, true, List, [], ◌∷◌, ◌++◌, map, filter, length, reverse, append-nil, append_assoc, refl, sym, ap, ap₂, subst, ◌∙◌, arith}
+use Rattle.std.proofs.Common.{◌≡◌, ◌⊎◌, inl, inr, ℕ, ◌&&◌, Bool, true, List, [], ◌∷◌, ◌++◌, map, filter, reverse, append-nil, refl, sym, ap, ap₂, subst, ◌∙◌, arith}
 use Rattle.std.specs.List.{flat_map, list_all, AllByRecursion}
 use Rattle.std.proofs.lemmas.Bool.Decides.{eqb_tells}
 use Rattle.std.proofs.lemmas.List.{map-append}
@@ -13,28 +13,26 @@ use Rattle.droid_tree.specs.Observation.{Observation, GoesOver}
 use Rattle.droid_tree.specs.Paths.{top}
 use Rattle.droid_tree.specs.declared.folder_entry.FolderEntry.{FolderEntry}
 use Rattle.droid_profile_spec.specs.Calls.{Call, OfFolder, folder_calls, folder_observed, heard_of_call, heard_of_calls, observation_of, reads_of}
-use Rattle.droid_profile_spec.specs.EarlyEnds.{AreBegun, AreFirst, EndsEarly, TakesFirst, TreeStands, Took, Failed}
-use Rattle.droid_profile_spec.specs.ProfileRecords.{records_of}
+use Rattle.droid_profile_spec.specs.EarlyEnds.{AreBegun, AreFirst, EndsEarly, TakesFirst, TreeStands, Took}
 use Rattle.droid_profile_spec.specs.Profiles.{AreCallsOf, ProfilesTree, is_of_bytes, is_of_entry}
 use Rattle.droid_profile_spec.specs.Readings.{IsReading, unread}
-use Rattle.droid_profile_spec.specs.Visits.{Visit, InTurn, IsBegun, IsVisit, folder_calls_of, heard_of_visit, is_whole_visit, reads_of_visit}
+use Rattle.droid_profile_spec.specs.Visits.{Visit, InTurn, IsBegun, IsVisit}
 use Rattle.droid_profile_spec.specs.declared.fault.ProfileFault.{ProfileFault}
 use Rattle.droid_profile_spec.specs.declared.fault.ProfileFault.TheVariants as faults
 use Rattle.droid_profile_spec.specs.declared.options.Options.{Options}
 use Rattle.droid_profile_spec.specs.declared.recipient.RecipientFault.{RecipientFault}
 use Rattle.droid_profile_spec.proofs.VisitSteps.{all_append}
-use Rattle.droid_profile_files.specs.FileStates.{AreFresh}
 use Rattle.droid_profile_files.specs.FilesRead.{ReadsAll, ReadsFront}
 use Rattle.droid_profile_files.specs.declared.file_row.FileRow.{FileRow}
 use Rattle.droid_profile_files.proofs.BatchEnds.{over_more}
 use Rattle.droid_profile_files.proofs.ReadsSplit.{reads_append}
 use Rattle.droid_profile_rows.specs.RowsTaken.{HaveEnded, Readings, heard_of_row, is_kept, reads_of_files, records_of_row}
-use Rattle.droid_profile_rows.specs.ScanFits.{EndsTaking, IsExplained, IsOpen, NoneOpen, ScanFits, Takes, TakesFront, TakesMore, Visited, entries_left}
+use Rattle.droid_profile_rows.specs.ScanFits.{EndsTaking, IsExplained, IsOpen, NoneOpen, ScanFits, Takes, TakesMore, Visited, entries_left}
 use Rattle.droid_profile_rows.specs.declared.row.Row.{Row}
 use Rattle.droid_profile_rows.specs.declared.scan.Scan.{Scan}
 use Rattle.droid_profile.specs.HandedOut.{AreSettled, Hands, HandsFront}
 use Rattle.droid_profile.specs.Walking.{StandsAt}
-use Rattle.droid_profile.proofs.ChosenReadings.{ReadAs, ReadLike, all_from_places, begun_as, none_there, read_as}
+use Rattle.droid_profile.proofs.ChosenReadings.{ReadLike, all_from_places, begun_as, none_there, read_as}
 use Rattle.droid_profile.proofs.Handing.{first_after, takes_after}
 use Rattle.droid_profile.proofs.ReportKinds.{OfEntry, all_front, bytes_kept, entries_kept, folders_observed, folders_unheard, no_bytes, no_entries, of_calls, of_rows}
 use Rattle.droid_profile.proofs.WholeVisits.{visits_kept}
@@ -187,7 +185,7 @@ module _ {T W R : Type 0} (observes : T → Observation → T → Type 0) (hears
   pub batch_handed_out : (whole kept : Bool) (scan : Scan) (rows : List Row) (files files_after : List FileRow) (start tree tree_after : T) (begun watcher watcher_read watcher_after : W) (first recipient recipient_after : R)
       → StandsAt observes hears takes registry options whole scan rows files start tree begun watcher first recipient → ReadsAll observes hears registry options files files_after tree tree_after watcher watcher_read
       → ((readings : Readings) → AreSettled registry options readings files files_after
-          → Hands hears takes (flat_map (heard_of_row registry options readings files) rows) (flat_map (records_of_row registry options readings files) rows) kept watcher_read watcher_after recipient recipient_after)
+      → Hands hears takes (flat_map (heard_of_row registry options readings files) rows) (flat_map (records_of_row registry options readings files) rows) kept watcher_read watcher_after recipient recipient_after)
       → StandsAt observes hears takes registry options (whole && kept) scan [] [] start tree_after begun watcher_after first recipient_after
   batch_handed_out whole kept scan rows files files_after start tree tree_after begun watcher watcher_read watcher_after first recipient recipient_after on all hands =
       let read = read_as registry options files files_after all.calls on.fits.fresh.distinct all.are all.counted all.settled in
@@ -322,7 +320,7 @@ module _ {T W R : Type 0} (observes : T → Observation → T → Type 0) (hears
     pub ends_handing : (fault : ProfileFault) (whole : Bool) (scan : Scan) (rows : List Row) (files files_after : List FileRow) (start tree tree_after : T) (begun watcher watcher_read watcher_after : W) (first recipient recipient_after : R)
         → StandsAt observes hears takes registry options whole scan rows files start tree begun watcher first recipient → ReadsAll observes hears registry options files files_after tree tree_after watcher watcher_read
         → ((readings : Readings) → AreSettled registry options readings files files_after
-            → HandsFront hears takes fails (flat_map (heard_of_row registry options readings files) rows) (flat_map (records_of_row registry options readings files) rows) fault watcher_read watcher_after recipient recipient_after)
+        → HandsFront hears takes fails (flat_map (heard_of_row registry options readings files) rows) (flat_map (records_of_row registry options readings files) rows) fault watcher_read watcher_after recipient recipient_after)
         → EndsEarly observes hears takes fails registry options fault start tree_after begun watcher_after first recipient_after
     ends_handing fault whole scan rows files files_after start tree tree_after begun watcher watcher_read watcher_after first recipient recipient_after on all hands =
         let read = read_as registry options files files_after all.calls on.fits.fresh.distinct all.are all.counted all.settled in
