@@ -102,66 +102,66 @@ module _ (registry : Contents) (options : Options) (readings : Readings) where
   module _ (calls : List Call) (heard : List Heard) (given : List Record) (entry : FolderEntry) (kid : Kid) (scan scan_after : Scan) (rows rows_after : List Row) (files files_after : List FileRow)
       (taken : KidTaken entry kid scan scan_after rows rows_after files files_after) (visited : Visited registry options readings calls heard given scan rows files) where
     after_open : IsOpen visited.visits scan → Visited registry options readings (calls ++ map OfFolder (seen_of_kid scan.folder.path kid)) heard given scan_after rows_after files_after
-    after_open open =
+    after_open folders =
         let numbers = numbers_go_on (flat_map numbers_of visited.visits) (numbers_in kid) scan.number scan_after.number taken.numbered (record { follow = visited.numbered; counted = visited.counted }) in
-        let numbers_are = grown numbers_of (numbers_in kid) (numbers_more open.last kid scan.folder open.folder) in
+        let numbers_are = grown numbers_of (numbers_in kid) (numbers_more folders.last kid scan.folder folders.folder) in
         record {
           visits = after;
           in_turn = subst (λ (l : List PendingFolder). InTurn (top ∷ []) after l) (sym taken.waiting)
-              (in_turn_kid (top ∷ []) open.before open.last now scan.waiting.items (subfolders_of_kid scan.folder.path kid) refl (subfolders_more open.last kid scan.folder open.folder)
-              (subst (λ (l : List Visit). InTurn (top ∷ []) l scan.waiting.items) open.are visited.in_turn));
-          open = inl (record {
-            before = open.before;
+              (in_turn_kid (top ∷ []) folders.before folders.last now scan.waiting.items (subfolders_of_kid scan.folder.path kid) refl (subfolders_more folders.last kid scan.folder folders.folder)
+              (subst (λ (l : List Visit). InTurn (top ∷ []) l scan.waiting.items) folders.are visited.in_turn));
+          begun = inl (record {
+            before = folders.before;
             last = now;
             are = refl;
-            whole = open.whole;
-            begun = begun_kid (entries_left scan_after) open.last kid entry taken.its (subst (λ (its : PendingFolder). MayCome its.path kid) (sym open.folder) taken.may)
-                (subst (λ (l : List FolderEntry). IsBegun l open.last) taken.next open.begun);
-            folder = open.folder ∙ sym taken.folder;
+            whole = folders.whole;
+            begun = begun_kid (entries_left scan_after) folders.last kid entry taken.its (subst (λ (its : PendingFolder). MayCome its.path kid) (sym folders.folder) taken.may)
+                (subst (λ (l : List FolderEntry). IsBegun l folders.last) taken.next folders.begun);
+            folder = folders.folder ∙ sym taken.folder;
           });
           numbered = subst (Follow 0) (sym numbers_are) numbers.follow;
           counted = ap length numbers_are ∙ numbers.counted;
           complete = λ ended.
               let parts = taken.ended ended in
-              all_true_last is_complete open.before open.last now (λ all. all_true_more is_done open.last.kids kid all parts.1)
-              (subst (λ (l : List Visit). list_all is_complete l ≡ true) open.are (visited.complete parts.0));
+              all_true_last is_complete folders.before folders.last now (λ all. all_true_more is_done folders.last.kids kid all parts.1)
+              (subst (λ (l : List Visit). list_all is_complete l ≡ true) folders.are (visited.complete parts.0));
           folders = folder_calls_more calls seen
-              ∙ (ap (λ (l : List Observation). l ++ seen) visited.folders ∙ sym (grown folder_calls_of seen (calls_more open.last kid scan.folder open.folder)));
+              ∙ (ap (λ (l : List Observation). l ++ seen) visited.folders ∙ sym (grown folder_calls_of seen (calls_more folders.last kid scan.folder folders.folder)));
           reads = λ number.
               ap (λ (l : List Observation). l ++ reads_of_files number readings files_after) (reads_still calls seen number)
               ∙ (ap (λ (l : List Observation). reads_of number calls ++ l) (taken.reads number)
               ∙ (sym (append_assoc (reads_of number calls) (reads_of_files number readings files) (reads_of_kid number scan.folder.path kid))
               ∙ (ap (λ (l : List Observation). l ++ reads_of_kid number scan.folder.path kid) (visited.reads number)
-              ∙ sym (grown (reads_of_visit number) (reads_of_kid number scan.folder.path kid) (reads_more open.last kid scan.folder open.folder number)))));
-          entries = grown (heard_of_visit registry options) its_heard (heard_more open.last kid scan.folder open.folder)
+              ∙ sym (grown (reads_of_visit number) (reads_of_kid number scan.folder.path kid) (reads_more folders.last kid scan.folder folders.folder number)))));
+          entries = grown (heard_of_visit registry options) its_heard (heard_more folders.last kid scan.folder folders.folder)
               ∙ (ap (λ (l : List Heard). l ++ its_heard) visited.entries
               ∙ (append_assoc heard (flat_map (heard_of_row registry options readings files) rows) its_heard
               ∙ ap (λ (l : List Heard). heard ++ l) (sym taken.heard)));
-          records = grown (records_of_visit registry options) its_records (records_more open.last kid scan.folder open.folder)
+          records = grown (records_of_visit registry options) its_records (records_more folders.last kid scan.folder folders.folder)
               ∙ (ap (λ (l : List Record). l ++ its_records) visited.records
               ∙ (append_assoc given (flat_map (records_of_row registry options readings files) rows) its_records
               ∙ ap (λ (l : List Record). given ++ l) (sym taken.records)));
         }
       where
         now : Visit
-        now = with_kid open.last kid
+        now = with_kid folders.last kid
         after : List Visit
-        after = open.before ++ now ∷ []
+        after = folders.before ++ now ∷ []
         seen : List Observation
         seen = seen_of_kid scan.folder.path kid
         its_heard : List Heard
         its_heard = heard_of_kid registry options scan.folder.path kid
         its_records : List Record
         its_records = records_of_kid registry options scan.folder kid
-        grown : {B : Type 0} (f : Visit → List B) (more : List B) → f now ≡ f open.last ++ more → flat_map f after ≡ flat_map f visited.visits ++ more
-        grown {B = B} f more is = last_gives_more f open.before open.last now more is ∙ ap (λ (l : List Visit). flat_map f l ++ more) (sym open.are)
+        grown : {B : Type 0} (f : Visit → List B) (more : List B) → f now ≡ f folders.last ++ more → flat_map f after ≡ flat_map f visited.visits ++ more
+        grown {B = B} f more is = last_gives_more f folders.before folders.last now more is ∙ ap (λ (l : List Visit). flat_map f l ++ more) (sym folders.are)
 
     by_cases : IsOpen visited.visits scan ⊎ NoneOpen visited.visits scan → Visited registry options readings (calls ++ map OfFolder (seen_of_kid scan.folder.path kid)) heard given scan_after rows_after files_after
-    by_cases (inl open) = after_open open
+    by_cases (inl folders) = after_open folders
     by_cases (inr none) = absurd (no_next (ap (λ (l : List FolderEntry). reverse l) none.empty))
       where
         no_next : entries_left scan ≡ [] → ⊥
         no_next empty = let nothing : entry ∷ entries_left scan_after ≡ [] = sym taken.next ∙ empty in absurd cc
 
     pub after_kid : Visited registry options readings (calls ++ map OfFolder (seen_of_kid scan.folder.path kid)) heard given scan_after rows_after files_after
-    after_kid = by_cases visited.open
+    after_kid = by_cases visited.begun

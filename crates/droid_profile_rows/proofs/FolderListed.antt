@@ -58,10 +58,10 @@ module _ (registry : Contents) (options : Options) (readings : Readings) (files 
 
   -- all folders so far were visited whole
   all_whole : (visits : List Visit) (scan : Scan) → scan.entries.items ≡ [] → IsOpen visits scan ⊎ NoneOpen visits scan → AllByRecursion IsVisit visits
-  all_whole visits scan empty (inl open) =
+  all_whole visits scan empty (inl folders) =
       let left : entries_left scan ≡ [] = ap (λ (l : List FolderEntry). reverse l) empty in
-      subst (AllByRecursion IsVisit) (sym open.are)
-      (all_append IsVisit open.before (open.last ∷ []) open.whole (subst (λ (l : List FolderEntry). IsBegun l open.last) left open.begun, tt))
+      subst (AllByRecursion IsVisit) (sym folders.are)
+      (all_append IsVisit folders.before (folders.last ∷ []) folders.whole (subst (λ (l : List FolderEntry). IsBegun l folders.last) left folders.begun, tt))
   all_whole visits scan empty (inr none) = subst (AllByRecursion IsVisit) (sym none.none) tt
 
   module _ (calls : List Call) (heard : List Heard) (given : List Record) (folder : PendingFolder) (waiting : List PendingFolder) (observed : Option (List FolderEntry)) (repeated : List FolderEntry) (scan scan_after : Scan) (rows rows_after : List Row)
@@ -94,11 +94,11 @@ module _ (registry : Contents) (options : Options) (readings : Readings) (files 
       visits = after;
       in_turn = subst (λ (l : List PendingFolder). InTurn (top ∷ []) after l) (append-nil waiting ∙ sym left)
           (in_turn_visit (top ∷ []) visited.visits now folder waiting refl (subst (λ (l : List PendingFolder). InTurn (top ∷ []) visited.visits l) first visited.in_turn));
-      open = inl (record {
+      begun = inl (record {
         before = visited.visits;
         last = now;
         are = refl;
-        whole = all_whole visited.visits scan empty visited.open;
+        whole = all_whole visited.visits scan empty visited.begun;
         begun = record { listed = listed; kids = tt };
         folder = sym its;
       });

@@ -38,7 +38,7 @@ within_list (y ∷ ys) (suc place) x there = omega (arith, within_list ys place 
 
 pub holds_at : {A : Type 0} (P : A → Type 0) (xs : List A) (place : ℕ) (x : A) → AllByRecursion P xs → slice_get xs place ≡ Some x → P x
 holds_at P [] place x all there = absurd cc
-holds_at P (y ∷ ys) zero x all there = subst P cc all.0
+holds_at P (y ∷ ys) zero x all there = let same : y ≡ x = cc in subst P same all.0
 holds_at P (y ∷ ys) (suc place) x all there = holds_at P ys place x all.1 there
 
 pub all_weaker : {A : Type 0} (P Q : A → Type 0) (xs : List A) → ((x : A) → P x → Q x) → AllByRecursion P xs → AllByRecursion Q xs

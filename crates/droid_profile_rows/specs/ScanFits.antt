@@ -43,7 +43,7 @@ pub record NoneOpen (visits : List Visit) (scan : Scan) : Type 0 where
 pub record Visited (registry : Contents) (options : Options) (readings : Readings) (calls : List Call) (heard : List Heard) (given : List Record) (scan : Scan) (rows : List Row) (files : List FileRow) : Type 0 where
   pub visits : List Visit
   pub in_turn : InTurn (top ∷ []) visits scan.waiting.items
-  pub open : IsOpen visits scan ⊎ NoneOpen visits scan
+  pub begun : IsOpen visits scan ⊎ NoneOpen visits scan
   pub numbered : Follow 0 (flat_map numbers_of visits)
   pub counted : length (flat_map numbers_of visits) ≡ scan.number
   pub complete : HaveEnded readings files → list_all is_complete visits ≡ true

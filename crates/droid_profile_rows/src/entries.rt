@@ -49,8 +49,14 @@ pub(crate) fn take_entry<T: Tree>(
     let path = path_below(alloc, scan.folder.path.as_str(), name)?;
     let name = Text::copy_of(alloc, name)?;
     match kind {
-        EntryKind::File => take_file(alloc, scan, rows, files, path, name, entry),
-        _ => take_folder(alloc, tree, scan, rows, path, name, &entry),
+        EntryKind::File => {
+            take_file(alloc, scan, rows, files, path, name, entry)?;
+            Ok(())
+        }
+        _ => {
+            take_folder(alloc, tree, scan, rows, path, name, &entry)?;
+            Ok(())
+        }
     }
 }
 

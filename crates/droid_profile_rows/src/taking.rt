@@ -53,6 +53,9 @@ fn take_next<T: Tree>(
             take_entry(alloc, tree, scan, rows, files, entry)?;
             Ok(true)
         }
-        None => list_next(alloc, tree, scan, rows),
+        None => {
+            let more = list_next(alloc, tree, scan, rows)?;
+            Ok(more)
+        }
     }
 }
