@@ -1,6 +1,7 @@
 -- What comes of rows, if their files are read like this.
-use Rattle.std.specs.Prelude.{◌≡◌, ℕ, ◌==◌, if◌then◌else◌, Bool, true, false, List, [], ◌∷◌, Option, Some, None, slice_get}
+use Rattle.std.specs.Prelude.{◌≡◌, ℕ, ◌<◌, ◌==◌, if◌then◌else◌, IsTrue, Bool, true, false, List, [], ◌∷◌, Option, Some, None, slice_get}
 use Rattle.std.specs.List.{flat_map, AllByRecursion}
+use Rattle.droid_core_spec.specs.Conditions.{is_moment}
 use Rattle.droid_frame.specs.types.record.Record.{Record}
 use Rattle.droid_pronom.specs.Registry.{Contents}
 use Rattle.droid_tree.specs.Heard.{Heard, Left, Held, TookBytes, TookFolder, TookFile}
@@ -64,6 +65,19 @@ MayBeRead readings files = AllByRecursion (λ (file : FileRow). IsReading file.e
 -- no reading is still under way
 abbrev pub HaveEnded : Readings → List FileRow → Type 0
 HaveEnded readings files = AllByRecursion (λ (file : FileRow). has_ended (reading_of readings file).ending ≡ true) files
+
+-- ---- what can be handed out
+
+-- the file was modified at a moment that a profile can have
+abbrev pub HasMoment : FileRow → Type 0
+HasMoment file = IsTrue (is_moment file.record.modified)
+
+-- The row can be handed out, if the batch has this many files: a folder was modified at such a moment, and a file has a
+-- place in the batch.
+abbrev pub IsReady : ℕ → Row → Type 0
+IsReady count (rows.Left path why) = Unit {0}
+IsReady count (rows.Folder shown) = IsTrue (is_moment shown.modified)
+IsReady count (rows.File place) = place < count
 
 -- ---- whether something was skipped
 

@@ -1,18 +1,16 @@
 //! Takes one entry of a folder: a folder, a file, or something that is skipped.
 
-ghost use Rattle.std.specs.Prelude.{◌≡◌, ◌+◌, ◌++◌, [], ◌∷◌, List, IfErr, IfOk, OnErr, OnOk, length};
-ghost use Rattle.droid_frame.specs.types.record.Record.{Record};
-ghost use Rattle.droid_pronom.specs.Registry.{Contents};
-ghost use Rattle.droid_tree.specs.Heard.{Heard};
-ghost use Rattle.droid_profile_spec.specs.Calls.{Call};
-ghost use Rattle.droid_profile_spec.specs.declared.options.Options.{Options};
-ghost use Rattle.droid_profile_rows.specs.ScanFits.{ScanFits, TakesFront, TakesMore};
+ghost use Rattle.std.specs.Prelude.{◌≡◌, ◌+◌, ◌++◌, [], ◌∷◌, IfErr, IfOk, OnOk, length};
+ghost use Rattle.droid_tree.specs.Paths.{below};
+ghost use Rattle.droid_profile_spec.specs.EarlyEnds.{TreeStands};
 ghost use Rattle.droid_profile_spec.specs.declared.fault.ProfileFault.TheVariants.{Numbers};
 ghost use Rattle.droid_profile_rows.specs.RowsPushed.{left_row};
+ghost use Rattle.droid_profile_rows.specs.ScanFits.{EndsTaking, IsExplained, Takes};
+ghost use Rattle.droid_profile_rows.specs.StepsTaken.{IsNext, TakesFile, TakesFolder};
 ghost use Rattle.droid_profile_rows.specs.declared.row.Row.TheVariants as row_forms;
 ghost use Rattle.droid_profile_rows.specs.declared.scan.Scan.{Scan};
 
-use crate::refusal::entry_refusal;
+use crate::refusal::skip_reason;
 use crate::row::Row;
 use crate::scan::Scan;
 use droid_frame::{Blob, HashValue, Method, NodeKind, Record, Text, Texts};
@@ -33,34 +31,32 @@ pub(crate) fn take_entry<T: Tree>(
     files: &mut Vec<FileRow>,
     entry: FolderEntry,
 ) -> Result<(), ProfileFault>
-    ensures taken { OnOk result ((registry : Contents) (options : Options) (calls : List Call) (heard : List Heard) (given : List Record) (before : Scan) → before ≡ record scan.old { entries = before.entries } → before.entries.items ≡ scan.old.entries.items ++ entry ∷ []
-        → ScanFits registry options calls heard given before rows.old.items files.old.items → TakesMore T.observes registry options calls heard given scan.new rows.new.items files.new.items tree.old tree.new) }
-    ensures ended { IfErr result (λ fault. (registry : Contents) (options : Options) (calls : List Call) (heard : List Heard) (given : List Record) (before : Scan) → before ≡ record scan.old { entries = before.entries } → before.entries.items ≡ scan.old.entries.items ++ entry ∷ []
-        → ScanFits registry options calls heard given before rows.old.items files.old.items → TakesFront T.observes registry options calls heard given fault tree.old tree.new) }
+    ensures taken { OnOk result ((before : Scan) → IsNext before scan.old entry → Takes T.observes before scan.new rows.old.items rows.new.items files.old.items files.new.items tree.old tree.new) }
+    ensures ended { IfErr result (λ fault. (before : Scan) → IsNext before scan.old entry → EndsTaking T.observes fault before rows.old.items files.old.items tree.old tree.new) }
 {
+    let kind = entry.kind;
     let Some(name) = name_of(&entry) else {
         push_left_below(alloc, rows, &scan.folder, &entry, Skipped::Name)?;
         return Ok(());
     };
-    let why = match entry.kind {
-        EntryKind::Link => Some(Skipped::Link),
-        EntryKind::Other => Some(Skipped::Kind),
-        EntryKind::Folder | EntryKind::File => {
-            match entry_refusal(scan.folder.path.as_str(), name, &entry) {
-                Some(refusal) => Some(Skipped::Refused(refusal)),
-                None => None,
-            }
+    match skip_reason(scan.folder.path.as_str(), name, &entry) {
+        Some(why) => {
+            push_left_below(alloc, rows, &scan.folder, &entry, why)?;
+            return Ok(());
         }
-    };
-    if let Some(why) = why {
-        push_left_below(alloc, rows, &scan.folder, &entry, why)?;
-        return Ok(());
+        None => {}
     }
     let path = path_below(alloc, scan.folder.path.as_str(), name)?;
     let name = Text::copy_of(alloc, name)?;
-    match entry.kind {
-        EntryKind::File => take_file(alloc, scan, rows, files, path, name, entry),
-        _ => take_folder(alloc, tree, scan, rows, path, name, &entry),
+    match kind {
+        EntryKind::File => {
+            take_file(alloc, scan, rows, files, path, name, entry)?;
+            Ok(())
+        }
+        _ => {
+            take_folder(alloc, tree, scan, rows, path, name, &entry)?;
+            Ok(())
+        }
     }
 }
 
@@ -73,7 +69,12 @@ fn take_file(
     path: Text,
     name: Text,
     entry: FolderEntry,
-) -> Result<(), ProfileFault> {
+) -> Result<(), ProfileFault>
+    requires placed { path ≡ below scan.old.folder.path entry.name }
+    requires named { name ≡ entry.name }
+    ensures taken { OnOk result (TakesFile entry scan.old scan.new rows.old.items rows.new.items files.old.items files.new.items) }
+    ensures ended { IfErr result (λ fault. IsExplained fault scan.old.number) }
+{
     let number = next_number(scan.number)?;
     let record = Record {
         id: number,
@@ -110,7 +111,13 @@ fn take_folder<T: Tree>(
     path: Text,
     name: Text,
     entry: &FolderEntry,
-) -> Result<(), ProfileFault> {
+) -> Result<(), ProfileFault>
+    requires placed { path ≡ below scan.old.folder.path entry.now.name }
+    requires named { name ≡ entry.now.name }
+    ensures taken { OnOk result (TakesFolder T.observes entry.now scan.old scan.new rows.old.items rows.new.items tree.old tree.new) }
+    ensures ended { IfErr result (λ fault. IsExplained fault scan.old.number) }
+    ensures stands { IfErr result (λ fault. TreeStands fault tree.old tree.new) }
+{
     let number = next_number(scan.number)?;
     match tree.see_folder(alloc, path.as_str()) {
         Ok(()) => {}

@@ -1,14 +1,11 @@
 //! Lists the next folder.
 
-ghost use Rattle.std.specs.Prelude.{◌≡◌, ◌++◌, [], ◌∷◌, false, map, reverse, List, IfErr, IfOk, MatchResult, OnOk};
-ghost use Rattle.droid_frame.specs.types.record.Record.{Record};
-ghost use Rattle.droid_pronom.specs.Registry.{Contents};
-ghost use Rattle.droid_tree.specs.Heard.{Heard};
-ghost use Rattle.droid_profile_spec.specs.Calls.{Call};
-ghost use Rattle.droid_profile_spec.specs.declared.options.Options.{Options};
-ghost use Rattle.droid_profile_rows.specs.ScanFits.{ScanFits, TakesFront, TakesMore};
+ghost use Rattle.std.specs.Prelude.{◌≡◌, ◌++◌, [], false, map, List, IfErr, IfOk, OnOk};
+ghost use Rattle.droid_profile_spec.specs.declared.fault.ProfileFault.TheVariants.{Memory};
 ghost use Rattle.droid_profile_files.specs.declared.file_row.FileRow.{FileRow};
 ghost use Rattle.droid_profile_rows.specs.RowsPushed.{repeated_row};
+ghost use Rattle.droid_profile_rows.specs.ScanFits.{EndsTaking, Takes};
+ghost use Rattle.droid_profile_rows.specs.StepsTaken.{ListsFolder};
 
 use crate::entries::{push_left, push_left_below};
 use crate::scan::Scan;
@@ -25,11 +22,9 @@ pub(crate) fn list_next<T: Tree>(
     rows: &mut Vec<Row>,
 ) -> Result<bool, ProfileFault>
     requires { scan.old.entries.items ≡ [] }
-    ensures taken { OnOk result ((registry : Contents) (options : Options) (calls : List Call) (heard : List Heard) (given : List Record) (files : List FileRow) → ScanFits registry options calls heard given scan.old rows.old.items files
-        → TakesMore T.observes registry options calls heard given scan.new rows.new.items files tree.old tree.new) }
+    ensures taken { OnOk result ((files : List FileRow) → Takes T.observes scan.old scan.new rows.old.items rows.new.items files files tree.old tree.new) }
     ensures all { IfOk result (λ more. more ≡ false → (scan.new.entries.items ≡ []) × (scan.new.waiting.items ≡ [])) }
-    ensures ended { IfErr result (λ fault. (registry : Contents) (options : Options) (calls : List Call) (heard : List Heard) (given : List Record) (files : List FileRow) → ScanFits registry options calls heard given scan.old rows.old.items files
-        → TakesFront T.observes registry options calls heard given fault tree.old tree.new) }
+    ensures ended { IfErr result (λ fault. (files : List FileRow) → EndsTaking T.observes fault scan.old rows.old.items files tree.old tree.new) }
 {
     let Some(folder) = scan.waiting.pop_front() else {
         return Ok(false);
@@ -46,7 +41,11 @@ fn list_folder<T: Tree>(
     scan: &mut Scan,
     rows: &mut Vec<Row>,
     folder: &PendingFolder,
-) -> Result<(), ProfileFault> {
+) -> Result<(), ProfileFault>
+    requires { scan.old.entries.items ≡ [] }
+    ensures listed { OnOk result (ListsFolder T.observes folder.now scan.old scan.new rows.old.items rows.new.items tree.old tree.new) }
+    ensures ended { IfErr result (λ fault. fault ≡ Memory) }
+{
     match read_folder(alloc, tree, folder.path.as_str()) {
         Ok(Ok(listing)) => {
             push_repeated(alloc, rows, folder, listing.repeated.as_slice())?;

@@ -1,16 +1,42 @@
 //! Which entries no profile can have.
 
-ghost use Rattle.std.specs.Prelude.{◌≡◌, nat_lt, length};
+ghost use Rattle.std.specs.Prelude.{◌≡◌, None, Some, nat_lt, length, MatchOption};
 ghost use Rattle.std.specs.List.{list_any};
 ghost use Rattle.droid_core_spec.specs.Conditions.{is_bad_name, is_moment, is_separator};
+ghost use Rattle.droid_frame.specs.types.refusal.Refusal.{Refusal};
 ghost use Rattle.droid_tree.specs.Paths.{below};
-ghost use Rattle.droid_profile_spec.specs.Kids.{entry_refusal};
+ghost use Rattle.droid_tree.specs.declared.skipped.Skipped.TheVariants.{Refused};
+ghost use Rattle.droid_profile_spec.specs.Kids.{IsNode, entry_refusal};
+ghost use Rattle.droid_profile_rows.specs.StepsTaken.{IsSkipped};
 
 use droid_frame::Refusal;
-use droid_tree::FolderEntry;
+use droid_tree::{EntryKind, FolderEntry, Skipped};
+
+/// Returns why this entry of the folder at this path is skipped, if it is no folder or file, or none that a profile can
+/// have.
+pub(crate) fn skip_reason(path: &str, name: &str, entry: &FolderEntry) -> Option<Skipped>
+    requires { name.now ≡ entry.now.name }
+    ensures { MatchOption result (IsNode entry.now.kind × (entry_refusal path.now entry.now ≡ None)) (λ why. IsSkipped path.now entry.now why) }
+{
+    match entry.kind {
+        EntryKind::Link => Some(Skipped::Link),
+        EntryKind::Other => Some(Skipped::Kind),
+        EntryKind::Folder | EntryKind::File => as_skipped(entry_refusal(path, name, entry)),
+    }
+}
+
+/// Returns the reason to skip what is refused.
+fn as_skipped(refusal: Option<Refusal>) -> Option<Skipped>
+    ensures { MatchOption result (refusal ≡ None) (λ why. (its : Refusal) × (refusal ≡ Some its) × (why ≡ Refused its)) }
+{
+    match refusal {
+        Some(refusal) => Some(Skipped::Refused(refusal)),
+        None => None,
+    }
+}
 
 /// Returns why no profile can have this entry of the folder at this path, as a service would refuse it.
-pub(crate) fn entry_refusal(path: &str, name: &str, entry: &FolderEntry) -> Option<Refusal>
+fn entry_refusal(path: &str, name: &str, entry: &FolderEntry) -> Option<Refusal>
     requires { name.now ≡ entry.now.name }
     ensures { result ≡ entry_refusal path.now entry.now }
 {

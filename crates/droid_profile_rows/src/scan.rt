@@ -1,7 +1,10 @@
 //! What is still to be taken of a tree.
 
 ghost use Rattle.std.specs.Prelude.{◌≡◌, [], ◌∷◌, IfOk};
+ghost use Rattle.droid_pronom.specs.Registry.{Contents};
 ghost use Rattle.droid_tree.specs.Paths.{top};
+ghost use Rattle.droid_profile_spec.specs.declared.options.Options.{Options};
+ghost use Rattle.droid_profile_rows.specs.ScanFits.{ScanFits};
 
 use droid_frame::Text;
 use droid_tree::{FolderEntry, PendingFolder, only_the_top};
@@ -25,6 +28,7 @@ pub struct Scan {
 pub fn whole_tree(alloc: Global) -> Result<Scan, AllocError>
     ensures waiting { IfOk result (λ scan. scan.waiting.items ≡ top ∷ []) }
     ensures begun { IfOk result (λ scan. (scan.entries.items ≡ []) × (scan.number ≡ 0)) }
+    ensures fits { IfOk result (λ scan. (registry : Contents) (options : Options) → ScanFits registry options [] [] [] scan [] []) }
 {
     Ok(Scan {
         waiting: only_the_top(alloc)?,

@@ -1,12 +1,7 @@
 //! Takes entries of a tree in order, folder by folder.
 
-ghost use Rattle.std.specs.Prelude.{◌≡◌, [], false, List, IfErr, IfOk, OnOk};
-ghost use Rattle.droid_frame.specs.types.record.Record.{Record};
-ghost use Rattle.droid_pronom.specs.Registry.{Contents};
-ghost use Rattle.droid_tree.specs.Heard.{Heard};
-ghost use Rattle.droid_profile_spec.specs.Calls.{Call};
-ghost use Rattle.droid_profile_spec.specs.declared.options.Options.{Options};
-ghost use Rattle.droid_profile_rows.specs.ScanFits.{ScanFits, TakesFront, TakesMore};
+ghost use Rattle.std.specs.Prelude.{◌≡◌, [], false, IfErr, IfOk, OnOk};
+ghost use Rattle.droid_profile_rows.specs.ScanFits.{EndsTaking, Takes};
 
 use crate::entries::take_entry;
 use crate::folders::list_next;
@@ -28,11 +23,9 @@ pub fn take_rows<T: Tree>(
     rows: &mut Vec<Row>,
     files: &mut Vec<FileRow>,
 ) -> Result<bool, ProfileFault>
-    ensures taken { OnOk result ((registry : Contents) (options : Options) (calls : List Call) (heard : List Heard) (given : List Record) → ScanFits registry options calls heard given scan.old rows.old.items files.old.items
-        → TakesMore T.observes registry options calls heard given scan.new rows.new.items files.new.items tree.old tree.new) }
+    ensures taken { OnOk result (Takes T.observes scan.old scan.new rows.old.items rows.new.items files.old.items files.new.items tree.old tree.new) }
     ensures all { IfOk result (λ more. more ≡ false → (scan.new.entries.items ≡ []) × (scan.new.waiting.items ≡ [])) }
-    ensures ended { IfErr result (λ fault. (registry : Contents) (options : Options) (calls : List Call) (heard : List Heard) (given : List Record) → ScanFits registry options calls heard given scan.old rows.old.items files.old.items
-        → TakesFront T.observes registry options calls heard given fault tree.old tree.new) }
+    ensures ended { IfErr result (λ fault. EndsTaking T.observes fault scan.old rows.old.items files.old.items tree.old tree.new) }
 {
     for _ in 0..TAKEN {
         let more = take_next(alloc, tree, scan, rows, files)?;
@@ -51,17 +44,18 @@ fn take_next<T: Tree>(
     rows: &mut Vec<Row>,
     files: &mut Vec<FileRow>,
 ) -> Result<bool, ProfileFault>
-    ensures taken { OnOk result ((registry : Contents) (options : Options) (calls : List Call) (heard : List Heard) (given : List Record) → ScanFits registry options calls heard given scan.old rows.old.items files.old.items
-        → TakesMore T.observes registry options calls heard given scan.new rows.new.items files.new.items tree.old tree.new) }
+    ensures taken { OnOk result (Takes T.observes scan.old scan.new rows.old.items rows.new.items files.old.items files.new.items tree.old tree.new) }
     ensures all { IfOk result (λ more. more ≡ false → (scan.new.entries.items ≡ []) × (scan.new.waiting.items ≡ [])) }
-    ensures ended { IfErr result (λ fault. (registry : Contents) (options : Options) (calls : List Call) (heard : List Heard) (given : List Record) → ScanFits registry options calls heard given scan.old rows.old.items files.old.items
-        → TakesFront T.observes registry options calls heard given fault tree.old tree.new) }
+    ensures ended { IfErr result (λ fault. EndsTaking T.observes fault scan.old rows.old.items files.old.items tree.old tree.new) }
 {
     match scan.entries.pop() {
         Some(entry) => {
             take_entry(alloc, tree, scan, rows, files, entry)?;
             Ok(true)
         }
-        None => list_next(alloc, tree, scan, rows),
+        None => {
+            let more = list_next(alloc, tree, scan, rows)?;
+            Ok(more)
+        }
     }
 }

@@ -1,0 +1,6 @@
+-- what fitted at first fits after the calls so far
+use Rattle.droid_profile_rows.specs.ScanFits.{Takes}
+use Rattle.droid_profile_rows.proofs.taking.take_rows.Given as goal
+
+abbrev pub invariant-loop : goal.invariant-loop
+invariant-loop g l = Takes g.T.Tree.observes l.fn.scan l.scan l.fn.rows.items l.rows.items l.fn.files.items l.files.items l.fn.tree l.tree
