@@ -167,7 +167,7 @@ module _ {T W R : Type 0} (observes : T → Observation → T → Type 0) (hears
         visited = λ later may. record {
           visits = visited.visits;
           in_turn = visited.in_turn;
-          opened = visited.opened;
+          begun = visited.begun;
           numbered = visited.numbered;
           counted = visited.counted;
           complete = λ all. visited.complete ended;
@@ -213,7 +213,7 @@ module _ {T W R : Type 0} (observes : T → Observation → T → Type 0) (hears
       → ProfilesTree observes hears takes registry options whole start tree begun watcher first recipient
   all_profiled whole scan start tree begun watcher first recipient on none_left none_waits =
       let visited = on.fits.visited none_read tt in
-      let visits = visits_whole visited.visits scan none_left visited.opened in
+      let visits = visits_whole visited.visits scan none_left visited.begun in
       let complete = visited.complete tt in
       let entries = visited.entries ∙ append-nil (filter is_of_entry on.heard) in
       record {
@@ -265,7 +265,7 @@ module _ {T W R : Type 0} (observes : T → Observation → T → Type 0) (hears
       visits = visited.visits;
       waiting = scan.waiting.items;
       in_turn = visited.in_turn;
-      begun = visits_begun visited.visits scan visited.opened;
+      begun = visits_begun visited.visits scan visited.begun;
       numbered = visited.numbered;
       calls = calls ++ reads;
       are_calls = calls_of registry options readings calls reads entries given scan rows files visited read;
