@@ -1,6 +1,8 @@
 -- Which reports are of entries, and which of bytes.
-use Rattle.std.proofs.Common.{◌≡◌, true, false, List, [], ◌∷◌, ◌++◌, ℕ, filter, map, Option, Some, None, slice_get, refl, ap}
+use Rattle.std.proofs.Common.{append-nil, sym, ap₂, ◌∙◌, ◌≡◌, true, false, List, [], ◌∷◌, ◌++◌, ℕ, filter, map, Option, Some, None, slice_get, refl, ap}
 use Rattle.std.specs.List.{flat_map, AllByRecursion}
+use Rattle.std.proofs.lemmas.List.Concat.{flat_map-append}
+use Rattle.std.proofs.lemmas.List.Elements.{filter-append}
 use Rattle.droid_pronom.specs.Registry.{Contents}
 use Rattle.droid_tree.specs.Heard.{Heard}
 use Rattle.droid_tree.specs.Observation.{Observation, Listed, Unlisted, Opened, Unopened, Read, Unread, Exchanged}
@@ -97,3 +99,27 @@ pub of_rows : (registry : Contents) (options : Options) (readings : Readings) (f
 of_rows registry options readings files [] = tt
 of_rows registry options readings files (row ∷ taken) =
     all_append OfEntry (heard_of_row registry options readings files row) (flat_map (heard_of_row registry options readings files) taken) (of_row registry options readings files row) (of_rows registry options readings files taken)
+
+-- ---- reports of a batch
+
+-- reports of bytes are none of entries
+pub entries_before_bytes : (heard : List Heard) (reads : List Call) → filter is_of_entry (heard ++ heard_of_calls reads) ≡ filter is_of_entry heard
+entries_before_bytes heard reads =
+    filter-append is_of_entry heard (heard_of_calls reads)
+    ∙ (ap (λ (l : List Heard). filter is_of_entry heard ++ l) (no_entries (heard_of_calls reads) (of_calls reads)) ∙ append-nil (filter is_of_entry heard))
+
+pub bytes_of_calls : (heard : List Heard) (calls reads : List Call) → filter is_of_bytes heard ≡ heard_of_calls calls → filter is_of_bytes (heard ++ heard_of_calls reads) ≡ heard_of_calls (calls ++ reads)
+bytes_of_calls heard calls reads are =
+    filter-append is_of_bytes heard (heard_of_calls reads)
+    ∙ (ap₂ (λ (a b : List Heard). a ++ b) are (bytes_kept (heard_of_calls reads) (of_calls reads)) ∙ sym (flat_map-append heard_of_call calls reads))
+
+-- then reports of entries
+pub entries_then : (heard entries : List Heard) (reads : List Call) → AllByRecursion OfEntry entries → filter is_of_entry ((heard ++ heard_of_calls reads) ++ entries) ≡ filter is_of_entry heard ++ entries
+entries_then heard entries reads all =
+    filter-append is_of_entry (heard ++ heard_of_calls reads) entries
+    ∙ ap₂ (λ (a b : List Heard). a ++ b) (entries_before_bytes heard reads) (entries_kept entries all)
+
+pub bytes_then : (heard entries : List Heard) (calls reads : List Call) → AllByRecursion OfEntry entries → filter is_of_bytes heard ≡ heard_of_calls calls → filter is_of_bytes ((heard ++ heard_of_calls reads) ++ entries) ≡ heard_of_calls (calls ++ reads)
+bytes_then heard entries calls reads all are =
+    filter-append is_of_bytes (heard ++ heard_of_calls reads) entries
+    ∙ (ap₂ (λ (a b : List Heard). a ++ b) (bytes_of_calls heard calls reads are) (no_bytes entries all) ∙ append-nil (heard_of_calls (calls ++ reads)))

@@ -1,10 +1,9 @@
--- One batch after the other: how a profile goes on, ends, and ends early.
+-- How a profile goes on, batch after batch, and ends.
 use Rattle.std.proofs.Common.{◌≡◌, ◌⊎◌, inl, inr, ℕ, ◌&&◌, Bool, true, List, [], ◌∷◌, ◌++◌, map, filter, reverse, append-nil, refl, sym, ap, ap₂, subst, ◌∙◌, arith}
 use Rattle.std.specs.List.{flat_map, list_all, AllByRecursion}
 use Rattle.std.proofs.lemmas.Bool.Decides.{eqb_tells}
 use Rattle.std.proofs.lemmas.List.{map-append}
 use Rattle.std.proofs.lemmas.List.Concat.{flat_map-append}
-use Rattle.std.proofs.lemmas.List.Elements.{filter-append}
 use Rattle.std.proofs.lemmas.List.Folds.{list_all-append}
 use Rattle.droid_frame.specs.types.record.Record.{Record}
 use Rattle.droid_pronom.specs.Registry.{Contents}
@@ -13,33 +12,28 @@ use Rattle.droid_tree.specs.Observation.{Observation, GoesOver}
 use Rattle.droid_tree.specs.Paths.{top}
 use Rattle.droid_tree.specs.declared.folder_entry.FolderEntry.{FolderEntry}
 use Rattle.droid_profile_spec.specs.Calls.{Call, OfFolder, folder_calls, folder_observed, heard_of_call, heard_of_calls, observation_of, reads_of}
-use Rattle.droid_profile_spec.specs.EarlyEnds.{AreBegun, AreFirst, EndsEarly, TakesFirst, TreeStands, Took}
-use Rattle.droid_profile_spec.specs.Profiles.{AreCallsOf, ProfilesTree, is_of_bytes, is_of_entry}
+use Rattle.droid_profile_spec.specs.Profiles.{AreCallsOf, ProfilesTree, is_of_entry}
 use Rattle.droid_profile_spec.specs.Readings.{IsReading, unread}
 use Rattle.droid_profile_spec.specs.Visits.{Visit, InTurn, IsBegun, IsVisit}
-use Rattle.droid_profile_spec.specs.declared.fault.ProfileFault.{ProfileFault}
-use Rattle.droid_profile_spec.specs.declared.fault.ProfileFault.TheVariants as faults
 use Rattle.droid_profile_spec.specs.declared.options.Options.{Options}
-use Rattle.droid_profile_spec.specs.declared.recipient.RecipientFault.{RecipientFault}
 use Rattle.droid_profile_spec.proofs.VisitSteps.{all_append}
-use Rattle.droid_profile_files.specs.FilesRead.{ReadsAll, ReadsFront}
+use Rattle.droid_profile_files.specs.FilesRead.{ReadsAll}
 use Rattle.droid_profile_files.specs.declared.file_row.FileRow.{FileRow}
 use Rattle.droid_profile_files.proofs.BatchEnds.{over_more}
 use Rattle.droid_profile_files.proofs.ReadsSplit.{reads_append}
 use Rattle.droid_profile_rows.specs.RowsTaken.{HaveEnded, Readings, heard_of_row, is_kept, reads_of_files, records_of_row}
-use Rattle.droid_profile_rows.specs.ScanFits.{EndsTaking, IsExplained, IsOpen, NoneOpen, ScanFits, Takes, TakesMore, Visited, entries_left}
+use Rattle.droid_profile_rows.specs.ScanFits.{IsOpen, NoneOpen, ScanFits, Takes, TakesMore, Visited}
 use Rattle.droid_profile_rows.specs.declared.row.Row.{Row}
 use Rattle.droid_profile_rows.specs.declared.scan.Scan.{Scan}
-use Rattle.droid_profile.specs.HandedOut.{AreSettled, Hands, HandsFront}
+use Rattle.droid_profile.specs.HandedOut.{AreSettled, Hands}
 use Rattle.droid_profile.specs.Walking.{StandsAt}
-use Rattle.droid_profile.proofs.ChosenReadings.{ReadLike, all_from_places, begun_as, none_there, read_as}
-use Rattle.droid_profile.proofs.Handing.{first_after, takes_after}
-use Rattle.droid_profile.proofs.ReportKinds.{OfEntry, all_front, bytes_kept, entries_kept, folders_observed, folders_unheard, no_bytes, no_entries, of_calls, of_rows}
+use Rattle.droid_profile.proofs.ChosenReadings.{ReadLike, all_from_places, none_there, read_as}
+use Rattle.droid_profile.proofs.ReportKinds.{folders_observed, folders_unheard, of_rows, entries_then, bytes_then}
 use Rattle.droid_profile.proofs.WholeVisits.{visits_kept}
 
 -- ---- no file read yet
 
-abbrev none_read : Readings
+abbrev pub none_read : Readings
 none_read = λ (n : ℕ). unread
 
 none_of : (number : ℕ) (files : List FileRow) → [] ≡ reads_of_files number none_read files
@@ -49,7 +43,7 @@ none_of number (file ∷ files) = elim (eqb_tells file.record.id number) [
   | inr t ↦ rw t.0 (none_of number files)
 ]
 
-like_none_read : (files : List FileRow) → ReadLike none_read files []
+pub like_none_read : (files : List FileRow) → ReadLike none_read files []
 like_none_read files = record {
   may = all_from_places (λ (file : FileRow). IsReading file.entry.len unread) files (λ place was there. record { within = omega arith; ending = tt });
   reads = λ number. none_of number files;
@@ -58,86 +52,31 @@ like_none_read files = record {
 
 -- ---- the folders that were visited
 
-begun_list : (rest : List FolderEntry) (before : List Visit) (last : Visit) → AllByRecursion IsVisit before → IsBegun rest last → AreBegun (before ++ last ∷ [])
-begun_list rest [] last whole begun = (rest, begun)
-begun_list rest (visit ∷ []) last whole begun = (whole.0, (rest, begun))
-begun_list rest (visit ∷ (next ∷ before)) last whole begun = (whole.0, begun_list rest (next ∷ before) last whole.1 begun)
-
-visits_begun : (visits : List Visit) (scan : Scan) → IsOpen visits scan ⊎ NoneOpen visits scan → AreBegun visits
-visits_begun visits scan (inl its) = subst AreBegun (sym its.are) (begun_list (entries_left scan) its.before its.last its.whole its.begun)
-visits_begun visits scan (inr none) = subst AreBegun (sym none.none) tt
-
 visits_whole : (visits : List Visit) (scan : Scan) → scan.entries.items ≡ [] → IsOpen visits scan ⊎ NoneOpen visits scan → AllByRecursion IsVisit visits
 visits_whole visits scan empty (inl its) =
     let last : IsVisit its.last = subst (λ (l : List FolderEntry). IsBegun l its.last) (ap reverse empty) its.begun in
     subst (AllByRecursion IsVisit) (sym its.are) (all_append IsVisit its.before (its.last ∷ []) its.whole (last, tt))
 visits_whole visits scan empty (inr none) = subst (AllByRecursion IsVisit) (sym none.none) tt
 
-calls_of : (registry : Contents) (options : Options) (readings : Readings) (calls reads : List Call) (heard : List Heard) (given : List Record) (scan : Scan) (rows : List Row) (files : List FileRow) (visited : Visited registry options readings calls heard given scan rows files)
+pub calls_of : (registry : Contents) (options : Options) (readings : Readings) (calls reads : List Call) (heard : List Heard) (given : List Record) (scan : Scan) (rows : List Row) (files : List FileRow) (visited : Visited registry options readings calls heard given scan rows files)
     → ReadLike readings files reads → AreCallsOf visited.visits (calls ++ reads)
 calls_of registry options readings calls reads heard given scan rows files visited read = record {
   folders = flat_map-append folder_observed calls reads ∙ (ap (λ (l : List Observation). folder_calls calls ++ l) read.no_folders ∙ (append-nil (folder_calls calls) ∙ visited.folders));
   files = λ number. reads_append number calls reads ∙ (ap (λ (l : List Observation). reads_of number calls ++ l) (read.reads number) ∙ visited.reads number);
 }
 
--- ---- faults
-
-not_of_recipient : (fault : ProfileFault) (number : ℕ) → IsExplained fault number → (why : RecipientFault) → fault ≡ faults.Recipient why → ⊥
-not_of_recipient fault number (inl is) why same = cc
-not_of_recipient fault number (inr is) why same = let it : fault ≡ faults.Numbers = is.0 in cc
-
-last_number : (fault : ProfileFault) (number : ℕ) → IsExplained fault number → fault ≡ faults.Numbers → number ≡ 4294967295
-last_number fault number (inl is) same = absurd cc
-last_number fault number (inr is) same = is.1
-
-reads_not_of_recipient : (fault : ProfileFault) → (fault ≡ faults.Memory) ⊎ (fault ≡ faults.Turns) → (why : RecipientFault) → fault ≡ faults.Recipient why → ⊥
-reads_not_of_recipient fault (inl is) why same = cc
-reads_not_of_recipient fault (inr is) why same = cc
-
-reads_not_of_numbers : (fault : ProfileFault) → (fault ≡ faults.Memory) ⊎ (fault ≡ faults.Turns) → fault ≡ faults.Numbers → ⊥
-reads_not_of_numbers fault (inl is) same = cc
-reads_not_of_numbers fault (inr is) same = cc
-
-hands_not_of_numbers : (fault : ProfileFault) → (fault ≡ faults.Memory) ⊎ ((why : RecipientFault) × (fault ≡ faults.Recipient why)) → fault ≡ faults.Numbers → ⊥
-hands_not_of_numbers fault (inl is) same = cc
-hands_not_of_numbers fault (inr is) same = let it : fault ≡ faults.Recipient is.0 = is.1 in cc
-
--- ---- reports
-
--- reports of bytes are none of entries
-entries_before_bytes : (heard : List Heard) (reads : List Call) → filter is_of_entry (heard ++ heard_of_calls reads) ≡ filter is_of_entry heard
-entries_before_bytes heard reads =
-    filter-append is_of_entry heard (heard_of_calls reads)
-    ∙ (ap (λ (l : List Heard). filter is_of_entry heard ++ l) (no_entries (heard_of_calls reads) (of_calls reads)) ∙ append-nil (filter is_of_entry heard))
-
-bytes_of_calls : (heard : List Heard) (calls reads : List Call) → filter is_of_bytes heard ≡ heard_of_calls calls → filter is_of_bytes (heard ++ heard_of_calls reads) ≡ heard_of_calls (calls ++ reads)
-bytes_of_calls heard calls reads are =
-    filter-append is_of_bytes heard (heard_of_calls reads)
-    ∙ (ap₂ (λ (a b : List Heard). a ++ b) are (bytes_kept (heard_of_calls reads) (of_calls reads)) ∙ sym (flat_map-append heard_of_call calls reads))
-
--- then reports of entries
-entries_then : (heard entries : List Heard) (reads : List Call) → AllByRecursion OfEntry entries → filter is_of_entry ((heard ++ heard_of_calls reads) ++ entries) ≡ filter is_of_entry heard ++ entries
-entries_then heard entries reads all =
-    filter-append is_of_entry (heard ++ heard_of_calls reads) entries
-    ∙ ap₂ (λ (a b : List Heard). a ++ b) (entries_before_bytes heard reads) (entries_kept entries all)
-
-bytes_then : (heard entries : List Heard) (calls reads : List Call) → AllByRecursion OfEntry entries → filter is_of_bytes heard ≡ heard_of_calls calls → filter is_of_bytes ((heard ++ heard_of_calls reads) ++ entries) ≡ heard_of_calls (calls ++ reads)
-bytes_then heard entries calls reads all are =
-    filter-append is_of_bytes (heard ++ heard_of_calls reads) entries
-    ∙ (ap₂ (λ (a b : List Heard). a ++ b) (bytes_of_calls heard calls reads are) (no_bytes entries all) ∙ append-nil (heard_of_calls (calls ++ reads)))
-
 module _ {T W R : Type 0} (observes : T → Observation → T → Type 0) (hears : W → Heard → W → Type 0) (takes : R → Record → R → Type 0) (registry : Contents) (options : Options) where
   pub stands_at_first : (scan : Scan) (tree : T) (watcher : W) (recipient : R) → ScanFits registry options [] [] [] scan [] [] → StandsAt observes hears takes registry options true scan [] [] tree tree watcher watcher recipient recipient
   stands_at_first scan tree watcher recipient fits = record { calls = []; heard = []; given = []; fits = fits; bytes = refl; whole_is = refl; observed = refl; informed = refl; taken = refl }
 
   -- more reads after those before
-  observed_more : (calls reads : List Call) (start tree tree_after : T) → GoesOver observes start (map observation_of calls) tree → GoesOver observes tree (map observation_of reads) tree_after → GoesOver observes start (map observation_of (calls ++ reads)) tree_after
+  pub observed_more : (calls reads : List Call) (start tree tree_after : T) → GoesOver observes start (map observation_of calls) tree → GoesOver observes tree (map observation_of reads) tree_after → GoesOver observes start (map observation_of (calls ++ reads)) tree_after
   observed_more calls reads start tree tree_after before after =
       subst (λ (l : List Observation). GoesOver observes start l tree_after) (sym (map-append observation_of calls reads)) (over_more observes start tree tree_after (map observation_of calls) (map observation_of reads) before after)
 
   -- ---- rows are taken
 
-  after_folders : (whole : Bool) (scan scan_after : Scan) (rows rows_after : List Row) (files files_after : List FileRow) (start tree tree_after : T) (begun watcher : W) (first recipient : R) (on : StandsAt observes hears takes registry options whole scan rows files start tree begun watcher first recipient)
+  pub after_folders : (whole : Bool) (scan scan_after : Scan) (rows rows_after : List Row) (files files_after : List FileRow) (start tree tree_after : T) (begun watcher : W) (first recipient : R) (on : StandsAt observes hears takes registry options whole scan rows files start tree begun watcher first recipient)
       → TakesMore observes registry options on.calls (filter is_of_entry on.heard) on.given scan_after rows_after files_after tree tree_after → StandsAt observes hears takes registry options whole scan_after rows_after files_after start tree_after begun watcher first recipient
   after_folders whole scan scan_after rows rows_after files files_after start tree tree_after begun watcher first recipient on next = record {
     calls = on.calls ++ map OfFolder next.more;
@@ -231,108 +170,3 @@ module _ {T W R : Type 0} (observes : T → Observation → T → Type 0) (hears
         informed = on.informed;
         taken = subst (λ (l : List Record). GoesOver takes first l recipient) (sym (visited.records ∙ append-nil on.given)) on.taken;
       }
-
-  -- ---- early ends
-
-  module _ (fails : R → Record → RecipientFault → R → Type 0) where
-    pub ends_at_once : (tree : T) (watcher : W) (recipient : R) → EndsEarly observes hears takes fails registry options faults.Memory tree tree watcher watcher recipient recipient
-    ends_at_once tree watcher recipient = record {
-      visits = [];
-      waiting = top ∷ [];
-      in_turn = refl;
-      begun = tt;
-      numbered = tt;
-      calls = [];
-      are_calls = record { folders = refl; files = λ number. refl };
-      reached = tree;
-      observed = refl;
-      stands = inl refl;
-      heard = [];
-      entries = record { rest = []; are = refl };
-      bytes = refl;
-      informed = refl;
-      taken = Took [] (record { rest = []; are = refl }) refl (λ why is. cc);
-      all_numbers = λ is. absurd cc;
-    }
-
-    ends_visited : (fault : ProfileFault) (readings : Readings) (calls reads : List Call) (entries : List Heard) (given : List Record) (scan : Scan) (rows : List Row) (files : List FileRow) (start reached tree_after : T) (begun watcher_after : W) (first recipient_after : R) (heard : List Heard)
-        → Visited registry options readings calls entries given scan rows files → ReadLike readings files reads
-        → AreFirst (filter is_of_entry heard) (entries ++ flat_map (heard_of_row registry options readings files) rows) → filter is_of_bytes heard ≡ heard_of_calls (calls ++ reads)
-        → GoesOver observes start (map observation_of (calls ++ reads)) reached → TreeStands fault reached tree_after → GoesOver hears begun heard watcher_after
-        → TakesFirst takes fails fault (given ++ flat_map (records_of_row registry options readings files) rows) first recipient_after → (fault ≡ faults.Numbers → scan.number ≡ 4294967295)
-        → EndsEarly observes hears takes fails registry options fault start tree_after begun watcher_after first recipient_after
-    ends_visited fault readings calls reads entries given scan rows files start reached tree_after begun watcher_after first recipient_after heard visited read are_first bytes observed stands informed taken last = record {
-      visits = visited.visits;
-      waiting = scan.waiting.items;
-      in_turn = visited.in_turn;
-      begun = visits_begun visited.visits scan visited.begun;
-      numbered = visited.numbered;
-      calls = calls ++ reads;
-      are_calls = calls_of registry options readings calls reads entries given scan rows files visited read;
-      reached = reached;
-      observed = observed;
-      stands = stands;
-      heard = heard;
-      entries = subst (AreFirst (filter is_of_entry heard)) (sym visited.entries) are_first;
-      bytes = bytes;
-      informed = informed;
-      taken = subst (λ (l : List Record). TakesFirst takes fails fault l first recipient_after) (sym visited.records) taken;
-      all_numbers = λ is. visited.counted ∙ last is;
-    }
-
-    -- before the batch was read
-    pub ends_before : (fault : ProfileFault) (whole : Bool) (scan : Scan) (rows : List Row) (files : List FileRow) (start reached tree_after : T) (begun watcher : W) (first recipient : R) → StandsAt observes hears takes registry options whole scan rows files start reached begun watcher first recipient
-        → TreeStands fault reached tree_after → ((why : RecipientFault) → fault ≡ faults.Recipient why → ⊥) → (fault ≡ faults.Numbers → scan.number ≡ 4294967295) → EndsEarly observes hears takes fails registry options fault start tree_after begun watcher first recipient
-    ends_before fault whole scan rows files start reached tree_after begun watcher first recipient on stands not last =
-        let read = like_none_read files in
-        ends_visited fault none_read on.calls [] (filter is_of_entry on.heard) on.given scan rows files start reached tree_after begun watcher first recipient on.heard (on.fits.visited none_read read.may) read
-        (record { rest = flat_map (heard_of_row registry options none_read files) rows; are = refl })
-        (on.bytes ∙ sym (ap heard_of_calls (append-nil on.calls)))
-        (observed_more on.calls [] start reached reached on.observed refl) stands on.informed
-        (Took on.given (record { rest = flat_map (records_of_row registry options none_read files) rows; are = refl }) on.taken not) last
-
-    -- while rows were taken
-    pub ends_taking : (fault : ProfileFault) (whole : Bool) (scan : Scan) (rows : List Row) (files : List FileRow) (start tree tree_after : T) (begun watcher : W) (first recipient : R) → EndsTaking observes fault scan rows files tree tree_after
-        → StandsAt observes hears takes registry options whole scan rows files start tree begun watcher first recipient → EndsEarly observes hears takes fails registry options fault start tree_after begun watcher first recipient
-    ends_taking fault whole scan rows files start tree tree_after begun watcher first recipient ends on =
-        let front = ends registry options on.calls (filter is_of_entry on.heard) on.given on.fits in
-        ends_before fault whole front.scan front.rows front.files start front.reached tree_after begun watcher first recipient
-        (after_folders whole scan front.scan rows front.rows files front.files start tree front.reached begun watcher first recipient on front.takes)
-        front.stands (not_of_recipient fault front.scan.number front.explained) (last_number fault front.scan.number front.explained)
-
-    -- while files were read
-    pub ends_reading : (fault : ProfileFault) (whole : Bool) (scan : Scan) (rows : List Row) (files : List FileRow) (start tree tree_after : T) (begun watcher watcher_after : W) (first recipient : R)
-        → StandsAt observes hears takes registry options whole scan rows files start tree begun watcher first recipient → ReadsFront observes hears files fault tree tree_after watcher watcher_after
-        → EndsEarly observes hears takes fails registry options fault start tree_after begun watcher_after first recipient
-    ends_reading fault whole scan rows files start tree tree_after begun watcher watcher_after first recipient on front =
-        let read = begun_as files front.calls on.fits.fresh.distinct front.are front.begun in
-        let entries : List Heard = flat_map (heard_of_row registry options read.readings files) rows in
-        ends_visited fault read.readings on.calls front.calls (filter is_of_entry on.heard) on.given scan rows files start front.reached tree_after begun watcher_after first recipient (on.heard ++ heard_of_calls front.calls)
-        (on.fits.visited read.readings read.like.may) read.like
-        (record { rest = entries; are = ap (λ (l : List Heard). l ++ entries) (sym (entries_before_bytes on.heard front.calls)) })
-        (bytes_of_calls on.heard on.calls front.calls on.bytes)
-        (observed_more on.calls front.calls start tree front.reached on.observed front.observed) front.stands
-        (over_more hears begun watcher watcher_after on.heard (heard_of_calls front.calls) on.informed front.heard)
-        (Took on.given (record { rest = flat_map (records_of_row registry options read.readings files) rows; are = refl }) on.taken (reads_not_of_recipient fault front.explained))
-        (λ is. absurd (reads_not_of_numbers fault front.explained is))
-
-    -- while rows were handed out
-    pub ends_handing : (fault : ProfileFault) (whole : Bool) (scan : Scan) (rows : List Row) (files files_after : List FileRow) (start tree tree_after : T) (begun watcher watcher_read watcher_after : W) (first recipient recipient_after : R)
-        → StandsAt observes hears takes registry options whole scan rows files start tree begun watcher first recipient → ReadsAll observes hears registry options files files_after tree tree_after watcher watcher_read
-        → ((readings : Readings) → AreSettled registry options readings files files_after
-        → HandsFront hears takes fails (flat_map (heard_of_row registry options readings files) rows) (flat_map (records_of_row registry options readings files) rows) fault watcher_read watcher_after recipient recipient_after)
-        → EndsEarly observes hears takes fails registry options fault start tree_after begun watcher_after first recipient_after
-    ends_handing fault whole scan rows files files_after start tree tree_after begun watcher watcher_read watcher_after first recipient recipient_after on all hands =
-        let read = read_as registry options files files_after all.calls on.fits.fresh.distinct all.are all.counted all.settled in
-        let entries : List Heard = flat_map (heard_of_row registry options read.readings files) rows in
-        let records : List Record = flat_map (records_of_row registry options read.readings files) rows in
-        let front = hands read.readings read.settled in
-        let of : AllByRecursion OfEntry front.heard = all_front OfEntry front.heard front.are_first.rest (subst (AllByRecursion OfEntry) front.are_first.are (of_rows registry options read.readings files rows)) in
-        ends_visited fault read.readings on.calls all.calls (filter is_of_entry on.heard) on.given scan rows files start tree_after tree_after begun watcher_after first recipient_after ((on.heard ++ heard_of_calls all.calls) ++ front.heard)
-        (on.fits.visited read.readings read.like.may) read.like
-        (subst (λ (l : List Heard). AreFirst l (filter is_of_entry on.heard ++ entries)) (sym (entries_then on.heard front.heard all.calls of)) (first_after (filter is_of_entry on.heard) front.heard entries front.are_first))
-        (bytes_then on.heard front.heard on.calls all.calls of on.bytes)
-        (observed_more on.calls all.calls start tree tree_after on.observed all.observed) (inl refl)
-        (over_more hears begun watcher_read watcher_after (on.heard ++ heard_of_calls all.calls) front.heard (over_more hears begun watcher watcher_read on.heard (heard_of_calls all.calls) on.informed all.heard) front.informed)
-        (takes_after takes fails fault on.given records first recipient recipient_after on.taken front.taken)
-        (λ is. absurd (hands_not_of_numbers fault front.explained is))

@@ -1,7 +1,8 @@
 use Rattle.std.proofs.Common.{◌&&◌, inl, refl, rules}
 use Rattle.std.proofs.lemmas.Result.{err_from_is_err_and}
 use Rattle.droid_profile_spec.specs.declared.fault.ProfileFault.TheVariants as faults
-use Rattle.droid_profile.proofs.Walks.{all_profiled, ends_at_once, ends_before, ends_taking, rows_taken, stands_at_first}
+use Rattle.droid_profile.proofs.WalkEnds.{ends_at_once, ends_before, ends_taking}
+use Rattle.droid_profile.proofs.Walks.{all_profiled, rows_taken, stands_at_first}
 use Rattle.droid_profile.proofs.tree_profile.profile.Goals as goal
 
 pub returns-in_err-scan-clause-ended : goal.returns-in_err-scan-clause-ended

@@ -6,7 +6,8 @@ use Rattle.droid_profile_rows.specs.RowsTaken.{heard_of_row, records_of_row}
 use Rattle.droid_profile_rows.specs.declared.row.Row.{Row}
 use Rattle.droid_profile.specs.HandedOut.{AreSettled, Hands, HandsFront}
 use Rattle.droid_profile.proofs.FileHanded.{moments_kept}
-use Rattle.droid_profile.proofs.Walks.{batch_handed_out, ends_handing, ends_reading}
+use Rattle.droid_profile.proofs.WalkEnds.{ends_handing, ends_reading}
+use Rattle.droid_profile.proofs.Walks.{batch_handed_out}
 use Rattle.droid_profile.proofs.tree_profile.settle.Goals as goal
 
 pub returns-in_err-read_files-clause-ended : goal.returns-in_err-read_files-clause-ended
