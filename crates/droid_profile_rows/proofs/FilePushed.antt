@@ -77,7 +77,7 @@ module _ (registry : Contents) (options : Options) (readings : Readings) (files 
   -- ---- what comes of the file
 
   module _ (folder : PendingFolder) (entry : FolderEntry) (number : ℕ) (its : file.record ≡ unread_record folder entry number) (same : file.entry ≡ entry) where
-    plain : Record
+    abbrev plain : Record
     plain = unread_record folder entry number
 
     heard_of_it : heard_at registry options readings (Some file) ≡ heard_of_kid registry options folder.path (AFile entry number (readings number))
