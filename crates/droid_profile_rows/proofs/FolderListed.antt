@@ -1,6 +1,6 @@
 -- What stands after one folder more was listed.
-use Rattle.std.proofs.Common.{◌≡◌, ◌⊎◌, inl, inr, ℕ, true, List, [], ◌∷◌, ◌++◌, length, map, reverse, append-nil, append_assoc, Option, Some, None, refl, sym, ap, subst, ◌∙◌}
-use Rattle.std.specs.List.{flat_map, list_all, AllByRecursion}
+use Rattle.std.proofs.Common.{◌≡◌, ◌⊎◌, inl, inr, ℕ, List, [], ◌∷◌, ◌++◌, length, map, reverse, append-nil, append_assoc, Option, Some, None, refl, sym, ap, subst, ◌∙◌}
+use Rattle.std.specs.List.{flat_map, AllByRecursion}
 use Rattle.std.proofs.lemmas.List.{reverse-reverse}
 use Rattle.std.proofs.lemmas.List.Concat.{flat_map-append}
 use Rattle.droid_frame.specs.types.record.Record.{Record}
@@ -11,8 +11,8 @@ use Rattle.droid_tree.specs.Observation.{Observation, Listed}
 use Rattle.droid_tree.specs.Paths.{top}
 use Rattle.droid_tree.specs.declared.folder_entry.FolderEntry.{FolderEntry}
 use Rattle.droid_tree.specs.declared.pending_folder.PendingFolder.{PendingFolder}
-use Rattle.droid_profile_spec.specs.Calls.{Call, OfFolder, folder_calls, reads_of}
-use Rattle.droid_profile_spec.specs.ProfileRecords.{records_of, records_of_visit}
+use Rattle.droid_profile_spec.specs.Calls.{Call, OfFolder}
+use Rattle.droid_profile_spec.specs.ProfileRecords.{records_of_visit}
 use Rattle.droid_profile_spec.specs.Visits.{Visit, AreListed, Follow, InTurn, IsBegun, IsVisit, folder_calls_of, heard_of_listing, heard_of_repeated, heard_of_visit, is_complete, numbers_of, reads_of_visit}
 use Rattle.droid_profile_spec.specs.declared.options.Options.{Options}
 use Rattle.droid_profile_spec.proofs.VisitSteps.{all_append, given_more, in_turn_visit}
@@ -129,11 +129,11 @@ module _ (registry : Contents) (options : Options) (readings : Readings) (files 
           ∙ (ap (λ (l : List Heard). l ++ its_heard) visited.entries
           ∙ (append_assoc heard (flat_map (heard_of_row registry options readings files) rows) its_heard
           ∙ ap (λ (l : List Heard). heard ++ l)
-              (sym (of_rows (heard_of_row registry options readings files) ∙ ap (λ (l : List Heard). flat_map (heard_of_row registry options readings files) rows ++ l) (heard_of_rows folder.path observed repeated))))));
+          (sym (of_rows (heard_of_row registry options readings files) ∙ ap (λ (l : List Heard). flat_map (heard_of_row registry options readings files) rows ++ l) (heard_of_rows folder.path observed repeated))))));
       records = still (records_of_visit registry options) refl
           ∙ (visited.records
           ∙ ap (λ (l : List Record). given ++ l)
-              (sym (of_rows (records_of_row registry options readings files)
-              ∙ (ap (λ (l : List Record). flat_map (records_of_row registry options readings files) rows ++ l) (no_records_of_rows folder.path observed repeated)
-              ∙ append-nil (flat_map (records_of_row registry options readings files) rows)))));
+          (sym (of_rows (records_of_row registry options readings files)
+          ∙ (ap (λ (l : List Record). flat_map (records_of_row registry options readings files) rows ++ l) (no_records_of_rows folder.path observed repeated)
+          ∙ append-nil (flat_map (records_of_row registry options readings files) rows)))));
     }

@@ -17,7 +17,7 @@ use Rattle.droid_profile_spec.specs.declared.fault.ProfileFault.{ProfileFault}
 use Rattle.droid_profile_spec.specs.declared.options.Options.{Options}
 use Rattle.droid_profile_files.specs.declared.file_row.FileRow.{FileRow}
 use Rattle.droid_profile_files.proofs.BatchEnds.{over_more}
-use Rattle.droid_profile_rows.specs.ScanFits.{EndsTaking, IsExplained, IsOpen, NoneOpen, ScanFits, Takes, TakesFront, TakesMore}
+use Rattle.droid_profile_rows.specs.ScanFits.{EndsTaking, IsExplained, IsOpen, NoneOpen, ScanFits, Takes, TakesMore}
 use Rattle.droid_profile_rows.specs.declared.row.Row.{Row}
 use Rattle.droid_profile_rows.specs.declared.scan.Scan.{Scan}
 

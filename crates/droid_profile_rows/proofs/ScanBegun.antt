@@ -1,5 +1,5 @@
 -- Before anything is taken, nothing has to fit.
-use Rattle.std.proofs.Common.{◌≡◌, inr, ℕ, List, [], ◌∷◌, refl, sym}
+use Rattle.std.proofs.Common.{◌≡◌, inr, [], ◌∷◌, refl, sym}
 use Rattle.droid_pronom.specs.Registry.{Contents}
 use Rattle.droid_tree.specs.Paths.{top}
 use Rattle.droid_profile_spec.specs.declared.options.Options.{Options}

@@ -3,16 +3,14 @@ use Rattle.std.proofs.Common.{◌≡◌, inl, inr, ℕ, ◌+◌, ◌≤◌, Bool
 use Rattle.std.specs.Prelude.{IsUtf8}
 use Rattle.std.specs.Result.{IsErrAnd}
 use Rattle.std.specs.List.{flat_map, AllByRecursion}
-use Rattle.std.proofs.lemmas.Bool.{false≢true}
 use Rattle.std.proofs.lemmas.List.{reverse-append}
 use Rattle.droid_core_spec.specs.Conditions.{is_bad_name, is_moment}
 use Rattle.droid_core_spec.specs.Judging.{refusal_of}
 use Rattle.droid_frame.specs.types.record.Record.{Record}
-use Rattle.droid_frame.specs.types.refusal.Refusal.{Refusal}
 use Rattle.droid_frame.specs.types.refusal.Refusal.TheVariants as refusals
 use Rattle.droid_pronom.specs.Registry.{Contents}
 use Rattle.droid_tree.specs.Heard.{Heard, Left}
-use Rattle.droid_tree.specs.Kinds.{IsNoNode, reason_of_kind}
+use Rattle.droid_tree.specs.Kinds.{reason_of_kind}
 use Rattle.droid_tree.specs.Listings.{observed_of_folder}
 use Rattle.droid_tree.specs.Observation.{Observation, Opened, Unopened, GoesOver}
 use Rattle.droid_tree.specs.Paths.{below}
@@ -21,7 +19,7 @@ use Rattle.droid_tree.specs.declared.folder_entry.FolderEntry.{FolderEntry}
 use Rattle.droid_tree.specs.declared.pending_folder.PendingFolder.{PendingFolder}
 use Rattle.droid_tree.specs.declared.skipped.Skipped.{Skipped}
 use Rattle.droid_tree.specs.declared.skipped.Skipped.TheVariants as reasons
-use Rattle.droid_profile_spec.specs.Calls.{Call, OfFolder}
+use Rattle.droid_profile_spec.specs.Calls.{OfFolder}
 use Rattle.droid_profile_spec.specs.Kids.{Kid, Subfolder, ClosedFolder, AFile, AnotherKind, NoText, RefusedEntry, IsNode, MayCome, entry_of, entry_refusal, heard_of_kid, is_done, numbers_in, reads_of_kid, seen_of_kid, subfolders_of_kid}
 use Rattle.droid_profile_spec.specs.ProfileRecords.{folder_record, records_of_kid}
 use Rattle.droid_profile_spec.specs.Visits.{AreListed}
@@ -34,12 +32,12 @@ use Rattle.droid_profile_files.specs.declared.file_row.FileRow.{FileRow}
 use Rattle.droid_profile_files.specs.declared.file_row.FileState.TheVariants.{Waits}
 use Rattle.droid_profile_rows.specs.RowsPushed.{left_row}
 use Rattle.droid_profile_rows.specs.RowsTaken.{HasMoment, IsReady, MayBeRead, Readings, heard_of_row, reads_of_files, records_of_row}
-use Rattle.droid_profile_rows.specs.ScanFits.{EndsTaking, IsExplained, ScanFits, Takes, TakesMore, Visited, entries_left}
+use Rattle.droid_profile_rows.specs.ScanFits.{EndsTaking, IsExplained, Takes, Visited, entries_left}
 use Rattle.droid_profile_rows.specs.StepsTaken.{ClosesFolder, IsNext, IsSkipped, ListsFolder, OpensFolder, TakesFile, TakesFolder, unread_record}
 use Rattle.droid_profile_rows.specs.declared.row.Row.{Row}
 use Rattle.droid_profile_rows.specs.declared.row.Row.TheVariants as rows
 use Rattle.droid_profile_rows.specs.declared.scan.Scan.{Scan}
-use Rattle.droid_profile_rows.proofs.EntryTaken.{IsNumbered, KidTaken, NextNumber, NoNumber, after_kid}
+use Rattle.droid_profile_rows.proofs.EntryTaken.{KidTaken, NextNumber, NoNumber, after_kid}
 use Rattle.droid_profile_rows.proofs.FilePushed.{ended_one_more, fresh_more, heard_one_more, may_be_read, reads_one_more, ready_more, records_one_more}
 use Rattle.droid_profile_rows.proofs.FolderListed.{after_listing, listing_ready, listing_rows}
 use Rattle.droid_profile_rows.proofs.RowLists.{all_weaker}
@@ -294,7 +292,9 @@ takes_listing observes folder scan popped listed scan_after before after files t
   where
     its : scan_after.folder ≡ folder
     its = ap (λ (s : Scan). s.folder) is
+
     left : scan_after.waiting.items ≡ popped.waiting.items
     left = ap (λ (s : Scan). s.waiting.items) is ∙ ap (λ (s : Scan). s.waiting.items) lists.scan_is
+
     counted : scan_after.number ≡ scan.number
     counted = ap (λ (s : Scan). s.number) is ∙ (ap (λ (s : Scan). s.number) lists.scan_is ∙ ap (λ (s : Scan). s.number) popped_is)

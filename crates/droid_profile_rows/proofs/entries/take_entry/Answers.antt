@@ -1,4 +1,4 @@
-use Rattle.std.proofs.Common.{◌≡◌, inl, inr, List, ℕ, None, refl, subst}
+use Rattle.std.proofs.Common.{◌≡◌, inl, List, ℕ, None, refl, subst}
 use Rattle.std.proofs.lemmas.Result.{IfOk-from_err}
 use Rattle.droid_profile_spec.specs.Kids.{entry_refusal}
 use Rattle.droid_profile_spec.specs.declared.fault.ProfileFault.TheVariants.{Memory}

@@ -1,5 +1,4 @@
-use Rattle.std.proofs.Common.{inl, inr, List, refl, sym, ◌∙◌}
-use Rattle.droid_profile_spec.specs.declared.fault.ProfileFault.TheVariants.{Memory}
+use Rattle.std.proofs.Common.{inl, inr, List, refl, sym}
 use Rattle.droid_profile_files.specs.declared.file_row.FileRow.{FileRow}
 use Rattle.droid_profile_rows.specs.ScanFits.{EndsTaking}
 use Rattle.droid_profile_rows.specs.declared.scan.Scan.{Scan}

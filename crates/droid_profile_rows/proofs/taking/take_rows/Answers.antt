@@ -1,6 +1,5 @@
-use Rattle.std.proofs.Common.{refl}
 use Rattle.droid_profile_rows.specs.ScanFits.{EndsTaking}
-use Rattle.droid_profile_rows.proofs.Runs.{ends_then, handed_on, takes_none, takes_then}
+use Rattle.droid_profile_rows.proofs.Runs.{ends_then, handed_on, takes_then}
 use Rattle.droid_profile_rows.proofs.taking.take_rows.Goals as goal
 
 pub loop-preserved : goal.loop-preserved
