@@ -9,9 +9,9 @@ use Rattle.droid_tree.specs.Observation.{Observation}
 use Rattle.droid_tree.specs.Paths.{top}
 use Rattle.droid_tree.specs.declared.folder_entry.FolderEntry.{FolderEntry}
 use Rattle.droid_tree.specs.declared.pending_folder.PendingFolder.{PendingFolder}
-use Rattle.droid_profile_spec.specs.Calls.{Call, OfFolder, folder_calls, reads_of}
+use Rattle.droid_profile_spec.specs.Calls.{Call, OfFolder, reads_of}
 use Rattle.droid_profile_spec.specs.Kids.{Kid, MayCome, entry_of, heard_of_kid, is_done, numbers_in, reads_of_kid, seen_of_kid, subfolders_of_kid}
-use Rattle.droid_profile_spec.specs.ProfileRecords.{records_of, records_of_kid, records_of_visit}
+use Rattle.droid_profile_spec.specs.ProfileRecords.{records_of_kid, records_of_visit}
 use Rattle.droid_profile_spec.specs.Visits.{Visit, Follow, InTurn, IsBegun, folder_calls_of, heard_of_listing, heard_of_repeated, heard_of_visit, is_complete, numbers_of, reads_of_visit, subfolders_of}
 use Rattle.droid_profile_spec.specs.declared.options.Options.{Options}
 use Rattle.droid_profile_spec.proofs.VisitSteps.{begun_kid, follow_more, given_more, in_turn_kid, last_gives_more, with_kid}
@@ -92,10 +92,13 @@ module _ (registry : Contents) (options : Options) (readings : Readings) where
       where
         listing : List Heard
         listing = heard_of_listing last.folder.path last.observed
+
         repeated : List Heard
         repeated = heard_of_repeated last.folder.path last.repeated
+
         kids : List Heard
         kids = flat_map (heard_of_kid registry options last.folder.path) last.kids
+
         more : List Heard
         more = heard_of_kid registry options folder.path kid
 
@@ -145,14 +148,19 @@ module _ (registry : Contents) (options : Options) (readings : Readings) where
       where
         now : Visit
         now = with_kid folders.last kid
+
         after : List Visit
         after = folders.before ++ now ∷ []
+
         seen : List Observation
         seen = seen_of_kid scan.folder.path kid
+
         its_heard : List Heard
         its_heard = heard_of_kid registry options scan.folder.path kid
+
         its_records : List Record
         its_records = records_of_kid registry options scan.folder kid
+
         grown : {B : Type 0} (f : Visit → List B) (more : List B) → f now ≡ f folders.last ++ more → flat_map f after ≡ flat_map f visited.visits ++ more
         grown {B = B} f more is = last_gives_more f folders.before folders.last now more is ∙ ap (λ (l : List Visit). flat_map f l ++ more) (sym folders.are)
 

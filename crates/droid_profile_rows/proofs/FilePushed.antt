@@ -1,7 +1,6 @@
 -- What one file more of the batch changes.
-use Rattle.std.proofs.Common.{◌≡◌, ℕ, ◌+◌, ◌<◌, ◌≤◌, ◌==◌, if◌then◌else◌, true, List, [], ◌∷◌, ◌++◌, length, slice_get, Option, Some, length-append, append-nil, refl, sym, ap, subst, ◌∙◌, arith}
+use Rattle.std.proofs.Common.{◌≡◌, ℕ, ◌+◌, ◌≤◌, ◌==◌, if◌then◌else◌, true, List, [], ◌∷◌, ◌++◌, length, slice_get, Some, length-append, refl, sym, ap, subst, ◌∙◌, arith}
 use Rattle.std.specs.List.{flat_map, AllByRecursion}
-use Rattle.std.proofs.lemmas.List.Concat.{flat_map-append}
 use Rattle.droid_frame.specs.types.record.Record.{Record}
 use Rattle.droid_pronom.specs.Registry.{Contents}
 use Rattle.droid_tree.specs.Heard.{Heard}
@@ -77,7 +76,7 @@ module _ (registry : Contents) (options : Options) (readings : Readings) (files 
   -- ---- what comes of the file
 
   module _ (folder : PendingFolder) (entry : FolderEntry) (number : ℕ) (its : file.record ≡ unread_record folder entry number) (same : file.entry ≡ entry) where
-    plain : Record
+    abbrev plain : Record
     plain = unread_record folder entry number
 
     heard_of_it : heard_at registry options readings (Some file) ≡ heard_of_kid registry options folder.path (AFile entry number (readings number))
@@ -118,7 +117,7 @@ module _ (registry : Contents) (options : Options) (readings : Readings) (files 
     may_be_read may = (
       all_front (λ (f : FileRow). IsReading f.entry.len (reading_of readings f)) files file may,
       subst (λ (e : FolderEntry). IsReading e.len (readings number)) same
-      (subst (λ (r : Record). IsReading file.entry.len (readings r.id)) its (all_last (λ (f : FileRow). IsReading f.entry.len (reading_of readings f)) files file may)),
+          (subst (λ (r : Record). IsReading file.entry.len (readings r.id)) its (all_last (λ (f : FileRow). IsReading f.entry.len (reading_of readings f)) files file may)),
     )
 
     module _ (before : List Row) (ready : AllByRecursion (IsReady (length files)) before) where
@@ -127,7 +126,7 @@ module _ (registry : Contents) (options : Options) (readings : Readings) (files 
       heard_one_more =
           given_more (heard_of_row registry options readings (files ++ file ∷ [])) before (rows.File (length files))
           ∙ (ap (λ (l : List Heard). l ++ heard_at registry options readings (slice_get (files ++ file ∷ []) (length files)))
-              (same_flat_map (heard_of_row registry options readings (files ++ file ∷ [])) (heard_of_row registry options readings files) (IsReady (length files)) before heard_still ready)
+          (same_flat_map (heard_of_row registry options readings (files ++ file ∷ [])) (heard_of_row registry options readings files) (IsReady (length files)) before heard_still ready)
           ∙ ap (λ (l : List Heard). flat_map (heard_of_row registry options readings files) before ++ l) (ap (heard_at registry options readings) (last_place files file) ∙ heard_of_it))
 
       pub records_one_more : flat_map (records_of_row registry options readings (files ++ file ∷ [])) (before ++ rows.File (length files) ∷ [])
@@ -135,5 +134,5 @@ module _ (registry : Contents) (options : Options) (readings : Readings) (files 
       records_one_more =
           given_more (records_of_row registry options readings (files ++ file ∷ [])) before (rows.File (length files))
           ∙ (ap (λ (l : List Record). l ++ records_at registry options readings (slice_get (files ++ file ∷ []) (length files)))
-              (same_flat_map (records_of_row registry options readings (files ++ file ∷ [])) (records_of_row registry options readings files) (IsReady (length files)) before records_still ready)
+          (same_flat_map (records_of_row registry options readings (files ++ file ∷ [])) (records_of_row registry options readings files) (IsReady (length files)) before records_still ready)
           ∙ ap (λ (l : List Record). flat_map (records_of_row registry options readings files) before ++ l) (ap (records_at registry options readings) (last_place files file) ∙ records_of_it))

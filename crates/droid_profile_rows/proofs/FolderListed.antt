@@ -1,17 +1,18 @@
 -- What stands after one folder more was listed.
-use Rattle.std.proofs.Common.{◌≡◌, ◌⊎◌, inl, inr, ℕ, true, List, [], ◌∷◌, ◌++◌, length, map, reverse, append-nil, append_assoc, Option, Some, None, refl, sym, ap, subst, ◌∙◌}
-use Rattle.std.specs.List.{flat_map, list_all, AllByRecursion}
+use Rattle.std.proofs.Common.{◌≡◌, ◌⊎◌, inl, inr, ℕ, List, [], ◌∷◌, ◌++◌, length, map, reverse, append-nil, append_assoc, Option, Some, None, refl, sym, ap, subst, ◌∙◌}
+use Rattle.std.specs.List.{flat_map, AllByRecursion}
+use Rattle.std.proofs.lemmas.List.{reverse-reverse}
 use Rattle.std.proofs.lemmas.List.Concat.{flat_map-append}
 use Rattle.droid_frame.specs.types.record.Record.{Record}
 use Rattle.droid_pronom.specs.Registry.{Contents}
 use Rattle.droid_tree.specs.Heard.{Heard}
-use Rattle.droid_tree.specs.Listings.{observed_of_folder}
-use Rattle.droid_tree.specs.Observation.{Observation}
+use Rattle.droid_tree.specs.Listings.{ListsInOrder, observed_of_folder}
+use Rattle.droid_tree.specs.Observation.{Observation, Listed}
 use Rattle.droid_tree.specs.Paths.{top}
 use Rattle.droid_tree.specs.declared.folder_entry.FolderEntry.{FolderEntry}
 use Rattle.droid_tree.specs.declared.pending_folder.PendingFolder.{PendingFolder}
-use Rattle.droid_profile_spec.specs.Calls.{Call, OfFolder, folder_calls, reads_of}
-use Rattle.droid_profile_spec.specs.ProfileRecords.{records_of, records_of_visit}
+use Rattle.droid_profile_spec.specs.Calls.{Call, OfFolder}
+use Rattle.droid_profile_spec.specs.ProfileRecords.{records_of_visit}
 use Rattle.droid_profile_spec.specs.Visits.{Visit, AreListed, Follow, InTurn, IsBegun, IsVisit, folder_calls_of, heard_of_listing, heard_of_repeated, heard_of_visit, is_complete, numbers_of, reads_of_visit}
 use Rattle.droid_profile_spec.specs.declared.options.Options.{Options}
 use Rattle.droid_profile_spec.proofs.VisitSteps.{all_append, given_more, in_turn_visit}
@@ -24,6 +25,20 @@ use Rattle.droid_profile_rows.specs.declared.row.Row.{Row}
 use Rattle.droid_profile_rows.specs.declared.scan.Scan.{Scan}
 use Rattle.droid_profile_rows.proofs.CallLists.{folder_calls_more, reads_still}
 use Rattle.droid_profile_rows.proofs.RowLists.{all_true_more}
+
+-- the folder was listed, and its entries are kept in reverse
+pub lists_folder : {T : Type 0} (observes : T → Observation → T → Type 0) (folder : PendingFolder) (scan scan_after : Scan) (before after : List Row) (tree tree_after : T) (path : List ℕ) (entries repeated : List FolderEntry)
+    → path ≡ folder.path → ListsInOrder observes path entries repeated tree tree_after → scan_after ≡ record scan { entries = scan_after.entries } → scan_after.entries.items ≡ reverse entries → after ≡ before ++ map (repeated_row folder.path) repeated
+    → ListsFolder observes folder scan scan_after before after tree tree_after
+lists_folder observes folder scan scan_after before after tree tree_after path entries repeated same lists is reversed rows_are = record {
+  observed = Some lists.listed;
+  repeated = repeated;
+  came = subst (λ (p : List ℕ). observes tree (Listed p lists.listed) tree_after) same lists.observed;
+  listed = subst (λ (l : List FolderEntry). AreListed (Some lists.listed) l repeated) (sym (ap (λ (l : List FolderEntry). reverse l) reversed ∙ reverse-reverse entries))
+      (record { same = lists.same; in_order = lists.in_order; are_repeated = lists.are_repeated });
+  rows_are = rows_are;
+  scan_is = is;
+}
 
 -- the rows of a listing
 abbrev pub listing_rows : List ℕ → Option (List FolderEntry) → List FolderEntry → List Row
@@ -68,10 +83,10 @@ module _ (registry : Contents) (options : Options) (readings : Readings) (files 
       (empty : scan.entries.items ≡ []) (first : scan.waiting.items ≡ folder ∷ waiting) (left : scan_after.waiting.items ≡ waiting) (its : scan_after.folder ≡ folder) (counted : scan_after.number ≡ scan.number)
       (listed : AreListed observed (entries_left scan_after) repeated) (rows_are : rows_after ≡ rows ++ listing_rows folder.path observed repeated)
       (visited : Visited registry options readings calls heard given scan rows files) where
-    now : Visit
+    abbrev now : Visit
     now = record { folder = folder; observed = observed; repeated = repeated; kids = [] }
 
-    after : List Visit
+    abbrev after : List Visit
     after = visited.visits ++ now ∷ []
 
     grown : {B : Type 0} (f : Visit → List B) → flat_map f after ≡ flat_map f visited.visits ++ f now
@@ -80,10 +95,10 @@ module _ (registry : Contents) (options : Options) (readings : Readings) (files 
     still : {B : Type 0} (f : Visit → List B) → f now ≡ [] → flat_map f after ≡ flat_map f visited.visits
     still {B = B} f none = grown f ∙ (ap (λ (l : List B). flat_map f visited.visits ++ l) none ∙ append-nil (flat_map f visited.visits))
 
-    called : List Observation
+    abbrev called : List Observation
     called = observed_of_folder folder.path observed ∷ []
 
-    its_heard : List Heard
+    abbrev its_heard : List Heard
     its_heard = heard_of_listing folder.path observed ++ heard_of_repeated folder.path repeated
 
     of_rows : {B : Type 0} (f : Row → List B) → flat_map f rows_after ≡ flat_map f rows ++ flat_map f (listing_rows folder.path observed repeated)
@@ -114,11 +129,11 @@ module _ (registry : Contents) (options : Options) (readings : Readings) (files 
           ∙ (ap (λ (l : List Heard). l ++ its_heard) visited.entries
           ∙ (append_assoc heard (flat_map (heard_of_row registry options readings files) rows) its_heard
           ∙ ap (λ (l : List Heard). heard ++ l)
-              (sym (of_rows (heard_of_row registry options readings files) ∙ ap (λ (l : List Heard). flat_map (heard_of_row registry options readings files) rows ++ l) (heard_of_rows folder.path observed repeated))))));
+          (sym (of_rows (heard_of_row registry options readings files) ∙ ap (λ (l : List Heard). flat_map (heard_of_row registry options readings files) rows ++ l) (heard_of_rows folder.path observed repeated))))));
       records = still (records_of_visit registry options) refl
           ∙ (visited.records
           ∙ ap (λ (l : List Record). given ++ l)
-              (sym (of_rows (records_of_row registry options readings files)
-              ∙ (ap (λ (l : List Record). flat_map (records_of_row registry options readings files) rows ++ l) (no_records_of_rows folder.path observed repeated)
-              ∙ append-nil (flat_map (records_of_row registry options readings files) rows)))));
+          (sym (of_rows (records_of_row registry options readings files)
+          ∙ (ap (λ (l : List Record). flat_map (records_of_row registry options readings files) rows ++ l) (no_records_of_rows folder.path observed repeated)
+          ∙ append-nil (flat_map (records_of_row registry options readings files) rows)))));
     }

@@ -5,4 +5,5 @@ pub mod FolderListed
 pub mod Meanings
 pub mod RowLists
 pub mod Runs
+pub mod ScanBegun
 pub mod ScanSteps

@@ -1,17 +1,16 @@
 -- What was taken fits after each kind of step.
-use Rattle.std.proofs.Common.{◌≡◌, inl, inr, ℕ, ◌+◌, ◌≤◌, Bool, true, false, not, List, [], ◌∷◌, ◌++◌, length, length-append, map, reverse, None, append-nil, refl, sym, ap, subst, ◌∙◌, arith}
+use Rattle.std.proofs.Common.{◌≡◌, inl, inr, ℕ, ◌+◌, ◌≤◌, Bool, true, false, not, List, [], ◌∷◌, ◌++◌, length, length-append, map, reverse, None, Result, IfErr, append-nil, refl, sym, ap, subst, ◌∙◌, arith}
 use Rattle.std.specs.Prelude.{IsUtf8}
+use Rattle.std.specs.Result.{IsErrAnd}
 use Rattle.std.specs.List.{flat_map, AllByRecursion}
-use Rattle.std.proofs.lemmas.Bool.{false≢true}
 use Rattle.std.proofs.lemmas.List.{reverse-append}
 use Rattle.droid_core_spec.specs.Conditions.{is_bad_name, is_moment}
 use Rattle.droid_core_spec.specs.Judging.{refusal_of}
 use Rattle.droid_frame.specs.types.record.Record.{Record}
-use Rattle.droid_frame.specs.types.refusal.Refusal.{Refusal}
 use Rattle.droid_frame.specs.types.refusal.Refusal.TheVariants as refusals
 use Rattle.droid_pronom.specs.Registry.{Contents}
 use Rattle.droid_tree.specs.Heard.{Heard, Left}
-use Rattle.droid_tree.specs.Kinds.{IsNoNode, reason_of_kind}
+use Rattle.droid_tree.specs.Kinds.{reason_of_kind}
 use Rattle.droid_tree.specs.Listings.{observed_of_folder}
 use Rattle.droid_tree.specs.Observation.{Observation, Opened, Unopened, GoesOver}
 use Rattle.droid_tree.specs.Paths.{below}
@@ -20,10 +19,12 @@ use Rattle.droid_tree.specs.declared.folder_entry.FolderEntry.{FolderEntry}
 use Rattle.droid_tree.specs.declared.pending_folder.PendingFolder.{PendingFolder}
 use Rattle.droid_tree.specs.declared.skipped.Skipped.{Skipped}
 use Rattle.droid_tree.specs.declared.skipped.Skipped.TheVariants as reasons
-use Rattle.droid_profile_spec.specs.Calls.{Call, OfFolder}
+use Rattle.droid_profile_spec.specs.Calls.{OfFolder}
 use Rattle.droid_profile_spec.specs.Kids.{Kid, Subfolder, ClosedFolder, AFile, AnotherKind, NoText, RefusedEntry, IsNode, MayCome, entry_of, entry_refusal, heard_of_kid, is_done, numbers_in, reads_of_kid, seen_of_kid, subfolders_of_kid}
 use Rattle.droid_profile_spec.specs.ProfileRecords.{folder_record, records_of_kid}
 use Rattle.droid_profile_spec.specs.Visits.{AreListed}
+use Rattle.droid_profile_spec.specs.EarlyEnds.{TreeStands}
+use Rattle.droid_profile_spec.specs.declared.fault.ProfileFault.{ProfileFault}
 use Rattle.droid_profile_spec.specs.declared.options.Options.{Options}
 use Rattle.droid_profile_spec.proofs.VisitSteps.{all_append, given_more}
 use Rattle.droid_profile_files.specs.FileStates.{AreFresh}
@@ -31,15 +32,16 @@ use Rattle.droid_profile_files.specs.declared.file_row.FileRow.{FileRow}
 use Rattle.droid_profile_files.specs.declared.file_row.FileState.TheVariants.{Waits}
 use Rattle.droid_profile_rows.specs.RowsPushed.{left_row}
 use Rattle.droid_profile_rows.specs.RowsTaken.{HasMoment, IsReady, MayBeRead, Readings, heard_of_row, reads_of_files, records_of_row}
-use Rattle.droid_profile_rows.specs.ScanFits.{ScanFits, Takes, TakesMore, Visited, entries_left}
+use Rattle.droid_profile_rows.specs.ScanFits.{EndsTaking, IsExplained, Takes, Visited, entries_left}
 use Rattle.droid_profile_rows.specs.StepsTaken.{ClosesFolder, IsNext, IsSkipped, ListsFolder, OpensFolder, TakesFile, TakesFolder, unread_record}
 use Rattle.droid_profile_rows.specs.declared.row.Row.{Row}
 use Rattle.droid_profile_rows.specs.declared.row.Row.TheVariants as rows
 use Rattle.droid_profile_rows.specs.declared.scan.Scan.{Scan}
-use Rattle.droid_profile_rows.proofs.EntryTaken.{IsNumbered, KidTaken, NextNumber, NoNumber, after_kid}
+use Rattle.droid_profile_rows.proofs.EntryTaken.{KidTaken, NextNumber, NoNumber, after_kid}
 use Rattle.droid_profile_rows.proofs.FilePushed.{ended_one_more, fresh_more, heard_one_more, may_be_read, reads_one_more, ready_more, records_one_more}
 use Rattle.droid_profile_rows.proofs.FolderListed.{after_listing, listing_ready, listing_rows}
 use Rattle.droid_profile_rows.proofs.RowLists.{all_weaker}
+use Rattle.droid_profile_rows.proofs.Runs.{ends_now, handed_on}
 
 -- ---- the next entry
 
@@ -58,6 +60,18 @@ moment_of false false false none = absurd cc
 pub has_moment : (path : List ℕ) (entry : FolderEntry) → entry_refusal path entry ≡ None → is_moment entry.modified ≡ true
 unfolding entry_refusal
 has_moment path entry none = moment_of (is_bad_name entry.name) _ (is_moment entry.modified) none
+
+-- what stands if an entry could not be taken: all before it
+pub not_taken : {T A : Type 0} (observes : T → Observation → T → Type 0) (entry : FolderEntry) (popped : Scan) (before : List Row) (files : List FileRow) (tree tree_after : T) (result : Result A ProfileFault) (fault : ProfileFault)
+    → IsErrAnd result (λ its. its ≡ fault) → IsExplained fault popped.number → TreeStands fault tree tree_after → IfErr result (λ its. (scan : Scan) → IsNext scan popped entry → EndsTaking observes its scan before files tree tree_after)
+not_taken observes entry popped before files tree tree_after result fault same explained stands =
+    handed_on (λ its. (scan : Scan) → IsNext scan popped entry → EndsTaking observes its scan before files tree tree_after) result fault same
+    (λ scan next. ends_now observes fault scan before files tree tree_after (subst (λ (s : Scan). IsExplained fault s.number) next.same explained) stands)
+
+-- a folder or a file that is no file is a folder
+pub is_folder : (entry : FolderEntry) → IsNode entry.kind → (entry.kind ≡ kinds.File → ⊥) → entry.kind ≡ kinds.Folder
+is_folder entry (inl folder) no_file = folder
+is_folder entry (inr file) no_file = absurd (no_file file)
 
 -- ---- any entry
 
@@ -278,7 +292,9 @@ takes_listing observes folder scan popped listed scan_after before after files t
   where
     its : scan_after.folder ≡ folder
     its = ap (λ (s : Scan). s.folder) is
+
     left : scan_after.waiting.items ≡ popped.waiting.items
     left = ap (λ (s : Scan). s.waiting.items) is ∙ ap (λ (s : Scan). s.waiting.items) lists.scan_is
+
     counted : scan_after.number ≡ scan.number
     counted = ap (λ (s : Scan). s.number) is ∙ (ap (λ (s : Scan). s.number) lists.scan_is ∙ ap (λ (s : Scan). s.number) popped_is)

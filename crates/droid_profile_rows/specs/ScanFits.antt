@@ -7,7 +7,7 @@ use Rattle.droid_tree.specs.Heard.{Heard}
 use Rattle.droid_tree.specs.Observation.{Observation, GoesOver}
 use Rattle.droid_tree.specs.Paths.{top}
 use Rattle.droid_tree.specs.declared.folder_entry.FolderEntry.{FolderEntry}
-use Rattle.droid_profile_spec.specs.Calls.{Call, OfFolder, folder_calls, observation_of, reads_of}
+use Rattle.droid_profile_spec.specs.Calls.{Call, OfFolder, folder_calls, reads_of}
 use Rattle.droid_profile_spec.specs.EarlyEnds.{TreeStands}
 use Rattle.droid_profile_spec.specs.ProfileRecords.{records_of}
 use Rattle.droid_profile_spec.specs.Visits.{Visit, Follow, InTurn, IsBegun, IsVisit, folder_calls_of, heard_of_visit, is_complete, numbers_of, reads_of_visit}

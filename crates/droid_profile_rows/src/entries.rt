@@ -147,11 +147,7 @@ fn take_folder<T: Tree>(
 }
 
 /// Takes a file.
-fn push_file(
-    rows: &mut Vec<Row>,
-    files: &mut Vec<FileRow>,
-    file: FileRow,
-) -> Result<(), AllocError>
+fn push_file(rows: &mut Vec<Row>, files: &mut Vec<FileRow>, file: FileRow) -> Result<(), AllocError>
     ensures rows { OnOk result (rows.new.items ≡ rows.old.items ++ row_forms.File (length files.old.items) ∷ []) }
     ensures files { OnOk result (files.new.items ≡ files.old.items ++ file ∷ []) }
 {

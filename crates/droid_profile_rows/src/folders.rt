@@ -8,8 +8,8 @@ ghost use Rattle.droid_profile_rows.specs.ScanFits.{EndsTaking, Takes};
 ghost use Rattle.droid_profile_rows.specs.StepsTaken.{ListsFolder};
 
 use crate::entries::{push_left, push_left_below};
-use crate::scan::Scan;
 use crate::row::Row;
+use crate::scan::Scan;
 use droid_profile_spec::ProfileFault;
 use droid_tree::{FolderEntry, PendingFolder, Skipped, Tree, read_folder};
 use std::alloc::{AllocError, Global};
