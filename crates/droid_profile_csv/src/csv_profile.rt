@@ -2,7 +2,11 @@
 
 ghost use Rattle.std.specs.Prelude.{◌≡◌, ◌≤◌, IfErr, IfOk};
 ghost use Rattle.droid_frame.specs.Seen.{IsSound};
-ghost use Rattle.droid_profile_csv.specs.WrittenTrees.{EndsWriting, ReportsCsv, ReportsList, WritesTree};
+ghost use Rattle.droid_frame.specs.stream_types.fault.WriteFault.{WriteFault};
+ghost use Rattle.droid_profile_spec.specs.declared.fault.ProfileFault.TheVariants as walk_faults;
+ghost use Rattle.droid_profile_spec.specs.declared.recipient.RecipientFault.TheVariants as recipient_faults;
+ghost use Rattle.droid_profile_csv.specs.Taking.{EndsRest, stopped_writer};
+ghost use Rattle.droid_profile_csv.specs.WrittenTrees.{EndsWriting, Explains, ReportsCsv, ReportsList, WritesTree};
 
 use crate::csv_fault::CsvFault;
 use crate::csv_recipient::CsvRecipient;
@@ -52,7 +56,12 @@ pub fn write_profile<T: Tree, W: Watcher, O: SteadyWrite, M: SteadyWrite>(
 fn end_early<O: SteadyWrite, M: SteadyWrite>(
     recipient: &mut CsvRecipient<'_, O, M>,
     fault: ProfileFault,
-) -> CsvFault {
+) -> CsvFault
+    ensures explains { Explains fault result }
+    ensures writer { (stopped : WriteFault) → fault ≡ walk_faults.Recipient (recipient_faults.Write stopped) → (recipient.new ≡ recipient.old) × (result ≡ stopped_writer recipient.old.wrote_list stopped) }
+    ensures rest { ((stopped : WriteFault) → ¬ (fault ≡ walk_faults.Recipient (recipient_faults.Write stopped)))
+        → EndsRest O.contents O.seen O.room M.contents M.seen M.room result recipient.old recipient.new }
+{
     let fault = match fault {
         ProfileFault::Memory => CsvFault::Memory,
         ProfileFault::Numbers => CsvFault::Numbers,
@@ -69,7 +78,9 @@ fn end_early<O: SteadyWrite, M: SteadyWrite>(
 }
 
 /// Returns the fault of a writer that stopped.
-fn fault_of(wrote_list: bool, stopped: WriteFault) -> CsvFault {
+fn fault_of(wrote_list: bool, stopped: WriteFault) -> CsvFault
+    ensures { result ≡ stopped_writer wrote_list stopped }
+{
     if wrote_list {
         CsvFault::Manifest(stopped)
     } else {

@@ -1,11 +1,12 @@
 //! A recipient that writes records as CSV, and the checksums of files as a list.
 
-ghost use Rattle.std.specs.Prelude.{◌≡◌, ◌++◌, [], false, IfErr, IsTrue, OnErr, OnOk};
+ghost use Rattle.std.specs.Prelude.{◌≡◌, ◌++◌, ℕ, List, [], true, false, IfErr, IsTrue, OnErr, OnOk};
 ghost use Rattle.droid_core_spec.specs.Conditions.{is_moment};
 ghost use Rattle.droid_export.specs.Rows.{header};
-ghost use Rattle.droid_export.specs.Text.{record_text, row_text};
-ghost use Rattle.droid_profile_csv.specs.Taking.{Fails, IsAdded, Stays, Takes};
+ghost use Rattle.droid_export.specs.Text.{row_text};
+ghost use Rattle.droid_profile_csv.specs.Taking.{BreaksCsv, BreaksList, BreaksOne, EndsRest, Fails, GoesOn, LinesGrow, ListBreaks, ListGoes, Stays, Takes, WritesRest};
 ghost use Rattle.droid_profile_csv.specs.Texts.{line_of};
+ghost use Rattle.droid_profile_csv.specs.WrittenTrees.{IsOfWriter};
 
 use crate::csv_fault::CsvFault;
 use crate::pending_lines::{add_file, write_lines};
@@ -78,7 +79,7 @@ impl<O: SteadyWrite, M: SteadyWrite> CsvRecipient<'_, O, M> {
     /// Adds the rows and the line of a record. If memory runs out, nothing changes.
     fn add(&mut self, next: &Record) -> Result<(), AllocError>
         requires { IsTrue (is_moment next.now.modified) }
-        ensures added { OnOk result (IsAdded self.old next.now self.new) }
+        ensures added { OnOk result (Takes O.contents O.seen M.contents M.seen self.old next.now self.new) }
         ensures unchanged { OnErr result (Stays self.old self.new) }
     {
         let before = self.lines.len();
@@ -94,7 +95,10 @@ impl<O: SteadyWrite, M: SteadyWrite> CsvRecipient<'_, O, M> {
 
     /// Adds the line of a record, if a list is wanted.
     fn add_line(&mut self, next: &Record) -> Result<(), AllocError>
-        ensures added { OnOk result (self.new ≡ record self.old { lines = self.new.lines }) }
+        ensures same { self.new ≡ record self.old { lines = self.new.lines } }
+        ensures added { OnOk result (LinesGrow self.old.manifest self.old.lines.items self.new.lines.items (line_of next.now)) }
+        ensures front { OnOk result ((more : List ℕ) × (self.new.lines.items ≡ self.old.lines.items ++ more)) }
+        ensures unchanged { OnErr result (self.new.lines.items ≡ self.old.lines.items) }
     {
         match self.manifest {
             Some(_) => add_file(&mut self.lines, next),
@@ -103,19 +107,30 @@ impl<O: SteadyWrite, M: SteadyWrite> CsvRecipient<'_, O, M> {
     }
 
     /// Writes the rows and the lines if enough of them are pending.
-    fn write_full(&mut self) -> Result<(), WriteFault> {
+    fn write_full(&mut self) -> Result<(), WriteFault>
+        ensures ok { OnOk result (GoesOn O.contents O.seen M.contents M.seen self.old [] [] self.new) }
+        ensures err { OnErr result (BreaksOne O.contents O.seen O.room M.contents M.seen M.room self.old [] [] self.new) }
+    {
         self.write_full_rows()?;
         self.write_full_lines()
     }
 
-    fn write_full_rows(&mut self) -> Result<(), WriteFault> {
+    fn write_full_rows(&mut self) -> Result<(), WriteFault>
+        ensures ok { OnOk result (GoesOn O.contents O.seen M.contents M.seen self.old [] [] self.new) }
+        ensures err { OnErr result (BreaksCsv O.contents O.seen O.room M.contents M.seen self.old [] [] self.new) }
+        ensures flag { OnErr result (self.new.wrote_list ≡ false) }
+    {
         if self.rows.len() < PENDING {
             return Ok(());
         }
         self.write_rows()
     }
 
-    fn write_full_lines(&mut self) -> Result<(), WriteFault> {
+    fn write_full_lines(&mut self) -> Result<(), WriteFault>
+        ensures ok { OnOk result (GoesOn O.contents O.seen M.contents M.seen self.old [] [] self.new) }
+        ensures err { OnErr result (BreaksList O.contents O.seen M.contents M.seen M.room self.old [] [] self.new) }
+        ensures flag { OnErr result (self.new.wrote_list ≡ true) }
+    {
         if self.lines.len() < PENDING {
             return Ok(());
         }
@@ -123,13 +138,24 @@ impl<O: SteadyWrite, M: SteadyWrite> CsvRecipient<'_, O, M> {
     }
 
     /// Writes all rows that are pending.
-    fn write_rows(&mut self) -> Result<(), WriteFault> {
+    fn write_rows(&mut self) -> Result<(), WriteFault>
+        ensures ok { OnOk result (GoesOn O.contents O.seen M.contents M.seen self.old [] [] self.new) }
+        ensures emptied { OnOk result (self.new.rows ≡ []) }
+        ensures err { OnErr result (BreaksCsv O.contents O.seen O.room M.contents M.seen self.old [] [] self.new) }
+        ensures flag { OnErr result (self.new.wrote_list ≡ false) }
+    {
         self.wrote_list = false;
         self.rows.write_to(&mut self.csv)
     }
 
     /// Writes all lines that are pending.
-    fn write_list(&mut self) -> Result<(), WriteFault> {
+    fn write_list(&mut self) -> Result<(), WriteFault>
+        ensures rows { (self.new.csv ≡ self.old.csv) × (self.new.rows ≡ self.old.rows) × (self.new.registry.now ≡ self.old.registry.now) }
+        ensures ok { OnOk result (ListGoes M.contents M.seen self.old.manifest self.new.manifest self.old.lines.items self.new.lines.items []) }
+        ensures emptied { OnOk result (ListGoes M.contents M.seen self.old.manifest self.new.manifest self.old.lines.items [] []) }
+        ensures err { OnErr result (ListBreaks M.contents M.seen M.room self.old.manifest self.new.manifest self.old.lines.items []) }
+        ensures flag { OnErr result (self.new.wrote_list ≡ true) }
+    {
         self.wrote_list = true;
         match &mut self.manifest {
             Some(writer) => write_lines(writer, &mut self.lines),
@@ -138,7 +164,10 @@ impl<O: SteadyWrite, M: SteadyWrite> CsvRecipient<'_, O, M> {
     }
 
     /// Writes all rows and lines that are pending.
-    pub(crate) fn write_rest(&mut self) -> Result<(), CsvFault> {
+    pub(crate) fn write_rest(&mut self) -> Result<(), CsvFault>
+        ensures ok { OnOk result (WritesRest O.contents O.seen M.contents M.seen self.old self.new) }
+        ensures err { IfErr result (λ fault. IsOfWriter fault × EndsRest O.contents O.seen O.room M.contents M.seen M.room fault self.old self.new) }
+    {
         match self.write_rows() {
             Ok(()) => {}
             Err(fault) => return Err(CsvFault::Csv(fault)),
