@@ -114,10 +114,10 @@ module _ {O M : Type 0} (contents : O → Option (List ℕ)) (seen : O → Seen)
     shown = taken ++ next ∷ [];
     adds = refl;
     leaves =
-      subst (λ (lines : List ℕ). BreaksOne contents seen room list_contents list_seen list_room old (flat_map (record_text old.registry.now) (taken ++ next ∷ [])) lines new) (flat_push line_of taken next)
+        subst (λ (lines : List ℕ). BreaksOne contents seen room list_contents list_seen list_room old (flat_map (record_text old.registry.now) (taken ++ next ∷ [])) lines new) (flat_push line_of taken next)
         (subst (λ (rows : List ℕ). BreaksOne contents seen room list_contents list_seen list_room old rows (flat_map line_of taken ++ line_of next) new) (flat_push (record_text old.registry.now) taken next)
-          (on-breaks_one contents seen list_contents list_seen room list_room old reached new (flat_map (record_text old.registry.now) taken) (flat_map line_of taken) (record_text old.registry.now next) (line_of next) goes
-            (subst (λ (registry : Contents). BreaksOne contents seen room list_contents list_seen list_room reached (record_text registry next) (line_of next) new) goes.registry fails)));
+        (on-breaks_one contents seen list_contents list_seen room list_room old reached new (flat_map (record_text old.registry.now) taken) (flat_map line_of taken) (record_text old.registry.now next) (line_of next) goes
+        (subst (λ (registry : Contents). BreaksOne contents seen room list_contents list_seen list_room reached (record_text registry next) (line_of next) new) goes.registry fails)));
   }
 
   -- ---- the whole of it
@@ -133,17 +133,17 @@ module _ {O M : Type 0} (contents : O → Option (List ℕ)) (seen : O → Seen)
       → EndsListed observes hears registry options fault tree tree_after watcher watcher_after old new
   ends_listed {T} {W} observes hears registry options fault tree tree_after watcher watcher_after old new walk = by_taken walk.taken
     where
-    by_taken : TakesFirst (Takes contents seen list_contents list_seen) (Fails contents seen room list_contents list_seen list_room) fault (records_of registry options walk.visits) old new
-        → EndsListed observes hears registry options fault tree tree_after watcher watcher_after old new
-    by_taken (Took taken first goes none) = record {
-      shown = taken;
-      ended = listed taken walk (Took taken first (goes_adds [] taken) none);
-      leaves = leaves_took old new taken fault none (takes_all contents seen list_contents list_seen old taken new goes);
-    }
-    by_taken (Failed taken next reached why first goes fails is) =
-        let part = leaves_failed old reached new taken next why (takes_all contents seen list_contents list_seen old taken reached goes) fails in
-        record {
-          shown = part.shown;
-          ended = listed part.shown walk (Failed taken next taken why first (goes_adds [] taken) part.adds is);
-          leaves = subst (λ (it : ProfileFault). Leaves old part.shown it new) (sym is) part.leaves;
-        }
+      by_taken : TakesFirst (Takes contents seen list_contents list_seen) (Fails contents seen room list_contents list_seen list_room) fault (records_of registry options walk.visits) old new
+          → EndsListed observes hears registry options fault tree tree_after watcher watcher_after old new
+      by_taken (Took taken first goes none) = record {
+        shown = taken;
+        ended = listed taken walk (Took taken first (goes_adds [] taken) none);
+        leaves = leaves_took old new taken fault none (takes_all contents seen list_contents list_seen old taken new goes);
+      }
+      by_taken (Failed taken next reached why first goes fails is) =
+          let part = leaves_failed old reached new taken next why (takes_all contents seen list_contents list_seen old taken reached goes) fails in
+          record {
+            shown = part.shown;
+            ended = listed part.shown walk (Failed taken next taken why first (goes_adds [] taken) part.adds is);
+            leaves = subst (λ (it : ProfileFault). Leaves old part.shown it new) (sym is) part.leaves;
+          }

@@ -1,3 +1,5 @@
 pub mod Takings
 pub mod Endings
 pub mod Written
+pub mod TreeWritten
+pub mod EarlyWritten

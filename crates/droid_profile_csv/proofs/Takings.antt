@@ -113,11 +113,11 @@ module _ {O M : Type 0} (contents : O → Option (List ℕ)) (seen : O → Seen)
       → BreaksOne contents seen room list_contents list_seen list_room middle rows_more lines_more new → BreaksOne contents seen room list_contents list_seen list_room old (rows ++ rows_more) (lines ++ lines_more) new
   on-breaks_one room list_room old middle new rows lines rows_more lines_more one two = by_flag new.wrote_list two
     where
-    by_flag : (flag : Bool)
-        → MatchBool flag (BreaksList contents seen list_contents list_seen list_room middle rows_more lines_more new) (BreaksCsv contents seen room list_contents list_seen middle rows_more lines_more new)
-        → MatchBool flag (BreaksList contents seen list_contents list_seen list_room old (rows ++ rows_more) (lines ++ lines_more) new) (BreaksCsv contents seen room list_contents list_seen old (rows ++ rows_more) (lines ++ lines_more) new)
-    by_flag true two = on-breaks_list list_room old middle new rows lines rows_more lines_more one two
-    by_flag false two = on-breaks_csv room old middle new rows lines rows_more lines_more one two
+      by_flag : (flag : Bool)
+          → MatchBool flag (BreaksList contents seen list_contents list_seen list_room middle rows_more lines_more new) (BreaksCsv contents seen room list_contents list_seen middle rows_more lines_more new)
+          → MatchBool flag (BreaksList contents seen list_contents list_seen list_room old (rows ++ rows_more) (lines ++ lines_more) new) (BreaksCsv contents seen room list_contents list_seen old (rows ++ rows_more) (lines ++ lines_more) new)
+      by_flag true two = on-breaks_list list_room old middle new rows lines rows_more lines_more one two
+      by_flag false two = on-breaks_csv room old middle new rows lines rows_more lines_more one two
 
   -- nothing changed after it
   pub on-stays : (old middle new : CsvRecipient O M) (rows lines : List ℕ) → GoesOn contents seen list_contents list_seen old rows lines middle → Stays middle new
@@ -125,9 +125,9 @@ module _ {O M : Type 0} (contents : O → Option (List ℕ)) (seen : O → Seen)
   on-stays old middle new rows lines one stays = record {
     registry = stays.registry ∙ one.registry;
     csv = subst (λ (writer : O). Goes contents seen old.csv writer old.rows new.rows rows) (sym stays.csv)
-      (subst (λ (pending : List ℕ). Goes contents seen old.csv middle.csv old.rows pending rows) (sym stays.rows) one.csv);
+        (subst (λ (pending : List ℕ). Goes contents seen old.csv middle.csv old.rows pending rows) (sym stays.rows) one.csv);
     list = subst (λ (writer : Option M). ListGoes list_contents list_seen old.manifest writer old.lines.items new.lines.items lines) (sym stays.manifest)
-      (subst (λ (pending : List ℕ). ListGoes list_contents list_seen old.manifest middle.manifest old.lines.items pending lines) (sym stays.lines) one.list);
+        (subst (λ (pending : List ℕ). ListGoes list_contents list_seen old.manifest middle.manifest old.lines.items pending lines) (sym stays.lines) one.list);
   }
 
   -- ---- several records
@@ -141,4 +141,4 @@ module _ {O M : Type 0} (contents : O → Option (List ℕ)) (seen : O → Seen)
   takes_all old (next ∷ records) new steps =
       let rest = takes_all steps.0 records new steps.2 in
       on-more old steps.0 new (record_text old.registry.now next) (line_of next) (flat_map (record_text old.registry.now) records) (flat_map line_of records) steps.1
-        (subst (λ (registry : Contents). GoesOn contents seen list_contents list_seen steps.0 (flat_map (record_text registry) records) (flat_map line_of records) new) steps.1.registry rest)
+      (subst (λ (registry : Contents). GoesOn contents seen list_contents list_seen steps.0 (flat_map (record_text registry) records) (flat_map line_of records) new) steps.1.registry rest)

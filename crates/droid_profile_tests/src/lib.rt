@@ -4,6 +4,8 @@
 #[cfg(test)]
 mod manifests;
 #[cfg(test)]
+mod memory;
+#[cfg(test)]
 mod memory_tree;
 #[cfg(test)]
 mod noting_watcher;
