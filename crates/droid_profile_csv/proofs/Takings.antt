@@ -1,7 +1,9 @@
 -- What goes to the writers of several records, one after the other.
-use Rattle.std.proofs.Common.{◌≡◌, ℕ, ◌<◌, ◌≤◌, Bool, true, false, MatchBool, List, [], ◌∷◌, ◌++◌, length, Option, Some, None, refl, sym, ap, ◌∙◌, subst, append_assoc, append-nil, arith}
+use Rattle.std.proofs.Common.{◌≡◌, ℕ, ◌<◌, ◌≤◌, Bool, true, false, MatchBool, List, [], ◌∷◌, ◌++◌, length, Option, Some, None, Result, Ok, Err, refl, sym, ap, ◌∙◌, subst, append_assoc, append-nil, arith}
+use Rattle.std.specs.Prelude.{OnErr}
 use Rattle.std.specs.List.{flat_map}
 use Rattle.std.proofs.KnownBytes.{Appends-nil, Appends-trans}
+use Rattle.droid_frame.specs.stream_types.fault.WriteFault.{WriteFault}
 use Rattle.droid_frame.specs.stream_types.seen.Seen.{Seen}
 use Rattle.droid_frame.specs.types.record.Record.{Record}
 use Rattle.droid_export.specs.Text.{record_text}
@@ -118,6 +120,42 @@ module _ {O M : Type 0} (contents : O → Option (List ℕ)) (seen : O → Seen)
           → MatchBool flag (BreaksList contents seen list_contents list_seen list_room old (rows ++ rows_more) (lines ++ lines_more) new) (BreaksCsv contents seen room list_contents list_seen old (rows ++ rows_more) (lines ++ lines_more) new)
       by_flag true two = on-breaks_list list_room old middle new rows lines rows_more lines_more one two
       by_flag false two = on-breaks_csv room old middle new rows lines rows_more lines_more one two
+
+  -- ---- where nothing more was added
+
+  pub on-alone : (old middle new : CsvRecipient O M) (rows lines : List ℕ) → GoesOn contents seen list_contents list_seen old rows lines middle → GoesOn contents seen list_contents list_seen middle [] [] new
+      → GoesOn contents seen list_contents list_seen old rows lines new
+  on-alone old middle new rows lines one two =
+      subst (λ (l : List ℕ). GoesOn contents seen list_contents list_seen old l lines new) (append-nil rows)
+      (subst (λ (l : List ℕ). GoesOn contents seen list_contents list_seen old (rows ++ []) l new) (append-nil lines) (on-more old middle new rows lines [] [] one two))
+
+  pub on-breaks_one_alone : (room : O → Option ℕ) (list_room : M → Option ℕ) (old middle new : CsvRecipient O M) (rows lines : List ℕ) → GoesOn contents seen list_contents list_seen old rows lines middle
+      → BreaksOne contents seen room list_contents list_seen list_room middle [] [] new → BreaksOne contents seen room list_contents list_seen list_room old rows lines new
+  on-breaks_one_alone room list_room old middle new rows lines one two =
+      subst (λ (l : List ℕ). BreaksOne contents seen room list_contents list_seen list_room old l lines new) (append-nil rows)
+      (subst (λ (l : List ℕ). BreaksOne contents seen room list_contents list_seen list_room old (rows ++ []) l new) (append-nil lines) (on-breaks_one room list_room old middle new rows lines [] [] one two))
+
+  one_of_list : (room : O → Option ℕ) (list_room : M → Option ℕ) (old new : CsvRecipient O M) (rows lines : List ℕ) → BreaksList contents seen list_contents list_seen list_room old rows lines new
+      → new.wrote_list ≡ true → BreaksOne contents seen room list_contents list_seen list_room old rows lines new
+  one_of_list room list_room old new rows lines breaks is =
+      subst (λ (flag : Bool). MatchBool flag (BreaksList contents seen list_contents list_seen list_room old rows lines new) (BreaksCsv contents seen room list_contents list_seen old rows lines new)) (sym is) breaks
+
+  pub on-list_stopped : (room : O → Option ℕ) (list_room : M → Option ℕ) (old middle new : CsvRecipient O M) (result : Result (Unit {0}) WriteFault) → GoesOn contents seen list_contents list_seen old [] [] middle
+      → OnErr result (BreaksList contents seen list_contents list_seen list_room middle [] [] new) → OnErr result (new.wrote_list ≡ true)
+      → OnErr result (BreaksOne contents seen room list_contents list_seen list_room old [] [] new)
+  on-list_stopped room list_room old middle new (Ok done) one breaks is = tt
+  on-list_stopped room list_room old middle new (Err fault) one breaks is =
+      on-breaks_one room list_room old middle new [] [] [] [] one (one_of_list room list_room middle new [] [] breaks is)
+
+  pub list_stopped_after : (list_room : M → Option ℕ) (old middle new : CsvRecipient O M) → GoesOn contents seen list_contents list_seen old [] [] middle
+      → (new.csv ≡ middle.csv) × (new.rows ≡ middle.rows) × (new.registry.now ≡ middle.registry.now)
+      → ListBreaks list_contents list_seen list_room middle.manifest new.manifest middle.lines.items [] → BreaksList contents seen list_contents list_seen list_room old [] [] new
+  list_stopped_after list_room old middle new one same breaks = record {
+    registry = same.2 ∙ one.registry;
+    csv = subst (λ (writer : O). Goes contents seen old.csv writer old.rows new.rows []) (sym same.0)
+        (subst (λ (pending : List ℕ). Goes contents seen old.csv middle.csv old.rows pending []) (sym same.1) one.csv);
+    list = list_goes-breaks list_contents list_seen list_room old.manifest middle.manifest new.manifest old.lines.items middle.lines.items [] [] one.list breaks;
+  }
 
   -- nothing changed after it
   pub on-stays : (old middle new : CsvRecipient O M) (rows lines : List ℕ) → GoesOn contents seen list_contents list_seen old rows lines middle → Stays middle new

@@ -33,6 +33,20 @@ pub record IsBegun {O M : Type 0} (options : Options) (start : CsvRecipient O M)
   pub rows : start.rows ≡ row_text (header options.hash)
   pub lines : start.lines.items ≡ []
 
+-- the recipient that was begun has the writers and the registry of the one before
+pub record Begins {O M : Type 0} (options : Options) (old start : CsvRecipient O M) : Type 0 where
+  pub begun : IsBegun options start
+  pub registry : start.registry.now ≡ old.registry.now
+  pub csv : start.csv ≡ old.csv
+  pub manifest : start.manifest ≡ old.manifest
+
+-- so what is said of it is said of the one before
+pub at_old : {O M : Type 0} (P : Contents → O → Option M → Type 0) (options : Options) (old start : CsvRecipient O M) → Begins options old start
+    → P start.registry.now start.csv start.manifest → P old.registry.now old.csv old.manifest
+at_old {O} {M} P options old start begins said =
+    subst (λ (registry : Contents). P registry old.csv old.manifest) begins.registry
+    (subst (λ (writer : O). P start.registry.now writer old.manifest) begins.csv (subst (λ (writer : Option M). P start.registry.now start.csv writer) begins.manifest said))
+
 module _ {O M : Type 0} (contents : O → Option (List ℕ)) (seen : O → Seen) (list_contents : M → Option (List ℕ)) (list_seen : M → Seen) where
   -- all rows of these records were written
   pub csv_written : (options : Options) (shown : List Record) (start middle new : CsvRecipient O M) → IsBegun options start

@@ -43,10 +43,10 @@ pub fn write_profile<T: Tree, W: Watcher, O: SteadyWrite, M: SteadyWrite>(
     profiler.recipient.begin(profiler.alloc, options.hash)?;
     let registry = profiler.recipient.registry;
     match profile(profiler, registry, options) {
-        Ok(whole) => {
-            profiler.recipient.write_rest()?;
-            Ok(whole)
-        }
+        Ok(whole) => match profiler.recipient.write_rest() {
+            Ok(()) => Ok(whole),
+            Err(fault) => Err(fault),
+        },
         Err(fault) => Err(end_early(&mut profiler.recipient, fault)),
     }
 }

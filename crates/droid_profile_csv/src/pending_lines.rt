@@ -1,6 +1,6 @@
 //! The lines of a list of checksums that are not written yet.
 
-ghost use Rattle.std.specs.Prelude.{◌≡◌, ◌++◌, [], OnErr, OnOk, IfErr, IsTrue};
+ghost use Rattle.std.specs.Prelude.{◌≡◌, ◌++◌, ◌<◌, ◌^◌, [], IfErr, OnErr, OnOk, length};
 ghost use Rattle.std.specs.Io.KnownBytes.{Appends};
 ghost use Rattle.droid_export.specs.Filters as export;
 ghost use Rattle.droid_frame.specs.Seen.{IsSound, Lasts};
@@ -43,8 +43,19 @@ pub(crate) fn write_lines<M: SteadyWrite>(
     ensures stopped { IsSound (M.seen writer.old) → OnErr result (WriterStops (M.seen writer.old).interruptions (M.seen writer.new) (M.room writer.new)) }
     ensures steady { IsSound (M.seen writer.old) → OnOk result (Lasts (M.seen writer.old).interruptions (M.seen writer.new)) }
 {
-    let mut progress = WriteState::new();
-    write_all(writer, lines.as_slice(), &mut progress)?;
+    write_text(writer, lines.as_slice())?;
     lines.clear();
     Ok(())
+}
+
+/// Writes a text, or as much of it as the writer takes.
+fn write_text<M: SteadyWrite>(writer: &mut M, bytes: &[u8]) -> Result<(), WriteFault>
+    requires { length bytes.now < 2 ^ 64 }
+    ensures ok { OnOk result (Appends (M.contents writer.old) (M.contents writer.new) bytes.now) }
+    ensures err { IfErr result (λ fault. StopsWithin (M.contents writer.old) (M.contents writer.new) bytes.now 0 fault.written) }
+    ensures stopped { IsSound (M.seen writer.old) → OnErr result (WriterStops (M.seen writer.old).interruptions (M.seen writer.new) (M.room writer.new)) }
+    ensures steady { IsSound (M.seen writer.old) → OnOk result (Lasts (M.seen writer.old).interruptions (M.seen writer.new)) }
+{
+    let mut progress = WriteState::new();
+    write_all(writer, bytes, &mut progress)
 }
