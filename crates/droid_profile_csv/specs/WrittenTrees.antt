@@ -73,7 +73,15 @@ CsvIsFront faults.Turns old new text = Appends old new text
 CsvIsFront (faults.Csv fault) old new text = AppendsNotAll old new text
 CsvIsFront (faults.Manifest fault) old new text = AppendsSome old new text
 
--- the same of the list
+-- After the walk the CSV is written before the list: all of it, unless its own writer stopped.
+abbrev pub CsvAtEnd : CsvFault → Option (List ℕ) → Option (List ℕ) → List ℕ → Type 0
+CsvAtEnd faults.Memory old new text = Appends old new text
+CsvAtEnd faults.Numbers old new text = Appends old new text
+CsvAtEnd faults.Turns old new text = Appends old new text
+CsvAtEnd (faults.Csv fault) old new text = AppendsNotAll old new text
+CsvAtEnd (faults.Manifest fault) old new text = Appends old new text
+
+-- what was written of the list
 abbrev pub ListIsFront : {M : Type 0} → (M → Option (List ℕ)) → CsvFault → Option M → Option M → List ℕ → Type 0
 ListIsFront contents faults.Memory old new text = Lists contents old new text
 ListIsFront contents faults.Numbers old new text = Lists contents old new text
@@ -91,7 +99,7 @@ pub data EndsWriting {T W M : Type 0} (observes : T → Observation → T → Ty
       → CsvIsFront fault csv csv_after (csv_text registry options shown) → ListIsFront list_contents fault manifest manifest_after (list_text shown)
       → EndsWriting observes hears list_contents registry options fault tree tree_after watcher watcher_after csv csv_after manifest manifest_after
   After : (shown : List Record) (whole : Bool) → ProfilesTree observes hears Adds registry options whole tree tree_after watcher watcher_after [] shown → IsOfWriter fault
-      → CsvIsFront fault csv csv_after (csv_text registry options shown) → ListIsFront list_contents fault manifest manifest_after (list_text shown)
+      → CsvAtEnd fault csv csv_after (csv_text registry options shown) → ListIsFront list_contents fault manifest manifest_after (list_text shown)
       → EndsWriting observes hears list_contents registry options fault tree tree_after watcher watcher_after csv csv_after manifest manifest_after
 
 -- ---- which writer stopped
