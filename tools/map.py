@@ -26,6 +26,7 @@ BELOW_HEADS = {
     "droid_profile_rows": ["droid_core_spec"],
     "droid_profile_spec": ["droid_core_spec"],
     "droid_profile": ["droid_core_spec"],
+    "droid_profile_csv": ["droid_core_spec", "droid_fixity_manifest"],
     "droid_desk_folders": [
         "droid_fixity_lists", "droid_fixity_profile", "droid_tree_connection", "droid_tree_disk", "droid_tree_local", "droid_tree_remote", "droid_tree_submission", "droid_tree_upload", "droid_tree_walk",
     ],

@@ -2,10 +2,16 @@
 #![tactic(auto)]
 
 #[cfg(test)]
-mod csv_recipient;
+mod manifests;
+#[cfg(test)]
+mod memory;
 #[cfg(test)]
 mod memory_tree;
 #[cfg(test)]
 mod noting_watcher;
 #[cfg(test)]
 mod profiles;
+#[cfg(test)]
+mod stopped_writers;
+#[cfg(test)]
+mod written;

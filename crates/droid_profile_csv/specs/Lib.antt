@@ -1,0 +1,4 @@
+pub mod Texts
+pub mod Writers
+pub mod Taking
+pub mod WrittenTrees
