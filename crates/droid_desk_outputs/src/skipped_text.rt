@@ -3,15 +3,16 @@
 ghost use Rattle.std.specs.Prelude.{◌≡◌, ◌++◌, ℕ, List, [], ◌∷◌, IfOk, OnOk};
 ghost use Rattle.droid_export.specs.Csv.{line};
 ghost use Rattle.droid_export.specs.CsvBuffer.{Holds};
-ghost use Rattle.droid_desk_folders.specs.SkippedTexts.{entry_record, skipped_csv};
+ghost use Rattle.droid_desk_outputs.specs.SkippedTexts.{entry_record, entry_text, header, skipped_csv};
 
-use crate::recorder::SkippedEntry;
+use crate::skipped_entry::SkippedEntry;
 use csv::{QuoteStyle, Writer, WriterBuilder};
 use droid_desk_progress::cause;
+use droid_tree::Skipped;
 use std::alloc::{AllocError, Global};
 
 /// Returns the CSV of these entries, with each field between double quotes.
-pub(crate) fn skipped_csv(alloc: Global, skipped: &[SkippedEntry]) -> Result<Vec<u8>, AllocError>
+pub fn skipped_csv(alloc: Global, skipped: &[SkippedEntry]) -> Result<Vec<u8>, AllocError>
     ensures { IfOk result (λ csv. csv.items ≡ skipped_csv skipped.now) }
 {
     let mut writer = new_writer(alloc);
@@ -19,6 +20,24 @@ pub(crate) fn skipped_csv(alloc: Global, skipped: &[SkippedEntry]) -> Result<Vec
     for entry in skipped {
         write_entry(&mut writer, entry)?;
     }
+    finish(writer)
+}
+
+/// Returns the first line of this CSV, which names its columns.
+pub fn header_line(alloc: Global) -> Result<Vec<u8>, AllocError>
+    ensures { IfOk result (λ text. text.items ≡ header) }
+{
+    let mut writer = new_writer(alloc);
+    write_pair(&mut writer, b"path", b"reason")?;
+    finish(writer)
+}
+
+/// Returns the line of one entry.
+pub fn entry_line(alloc: Global, path: &[u8], why: Skipped) -> Result<Vec<u8>, AllocError>
+    ensures { IfOk result (λ text. text.items ≡ entry_text path.now why) }
+{
+    let mut writer = new_writer(alloc);
+    write_pair(&mut writer, path, cause(why).as_bytes())?;
     finish(writer)
 }
 

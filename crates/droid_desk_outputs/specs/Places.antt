@@ -1,5 +1,5 @@
 -- Where files and folders lie (this project's own).
-use Rattle.std.specs.Prelude.{◌≡◌, ◌⊎◌, ℕ, List, [], ◌∷◌, ◌++◌, Option, Some, None}
+use Rattle.std.specs.Prelude.{◌≡◌, ◌⊎◌, ℕ, List, [], ◌∷◌, ◌++◌}
 
 -- a path is this folder, or begins with it and a `/`
 abbrev pub IsAtOrBelow : List ℕ → List ℕ → Type 0
@@ -8,8 +8,3 @@ IsAtOrBelow path folder = (path ≡ folder) ⊎ ((rest : List ℕ) × (path ≡ 
 -- a place is a folder or lies in it; both are absolute paths without links, and all lies in the root
 abbrev pub LiesIn : List ℕ → List ℕ → Type 0
 LiesIn place folder = (folder ≡ 47 ∷ []) ⊎ IsAtOrBelow place folder
-
--- the submission's name: the one that was given, or else the folder's absolute path
-abbrev pub name_of : Option (List ℕ) → List ℕ → List ℕ
-name_of (Some name) absolute = name
-name_of None absolute = absolute

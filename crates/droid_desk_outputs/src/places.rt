@@ -1,7 +1,7 @@
 //! Where files and folders lie.
 
-ghost use Rattle.std.specs.Prelude.{◌≡◌, ◌↔◌, IsTrue, option_map};
-ghost use Rattle.droid_desk_folders.specs.Places.{IsAtOrBelow, LiesIn, name_of};
+ghost use Rattle.std.specs.Prelude.{◌≡◌, ◌↔◌, IsTrue};
+ghost use Rattle.droid_desk_outputs.specs.Places.{IsAtOrBelow, LiesIn};
 
 use droid_frame::Text;
 use std::alloc::AllocError;
@@ -9,7 +9,7 @@ use std::fs::{self, Files};
 use std::io::ErrorKind;
 
 /// Returns whether a place is a folder or lies in it. Both are absolute paths without links.
-pub(crate) fn lies_in(place: &str, folder: &str) -> bool
+pub fn lies_in(place: &str, folder: &str) -> bool
     ensures { IsTrue result ↔ LiesIn place.now folder.now }
 {
     if folder.as_bytes() == b"/".as_slice() {
@@ -31,18 +31,8 @@ fn is_at_or_below(path: &[u8], folder: &[u8]) -> bool
     }
 }
 
-/// Returns the name of a submission: the one that was given, or else the folder's absolute path.
-pub(crate) fn name_of<'a>(name: Option<&'a str>, absolute: &'a str) -> &'a str
-    ensures { result.now ≡ name_of (option_map (λ text. text.now) name.entry) absolute.entry.now }
-{
-    match name {
-        Some(name) => name,
-        None => absolute,
-    }
-}
-
 /// Returns the absolute path of a folder, without links. If it has none that is UTF-8, returns the path as given.
-pub(crate) fn absolute_path<R: Files + AllocGlobal>(
+pub fn absolute_path<R: Files + AllocGlobal>(
     rt: &R,
     path: &str,
 ) -> Result<Text, AllocError> {
@@ -54,10 +44,32 @@ pub(crate) fn absolute_path<R: Files + AllocGlobal>(
 }
 
 /// Returns the path of the folder that a file lies in.
-pub(crate) fn folder_of(path: &str) -> &str {
+pub fn folder_of(path: &str) -> &str {
     match path.rsplit_once("/") {
         Some(("", _)) => "/",
         Some((folder, _)) => folder,
         None => ".",
+    }
+}
+
+/// Returns whether two files have the same path, by their names and by the absolute paths of their folders.
+pub fn is_same_place<R: Files + AllocGlobal>(
+    rt: &R,
+    first: &str,
+    second: &str,
+) -> Result<bool, AllocError> {
+    if name_in(first) != name_in(second) {
+        return Ok(false);
+    }
+    let one = absolute_path(rt, folder_of(first))?;
+    let other = absolute_path(rt, folder_of(second))?;
+    Ok(one.as_str() == other.as_str())
+}
+
+/// Returns the last name of a path.
+fn name_in(path: &str) -> &str {
+    match path.rsplit_once("/") {
+        Some((_, name)) => name,
+        None => path,
     }
 }

@@ -1,16 +1,16 @@
-//! Sentences that say what a fault of `profile` or `submit` means and what to do.
+//! Sentences that say why a folder or a file can't be used, and what to do.
 
 use crate::places::folder_of;
 use droid_desk_progress::Shown;
-use droid_tree::WalkFault;
 use std::fs::{self, Files};
 use std::io::{self, ErrorKind};
 
-pub(crate) const NO_MEMORY: &str =
+/// What to do where memory ran out.
+pub const NO_MEMORY: &str =
     "out of memory: close other programs, or allow this one more, and try again";
 
 /// Says why a path is not a folder.
-pub(crate) fn print_no_folder<R: Files + Eprint>(rt: &R, path: &str) -> io::Result<()> {
+pub fn print_no_folder<R: Files + Eprint>(rt: &R, path: &str) -> io::Result<()> {
     let shown = Shown(path.as_bytes());
     match fs::metadata(rt, path) {
         Ok(_) => eprintln!(rt; "{shown}: not a folder: name the folder that has the files"),
@@ -22,7 +22,7 @@ pub(crate) fn print_no_folder<R: Files + Eprint>(rt: &R, path: &str) -> io::Resu
 }
 
 /// Says why a file could not be created or replaced.
-pub(crate) fn print_no_output<R: Files + Eprint>(rt: &R, path: &str) -> io::Result<()> {
+pub fn print_no_output<R: Files + Eprint>(rt: &R, path: &str) -> io::Result<()> {
     let shown = Shown(path.as_bytes());
     if let Ok(found) = fs::metadata(rt, path)
         && !found.is_file()
@@ -52,19 +52,5 @@ fn folder_advice(kind: ErrorKind) -> &'static str {
         ErrorKind::NotADirectory => "a file stands in the place of its folder: choose another",
         ErrorKind::PermissionDenied => "permission denied: choose another folder",
         _ => "its folder cannot be used: choose another",
-    }
-}
-
-/// Says why a walk ended early.
-pub(crate) fn walk_advice(fault: WalkFault) -> &'static str {
-    match fault {
-        WalkFault::Memory => NO_MEMORY,
-        WalkFault::Exchange | WalkFault::Reply | WalkFault::TooLong => {
-            "this is a mistake in droid_desk"
-        }
-        WalkFault::Folders => "new folders appeared while it was read: run it again",
-        WalkFault::Entries => "too large: take its subfolders one by one",
-        WalkFault::Bytes =>
-            "its files are too long together to be counted: take its subfolders one by one",
     }
 }

@@ -5,7 +5,7 @@ use Rattle.std.specs.Str.{bytes_eq}
 use Rattle.std.proofs.Math.Seq.{take-append_seam, drop-append_seam, take-length}
 use Rattle.std.proofs.lemmas.List.{take-append-drop}
 use Rattle.std.proofs.lemmas.Slice.Eq.{bytes_eq-Decides}
-use Rattle.droid_desk_folders.specs.Places.{IsAtOrBelow}
+use Rattle.droid_desk_outputs.specs.Places.{IsAtOrBelow}
 
 -- the folder is the front of a path at or below it, and this is what follows
 fronts : (path folder : List ℕ) → IsAtOrBelow path folder → take (length folder) path ≡ folder

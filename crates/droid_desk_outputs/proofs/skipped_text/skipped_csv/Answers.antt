@@ -2,9 +2,9 @@ use Rattle.std.proofs.Common.{◌++◌, ℕ, List, [], ◌∷◌, codes, take, s
 use Rattle.std.specs.List.{flat_map}
 use Rattle.droid_export.specs.Csv.{line}
 use Rattle.droid_export.specs.CsvBuffer.{Holds}
-use Rattle.droid_desk_folders.specs.SkippedTexts.{entry_record}
-use Rattle.droid_desk_folders.proofs.SkippedTexts.{texts_more}
-use Rattle.droid_desk_folders.proofs.skipped_csv.skipped_csv.Goals as goal
+use Rattle.droid_desk_outputs.specs.SkippedTexts.{entry_record}
+use Rattle.droid_desk_outputs.proofs.SkippedTexts.{texts_more}
+use Rattle.droid_desk_outputs.proofs.skipped_text.skipped_csv.Goals as goal
 
 pub loop-entry-init : goal.loop-entry-init
 loop-entry-init c =

@@ -1,7 +1,7 @@
 use Rattle.std.proofs.Common.{◌≡◌, ℕ, true, false, nat_eq, refl, ap}
 use Rattle.std.proofs.lemmas.Bool.{eqb-true}
-use Rattle.droid_desk_folders.proofs.Prefixes.{at_folder, below_folder, not_in, slash_follows}
-use Rattle.droid_desk_folders.proofs.places.is_at_or_below.Goals as goal
+use Rattle.droid_desk_outputs.proofs.Prefixes.{at_folder, below_folder, not_in, slash_follows}
+use Rattle.droid_desk_outputs.proofs.places.is_at_or_below.Goals as goal
 
 pub returns-in_default : goal.returns-in_default
 returns-in_default c = (λ never. absurd (let bad : false ≡ true = never in cc), λ within. absurd (not_in c.args.path.now c.args.folder.now c.in_default.ensures.cases within))

@@ -3,8 +3,8 @@ use Rattle.std.specs.Io.KnownBytes.{Appends}
 use Rattle.csv.specs.Writing as csv
 use Rattle.csv.specs.declared.writer.QuoteStyle.TheVariants as style
 use Rattle.droid_export.proofs.CsvText.{line_same}
-use Rattle.droid_desk_folders.proofs.skipped_csv.write_pair.Goals as goal
-use Rattle.droid_desk_folders.proofs.skipped_csv.write_pair.Goals.{in-Ok, in-Err}
+use Rattle.droid_desk_outputs.proofs.skipped_text.write_pair.Goals as goal
+use Rattle.droid_desk_outputs.proofs.skipped_text.write_pair.Goals.{in-Ok, in-Err}
 
 appended : (old new : Option (List ℕ)) (text bytes : List ℕ) → old ≡ Some text → Appends old new bytes → new ≡ Some (text ++ bytes)
 appended old None text bytes is more = absurd (rw is at more)
