@@ -2,10 +2,9 @@
 
 Usage: compare_profile.py, with the program's path in DROID_DESK and tests/ on Python's path. The first folder is
 made here by a fixed seed: 2,000 files of 1,000,000,000 bytes together, the largest of 64 MiB, nested 12 deep. The
-second is /usr, or the largest folder in it that has no more folders and files than a profile may have. Prints, for
-each, the seconds of `profile` to a file, of two passes of MD5 over the same bytes, and of `file --mime-type` and
-then `md5sum` over the same list, with their ratios and limits; and for the first the memory that its bytes take.
-The shortest of some rounds counts.
+second is /usr. Prints, for each, the seconds of `profile` to a file, of two passes of MD5 over the same bytes, and of
+`file --mime-type` and then `md5sum` over the same list, with their ratios and limits; and for the first the memory
+that its bytes take. The shortest of some rounds counts.
 """
 import hashlib
 import os
@@ -16,7 +15,6 @@ import sys
 import tempfile
 import time
 
-from lib.frames import MOST_NODES
 from lib.processes import most_resident
 from lib.program import PROGRAM
 
@@ -28,6 +26,7 @@ DEPTH = 12
 FOLDERS = 120
 CHUNK = 1 << 20
 ROUNDS = 3
+OF_THE_MACHINE = "/usr"
 
 # the limits: times the two passes of MD5, times `file` and `md5sum`, and the memory above that of the same tree
 # without bytes
@@ -96,13 +95,6 @@ def files_below(top):
                 found.append(file)
                 nodes += 1
     return found, nodes
-
-
-def of_the_machine():
-    """Returns the folder of this machine that is profiled."""
-    below = sorted(entry.path for entry in os.scandir("/usr") if entry.is_dir(follow_symlinks=False))
-    counted = [(files_below(path)[1], path) for path in ["/usr"] + below]
-    return max(pair for pair in counted if pair[0] <= MOST_NODES)[1]
 
 
 def profiled(top, target):
@@ -177,7 +169,7 @@ def main():
         memory = compare(trees[0], target)
         above = memory - profiled(trees[1], target)[1]
         print(f"  {above} bytes resident above those of the same tree with no bytes; limit {LIMIT_MEMORY}")
-        compare(of_the_machine(), target)
+        compare(OF_THE_MACHINE, target)
 
 
 if __name__ == "__main__":
