@@ -1,27 +1,25 @@
 -- A tree whose profile ended early, and what was written of it.
-use Rattle.std.proofs.Common.{◌≡◌, ℕ, Bool, true, false, MatchBool, List, [], ◌∷◌, ◌++◌, Option, Some, None, Result, Ok, Err, inl, inr, refl, sym, ap, ◌∙◌, subst, append-nil}
+use Rattle.std.proofs.Common.{◌≡◌, ℕ, Bool, true, false, MatchBool, List, [], ◌++◌, Option, Err, refl, sym, ap, ◌∙◌, subst, append-nil}
 use Rattle.std.specs.List.{flat_map}
-use Rattle.std.specs.Io.KnownBytes.{Appends}
 use Rattle.droid_frame.specs.Seen.{IsSound}
 use Rattle.droid_frame.specs.stream_types.fault.WriteFault.{WriteFault}
 use Rattle.droid_frame.specs.stream_types.seen.Seen.{Seen}
 use Rattle.droid_frame.specs.types.record.Record.{Record}
 use Rattle.droid_export.specs.Text.{record_text}
-use Rattle.droid_pronom.specs.Registry.{Contents}
 use Rattle.droid_profile_spec.specs.declared.fault.ProfileFault.{ProfileFault}
 use Rattle.droid_profile_spec.specs.declared.fault.ProfileFault.TheVariants as walk_faults
 use Rattle.droid_profile_spec.specs.declared.options.Options.{Options}
 use Rattle.droid_profile_spec.specs.declared.recipient.RecipientFault.TheVariants as recipient_faults
-use Rattle.droid_profile_csv.specs.Taking.{Breaks, BreaksCsv, BreaksList, BreaksOne, EndsRest, Goes, GoesOn, ListBreaks, ListGoes, WritesRest, stopped_writer}
+use Rattle.droid_profile_csv.specs.Taking.{BreaksCsv, BreaksList, BreaksOne, EndsRest, Goes, GoesOn, ListBreaks, ListGoes, stopped_writer}
 use Rattle.droid_profile_csv.specs.Texts.{csv_text, line_of, list_text}
-use Rattle.droid_profile_csv.specs.Writers.{AppendsNotAll, AppendsSome, LastsOn, Lists, ListsNotAll, ListsSome, Stops}
-use Rattle.droid_profile_csv.specs.WrittenTrees.{CsvIsFront, ListIsFront, ReportsCsv, ReportsList}
+use Rattle.droid_profile_csv.specs.Writers.{AppendsNotAll, AppendsSome, ListsNotAll, ListsSome}
+use Rattle.droid_profile_csv.specs.WrittenTrees.{CsvAtEnd, CsvIsFront, ListIsFront, ReportsCsv, ReportsList}
 use Rattle.droid_profile_csv.specs.declared.csv_fault.CsvFault.{CsvFault}
 use Rattle.droid_profile_csv.specs.declared.csv_fault.CsvFault.TheVariants as faults
 use Rattle.droid_profile_csv.specs.declared.csv_recipient.CsvRecipient.{CsvRecipient}
 use Rattle.droid_profile_csv.proofs.Endings.{Leaves}
 use Rattle.droid_profile_csv.proofs.Takings.{on-breaks_csv, on-breaks_list}
-use Rattle.droid_profile_csv.proofs.TreeWritten.{IsBegun, csv_lasts, csv_written, list_lasts_on, list_written}
+use Rattle.droid_profile_csv.proofs.TreeWritten.{IsBegun, csv_lasts, csv_written, list_lasts_on, list_written, rows_written}
 use Rattle.droid_profile_csv.proofs.Written.{list_lasts, list_stops, not_all_appended, not_all_listed, some_appended, some_listed, text_of}
 
 -- what was written of the texts of these records
@@ -110,9 +108,20 @@ module _ {O M : Type 0} (contents : O → Option (List ℕ)) (seen : O → Seen)
       fronts_csv stopped new (subst (λ (l : List ℕ). BreaksCsv contents seen room list_contents list_seen start l lines new) (append-nil rows)
       (subst (λ (l : List ℕ). BreaksCsv contents seen room list_contents list_seen start (rows ++ []) l new) (append-nil lines) joined))
   fronts_rest (faults.Manifest stopped) middle new goes rest =
-      let joined = on-breaks_list contents seen list_contents list_seen list_room start middle new rows lines [] [] goes rest in
+      let joined = on-breaks_list contents seen list_contents list_seen list_room start middle new rows lines [] [] goes rest.breaks in
       fronts_list stopped new (subst (λ (l : List ℕ). BreaksList contents seen list_contents list_seen list_room start l lines new) (append-nil rows)
       (subst (λ (l : List ℕ). BreaksList contents seen list_contents list_seen list_room start (rows ++ []) l new) (append-nil lines) joined))
+
+  -- after the walk the rows are written before the lines
+  pub csv_at_end : (fault : CsvFault) (middle new : CsvRecipient O M) → GoesOn contents seen list_contents list_seen start rows lines middle
+      → EndsRest contents seen room list_contents list_seen list_room fault middle new → CsvAtEnd fault (contents start.csv) (contents new.csv) (csv_text start.registry.now options shown)
+  csv_at_end faults.Memory middle new goes rest = csv_written contents seen list_contents list_seen options shown start middle new begun goes rest
+  csv_at_end faults.Numbers middle new goes rest = csv_written contents seen list_contents list_seen options shown start middle new begun goes rest
+  csv_at_end faults.Turns middle new goes rest = csv_written contents seen list_contents list_seen options shown start middle new begun goes rest
+  csv_at_end (faults.Csv stopped) middle new goes rest = (fronts_rest (faults.Csv stopped) middle new goes rest).csv
+  csv_at_end (faults.Manifest stopped) middle new goes rest =
+      rows_written contents seen options shown start middle new begun goes.csv
+      (subst (λ (pending : List ℕ). Goes contents seen middle.csv new.csv middle.rows pending []) rest.emptied rest.breaks.csv)
 
   -- ---- the fault of the walk
 

@@ -1,5 +1,5 @@
 -- What stands when the profile of a tree was written, or ended early.
-use Rattle.std.proofs.Common.{◌≡◌, ℕ, Bool, List, [], Option, Result, Ok, Err, ◌∙◌}
+use Rattle.std.proofs.Common.{◌≡◌, ℕ, Bool, List, Option, Ok, Err, ◌∙◌}
 use Rattle.droid_frame.specs.Seen.{IsSound}
 use Rattle.droid_frame.specs.stream_types.fault.WriteFault.{WriteFault}
 use Rattle.droid_frame.specs.stream_types.seen.Seen.{Seen}
@@ -17,7 +17,7 @@ use Rattle.droid_profile_csv.specs.Taking.{EndsRest, Fails, Takes, WritesRest, s
 use Rattle.droid_profile_csv.specs.WrittenTrees.{After, During, EndsWriting, Explains, IsOfWriter, ReportsCsv, ReportsList, WritesTree}
 use Rattle.droid_profile_csv.specs.declared.csv_fault.CsvFault.{CsvFault}
 use Rattle.droid_profile_csv.specs.declared.csv_recipient.CsvRecipient.{CsvRecipient}
-use Rattle.droid_profile_csv.proofs.EarlyWritten.{AreFronts, fronts_rest, fronts_walk}
+use Rattle.droid_profile_csv.proofs.EarlyWritten.{csv_at_end, fronts_rest, fronts_walk}
 use Rattle.droid_profile_csv.proofs.Endings.{ends_listed, profiled_list}
 use Rattle.droid_profile_csv.proofs.Takings.{takes_all}
 use Rattle.droid_profile_csv.proofs.TreeWritten.{Begins, at_old, csv_lasts, list_lasts_on, writes_tree}
@@ -73,7 +73,7 @@ module _ {T W O M : Type 0} (observes : T → Observation → T → Type 0) (hea
       let goes = takes_all contents seen list_contents list_seen start shown middle walk.taken in
       let fronts = fronts_rest contents seen room list_contents list_seen list_room options shown start begins.begun fault middle new goes stops.1 in
       from_start options fault tree tree_after watcher watcher_after old start new begins (record {
-        ended = After shown whole (profiled_list walk) stops.0 fronts.csv fronts.list;
+        ended = After shown whole (profiled_list walk) stops.0 (csv_at_end contents seen room list_contents list_seen list_room options shown start begins.begun fault middle new goes stops.1) fronts.list;
         csv_stopped = fronts.csv_reports;
         manifest_stopped = fronts.list_reports;
         registry = fronts.registry;

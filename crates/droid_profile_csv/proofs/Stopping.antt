@@ -1,11 +1,11 @@
 -- A writer that stops.
-use Rattle.std.proofs.Common.{◌≡◌, ℕ, ◌-◌, ◌<◌, ◌≤◌, List, [], ◌++◌, length, take, drop, Option, Some, None, Result, Ok, Err, refl, sym, append-nil, take-append-drop, length-drop, ◌∙◌, arith}
-use Rattle.std.specs.Prelude.{IfErr, OnErr, OnOk}
+use Rattle.std.proofs.Common.{ℕ, ◌-◌, List, [], take, drop, Option, Result, Ok, Err, sym, append-nil, take-append-drop, length-drop, ◌∙◌, arith}
+use Rattle.std.specs.Prelude.{IfErr, OnErr}
 use Rattle.droid_frame.specs.Seen.{IsSound}
 use Rattle.droid_frame.specs.Writes.{StopsWithin, WriterStops}
 use Rattle.droid_frame.specs.stream_types.fault.WriteFault.{WriteFault}
 use Rattle.droid_frame.specs.stream_types.seen.Seen.{Seen}
-use Rattle.droid_profile_csv.specs.Taking.{Breaks, ListBreaks}
+use Rattle.droid_profile_csv.specs.Taking.{Breaks}
 
 module _ {O : Type 0} (contents : O → Option (List ℕ)) (seen : O → Seen) (room : O → Option ℕ) where
   pub breaks : (old new : O) (bytes : List ℕ) (count : ℕ) → StopsWithin (contents old) (contents new) bytes 0 count

@@ -1,8 +1,7 @@
 -- A tree that was walked to its end, and whose texts were written.
-use Rattle.std.proofs.Common.{◌≡◌, ℕ, Bool, List, [], ◌∷◌, ◌++◌, Option, Some, None, Result, Ok, Err, refl, sym, ap, ◌∙◌, subst, append-nil}
+use Rattle.std.proofs.Common.{◌≡◌, ℕ, Bool, List, [], ◌∷◌, ◌++◌, Option, Result, sym, ap, ◌∙◌, subst, append-nil}
 use Rattle.std.specs.List.{flat_map}
 use Rattle.std.specs.Io.KnownBytes.{Appends}
-use Rattle.droid_core_spec.specs.Records.{records}
 use Rattle.droid_frame.specs.Seen.{IsSound}
 use Rattle.droid_frame.specs.stream_types.seen.Seen.{Seen}
 use Rattle.droid_frame.specs.types.record.Record.{Record}
@@ -47,17 +46,23 @@ at_old {O} {M} P options old start begins said =
     subst (λ (registry : Contents). P registry old.csv old.manifest) begins.registry
     (subst (λ (writer : O). P start.registry.now writer old.manifest) begins.csv (subst (λ (writer : Option M). P start.registry.now start.csv writer) begins.manifest said))
 
+-- all rows of these records were written
+pub rows_written : {O M : Type 0} (contents : O → Option (List ℕ)) (seen : O → Seen) (options : Options) (shown : List Record) (start middle new : CsvRecipient O M) → IsBegun options start
+    → Goes contents seen start.csv middle.csv start.rows middle.rows (flat_map (record_text start.registry.now) shown)
+    → Goes contents seen middle.csv new.csv middle.rows [] []
+    → Appends (contents start.csv) (contents new.csv) (csv_text start.registry.now options shown)
+rows_written contents seen options shown start middle new begun goes rest =
+    let rows = flat_map (record_text start.registry.now) shown in
+    subst (λ (text : List ℕ). Appends (contents start.csv) (contents new.csv) text)
+    (ap (λ (l : List ℕ). start.rows ++ l) (append-nil rows) ∙ ap (λ (l : List ℕ). l ++ rows) begun.rows ∙ text_of start.registry.now options shown)
+    (all_appended contents seen start.csv new.csv start.rows (rows ++ []) (goes-more contents seen goes rest))
+
 module _ {O M : Type 0} (contents : O → Option (List ℕ)) (seen : O → Seen) (list_contents : M → Option (List ℕ)) (list_seen : M → Seen) where
-  -- all rows of these records were written
   pub csv_written : (options : Options) (shown : List Record) (start middle new : CsvRecipient O M) → IsBegun options start
       → GoesOn contents seen list_contents list_seen start (flat_map (record_text start.registry.now) shown) (flat_map line_of shown) middle
       → WritesRest contents seen list_contents list_seen middle new
       → Appends (contents start.csv) (contents new.csv) (csv_text start.registry.now options shown)
-  csv_written options shown start middle new begun goes rest =
-      let rows = flat_map (record_text start.registry.now) shown in
-      subst (λ (text : List ℕ). Appends (contents start.csv) (contents new.csv) text)
-      (ap (λ (l : List ℕ). start.rows ++ l) (append-nil rows) ∙ ap (λ (l : List ℕ). l ++ rows) begun.rows ∙ text_of start.registry.now options shown)
-      (all_appended contents seen start.csv new.csv start.rows (rows ++ []) (goes-more contents seen goes.csv rest.csv))
+  csv_written options shown start middle new begun goes rest = rows_written contents seen options shown start middle new begun goes.csv rest.csv
 
   pub list_written : (options : Options) (shown : List Record) (start middle new : CsvRecipient O M) → IsBegun options start
       → GoesOn contents seen list_contents list_seen start (flat_map (record_text start.registry.now) shown) (flat_map line_of shown) middle

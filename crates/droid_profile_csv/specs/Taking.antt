@@ -103,13 +103,16 @@ pub record WritesRest {O M : Type 0} (contents : O → Option (List ℕ)) (seen 
   pub csv : Goes contents seen old.csv new.csv old.rows [] []
   pub list : ListGoes list_contents list_seen old.manifest new.manifest old.lines.items [] []
 
+-- all rows were written, and the list's writer stopped
+pub record StopsList {O M : Type 0} (contents : O → Option (List ℕ)) (seen : O → Seen) (list_contents : M → Option (List ℕ)) (list_seen : M → Seen) (list_room : M → Option ℕ) (old new : CsvRecipient O M) : Type 0 where
+  pub breaks : BreaksList contents seen list_contents list_seen list_room old [] [] new
+  pub emptied : new.rows ≡ []
+
 -- all was written, or a writer stopped, and this fault was returned
 abbrev pub EndsRest : {O M : Type 0} → (O → Option (List ℕ)) → (O → Seen) → (O → Option ℕ) → (M → Option (List ℕ)) → (M → Seen) → (M → Option ℕ) → CsvFault → CsvRecipient O M → CsvRecipient O M → Type 0
-EndsRest contents seen room list_contents list_seen list_room faults.Memory old new = WritesRest contents seen list_contents list_seen old new
-EndsRest contents seen room list_contents list_seen list_room faults.Numbers old new = WritesRest contents seen list_contents list_seen old new
-EndsRest contents seen room list_contents list_seen list_room faults.Turns old new = WritesRest contents seen list_contents list_seen old new
 EndsRest contents seen room list_contents list_seen list_room (faults.Csv fault) old new = BreaksCsv contents seen room list_contents list_seen old [] [] new
-EndsRest contents seen room list_contents list_seen list_room (faults.Manifest fault) old new = BreaksList contents seen list_contents list_seen list_room old [] [] new
+EndsRest contents seen room list_contents list_seen list_room (faults.Manifest fault) old new = StopsList contents seen list_contents list_seen list_room old new
+EndsRest contents seen room list_contents list_seen list_room _ old new = WritesRest contents seen list_contents list_seen old new
 
 -- the fault of the writer that was written to last
 abbrev pub stopped_writer : Bool → WriteFault → CsvFault

@@ -54,32 +54,30 @@ abbrev pub Explains : ProfileFault → CsvFault → Type 0
 Explains why faults.Memory = (why ≡ walk_faults.Memory) ⊎ (why ≡ walk_faults.Recipient recipient_faults.Memory)
 Explains why faults.Numbers = why ≡ walk_faults.Numbers
 Explains why faults.Turns = why ≡ walk_faults.Turns
-Explains why (faults.Csv fault) = Unit {0}
-Explains why (faults.Manifest fault) = Unit {0}
+Explains why _ = Unit {0}
 
 -- a writer stopped
 abbrev pub IsOfWriter : CsvFault → Type 0
-IsOfWriter faults.Memory = ⊥
-IsOfWriter faults.Numbers = ⊥
-IsOfWriter faults.Turns = ⊥
 IsOfWriter (faults.Csv fault) = Unit {0}
 IsOfWriter (faults.Manifest fault) = Unit {0}
+IsOfWriter _ = ⊥
 
 -- What was written of the CSV: all of it, or its first bytes if a writer stopped; if its own did, not all of them.
 abbrev pub CsvIsFront : CsvFault → Option (List ℕ) → Option (List ℕ) → List ℕ → Type 0
-CsvIsFront faults.Memory old new text = Appends old new text
-CsvIsFront faults.Numbers old new text = Appends old new text
-CsvIsFront faults.Turns old new text = Appends old new text
 CsvIsFront (faults.Csv fault) old new text = AppendsNotAll old new text
 CsvIsFront (faults.Manifest fault) old new text = AppendsSome old new text
+CsvIsFront _ old new text = Appends old new text
 
--- the same of the list
+-- After the walk the CSV is written before the list: all of it, unless its own writer stopped.
+abbrev pub CsvAtEnd : CsvFault → Option (List ℕ) → Option (List ℕ) → List ℕ → Type 0
+CsvAtEnd (faults.Csv fault) old new text = AppendsNotAll old new text
+CsvAtEnd _ old new text = Appends old new text
+
+-- what was written of the list
 abbrev pub ListIsFront : {M : Type 0} → (M → Option (List ℕ)) → CsvFault → Option M → Option M → List ℕ → Type 0
-ListIsFront contents faults.Memory old new text = Lists contents old new text
-ListIsFront contents faults.Numbers old new text = Lists contents old new text
-ListIsFront contents faults.Turns old new text = Lists contents old new text
 ListIsFront contents (faults.Csv fault) old new text = ListsSome contents old new text
 ListIsFront contents (faults.Manifest fault) old new text = ListsNotAll contents old new text
+ListIsFront contents _ old new text = Lists contents old new text
 
 -- How it ended with this fault: before the walk began, for memory, and with nothing written; in the walk, at some entry;
 -- or after the walk, with a writer that stopped.
@@ -91,28 +89,20 @@ pub data EndsWriting {T W M : Type 0} (observes : T → Observation → T → Ty
       → CsvIsFront fault csv csv_after (csv_text registry options shown) → ListIsFront list_contents fault manifest manifest_after (list_text shown)
       → EndsWriting observes hears list_contents registry options fault tree tree_after watcher watcher_after csv csv_after manifest manifest_after
   After : (shown : List Record) (whole : Bool) → ProfilesTree observes hears Adds registry options whole tree tree_after watcher watcher_after [] shown → IsOfWriter fault
-      → CsvIsFront fault csv csv_after (csv_text registry options shown) → ListIsFront list_contents fault manifest manifest_after (list_text shown)
+      → CsvAtEnd fault csv csv_after (csv_text registry options shown) → ListIsFront list_contents fault manifest manifest_after (list_text shown)
       → EndsWriting observes hears list_contents registry options fault tree tree_after watcher watcher_after csv csv_after manifest manifest_after
 
 -- ---- which writer stopped
 
 -- the fault `Csv` is returned exactly if the CSV's writer stopped
 abbrev pub ReportsCsv : Seen → Seen → Option ℕ → Result Bool CsvFault → Type 0
-ReportsCsv old new room (Ok whole) = LastsOn old new
-ReportsCsv old new room (Err faults.Memory) = LastsOn old new
-ReportsCsv old new room (Err faults.Numbers) = LastsOn old new
-ReportsCsv old new room (Err faults.Turns) = LastsOn old new
 ReportsCsv old new room (Err (faults.Csv fault)) = Stops old new room
-ReportsCsv old new room (Err (faults.Manifest fault)) = LastsOn old new
+ReportsCsv old new room _ = LastsOn old new
 
 -- the fault `Manifest` is returned exactly if the list's writer stopped
 abbrev pub ReportsManifest : Seen → Seen → Option ℕ → Result Bool CsvFault → Type 0
-ReportsManifest old new room (Ok whole) = LastsOn old new
-ReportsManifest old new room (Err faults.Memory) = LastsOn old new
-ReportsManifest old new room (Err faults.Numbers) = LastsOn old new
-ReportsManifest old new room (Err faults.Turns) = LastsOn old new
-ReportsManifest old new room (Err (faults.Csv fault)) = LastsOn old new
 ReportsManifest old new room (Err (faults.Manifest fault)) = Stops old new room
+ReportsManifest old new room _ = LastsOn old new
 
 abbrev pub ReportsList : {M : Type 0} → (M → Seen) → (M → Option ℕ) → Option M → Option M → Result Bool CsvFault → Type 0
 ReportsList seen room None None result = Unit {0}

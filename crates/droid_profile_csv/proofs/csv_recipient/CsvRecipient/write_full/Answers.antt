@@ -1,5 +1,5 @@
 use Rattle.std.proofs.Common.{[]}
-use Rattle.std.proofs.lemmas.Result.{on_err_weaker, on_ok_weaker}
+use Rattle.std.proofs.lemmas.Result.{on_ok_weaker}
 use Rattle.droid_profile_csv.proofs.Takings.{on-list_stopped, on-more}
 use Rattle.droid_profile_csv.proofs.csv_recipient.CsvRecipient.write_full.Goals as goal
 

@@ -1,5 +1,3 @@
-use Rattle.std.proofs.Common.{sym}
-use Rattle.std.proofs.lemmas.Result.{on_err_weaker}
 use Rattle.droid_profile_csv.proofs.Stopping.{breaks_on_err}
 use Rattle.droid_profile_csv.proofs.csv_recipient.CsvRecipient.write_list.Goals as goal
 

@@ -1,4 +1,3 @@
-use Rattle.std.proofs.Common.{[], append-nil}
 use Rattle.droid_export.specs.Text.{record_text}
 use Rattle.droid_profile_csv.specs.Texts.{line_of}
 use Rattle.droid_profile_csv.proofs.Takings.{on-alone, on-breaks_one_alone}
