@@ -21,3 +21,4 @@ pub use folder::Folder;
 pub use folder_check::is_folder;
 pub use output::{Output, OutputFault};
 pub use system::System;
+pub use unfinished_file::FileId;

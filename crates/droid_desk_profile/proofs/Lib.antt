@@ -1,0 +1,3 @@
+pub mod FolderEnds
+pub mod SkippedLines
+pub mod WriterEnds
