@@ -2,6 +2,8 @@
 #![tactic(auto)]
 
 #[cfg(test)]
+mod fault_texts;
+#[cfg(test)]
 mod manifests;
 #[cfg(test)]
 mod memory;
@@ -12,6 +14,10 @@ mod noting_watcher;
 #[cfg(test)]
 mod profiles;
 #[cfg(test)]
+mod skipped_entries;
+#[cfg(test)]
 mod stopped_writers;
+#[cfg(test)]
+mod tree_counts;
 #[cfg(test)]
 mod written;

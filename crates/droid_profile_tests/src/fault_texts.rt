@@ -1,9 +1,8 @@
 //! The texts of the errors of trees, walks and profiles.
 
 use droid_frame::WriteFault;
+use droid_profile_csv::CsvFault;
 use droid_tree::{TreeFault, WalkFault};
-use droid_tree_local::ProfileFault;
-use droid_tree_walk::ExchangeFault;
 use std::alloc::Global;
 use std::fmt::Display;
 use std::process::Abort;
@@ -15,8 +14,6 @@ const TREE_FAULTS: [(TreeFault, &str); 3] = [
     (TreeFault::Changed, "it is not the file that was listed"),
 ];
 
-const EXCHANGE_FAULT: [(ExchangeFault, &str); 1] = [(ExchangeFault, "no reply came")];
-
 const WALK_FAULTS: [(WalkFault, &str); 7] = [
     (WalkFault::Memory, "out of memory"),
     (WalkFault::Exchange, "no reply came"),
@@ -27,18 +24,16 @@ const WALK_FAULTS: [(WalkFault, &str); 7] = [
     (WalkFault::Bytes, "the files are too long together"),
 ];
 
-const PROFILE_FAULTS: [(ProfileFault, &str); 3] = [
+const CSV_FAULTS: [(CsvFault, &str); 4] = [
+    (CsvFault::Memory, "out of memory"),
+    (CsvFault::Numbers, "there are too many folders and files"),
     (
-        ProfileFault::Walk(WalkFault::Folders),
-        "the tree could not be walked",
+        CsvFault::Csv(WriteFault { written: 7 }),
+        "the CSV could not be written",
     ),
     (
-        ProfileFault::Export(WalkFault::Exchange),
-        "the export could not be read",
-    ),
-    (
-        ProfileFault::Write(WriteFault { written: 7 }),
-        "the export could not be written",
+        CsvFault::Manifest(WriteFault { written: 7 }),
+        "the list of checksums could not be written",
     ),
 ];
 
@@ -57,7 +52,6 @@ fn each_says<T: Display>(rt: &impl Abort, alloc: Global, rows: &[(T, &str)]) -> 
 #[test]
 fn texts(rt: HostRuntime) -> Result<(), Fail> {
     each_says(&rt, rt.alloc(), &TREE_FAULTS)?;
-    each_says(&rt, rt.alloc(), &EXCHANGE_FAULT)?;
     each_says(&rt, rt.alloc(), &WALK_FAULTS)?;
-    each_says(&rt, rt.alloc(), &PROFILE_FAULTS)
+    each_says(&rt, rt.alloc(), &CSV_FAULTS)
 }
