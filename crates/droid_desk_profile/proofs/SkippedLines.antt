@@ -37,7 +37,7 @@ module _ {S : Type 0} (contents : S → Option (List ℕ)) (seen : S → Seen) (
         ends.1,
       )
 
-  some_after : (old middle new : S) (first second : List ℕ) → Appends (contents old) (contents middle) first → AppendsSome (contents middle) (contents new) second → AppendsSome (contents old) (contents new) (first ++ second)
+  abbrev some_after : (old middle new : S) (first second : List ℕ) → Appends (contents old) (contents middle) first → AppendsSome (contents middle) (contents new) second → AppendsSome (contents old) (contents new) (first ++ second)
   some_after old middle new first second one two = record {
     written = first ++ two.written;
     rest = two.rest;
@@ -59,7 +59,7 @@ module _ {S : Type 0} (contents : S → Option (List ℕ)) (seen : S → Seen) (
   )
 
   -- after a fault nothing more is written
-  some_longer : (old new : S) (first second : List ℕ) → AppendsSome (contents old) (contents new) first → AppendsSome (contents old) (contents new) (first ++ second)
+  abbrev some_longer : (old new : S) (first second : List ℕ) → AppendsSome (contents old) (contents new) first → AppendsSome (contents old) (contents new) (first ++ second)
   some_longer old new first second one = record {
     written = one.written;
     rest = one.rest ++ second;
@@ -104,6 +104,14 @@ module _ {S : Type 0} (contents : S → Option (List ℕ)) (seen : S → Seen) (
       subst (λ (f : SkippedFile S). TextEnds contents seen room old.output f.output (first ++ second) f.fault) (sym two)
       (subst (λ (o : Option SkippedFault). TextEnds contents seen room old.output middle.output (first ++ second) o) (sym between) longer)
 
+  -- a line that is written where there was no fault
+  pub goes_from_none : (old new : SkippedFile S) (line : List ℕ) → old.fault ≡ None → LineEnds contents seen room old.output new.output line new.fault → GoesOn contents seen room old new line
+  goes_from_none old new line none ends = subst (λ (o : Option SkippedFault). GoesOnBy contents seen room o old new line) (sym none) ends
+
+  -- where there was one, nothing is done
+  pub goes_from_some : (old new : SkippedFile S) (line : List ℕ) (fault : SkippedFault) → old.fault ≡ Some fault → new ≡ old → GoesOn contents seen room old new line
+  goes_from_some old new line fault some same = subst (λ (o : Option SkippedFault). GoesOnBy contents seen room o old new line) (sym some) same
+
   pub line_has : (old new : SkippedFile S) (line : List ℕ) → GoesOn contents seen room old new line → HasText contents seen room old new line
   line_has old new line goes = has_line old new line old.fault goes
 
@@ -122,23 +130,31 @@ module _ {S : Type 0} (contents : S → Option (List ℕ)) (seen : S → Seen) (
   has_all (TookFile path found ∷ heard) old new goes = subst (λ (f : SkippedFile S). HasText contents seen room f new (lines_of heard)) goes.1 (has_all heard goes.0 new goes.2)
 
   -- there is a file all the time, or none
+  no_file_next : (item : Heard) (middle : Option (SkippedFile S)) → NotesInSome contents seen room None item middle → middle ≡ None
+  no_file_next item None step = refl
+  no_file_next item (Some middle) step = absurd step
+
   no_file : (heard : List Heard) (new : Option (SkippedFile S)) → GoesOver (NotesInSome contents seen room) None heard new → new ≡ None
-  no_file_next : (item : Heard) (heard : List Heard) (middle new : Option (SkippedFile S)) → NotesInSome contents seen room None item middle → GoesOver (NotesInSome contents seen room) middle heard new → new ≡ None
   no_file [] new same = same
-  no_file (item ∷ heard) new goes = no_file_next item heard goes.0 new goes.1 goes.2
-  no_file_next item heard None new step goes = no_file heard new goes
-  no_file_next item heard (Some middle) new step goes = absurd step
+  no_file (item ∷ heard) new goes =
+      no_file heard new (subst (λ (o : Option (SkippedFile S)). GoesOver (NotesInSome contents seen room) o heard new) (no_file_next item goes.0 goes.1) goes.2)
+
+  abbrev IsNext : Heard → SkippedFile S → Option (SkippedFile S) → Type 0
+  IsNext item old middle = (after : SkippedFile S) × (middle ≡ Some after) × NotesIn contents seen room old item after
+
+  a_file_next : (item : Heard) (old : SkippedFile S) (middle : Option (SkippedFile S)) → NotesInSome contents seen room (Some old) item middle → IsNext item old middle
+  a_file_next item old None step = absurd step
+  a_file_next item old (Some middle) step = (middle, refl, step)
 
   abbrev IsAfter : List Heard → SkippedFile S → Option (SkippedFile S) → Type 0
   IsAfter heard old new = (after : SkippedFile S) × (new ≡ Some after) × GoesOver (NotesIn contents seen room) old heard after
 
   a_file : (heard : List Heard) (old : SkippedFile S) (new : Option (SkippedFile S)) → GoesOver (NotesInSome contents seen room) (Some old) heard new → IsAfter heard old new
-  a_file_next : (item : Heard) (heard : List Heard) (old : SkippedFile S) (middle new : Option (SkippedFile S)) → NotesInSome contents seen room (Some old) item middle → GoesOver (NotesInSome contents seen room) middle heard new
-      → IsAfter (item ∷ heard) old new
   a_file [] old new same = (old, same, refl)
-  a_file (item ∷ heard) old new goes = a_file_next item heard old goes.0 new goes.1 goes.2
-  a_file_next item heard old None new step goes = absurd step
-  a_file_next item heard old (Some middle) new step goes = let rest = a_file heard middle new goes in (rest.0, rest.1, (middle, step, rest.2))
+  a_file (item ∷ heard) old new goes =
+      let first = a_file_next item old goes.0 goes.1 in
+      let rest = a_file heard first.0 new (subst (λ (o : Option (SkippedFile S)). GoesOver (NotesInSome contents seen room) o heard new) first.1 goes.2) in
+      (rest.0, rest.1, (first.0, first.2, rest.2))
 
   has_lines : (heard : List Heard) (old new : Option (SkippedFile S)) → GoesOver (NotesInSome contents seen room) old heard new → HasLines contents seen room old new heard
   has_lines heard None new goes = subst (λ (o : Option (SkippedFile S)). HasLines contents seen room None o heard) (sym (no_file heard new goes)) tt

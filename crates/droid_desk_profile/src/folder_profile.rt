@@ -13,6 +13,7 @@ use droid_frame::{Noted, SteadyWrite};
 use droid_profile_csv::{CsvFault, CsvRecipient, Profiler};
 use droid_pronom::Registry;
 use droid_tree_disk::{FileId, Folder, Output, System, is_folder};
+use std::alloc::Global;
 use std::fs::{File, Files};
 use std::io;
 use std::time::Clock;
@@ -180,7 +181,7 @@ where
         watcher: SkippedWriter {
             alloc,
             watcher: Reporter::new(rt, alloc, verbosity),
-            file: skipped.map(|output| SkippedFile::begin(alloc, output)),
+            file: begin_skipped(alloc, skipped),
         },
         recipient: CsvRecipient::new(alloc, registry, csv, manifest),
     };
@@ -191,7 +192,7 @@ where
     let SkippedWriter { watcher, file, .. } = watcher;
     watcher.end();
     let CsvRecipient { csv, manifest, .. } = recipient;
-    let skipped = file.map(|file| file.output);
+    let skipped = output_in(file);
     (
         ending,
         Writers {
@@ -200,4 +201,20 @@ where
             skipped,
         },
     )
+}
+
+/// Begins the CSV of what is skipped, if there is a file for it.
+fn begin_skipped<S: SteadyWrite>(alloc: Global, output: Option<S>) -> Option<SkippedFile<S>> {
+    match output {
+        Some(output) => Some(SkippedFile::begin(alloc, output)),
+        None => None,
+    }
+}
+
+/// Returns where the CSV of what was skipped was written, if there is a file for it.
+fn output_in<S>(file: Option<SkippedFile<S>>) -> Option<S> {
+    match file {
+        Some(SkippedFile { output, .. }) => Some(output),
+        None => None,
+    }
 }

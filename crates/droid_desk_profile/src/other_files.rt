@@ -49,10 +49,16 @@ fn keep_others(entries: &mut Vec<FolderEntry>, own: &[FileId])
 }
 
 /// Returns whether an entry is none of these files.
+#[tactic(auto, using(crate::proofs::OtherEntries::none_more, crate::proofs::OtherEntries::one_at, crate::proofs::OtherEntries::none_at_all))]
 fn is_other(own: &[FileId], entry: &FolderEntry) -> bool
     ensures { result ≡ is_other own.now entry.now }
 {
-    !own.iter().any(|file| is_one(*file, entry))
+    for file in own {
+        if is_one(*file, entry) {
+            return false;
+        }
+    }
+    true
 }
 
 /// Returns whether an entry is this file.

@@ -45,11 +45,13 @@ impl<S: SteadyWrite> SkippedFile<S> {
     }
 
     /// Writes the line of an entry, unless there was a fault.
+    #[tactic(auto, using(crate::proofs::SkippedLines::goes_from_some))]
     pub fn add(&mut self, alloc: Global, path: &[u8], why: Skipped)
         ensures { GoesOn S.contents S.seen S.room self.old self.new (entry_text path.now why) }
     {
-        if self.fault.is_none() {
-            self.add_line(entry_line(alloc, path, why));
+        match self.fault {
+            Some(_) => {}
+            None => self.add_line(entry_line(alloc, path, why)),
         }
     }
 
