@@ -32,10 +32,7 @@ fn is_at_or_below(path: &[u8], folder: &[u8]) -> bool
 }
 
 /// Returns the absolute path of a folder, without links. If it has none that is UTF-8, returns the path as given.
-pub fn absolute_path<R: Files + AllocGlobal>(
-    rt: &R,
-    path: &str,
-) -> Result<Text, AllocError> {
+pub fn absolute_path<R: Files + AllocGlobal>(rt: &R, path: &str) -> Result<Text, AllocError> {
     match fs::canonicalize(rt, path) {
         Ok(absolute) => Ok(Text::from(absolute.into_string())),
         Err(error) if error.kind() == ErrorKind::OutOfMemory => Err(AllocError),

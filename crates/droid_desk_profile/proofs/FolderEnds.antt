@@ -29,9 +29,9 @@ module _ {T W S O M : Type 0} (observes : T → Observation → T → Type 0) (h
     (list_contents : M → Option (List ℕ)) (list_seen : M → Seen) (list_room : M → Option ℕ) (options : Options) where
   pub ends_by : (ended : Result Bool CsvFault) (old new : Profiler T (SkippedWriter W S) (CsvRecipient O M))
       → IfOk ended (λ whole. WritesTree observes (Notes skipped_contents skipped_seen skipped_room hears) list_contents old.recipient.registry.now options whole old.tree new.tree old.watcher new.watcher
-          (csv_contents old.recipient.csv) (csv_contents new.recipient.csv) old.recipient.manifest new.recipient.manifest)
+      (csv_contents old.recipient.csv) (csv_contents new.recipient.csv) old.recipient.manifest new.recipient.manifest)
       → IfErr ended (λ fault. EndsWriting observes (Notes skipped_contents skipped_seen skipped_room hears) list_contents old.recipient.registry.now options fault old.tree new.tree old.watcher new.watcher
-          (csv_contents old.recipient.csv) (csv_contents new.recipient.csv) old.recipient.manifest new.recipient.manifest)
+      (csv_contents old.recipient.csv) (csv_contents new.recipient.csv) old.recipient.manifest new.recipient.manifest)
       → EndsBy observes hears skipped_contents skipped_seen skipped_room csv_contents csv_seen csv_room list_contents list_seen list_room options ended old new
   ends_by (Ok whole) old new written early = record {
     tree = written;
@@ -39,7 +39,7 @@ module _ {T W S O M : Type 0} (observes : T → Observation → T → Type 0) (h
   }
   ends_by (Err fault) old new written early =
       let known = learned observes (Notes skipped_contents skipped_seen skipped_room hears) list_contents old.recipient.registry.now options fault old.tree new.tree old.watcher new.watcher
-          (csv_contents old.recipient.csv) (csv_contents new.recipient.csv) old.recipient.manifest new.recipient.manifest early in
+      (csv_contents old.recipient.csv) (csv_contents new.recipient.csv) old.recipient.manifest new.recipient.manifest early in
       record {
         tree = early;
         heard = known.0;

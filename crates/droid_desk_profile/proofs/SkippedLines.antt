@@ -28,8 +28,7 @@ module _ {S : Type 0} (contents : S → Option (List ℕ)) (seen : S → Seen) (
     appended = subst (λ (s : S). Appends (contents old) (contents s) []) (sym same) (Appends-nil (contents old));
   }
   line_ends old new line (Some (faults.Write why)) ends =
-      let count : ℕ = why.written - 0 in
-      (
+      let count : ℕ = why.written - 0 in (
         record {
           some = record { written = take count line; rest = drop count line; are = sym (take-append-drop count line); appended = ends.0.front };
           left = omega (arith, ends.0.some_left, length-drop count line);

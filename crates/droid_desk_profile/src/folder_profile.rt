@@ -127,7 +127,9 @@ where
             };
             let (ending, writers) = profile_to(rt, registry, options, verbosity, tree, writers);
             let Writers {
-                manifest, skipped, ..
+                manifest,
+                skipped,
+                ..
             } = writers;
             let csv = None;
             settle(
@@ -187,7 +189,9 @@ where
     };
     let ending = profile_tree(&mut profiler, walk_options(options));
     let Profiler {
-        watcher, recipient, ..
+        watcher,
+        recipient,
+        ..
     } = profiler;
     let SkippedWriter { watcher, file, .. } = watcher;
     watcher.end();

@@ -29,10 +29,7 @@ pub enum ProfileEnding {
 
 impl ProfileEnding {
     /// Returns the ending by what the walk returned, and by the fault of the file for what was skipped.
-    pub(crate) fn of(
-        ended: Result<bool, CsvFault>,
-        unlisted: Option<SkippedFault>,
-    ) -> ProfileEnding
+    pub(crate) fn of(ended: Result<bool, CsvFault>, unlisted: Option<SkippedFault>) -> ProfileEnding
         ensures { result ≡ ending_of ended unlisted }
     {
         match (ended, unlisted) {

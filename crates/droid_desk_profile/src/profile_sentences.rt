@@ -43,7 +43,11 @@ impl ProfileEnding {
                 print_unwritten(rt, path_of(options, OutputFile::Skipped))
             }
             ProfileEnding::Fault(CsvFault::Numbers) => {
-                print_folder(rt, options.folder, "too large: take its subfolders one by one")
+                print_folder(
+                    rt,
+                    options.folder,
+                    "too large: take its subfolders one by one",
+                )
             }
             ProfileEnding::Fault(CsvFault::Turns) => {
                 print_folder(

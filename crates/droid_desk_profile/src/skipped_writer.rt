@@ -45,12 +45,7 @@ impl<W: Watcher, S: SteadyWrite> Watcher for SkippedWriter<W, S> {
 }
 
 /// Writes the line of a skipped entry, if there is a file for it.
-fn note<S: SteadyWrite>(
-    alloc: Global,
-    file: &mut Option<SkippedFile<S>>,
-    path: &[u8],
-    why: Skipped,
-)
+fn note<S: SteadyWrite>(alloc: Global, file: &mut Option<SkippedFile<S>>, path: &[u8], why: Skipped)
     ensures { NotesInSome S.contents S.seen S.room file.old (Left path.now why) file.new }
 {
     match file {

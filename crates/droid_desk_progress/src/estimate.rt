@@ -98,15 +98,14 @@ impl Display for SoFar {
 
     #[tactic(auto, unfolding(crate::specs::Estimates::so_far_text))]
     fn fmt<W: Write>(&self, f: &mut Formatter<W>) -> fmt::Result {
-        let done = self.done;
-        let unit = unit_for(done.bytes);
+        let Amount { entries, bytes } = self.done;
+        let unit = unit_for(bytes);
         write!(
             f,
-            "{} entries, {} {}, {}",
-            done.entries,
-            done.bytes / unit.bytes,
+            "{entries} entries, {} {}, {}",
+            bytes / unit.bytes,
             unit.name,
-            Speed(rate(done.bytes, self.milliseconds))
+            Speed(rate(bytes, self.milliseconds))
         )
     }
 }
