@@ -61,7 +61,14 @@ const CASES: [Case; 4] = [
         1,
     ),
     (&LINK, None, b"/link link\n", true, 0, 1),
-    (&TWICE, None, b"/same same name\n/same same name\n", false, 1, 1),
+    (
+        &TWICE,
+        None,
+        b"/same same name\n/same same name\n",
+        false,
+        1,
+        1,
+    ),
     (&EXCHANGED, Some("/one"), b"/one changed\n", false, 0, 1),
 ];
 
@@ -163,10 +170,7 @@ fn hashes(rt: HostRuntime) -> Result<(), Fail> {
     for (hash, column, digest) in &HASHES {
         let got = seen(alloc, &registry, &ABC, None, *hash);
         let text = std::str::from_utf8(got.csv.stream.as_slice())?;
-        assert!(rt;
-            text.contains(column) && text.contains(digest),
-            "{column}"
-        );
+        assert!(rt; text.contains(column) && text.contains(digest), "{column}");
     }
     Ok(())
 }
