@@ -1,7 +1,7 @@
 //! A profile while memory runs out.
 
 use crate::profiles::{LIST, ROWS, TEXT};
-use crate::written::{Memory, Written, memory, written};
+use crate::written::{Memory, WrittenProfile, memory, written};
 use droid_frame::HashKind;
 use droid_profile_csv::CsvFault;
 use droid_pronom::Registry;
@@ -31,13 +31,13 @@ fn each_allocation(rt: HostRuntime) -> Result<(), Fail> {
     Ok(())
 }
 
-fn profile_of_all(alloc: Global, registry: &Registry) -> Written<Memory, Memory> {
+fn profile_of_all(alloc: Global, registry: &Registry) -> WrittenProfile<Memory, Memory> {
     let list = Some(memory(alloc));
     written(alloc, registry, &ROWS, HashKind::Md5, memory(alloc), list)
 }
 
 /// Returns whether what was written is as the result says: all, whole rows and lines of the first records, or first bytes.
-fn is_front(got: &Written<Memory, Memory>) -> bool {
+fn is_front(got: &WrittenProfile<Memory, Memory>) -> bool {
     let text = got.csv.stream.as_slice();
     let Some(list) = &got.manifest else {
         return false;

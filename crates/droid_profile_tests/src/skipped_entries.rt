@@ -80,7 +80,7 @@ struct Seen {
     csv: Memory,
 }
 
-fn seen(
+fn profile_seen(
     alloc: Global,
     registry: &Registry,
     rows: &[Row],
@@ -118,7 +118,7 @@ fn seen(
 }
 
 fn is_as_expected(alloc: Global, registry: &Registry, case: &Case) -> bool {
-    let got = seen(alloc, registry, case.0, case.1, HashKind::Md5);
+    let got = profile_seen(alloc, registry, case.0, case.1, HashKind::Md5);
     got.ended == Ok(case.3)
         && got.watcher.skipped.as_slice() == case.2
         && got.watcher.folders == case.4
@@ -140,7 +140,7 @@ fn skipped(rt: HostRuntime) -> Result<(), Fail> {
 fn names_of_255_and_256_bytes(rt: HostRuntime) -> Result<(), Fail> {
     let alloc = rt.alloc();
     let registry = Registry::parse(alloc, SAMPLE.as_bytes())?;
-    let got = seen(alloc, &registry, &LONG_NAMES, None, HashKind::Md5);
+    let got = profile_seen(alloc, &registry, &LONG_NAMES, None, HashKind::Md5);
     assert!(rt; got.ended == Ok(false) && got.watcher.folders == 1);
     assert!(rt; got.watcher.count == 1 && got.watcher.skipped.len() == 266);
     Ok(())
@@ -168,7 +168,7 @@ fn hashes(rt: HostRuntime) -> Result<(), Fail> {
     let alloc = rt.alloc();
     let registry = Registry::parse(alloc, SAMPLE.as_bytes())?;
     for (hash, column, digest) in &HASHES {
-        let got = seen(alloc, &registry, &ABC, None, *hash);
+        let got = profile_seen(alloc, &registry, &ABC, None, *hash);
         let text = std::str::from_utf8(got.csv.stream.as_slice())?;
         assert!(rt; text.contains(column) && text.contains(digest), "{column}");
     }
@@ -199,7 +199,7 @@ const FRONTS: [&str; 6] = [
 fn orders(rt: HostRuntime) -> Result<(), Fail> {
     let alloc = rt.alloc();
     let registry = Registry::parse(alloc, SAMPLE.as_bytes())?;
-    let got = seen(alloc, &registry, &UNORDERED, None, HashKind::Md5);
+    let got = profile_seen(alloc, &registry, &UNORDERED, None, HashKind::Md5);
     let mut text = std::str::from_utf8(got.csv.stream.as_slice())?;
     for front in &FRONTS {
         let Some((_, rest)) = text.split_once(*front) else {

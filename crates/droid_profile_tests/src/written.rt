@@ -9,7 +9,7 @@ use std::alloc::Global;
 
 /// What came of the writing of a profile.
 #[derive(Drop)]
-pub struct Written<O, M> {
+pub struct WrittenProfile<O, M> {
     pub ended: Result<bool, CsvFault>,
     pub watcher: NotingWatcher,
     pub csv: O,
@@ -24,7 +24,7 @@ pub fn written<O: SteadyWrite, M: SteadyWrite>(
     hash: HashKind,
     csv: O,
     manifest: Option<M>,
-) -> Written<O, M> {
+) -> WrittenProfile<O, M> {
     let mut profiler = Profiler {
         alloc,
         tree: MemoryTree::of(rows),
@@ -43,7 +43,7 @@ pub fn written<O: SteadyWrite, M: SteadyWrite>(
         ..
     } = profiler;
     let CsvRecipient { csv, manifest, .. } = recipient;
-    Written {
+    WrittenProfile {
         ended,
         watcher,
         csv,
