@@ -1,7 +1,7 @@
 //! Lists of checksums of odd names, as `md5sum` and `sha256sum` of GNU coreutils 9.1 print them in such a folder.
 
 use crate::memory_tree::Row;
-use crate::written::{memory, written};
+use crate::written::{WrittenProfile, memory, written};
 use droid_frame::HashKind;
 use droid_pronom::Registry;
 use droid_pronom_sample::SAMPLE;
@@ -70,8 +70,13 @@ fn odd_names(rt: HostRuntime) -> Result<(), Fail> {
     ] {
         let csv = memory(alloc);
         let got = written(alloc, &registry, &ROWS, hash, csv, Some(memory(alloc)));
-        assert!(rt; got.ended == Ok(true));
-        let Some(list) = got.manifest else {
+        let WrittenProfile {
+            ended,
+            manifest,
+            ..
+        } = got;
+        assert!(rt; ended == Ok(true));
+        let Some(list) = manifest else {
             return Err(Fail::from("no list"));
         };
         assert!(rt; list.stream.as_slice() == text.as_bytes());

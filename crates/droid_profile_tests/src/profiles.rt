@@ -1,7 +1,7 @@
 //! The profile of a small tree, as CSV. (The digests are those of RFC 1321's test suite.)
 
 use crate::memory_tree::Row;
-use crate::written::{Memory, memory, written};
+use crate::written::{Memory, WrittenProfile, memory, written};
 use droid_frame::HashKind;
 use droid_pronom::Registry;
 use droid_pronom_sample::SAMPLE;
@@ -46,15 +46,21 @@ fn small_tree(rt: HostRuntime) -> Result<(), Fail> {
         memory(alloc),
         Some(memory(alloc)),
     );
-    assert!(rt; got.ended == Ok(true));
-    assert!(rt; got.csv.stream.as_slice() == TEXT.as_bytes());
-    let Some(list) = got.manifest else {
+    let WrittenProfile {
+        ended,
+        watcher,
+        csv,
+        manifest,
+    } = got;
+    assert!(rt; ended == Ok(true));
+    assert!(rt; csv.stream.as_slice() == TEXT.as_bytes());
+    let Some(list) = manifest else {
         return Err(Fail::from("no list"));
     };
     assert!(rt; list.stream.as_slice() == LIST.as_bytes());
-    assert!(rt; got.watcher.files == 3);
-    assert!(rt; got.watcher.folders == 1);
-    assert!(rt; got.watcher.bytes == 15);
+    assert!(rt; watcher.files == 3);
+    assert!(rt; watcher.folders == 1);
+    assert!(rt; watcher.bytes == 15);
     Ok(())
 }
 

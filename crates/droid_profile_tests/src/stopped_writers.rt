@@ -2,7 +2,7 @@
 
 use crate::memory_tree::Row;
 use crate::profiles::{LIST, ROWS, TEXT};
-use crate::written::{Memory, memory, written};
+use crate::written::{Memory, WrittenProfile, memory, written};
 use droid_frame::{HashKind, Noted, WriteFault};
 use droid_frame_shaky::{STEADY, ShakyWriter, Stop};
 use droid_profile_csv::CsvFault;
@@ -31,15 +31,21 @@ fn csv_stops_after_each_byte(rt: HostRuntime) -> Result<(), Fail> {
         let csv = stopping(alloc, room, stop);
         let list = Some(memory(alloc));
         let got = written(alloc, &registry, &ROWS, HashKind::Md5, csv, list);
+        let WrittenProfile {
+            ended,
+            csv,
+            manifest,
+            ..
+        } = got;
         assert!(rt;
-            got.ended == Err(CsvFault::Csv(WriteFault { written: room })),
+            ended == Err(CsvFault::Csv(WriteFault { written: room })),
             "{room}"
         );
         assert!(rt;
-            Some(got.csv.stream.taken()) == TEXT.as_bytes().get(..room),
+            Some(csv.stream.taken()) == TEXT.as_bytes().get(..room),
             "{room}"
         );
-        let Some(list) = got.manifest else {
+        let Some(list) = manifest else {
             return Err(Fail::from("no list"));
         };
         assert!(rt; list.stream.is_empty());
@@ -55,12 +61,18 @@ fn list_stops_after_each_byte(rt: HostRuntime) -> Result<(), Fail> {
     for room in 0..LIST.len() {
         let list = Some(stopping(alloc, room, Stop::Fails));
         let got = written(alloc, &registry, &ROWS, HashKind::Md5, memory(alloc), list);
+        let WrittenProfile {
+            ended,
+            csv,
+            manifest,
+            ..
+        } = got;
         assert!(rt;
-            got.ended == Err(CsvFault::Manifest(WriteFault { written: room })),
+            ended == Err(CsvFault::Manifest(WriteFault { written: room })),
             "{room}"
         );
-        assert!(rt; got.csv.stream.as_slice() == TEXT.as_bytes());
-        let Some(list) = got.manifest else {
+        assert!(rt; csv.stream.as_slice() == TEXT.as_bytes());
+        let Some(list) = manifest else {
             return Err(Fail::from("no list"));
         };
         assert!(rt;
@@ -116,12 +128,18 @@ fn stops_in_the_walk(rt: HostRuntime) -> Result<(), Fail> {
         memory(alloc),
         Some(memory(alloc)),
     );
-    assert!(rt; whole.ended == Ok(true));
-    let Some(list) = whole.manifest else {
+    let WrittenProfile {
+        ended,
+        csv: whole_csv,
+        manifest,
+        ..
+    } = whole;
+    assert!(rt; ended == Ok(true));
+    let Some(whole_list) = manifest else {
         return Err(Fail::from("no list"));
     };
-    let text = whole.csv.stream.as_slice();
-    let lines = list.stream.as_slice();
+    let text = whole_csv.stream.as_slice();
+    let lines = whole_list.stream.as_slice();
     assert!(rt; lines.len() == MANY * 288);
     assert!(rt; lines.iter().filter(|byte| **byte == b'\n').count() == MANY);
     assert!(rt; text.iter().filter(|byte| **byte == b'\n').count() == MANY + 1);
@@ -129,21 +147,33 @@ fn stops_in_the_walk(rt: HostRuntime) -> Result<(), Fail> {
     let none: Option<Memory> = None;
     let csv = stopping(alloc, 65_000, Stop::Fails);
     let got = written(alloc, &registry, rows, HashKind::Md5, csv, none);
-    assert!(rt; got.ended == Err(CsvFault::Csv(WriteFault { written: 65_000 })));
-    assert!(rt; Some(got.csv.stream.taken()) == text.get(..65_000));
-    assert!(rt; got.watcher.files < 100);
+    let WrittenProfile {
+        ended,
+        watcher,
+        csv,
+        ..
+    } = got;
+    assert!(rt; ended == Err(CsvFault::Csv(WriteFault { written: 65_000 })));
+    assert!(rt; Some(csv.stream.taken()) == text.get(..65_000));
+    assert!(rt; watcher.files < 100);
 
     let list = Some(stopping(alloc, 65_000, Stop::Ends));
     let got = written(alloc, &registry, rows, HashKind::Md5, memory(alloc), list);
-    assert!(rt; got.ended == Err(CsvFault::Manifest(WriteFault { written: 65_000 })));
-    let Some(list) = got.manifest else {
+    let WrittenProfile {
+        ended,
+        watcher,
+        csv,
+        manifest,
+    } = got;
+    assert!(rt; ended == Err(CsvFault::Manifest(WriteFault { written: 65_000 })));
+    let Some(list) = manifest else {
         return Err(Fail::from("no list"));
     };
     assert!(rt; Some(list.stream.taken()) == lines.get(..65_000));
-    let front = got.csv.stream.as_slice();
+    let front = csv.stream.as_slice();
     assert!(rt; text.starts_with(front));
     assert!(rt; front.ends_with(b"\n"));
     assert!(rt; front.len() > 65_536);
-    assert!(rt; got.watcher.files < 300);
+    assert!(rt; watcher.files < 300);
     Ok(())
 }
