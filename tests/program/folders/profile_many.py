@@ -3,8 +3,10 @@ import csv
 import io
 import os
 import subprocess
+import time
 import unittest
 
+from lib.processes import most_resident
 from lib.program import PROGRAM
 from lib.trees import InFolder
 
@@ -24,13 +26,17 @@ class Many(InFolder):
             os.mknod(folder + b"/%06d" % number)
 
     def run_over(self, *words):
-        """Profiles the folder: its status, the CSV, and its largest resident memory."""
+        """Profiles the folder: its status, the CSV, and its largest resident memory, which is read a hundred times a
+        second. (What the system says of an ended child has the memory of this process in it.)"""
         out = self.work + b"/out.csv"
+        most = 0
         with subprocess.Popen([PROGRAM, "profile", self.top, "--quiet", "--output", out, *words], stderr=subprocess.DEVNULL) as run:
-            _, ended, usage = os.wait4(run.pid, 0)
-            run.returncode = os.waitstatus_to_exitcode(ended)
+            while run.poll() is None:
+                most = max(most, most_resident(run) or 0)
+                time.sleep(0.01)
+        self.assertGreater(most, 0)
         with open(out, encoding="utf-8", newline="") as file:
-            return run.returncode, file.read(), usage.ru_maxrss * 1024
+            return run.returncode, file.read(), most
 
     def due(self, count):
         """Yields the number, the parent's and the path of each row: first the folders, and then their files."""
