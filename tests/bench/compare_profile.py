@@ -1,22 +1,25 @@
-"""Profiles two folders through the program, and reads the same files by other tools.
+"""Profiles folders through the program, and reads the same files by other tools.
 
-Usage: compare_profile.py, with the program's path in DROID_DESK and tests/ on Python's path. The first folder is
-made here by a fixed seed: 2,000 files of 1,000,000,000 bytes together, the largest of 64 MiB, nested 12 deep. The
-second is /usr, or the largest folder in it that has no more folders and files than a profile may have. Prints, for
-each, the seconds of `profile` to a file, of two passes of MD5 over the same bytes, and of `file --mime-type` and
-then `md5sum` over the same list, with their ratios and limits; and for the first the memory that its bytes take.
-The shortest of some rounds counts.
+Usage: compare_profile.py [made] [library] [large] [small], with the program's path in DROID_DESK and tests/ on Python's
+path. Without a word, all four:
+
+- made: 2,000 files of 1,000,000,000 bytes together, the largest of 64 MiB, nested 12 deep, by a fixed seed;
+- library: /usr/lib of this machine;
+- large: one file of 1 GiB;
+- small: 1,000,000 files of 100 bytes in 1,000 folders, and 100,000 such files for the memory.
+
+Prints for each the median seconds of `profile` to a file and of the other tools over the same files, which are read once
+before, with the ratios and the limits. The rounds of all tools go in turns.
 """
-import hashlib
 import os
 import random
-import stat
+import shutil
+import statistics
 import subprocess
 import sys
 import tempfile
 import time
 
-from lib.frames import MOST_NODES
 from lib.processes import most_resident
 from lib.program import PROGRAM
 
@@ -27,13 +30,30 @@ LARGEST = 64 << 20
 DEPTH = 12
 FOLDERS = 120
 CHUNK = 1 << 20
-ROUNDS = 3
+ROUNDS = 5
 
-# the limits: times the two passes of MD5, times `file` and `md5sum`, and the memory above that of the same tree
-# without bytes
-LIMIT_PASSES = 1.25
-LIMIT_TOOLS = 0.5
-LIMIT_MEMORY = 64 << 20
+# how many times another tool's seconds `profile` may take
+LIMITS = {
+    ("made", "md5sum"): 0.45,
+    ("made", "hashdeep"): 0.45,
+    ("made", "hashdeep with 4 threads"): 1.0,
+    ("made", "sha256sum"): 0.5,
+    ("library", "md5sum"): 0.55,
+    ("library", "file"): 0.1,
+    ("large", "md5sum"): 1.2,
+    ("small", "find and md5sum"): 1.0,
+}
+# of the memory of 1,000,000 files: bytes, and times that of 100,000
+LIMIT_MEMORY = 128_000_000
+LIMIT_GROWTH = 1.2
+
+OTHERS = {
+    "md5sum": ["xargs", "-0", "md5sum", "--"],
+    "sha256sum": ["xargs", "-0", "sha256sum", "--"],
+    "file": ["xargs", "-0", "file", "--mime-type", "--"],
+    "hashdeep": ["xargs", "-0", "hashdeep", "-c", "md5", "-j0"],
+    "hashdeep with 4 threads": ["xargs", "-0", "hashdeep", "-c", "md5", "-j4"],
+}
 
 # an extension, and the first bytes of its files
 KINDS = [
@@ -72,8 +92,8 @@ def content(place, front, size):
     return (front + random.Random(place).randbytes(max(size - len(front), 0)))[:size]
 
 
-def make(top, empty):
-    """Makes the tree of the seed, with its bytes or with empty files."""
+def make_tree(top):
+    """Makes the tree of the seed."""
     chance = random.Random(SEED)
     paths = folders(chance)
     for path in paths:
@@ -81,35 +101,29 @@ def make(top, empty):
     for place, size in enumerate(sizes(chance)):
         extension, front = KINDS[place % len(KINDS)]
         with open(f"{top}{chance.choice(paths)}/file {place}{extension}", "wb") as file:
-            file.write(b"" if empty else content(place, front, size))
+            file.write(content(place, front, size))
+
+
+def make_small(top, folders_of, files_of):
+    """Makes this many folders, each with this many files of 100 bytes."""
+    for folder in range(folders_of):
+        path = f"{top}/folder {folder}"
+        os.mkdir(path)
+        for place in range(files_of):
+            with open(f"{path}/file {place}", "wb") as file:
+                file.write(b"%100d" % (folder * files_of + place))
 
 
 def files_below(top):
-    """Returns the regular files below a folder, and the number of folders and files."""
-    found, nodes = [], 0
-    for path, names, others in os.walk(top):
-        names.sort()
-        nodes += sum(not os.path.islink(os.path.join(path, name)) for name in names)
-        for name in sorted(others):
-            file = os.path.join(path, name)
-            if stat.S_ISREG(os.lstat(file).st_mode):
-                found.append(file)
-                nodes += 1
-    return found, nodes
+    """Returns the regular files below a folder."""
+    return [path for path in subprocess.run(["find", top, "-type", "f", "-print0"], capture_output=True, check=True).stdout.split(b"\0") if path]
 
 
-def of_the_machine():
-    """Returns the folder of this machine that is profiled."""
-    below = sorted(entry.path for entry in os.scandir("/usr") if entry.is_dir(follow_symlinks=False))
-    counted = [(files_below(path)[1], path) for path in ["/usr"] + below]
-    return max(pair for pair in counted if pair[0] <= MOST_NODES)[1]
-
-
-def profiled(top, target):
+def profiled(top, target, hash_kind):
     """Returns the seconds of a profile, and its largest resident memory, which is read fifty times a second."""
     start = time.perf_counter()
     memory = 0
-    words = [PROGRAM, "profile", top, "--output", target, "--quiet"]
+    words = [PROGRAM, "profile", top, "--output", target, "--hash", hash_kind, "--quiet"]
     with subprocess.Popen(words, stderr=subprocess.DEVNULL) as run:
         while run.returncode is None:
             memory = most_resident(run) or memory
@@ -123,61 +137,83 @@ def profiled(top, target):
     return seconds, memory
 
 
-def passes(files):
-    """Returns the seconds of two passes of MD5 over the bytes of the files."""
+def seconds_of(top, files, other):
+    """Returns the seconds of another tool over the files."""
     start = time.perf_counter()
-    buffer = bytearray(CHUNK)
-    view = memoryview(buffer)
-    for path in files + files:
-        digest = hashlib.md5()
-        with open(path, "rb", buffering=0) as file:
-            while count := file.readinto(buffer):
-                digest.update(view[:count])
-        digest.hexdigest()
+    if other == "find and md5sum":
+        with subprocess.Popen(["find", top, "-type", "f", "-print0"], stdout=subprocess.PIPE) as found:
+            subprocess.run(["xargs", "-0", "md5sum", "--"], stdin=found.stdout, stdout=subprocess.DEVNULL, check=True)
+    else:
+        subprocess.run(OTHERS[other], input=b"\0".join(files) + b"\0", stdout=subprocess.DEVNULL, check=True)
     return time.perf_counter() - start
 
 
-def tools(files):
-    """Returns the seconds of `file` and then `md5sum` over the files."""
-    names = b"\0".join(map(os.fsencode, files))
-    start = time.perf_counter()
-    for words in (["file", "--mime-type", "--"], ["md5sum", "--"]):
-        subprocess.run(["xargs", "-0", *words], input=names, stdout=subprocess.DEVNULL, check=True)
-    return time.perf_counter() - start
-
-
-def compare(top, target):
+def compare(name, top, target, hash_kind, others):
     """Prints the times over a folder, and returns the largest resident memory of its profile."""
-    files, nodes = files_below(top)
-    total = sum(os.stat(file).st_size for file in files)
+    files = files_below(top)
     for file in files:
         with open(file, "rb", buffering=0) as bytes_of:
             while bytes_of.read(CHUNK):
                 pass
-    own, twice, others, memory = [], [], [], 0
+    present = [other for other in others if shutil.which(other.split()[0])]
+    own, memory, times = [], 0, {other: [] for other in present}
     for _ in range(ROUNDS):
-        seconds, memory = profiled(top, target)
+        seconds, most = profiled(top, target, hash_kind)
         own.append(seconds)
-        twice.append(passes(files))
-        others.append(tools(files))
-    print(f"profile: {top}: {nodes} folders and files, {total} bytes: {min(own):.2f} seconds, {memory} bytes resident")
-    print(f"  two passes of MD5: {min(twice):.2f} seconds; ratio {min(own) / min(twice):.2f}, limit {LIMIT_PASSES}")
-    print(f"  file and md5sum: {min(others):.2f} seconds; ratio {min(own) / min(others):.2f}, limit {LIMIT_TOOLS}")
+        memory = max(memory, most)
+        for other in present:
+            times[other].append(seconds_of(top, files, other))
+    median = statistics.median(own)
+    print(f"profile: {name}, {hash_kind}: {len(files)} files: {median:.2f} seconds, {memory} bytes resident", flush=True)
+    for other in others:
+        if other not in present:
+            print(f"  {other}: not on this machine")
+            continue
+        beside = statistics.median(times[other])
+        print(f"  {other}: {beside:.2f} seconds; ratio {median / beside:.2f}, limit {LIMITS[name, other]}", flush=True)
     return memory
 
 
+def compare_made(work, target):
+    top = work + "/made"
+    os.mkdir(top)
+    make_tree(top)
+    os.sync()
+    compare("made", top, target, "md5", ["md5sum", "hashdeep", "hashdeep with 4 threads"])
+    compare("made", top, target, "sha256", ["sha256sum"])
+
+
+def compare_library(_work, target):
+    compare("library", "/usr/lib", target, "md5", ["md5sum", "file"])
+
+
+def compare_large(work, target):
+    top = work + "/large"
+    os.mkdir(top)
+    with open(top + "/file", "wb") as file:
+        for place in range(1024):
+            file.write(random.Random(place).randbytes(CHUNK))
+    compare("large", top, target, "md5", ["md5sum"])
+
+
+def compare_small(work, target):
+    fewer, more = work + "/fewer", work + "/more"
+    for top, folders_of in ((fewer, 100), (more, 1_000)):
+        os.mkdir(top)
+        make_small(top, folders_of, 1_000)
+    os.sync()
+    less = profiled(fewer, target, "md5")[1]
+    memory = compare("small", more, target, "md5", ["find and md5sum"])
+    print(f"  {memory} bytes resident, limit {LIMIT_MEMORY}; {memory / less:.2f} times that of 100,000 files, limit {LIMIT_GROWTH}")
+
+
+PARTS = {"made": compare_made, "library": compare_library, "large": compare_large, "small": compare_small}
+
+
 def main():
-    with tempfile.TemporaryDirectory() as work:
-        target = work + "/profile.csv"
-        trees = [work + "/made", work + "/empty"]
-        for place, top in enumerate(trees):
-            os.mkdir(top)
-            make(top, place == 1)
-        os.sync()
-        memory = compare(trees[0], target)
-        above = memory - profiled(trees[1], target)[1]
-        print(f"  {above} bytes resident above those of the same tree with no bytes; limit {LIMIT_MEMORY}")
-        compare(of_the_machine(), target)
+    for name in sys.argv[1:] or PARTS:
+        with tempfile.TemporaryDirectory() as work:
+            PARTS[name](work, work + "/profile.csv")
 
 
 if __name__ == "__main__":

@@ -1,7 +1,9 @@
 """Sockets of this machine, and frames read from them. Nothing here waits longer than some seconds."""
 
+import contextlib
 import socket
 import struct
+import threading
 
 from lib.frames import HEADER
 
@@ -24,6 +26,43 @@ def listen(port=0):
     listener.listen(8)
     listener.settimeout(SECONDS)
     return listener
+
+
+class Listening(threading.Thread):
+    """A thread that listens on a free port, in a `with`, and takes one connection after the other: `take` is called with
+    each."""
+
+    def __init__(self):
+        super().__init__(daemon=True)
+        self.listener = listen()
+        self.port = self.listener.getsockname()[1]
+
+    def __enter__(self):
+        self.start()
+        return self
+
+    def stop(self):
+        """Listens no longer. This wakes the thread."""
+        with contextlib.suppress(OSError):
+            self.listener.shutdown(socket.SHUT_RDWR)
+
+    def __exit__(self, *_):
+        self.stop()
+        self.join(SECONDS)
+        self.listener.close()
+
+    def run(self):
+        while True:
+            try:
+                stream, _ = self.listener.accept()
+            except OSError:
+                return
+            with stream:
+                stream.settimeout(SECONDS)
+                self.take(stream)
+
+    def take(self, stream):
+        raise NotImplementedError
 
 
 def free_port():

@@ -1,11 +1,8 @@
 """A service in this process, which answers by the model (tests/program/model) and lies where a test says so. It needs
 the folders tests/program/model and tests/program/wire on Python's path."""
-import contextlib
-import socket
 import struct
-import threading
 
-from lib.connections import SECONDS, listen, read_frame
+from lib.connections import Listening, read_frame
 from lib.frames import CAUSES, EXPORT, FINISH, FINISHED, MD5, NO_HASH, PART, REFUSED, Frame, cut, frame
 from model_frames import reply_to, service_of_the_sample
 from service import Service
@@ -23,15 +20,13 @@ class Mute(Exception):
     """Sends nothing more on this connection."""
 
 
-class Lying(threading.Thread):
-    """Serves one connection after the other on a free port, in a `with`. `lie` is called with this service and each
-    request, and returns the bytes to send, or raises Close or Mute. `frames` has all requests that came."""
+class Lying(Listening):
+    """Serves one connection after the other. `lie` is called with this service and each request, and returns the bytes to
+    send, or raises Close or Mute. `frames` has all requests that came."""
 
     def __init__(self, lie=None):
-        super().__init__(daemon=True)
+        super().__init__()
         self.lie = lie or truth
-        self.listener = listen()
-        self.port = self.listener.getsockname()[1]
         self.frames = []
         self.connections = 0
         self.forget()
@@ -40,30 +35,9 @@ class Lying(threading.Thread):
         """Loses all that the service has, as when it is started again."""
         self.model = Service(REGISTRY)
 
-    def __enter__(self):
-        self.start()
-        return self
-
-    def stop(self):
-        """Listens no longer. This wakes the thread."""
-        with contextlib.suppress(OSError):
-            self.listener.shutdown(socket.SHUT_RDWR)
-
-    def __exit__(self, *_):
-        self.stop()
-        self.join(SECONDS)
-        self.listener.close()
-
-    def run(self):
-        while True:
-            try:
-                stream, _ = self.listener.accept()
-            except OSError:
-                return
-            self.connections += 1
-            with stream:
-                stream.settimeout(SECONDS)
-                self.serve(stream)
+    def take(self, stream):
+        self.connections += 1
+        self.serve(stream)
 
     def serve(self, stream):
         try:

@@ -1,4 +1,4 @@
-"""Rows of an export (docs/FORMATS.md), as bytes."""
+"""Rows of an export (docs/CSV.md), as bytes."""
 
 COLUMNS = (
     b'"ID","PARENT_ID","URI","FILE_PATH","NAME","METHOD","STATUS","SIZE","TYPE","EXT","LAST_MODIFIED",'

@@ -4,11 +4,9 @@ import io
 import os
 import random
 import select
-import socket
 import subprocess
-import threading
 
-from lib.connections import HOST, SECONDS, connect, listen, read_frame
+from lib.connections import Listening, connect, read_frame
 from lib.frames import Frame, frame
 from lib.program import PROGRAM
 from lib.trees import InFolder
@@ -42,37 +40,26 @@ def fault(name, sentence):
     return f"fault: {name}\n{sentence}\n".encode()
 
 
-class Proxy(threading.Thread):
+class Proxy(Listening):
     """Passes connections to its port on to another port, and cuts each after a number of bytes, both ways together: the
     next of `cuts`, or never where that is None. `sent` has what the clients sent."""
 
     def __init__(self, to, cuts):
-        super().__init__(daemon=True)
+        super().__init__()
         self.to = to
         self.cuts = cuts
-        self.listener = listen()
-        self.port = self.listener.getsockname()[1]
         self.count = 0
         self.ended = False
         self.sent = b""
 
-    def __enter__(self):
-        self.start()
-        return self
-
-    def __exit__(self, *_):
+    def stop(self):
         self.ended = True
-        self.join(SECONDS)
-        self.listener.close()
+        super().stop()
 
-    def run(self):
-        while not self.ended:
-            if not select.select([self.listener], [], [], 0.1)[0]:
-                continue
-            client, _ = self.listener.accept()
-            with client, socket.create_connection((HOST, self.to), timeout=SECONDS) as service:
-                if self.hand_on(client, service, next(self.cuts)):
-                    self.count += 1
+    def take(self, stream):
+        with connect(self.to) as service:
+            if self.hand_on(stream, service, next(self.cuts)):
+                self.count += 1
 
     def hand_on(self, client, service, left):
         """Passes this many bytes on, and returns whether it cut the connection then."""
@@ -104,38 +91,20 @@ def cuts_by(seed, most):
         yield numbers.randrange(most)
 
 
-class Relay(threading.Thread):
+class Relay(Listening):
     """Passes the frames that come to its port on to another port, one at a time, and their replies back. It calls
     `before` first, with itself, the frame and the stream to the other port; if that returns False, it closes the
     connection and does not pass the frame on. `frames` has all frames that came."""
 
     def __init__(self, to, before):
-        super().__init__(daemon=True)
+        super().__init__()
         self.to = to
         self.before = before
         self.frames = []
-        self.listener = listen()
-        self.port = self.listener.getsockname()[1]
 
-    def __enter__(self):
-        self.start()
-        return self
-
-    def __exit__(self, *_):
-        # this wakes the thread
-        self.listener.shutdown(socket.SHUT_RDWR)
-        self.join(SECONDS)
-        self.listener.close()
-
-    def run(self):
-        while True:
-            try:
-                client, _ = self.listener.accept()
-            except OSError:
-                return
-            with client, connect(self.to) as service:
-                client.settimeout(SECONDS)
-                self.pass_on(client, service)
+    def take(self, stream):
+        with connect(self.to) as service:
+            self.pass_on(stream, service)
 
     def pass_on(self, client, service):
         while found := read_frame(client, 2):

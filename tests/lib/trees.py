@@ -12,8 +12,16 @@ import unittest
 
 from lib.program import PROGRAM
 
-# how the program's lines on standard error begin: of a skipped entry, and of how many there are
-SKIPPED, ALL_SKIPPED = b"left out: ", b"left out in all: "
+# how the program's lines on standard error begin: of a skipped entry, of how many there are, and of how many of these
+# are symbolic links
+SKIPPED, ALL_SKIPPED, LINKS = b"left out: ", b"left out in all: ", b"of these symbolic links, which are no part of a profile: "
+# why an entry is skipped
+LINK = b"it is a symbolic link, which is no part of a profile"
+KIND = b"neither a folder nor a regular file, or it can't be looked at"
+NAME = b"its name is no UTF-8"
+UNREAD = b"it could not be opened or read"
+CHANGED = b"it changed while it was read"
+TWICE = b"same name: its folder lists the name twice"
 OWN_REGISTRY = b"registry: the built-in registry of everyday formats"
 
 
@@ -32,8 +40,8 @@ def moment(seconds):
 def walk(top):
     """Walks a folder in the order of `profile`: folder by folder, each after the one above it, and within a folder
     in the order of the names' bytes. Returns the rows of the entries, and the paths of those that `profile` has to
-    skip."""
-    rows, skipped, waiting, number = [], set(), [(b"", "")], 0
+    skip, each with the reason."""
+    rows, skipped, waiting, number = [], {}, [(b"", "")], 0
     while waiting:
         path, parent = waiting.pop(0)
         for name in sorted(os.listdir(top + path)):
@@ -42,10 +50,10 @@ def walk(top):
             try:
                 text = below.decode()
             except UnicodeDecodeError:
-                skipped.add(below)
+                skipped[below] = NAME
                 continue
             if not (stat.S_ISDIR(is_what.st_mode) or stat.S_ISREG(is_what.st_mode)):
-                skipped.add(below)
+                skipped[below] = LINK if stat.S_ISLNK(is_what.st_mode) else KIND
                 continue
             number += 1
             row = {"ID": str(number), "PARENT_ID": parent, "FILE_PATH": text, "NAME": name.decode(), "LAST_MODIFIED": moment(int(is_what.st_mtime // 1))}
@@ -68,6 +76,19 @@ def read(text):
             seen.add(row["ID"])
             rows.append(row)
     return rows
+
+
+def status_of(skipped):
+    """Returns the status of `profile` where these entries are skipped: symbolic links are no part of a profile."""
+    return 5 if set(skipped.values()) - {LINK} else 0
+
+
+def read_skipped(path):
+    """Reads a file of --skipped: the path of each entry, and the reason, behind the names of the columns."""
+    with open(path, encoding="utf-8", errors="surrogateescape", newline="") as file:
+        rows = list(csv.reader(file, strict=True))
+    assert rows[0] == ["path", "reason"], rows[0]
+    return [tuple(os.fsencode(field) for field in row) for row in rows[1:]]
 
 
 def lines(text, front):

@@ -3,9 +3,10 @@
 use droid_desk_arguments::{
     Asked, NoCommand, ProfileOptions, RegistrySource, SubmitOptions, unread_words, what_is_asked,
 };
-use droid_desk_folders::{profile_folder, submit_folder};
+use droid_desk_folders::submit_folder;
+use droid_desk_profile::profile_folder;
 use droid_desk_service::{
-    Ended, run_command, script_command, send_command, serve_command, service_for,
+    Ended, registry_for, run_command, script_command, send_command, serve_command,
 };
 use std::process::ExitCode;
 use std::{env, io};
@@ -54,9 +55,9 @@ fn profile(rt: &HostRuntime, options: ProfileOptions<'_>, on_terminal: bool) -> 
             RegistrySource::Everyday
         }
     };
-    match service_for(rt, source) {
-        Ok(service) => {
-            let ending = profile_folder(rt, service, options, on_terminal);
+    match registry_for(rt, source) {
+        Ok(registry) => {
+            let ending = profile_folder(rt, &registry, options, on_terminal);
             let _ = ending.print(rt, options);
             ExitCode::from(ending.status())
         }

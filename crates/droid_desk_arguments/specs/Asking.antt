@@ -50,7 +50,14 @@ pub record IsSource (rows : List Row) (source : RegistrySource) : Type 0 where
   pub is_flag : IsFlag (one_of (codes "everyday") rows) everyday
   pub is_chosen : IsChosen everyday (first_of (codes "registry") rows) source
 
--- the options of `profile`
+-- a list of checksums is asked for, and files get no hash
+abbrev pub has_no_checksums : HashKind → Option Text → Bool
+has_no_checksums hashes.Nothing (Some path) = true
+has_no_checksums hashes.Nothing None = false
+has_no_checksums hashes.Md5 manifest = false
+has_no_checksums hashes.Sha256 manifest = false
+
+-- the options of `profile`; a list of checksums needs a hash
 pub record IsProfile (rows : List Row) (options : ProfileOptions) : Type 0 where
   pub folder : Some options.folder.now ≡ first_of (codes "folder") rows
   pub registry : option_map (λ path. path.now) options.registry ≡ first_of (codes "registry") rows
@@ -58,6 +65,9 @@ pub record IsProfile (rows : List Row) (options : ProfileOptions) : Type 0 where
   pub match_all : IsFlag (one_of (codes "match-all") rows) options.match_all
   pub hash : IsHash (first_of (codes "hash") rows) options.hash
   pub output : option_map (λ path. path.now) options.output ≡ first_of (codes "output") rows
+  pub manifest : option_map (λ path. path.now) options.manifest ≡ first_of (codes "manifest") rows
+  pub checksums : has_no_checksums options.hash (option_map (λ path. path.now) options.manifest) ≡ false
+  pub skipped : option_map (λ path. path.now) options.skipped ≡ first_of (codes "skipped") rows
   pub quiet : IsFlag (one_of (codes "quiet") rows) options.quiet
 
 -- where a submission goes, and how long it waits for the service

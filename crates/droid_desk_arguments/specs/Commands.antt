@@ -51,6 +51,9 @@ hash_option = option_named (codes "hash")
 abbrev pub output_option : Rule
 output_option = option_named (codes "output")
 
+abbrev pub manifest_option : Rule
+manifest_option = option_named (codes "manifest")
+
 -- the submission's name: any text but the empty one
 abbrev pub name_option : Rule
 name_option = record (option_named (codes "name")) { parser = Some NonEmptyString }
@@ -74,9 +77,12 @@ skipped_option = option_named (codes "skipped")
 abbrev pub profile_input : App
 profile_input = with_rule (with_rule (with_rule (new_app (codes "profile")) folder_word) registry_option) limit_option
 
+-- what is done with each file
+abbrev pub profile_files : App
+profile_files = with_rule (with_rule profile_input (flag_named (codes "match-all"))) hash_option
+
 abbrev pub profile_command : App
-profile_command =
-    with_rule (with_rule (with_rule (with_rule profile_input (flag_named (codes "match-all"))) hash_option) output_option) (flag_named (codes "quiet"))
+profile_command = with_rule (with_rule (with_rule (with_rule profile_files output_option) manifest_option) skipped_option) (flag_named (codes "quiet"))
 
 -- what is submitted, and where it goes
 abbrev pub submit_input : App

@@ -8,7 +8,7 @@ ghost use Rattle.droid_desk_arguments.specs.Commands.{client_option, connections
 
 use crate::help::{ABOUT, EVERYDAY_HELP, HELP, REGISTRY_HELP, SCRIPT_ABOUT, SCRIPT_HELP};
 use crate::no_command::{NoCommand, unused_words};
-use crate::profile::{PROFILE, ProfileOptions, flag, profile, profile_asked};
+use crate::profile::{HASH, PROFILE, ProfileOptions, flag, hash_of, profile, profile_asked};
 use crate::source::{EVERYDAY, RegistrySource, source_of};
 use crate::stream_help::{
     CLIENT_HELP, CONNECTIONS_HELP, FIRST_HELP, RUN_ABOUT, RUN_HELP, SEND_ABOUT, SEND_HELP,
@@ -50,6 +50,10 @@ const VERSION: &str = "0.9.0";
 
 /// The error for an unknown hash.
 const NO_SUCH_HASH: &str = "the value of '--hash <HASH>' is none of md5, sha256 and none";
+
+/// The error for a list of checksums where files get no hash.
+const NO_CHECKSUMS: &str =
+    "the option '--manifest <FILE>' writes checksums: it cannot be used with '--hash none'";
 
 /// The error for two registries.
 const TWO_REGISTRIES: &str =
@@ -118,13 +122,20 @@ fn asked_of<'a>(command: &mut Command<'a>, words: &'a [String]) -> Result<Asked<
 
 /// Says what is wrong with words that match the command, but ask for nothing.
 fn mistake_in(matches: &ArgMatches<'_>) -> &'static str {
+    if let Some(profile) = matches.subcommand_matches(PROFILE) {
+        return match hash_of(profile.get_str(HASH)) {
+            Some(_) => NO_CHECKSUMS,
+            None => NO_SUCH_HASH,
+        };
+    }
     match matches.subcommand_name() {
-        Some(PROFILE) | Some(SUBMIT) => NO_SUCH_HASH,
+        Some(SUBMIT) => NO_SUCH_HASH,
         _ => TWO_REGISTRIES,
     }
 }
 
-/// Reads the matched words. They ask for nothing if they name an unknown hash or two registries.
+/// Reads the matched words. They ask for nothing if they name an unknown hash, two registries, or a list of checksums
+/// without a hash.
 fn asked_by<'a>(matches: &ArgMatches<'a>) -> Option<Asked<'a>>
     ensures { IfSome result (λ asked. IsAsked (subcommand_rows_of matches.now) asked) }
 {

@@ -1,15 +1,15 @@
 //! The command `profile`: its options, and what they ask for.
 
-ghost use Rattle.std.specs.Prelude.{◌≡◌, IfOk, IfSome, codes, false, option_map};
+ghost use Rattle.std.specs.Prelude.{◌≡◌, IfOk, IfSome, None, codes, false, option_map};
 ghost use Rattle.clap.specs.Words.{app_of, found_of, one_of, rows_of, rule_of};
 ghost use Rattle.clap.specs.declared.builder.command.Command.TheViews.{out-Command};
-ghost use Rattle.droid_desk_arguments.specs.Asking.{IsAskedBy, IsFlag, IsHash, IsProfile};
-ghost use Rattle.droid_desk_arguments.specs.Commands.{flag_named, folder_word, limit_option, option_named, profile_command, profile_input};
+ghost use Rattle.droid_desk_arguments.specs.Asking.{IsAskedBy, IsFlag, IsHash, IsProfile, has_no_checksums};
+ghost use Rattle.droid_desk_arguments.specs.Commands.{flag_named, folder_word, limit_option, option_named, profile_command, profile_files, profile_input};
 
 use crate::arguments::{Asked, REGISTRY, number, registry};
 use crate::profile_help::{
-    FOLDER_HELP, HASH_HELP, LIMIT_HELP, MATCH_ALL_HELP, OUTPUT_HELP, OWN_REGISTRY_HELP,
-    PROFILE_ABOUT, PROFILE_HELP, QUIET_HELP,
+    FOLDER_HELP, HASH_HELP, LEFT_OUT_HELP, LIMIT_HELP, MANIFEST_HELP, MATCH_ALL_HELP, OUTPUT_HELP,
+    OWN_REGISTRY_HELP, PROFILE_ABOUT, PROFILE_HELP, QUIET_HELP,
 };
 use clap::{Arg, ArgAction, ArgMatches, Command};
 use droid_frame::HashKind;
@@ -27,6 +27,10 @@ pub(crate) const MATCH_ALL: &str = "match-all";
 pub(crate) const HASH: &str = "hash";
 
 const OUTPUT: &str = "output";
+
+const MANIFEST: &str = "manifest";
+
+pub(crate) const SKIPPED: &str = "skipped";
 
 pub(crate) const QUIET: &str = "quiet";
 
@@ -48,6 +52,10 @@ pub struct ProfileOptions<'a> {
     pub hash: HashKind,
     /// The path of the CSV file, or `None` for standard output.
     pub output: Option<&'a str>,
+    /// The path of the file for the checksums, or `None` for no such file. `None` if the files get no hash.
+    pub manifest: Option<&'a str>,
+    /// The path of the file for what was skipped, or `None` for no such file.
+    pub skipped: Option<&'a str>,
     /// Whether neither progress nor the summary is printed.
     pub quiet: bool,
 }
@@ -69,6 +77,11 @@ fn profile_options<'a>(profile: &ArgMatches<'a>) -> Option<ProfileOptions<'a>>
     let hash_word = profile.get_str(HASH);
     let hash = hash_of(hash_word)?;
     let output = profile.get_str(OUTPUT);
+    let manifest = profile.get_str(MANIFEST);
+    if has_no_checksums(hash, manifest) {
+        return None;
+    }
+    let skipped = profile.get_str(SKIPPED);
     let quiet = flag_of(profile, QUIET);
     Some(ProfileOptions {
         folder,
@@ -77,8 +90,22 @@ fn profile_options<'a>(profile: &ArgMatches<'a>) -> Option<ProfileOptions<'a>>
         match_all,
         hash,
         output,
+        manifest,
+        skipped,
         quiet,
     })
+}
+
+/// Returns whether a list of checksums is asked for, and files get no hash.
+pub(crate) fn has_no_checksums(hash: HashKind, manifest: Option<&str>) -> bool
+    ensures { result ≡ has_no_checksums hash (option_map (λ path. path.now) manifest.entry) }
+{
+    match (hash, manifest) {
+        (HashKind::Nothing, Some(_)) => true,
+        (HashKind::Nothing, None) => false,
+        (HashKind::Md5, _) => false,
+        (HashKind::Sha256, _) => false,
+    }
 }
 
 /// Reads the name of a hash: `md5`, `sha256` or `none`. Without a name the hash is MD5.
@@ -111,11 +138,21 @@ pub(crate) fn profile<'a>(alloc: Global) -> Result<Command<'a>, AllocError>
     ensures shape { IfOk result (λ c. app_of c ≡ profile_command) }
     ensures local { IfOk result (λ c. (out-Command c).has_globals ≡ false) }
 {
+    files(alloc)?
+        .arg(named(alloc, OUTPUT, "FILE", OUTPUT_HELP))?
+        .arg(named(alloc, MANIFEST, "FILE", MANIFEST_HELP))?
+        .arg(named(alloc, SKIPPED, "FILE", LEFT_OUT_HELP))?
+        .arg(flag(alloc, QUIET, QUIET_HELP))
+}
+
+/// Makes the command without what is written and printed.
+fn files<'a>(alloc: Global) -> Result<Command<'a>, AllocError>
+    ensures shape { IfOk result (λ c. app_of c ≡ profile_files) }
+    ensures local { IfOk result (λ c. (out-Command c).has_globals ≡ false) }
+{
     input(alloc)?
         .arg(flag(alloc, MATCH_ALL, MATCH_ALL_HELP))?
-        .arg(named(alloc, HASH, "HASH", HASH_HELP))?
-        .arg(named(alloc, OUTPUT, "FILE", OUTPUT_HELP))?
-        .arg(flag(alloc, QUIET, QUIET_HELP))
+        .arg(named(alloc, HASH, "HASH", HASH_HELP))
 }
 
 /// Makes the command with its first options.

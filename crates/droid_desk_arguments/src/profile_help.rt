@@ -19,41 +19,54 @@ pub const HASH_HELP: &str = "Hash of each file: md5 (default), sha256 or none";
 pub const OUTPUT_HELP: &str =
     "Write the CSV to this file, never a part of it (default: standard output)";
 
+pub const MANIFEST_HELP: &str =
+    "Write the files' checksums to this file, for `md5sum -c` or `sha256sum -c`, never a part of them";
+
+pub const LEFT_OUT_HELP: &str =
+    "Write what was skipped to this file, as a CSV of paths and reasons, never a part of it";
+
 pub const QUIET_HELP: &str = "Print neither progress nor the summary";
 
 pub const PROFILE_HELP: &str = "\
-The CSV is written once all files are read: a header, a row for each folder, and a row for each
-file, or one for each format if a file has several. FILE_PATH is the path below DIR and begins with
-`/`; PARENT_ID is the ID of the parent folder, or empty at the top; METHOD is Signature, Extension or
-empty; and LAST_MODIFIED is in UTC. A folder comes before its contents, which are sorted by the bytes
-of their names.
+The CSV has a header, a row for each folder, and a row for each file, or one for each format if a
+file has several. FILE_PATH is the path below DIR and begins with `/`; PARENT_ID is the ID of the
+parent folder, or empty at the top; METHOD is Signature, Extension or empty; and LAST_MODIFIED is in
+UTC. A folder comes before its contents, which are sorted by the bytes of their names. Rows are
+written while DIR is read.
 
-Symbolic links below DIR are never followed. What can't be profiled is skipped, and printed on
-standard error with its path and the reason: links, sockets and devices; names that are not UTF-8 or
-that a profile can't have; a name that a folder lists twice; what can't be opened or read; and files
-whose length changes, or that are replaced, while they are read. Standard error also has the
-registry, if none was named, and the progress: every ten seconds, or on a terminal in one line that
-is updated. The summary at the end counts the files identified by signature, by extension and not at
-all, mismatches, the ten most frequent formats, what was skipped, bytes and seconds. Paths that are
-not UTF-8 or have control characters are printed with escapes.
+The file of --manifest has a line for each file of the CSV: its checksum, and its path below DIR.
+Check it by `md5sum -c FILE` or, after --hash sha256, by `sha256sum -c FILE`, both run in DIR.
 
-FILE may be inside DIR: its old version is listed, the new one isn't.
+Symbolic links below DIR are never followed, and are no part of a profile. What can't be profiled has
+no row: sockets and devices; names that are not UTF-8 or that a profile can't have; a name that a
+folder lists twice; folders that can't be listed, with everything in them; files that can't be opened
+or read; and files whose length changes, or that are replaced, while they are read. Each of these and
+each link is printed on standard error with its path and the reason, and written to the file of
+--skipped. Paths that are not UTF-8 or have control characters are printed with escapes.
+
+Standard error also has the registry, if none was named, and the progress: every ten seconds, or on a
+terminal in one line that is updated. The summary at the end counts the files identified by
+signature, by extension and not at all, mismatches, the ten most frequent formats, what was left out
+and how many links are among that, bytes and seconds.
+
+Each FILE is complete, or as it was before, and has a path of its own. It may be inside DIR: its old
+version is listed, the new one isn't. For the CSV of a folder in that folder use --output, not `>`: a
+file that grows while it is read is skipped.
 
 Exit status:
 
-  0  everything in the folder is in the CSV
+  0  everything in the folder is in the CSV, but for symbolic links
   2  the command line is wrong
   3  the registry file could not be opened or read, or is not a registry
-  4  DIR is not a folder (Folder); the CSV could not be written (Write); FILE could not be created
-     or replaced (Output); there are more than 100,000 folders and files, which is seen before any
-     is read (Entries); the files are too long together to be counted (Bytes); new folders appeared
-     meanwhile: run it again (Folders); or memory ran out (Memory). FILE is as it was before
-  5  the CSV is written, but something was skipped
-  6  there was no memory to start: for the command line or the service
+  4  DIR is not a folder (Folder); the CSV or a FILE could not be written (Write); a FILE could not
+     be created or replaced (Output); there are more than 4,294,967,295 folders and files (Numbers);
+     or memory ran out (Memory). Standard output ends with a whole row, if it could be written
+  5  the CSV is written, but something else than symbolic links was skipped
+  6  there was no memory for the command line
 
 If several apply: the first of 2, 3, 6, 4, 5. With 3, 4 and 6 standard error says what happened
 and what to do.
 
 Example:
 
-  droid_desk profile --output deposit.csv deposit";
+  droid_desk profile --output deposit.csv --manifest deposit.md5 deposit";

@@ -8,8 +8,8 @@ ghost use Rattle.droid_desk_arguments.specs.Commands.{name_option, piece_size_op
 
 use crate::arguments::{Asked, CLIENT, PORT, client, number, port};
 use crate::profile::{
-    DEFAULT_LIMIT, FOLDER, HASH, LIMIT, MATCH_ALL, QUIET, flag, flag_of, folder, hash_of, limit,
-    named,
+    DEFAULT_LIMIT, FOLDER, HASH, LIMIT, MATCH_ALL, QUIET, SKIPPED, flag, flag_of, folder, hash_of,
+    limit, named,
 };
 use crate::profile_help::{HASH_HELP, MATCH_ALL_HELP, QUIET_HELP};
 use crate::submit_help::{
@@ -33,8 +33,6 @@ const TIMEOUT: &str = "timeout";
 const PIECE_SIZE: &str = "piece-size";
 
 const EXPORT: &str = "export";
-
-const SKIPPED: &str = "skipped";
 
 /// How many bytes a piece has by default.
 const DEFAULT_PIECE_SIZE: u32 = 262_144;

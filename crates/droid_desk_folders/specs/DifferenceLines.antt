@@ -9,7 +9,7 @@ use Rattle.droid_fixity.specs.declared.item.Item.{Item}
 use Rattle.droid_fixity_profile.specs.declared.seen.Seen.{Seen}
 use Rattle.droid_desk_folders.specs.SkippedEntries.{is_explained}
 use Rattle.droid_desk_folders.specs.declared.difference_line.DifferenceLine.{DifferenceLine}
-use Rattle.droid_desk_folders.specs.declared.recorder.SkippedEntry.{SkippedEntry}
+use Rattle.droid_desk_outputs.specs.declared.skipped_entry.SkippedEntry.{SkippedEntry}
 
 -- the path that a difference is reported at: the one in the folder, if the folder has it
 abbrev pub path_reported : List Item → List Item → Difference → List ℕ

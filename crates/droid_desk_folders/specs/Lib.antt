@@ -2,13 +2,9 @@ pub mod BegunOptions
 pub mod CheckFaults
 pub mod CheckedSubmissions
 pub mod DifferenceLines
-pub mod Places
 pub mod ProfileComparisons
-pub mod ProfileEndings
 pub mod SkippedEntries
-pub mod SkippedTexts
 pub mod SubmissionEndings
 pub mod SubmitSettings
 pub mod SubmittedItems
 pub mod Waits
-pub mod Ways

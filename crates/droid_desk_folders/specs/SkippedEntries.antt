@@ -6,16 +6,13 @@ use Rattle.std.specs.Cmp.Lexicographic.{slice_cmp}
 use Rattle.std.specs.List.{list_any}
 use Rattle.std.specs.Option.{is_some}
 use Rattle.std.specs.Ordering.{nat_cmp}
-use Rattle.droid_tree.specs.Heard.{Heard, Left}
+use Rattle.droid_tree.specs.Heard.{Heard}
 use Rattle.droid_tree_upload.specs.Deeds.{Deed, Informed}
 use Rattle.droid_desk_folders.specs.declared.recorder.Recorder.{Recorder}
-use Rattle.droid_desk_folders.specs.declared.recorder.SkippedEntry.{SkippedEntry}
+use Rattle.droid_desk_outputs.specs.SkippedTexts.{skipped_in}
+use Rattle.droid_desk_outputs.specs.declared.skipped_entry.SkippedEntry.{SkippedEntry}
 
--- the skipped entry that a watcher learned of, if it did
-abbrev pub skipped_in : Heard → List SkippedEntry
-skipped_in (Left path why) = record { path = path; why = why } ∷ []
-skipped_in _ = []
-
+-- the skipped entry that a deed reported, if it did
 abbrev pub skipped_by : Deed → List SkippedEntry
 skipped_by (Informed heard) = skipped_in heard
 skipped_by _ = []

@@ -12,6 +12,7 @@ use Rattle.droid_tree_submission.specs.declared.node.Node.{Node}
 abbrev pub node_kind : EntryKind → NodeKind
 node_kind entries.Folder = nodes.Folder
 node_kind entries.File = nodes.File
+node_kind entries.Link = nodes.File
 node_kind entries.Other = nodes.File
 
 -- the item of a folder or file

@@ -1,5 +1,5 @@
-//! The commands of a folder of this machine: `profile` writes its profile, `submit` sends it to a service on a port and
-//! compares the service's profile with it.
+//! The command `submit`: sends a folder of this machine to a service on a port, and compares the service's profile with
+//! it.
 #![tactic(auto)]
 
 mod audience;
@@ -7,17 +7,12 @@ mod begun_options;
 mod check_fault;
 mod checked_submission;
 mod difference_line;
-mod folder_advice;
-mod folder_profile;
 pub mod laws;
 mod loopback;
 mod output_files;
-mod places;
 mod profile_comparison;
-mod profile_ending;
 mod recorder;
 mod reported_differences;
-mod skipped_csv;
 mod skipped_paths;
 mod submission;
 mod submission_ending;
@@ -30,9 +25,7 @@ pub use audience::Audience;
 pub use begun_options::BegunOptions;
 pub use check_fault::CheckFault;
 pub use checked_submission::{CommandFault, submit_and_check};
-pub use folder_profile::{profile_folder, profile_of, profile_tree};
 pub use profile_comparison::{Compared, ComparisonFault};
-pub use profile_ending::ProfileEnding;
-pub use recorder::{Recorder, SkippedEntry};
+pub use recorder::Recorder;
 pub use submission::submit_folder;
 pub use submission_ending::{OutputFile, SubmissionEnding};

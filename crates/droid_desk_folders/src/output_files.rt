@@ -1,10 +1,8 @@
 //! The files that a submission writes: each is complete, or as it was before.
 
-use crate::places::{absolute_path, folder_of, lies_in};
-use crate::recorder::SkippedEntry;
-use crate::skipped_csv::skipped_csv;
 use crate::submission_ending::{OutputFile, SubmissionEnding};
 use droid_desk_arguments::SubmitOptions;
+use droid_desk_outputs::{SkippedEntry, absolute_path, folder_of, lies_in, skipped_csv};
 use droid_frame::{WriteState, write_all};
 use droid_tree_disk::{Output, OutputFault};
 use std::fs::{File, Files};

@@ -3,18 +3,10 @@
 ghost use Rattle.std.specs.Prelude.{◌≡◌, ◌++◌, [], ◌∷◌, true, OnOk};
 ghost use Rattle.droid_desk_folders.specs.SkippedEntries.{Records};
 
+use droid_desk_outputs::SkippedEntry;
 use droid_frame::{Blob, Reply};
 use droid_tree::{Skipped, Watcher};
 use std::alloc::{AllocError, Global};
-
-/// An entry that was skipped.
-#[derive(Drop)]
-pub struct SkippedEntry {
-    /// The path. It may be invalid UTF-8.
-    pub path: Blob,
-    /// Why it was skipped.
-    pub why: Skipped,
-}
 
 /// A watcher that hands everything to another one, and keeps each skipped entry.
 #[derive(Drop)]

@@ -3,7 +3,7 @@
 ghost use Rattle.std.specs.Prelude.{◌≡◌, ◌||◌, ◌<◌, ℕ, List, IfOk, OnOk, bytes_eq, length};
 ghost use Rattle.droid_desk_folders.specs.SkippedEntries.{has_path, holds_above, holds_front, is_held};
 
-use crate::recorder::SkippedEntry;
+use droid_desk_outputs::SkippedEntry;
 use std::alloc::{AllocError, Global};
 use std::collections::BTreeMap;
 

@@ -3,15 +3,14 @@
 use crate::begun_options::begun_of;
 use crate::checked_submission::{CommandFault, submit_and_check};
 use crate::difference_line::DifferenceLine;
-use crate::folder_profile::verbosity_of;
 use crate::loopback::Loopback;
 use crate::output_files::{see_outputs, write_export, write_skipped};
-use crate::places::absolute_path;
 use crate::profile_comparison::{Compared, ComparisonFault};
 use crate::recorder::Recorder;
 use crate::submission_ending::SubmissionEnding;
 use crate::submit_settings::{connection_of, sender_of, submission_name, walk_options};
 use droid_desk_arguments::SubmitOptions;
+use droid_desk_outputs::absolute_path;
 use droid_desk_progress::{Reporter, Verbosity};
 use droid_frame::{Noted, Refusal};
 use droid_tree::NODE_LIMIT;
@@ -51,7 +50,7 @@ where
     if let Err(ending) = see_outputs(rt, options, absolute) {
         return ending;
     }
-    let verbosity = verbosity_of(options.quiet, on_terminal);
+    let verbosity = Verbosity::of(options.quiet, on_terminal);
     match upload_of(rt, options, absolute, verbosity) {
         Ok(upload) => submit_by(rt, upload, options),
         Err(_) => SubmissionEnding::NoMemory,

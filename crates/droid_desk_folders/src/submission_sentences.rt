@@ -2,11 +2,12 @@
 
 use crate::begun_options::BegunOptions;
 use crate::check_fault::CheckFault;
-use crate::folder_advice::{NO_MEMORY, print_no_folder, print_no_output, walk_advice};
 use crate::submission_ending::{OutputFile, SubmissionEnding};
 use droid_desk_arguments::SubmitOptions;
+use droid_desk_outputs::{NO_MEMORY, print_no_folder, print_no_output};
 use droid_desk_progress::Shown;
 use droid_frame::{Limit, Refusal};
+use droid_tree::WalkFault;
 use droid_tree_disk::OutputFault;
 use droid_tree_remote::{RemoteFault, SubmissionFault, TransferFault};
 use std::fs::Files;
@@ -86,6 +87,20 @@ fn path_of(options: SubmitOptions<'_>, file: OutputFile) -> &str {
 
 fn print_folder<R: Eprint>(rt: &R, folder: &str, sentence: &str) -> io::Result<()> {
     eprintln!(rt; "{}: {sentence}", Shown(folder.as_bytes()))
+}
+
+/// Says why the folder could not be counted.
+fn walk_advice(fault: WalkFault) -> &'static str {
+    match fault {
+        WalkFault::Memory => NO_MEMORY,
+        WalkFault::Exchange | WalkFault::Reply | WalkFault::TooLong => {
+            "this is a mistake in droid_desk"
+        }
+        WalkFault::Folders => "new folders appeared while it was read: run it again",
+        WalkFault::Entries => "too large: take its subfolders one by one",
+        WalkFault::Bytes =>
+            "its files are too long together to be counted: take its subfolders one by one",
+    }
 }
 
 /// Says why a port could not be connected to.

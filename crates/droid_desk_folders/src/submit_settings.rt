@@ -2,11 +2,9 @@
 
 ghost use Rattle.std.specs.Prelude.{◌≡◌, IfOk, option_map};
 ghost use Rattle.droid_tree_remote.specs.SenderCalls.{IsFresh};
-ghost use Rattle.droid_desk_folders.specs.Places.{name_of};
-ghost use Rattle.droid_desk_folders.specs.SubmitSettings.{connection_of, walk_options};
+ghost use Rattle.droid_desk_folders.specs.SubmitSettings.{connection_of, name_of, walk_options};
 
 use crate::loopback::LoopbackSettings;
-use crate::places::name_of;
 use droid_desk_arguments::{Destination, SubmitOptions};
 use droid_desk_progress::Verbosity;
 use droid_frame::Text;
@@ -46,6 +44,16 @@ pub(crate) fn submission_name(
     ensures { IfOk result (λ name. name ≡ name_of (option_map (λ text. text.now) options.entry.name) absolute.now) }
 {
     Text::copy_of(alloc, name_of(options.name, absolute))
+}
+
+/// Returns the name of a submission: the one that was given, or else the folder's absolute path.
+fn name_of<'a>(name: Option<&'a str>, absolute: &'a str) -> &'a str
+    ensures { result.now ≡ name_of (option_map (λ text. text.now) name.entry) absolute.entry.now }
+{
+    match name {
+        Some(name) => name,
+        None => absolute,
+    }
 }
 
 /// Makes the client of a submission of this name.

@@ -56,6 +56,7 @@ fn node_kind(kind: EntryKind) -> NodeKind
     match kind {
         EntryKind::Folder => NodeKind::Folder,
         EntryKind::File => NodeKind::File,
+        EntryKind::Link => NodeKind::File,
         EntryKind::Other => NodeKind::File,
     }
 }

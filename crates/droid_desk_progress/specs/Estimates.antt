@@ -4,6 +4,7 @@ use Rattle.droid_tree.specs.declared.tree_size.Counted.{Counted}
 use Rattle.droid_desk_progress.specs.Units.{saturated, rate_of, unit_bytes, unit_name, span_text, speed_text}
 use Rattle.droid_desk_progress.specs.declared.estimate.Amount.{Amount}
 use Rattle.droid_desk_progress.specs.declared.estimate.Estimate.{Estimate}
+use Rattle.droid_desk_progress.specs.declared.estimate.Progress.{Progress}
 
 -- the whole amount of a tree that was counted; skipped entries are entries too
 abbrev pub amount_of : Counted → Amount
@@ -31,3 +32,17 @@ estimate_text p =
     decimal p.done.entries ++ (codes " of " ++ (decimal p.all.entries ++ (codes " entries, "
     ++ (decimal (p.done.bytes / unit_bytes p.all.bytes) ++ (codes " of " ++ (decimal (p.all.bytes / unit_bytes p.all.bytes) ++ (codes " " ++ (unit_name p.all.bytes ++ (codes ", "
     ++ (speed_text (rate_of p.done.bytes p.milliseconds) ++ left_text (time_left p)))))))))))
+
+-- entries done, bytes done in their unit, and bytes per second
+unfoldable pub so_far_text : Amount → ℕ → List ℕ
+so_far_text done milliseconds =
+    decimal done.entries ++ (codes " entries, " ++ (decimal (done.bytes / unit_bytes done.bytes) ++ (codes " " ++ (unit_name done.bytes ++ (codes ", "
+    ++ speed_text (rate_of done.bytes milliseconds))))))
+
+-- by whether it is known how much there is
+abbrev pub text_by : Option Amount → Amount → ℕ → List ℕ
+text_by (Some all) done milliseconds = estimate_text (record { all = all; done = done; milliseconds = milliseconds })
+text_by None done milliseconds = so_far_text done milliseconds
+
+abbrev pub progress_text : Progress → List ℕ
+progress_text progress = text_by progress.all progress.done progress.milliseconds

@@ -4,13 +4,13 @@ use Rattle.droid_desk_progress.specs.Cuts.{columns_of, IsFront, IsEnd}
 use Rattle.droid_desk_progress.specs.declared.verbosity.Verbosity.{Verbosity}
 use Rattle.droid_desk_progress.specs.declared.verbosity.Verbosity.TheVariants.{Terminal}
 
--- the estimate and the end of the path; the estimate alone if the end is empty or if both do not fit
+-- how far the walk is and the end of the path; the first alone if the end is empty or if both do not fit
 unfoldable pub joined_text : ℕ → List ℕ → List ℕ → List ℕ
 joined_text columns far end =
     if length end == 0 then far
     else (if nat_le (columns_of (far ++ (codes ": " ++ end))) columns then far ++ (codes ": " ++ end) else far)
 
--- the beginning of the estimate, and the longest end of the printed path that fits behind it
+-- the beginning of the text that says how far the walk is, and the longest end of the printed path that fits behind it
 pub record IsLine (columns : ℕ) (estimate path line : List ℕ) : Type 0 where
   pub far : List ℕ
   pub end : List ℕ

@@ -38,6 +38,7 @@ abbrev pub skipped_text : List ℕ → List ℕ → List ℕ
 skipped_text path cause = codes "left out: " ++ (path ++ (codes ": " ++ (cause ++ 10 ∷ [])))
 
 unfoldable pub cause_text : Skipped → List ℕ
+cause_text reasons.Link = codes "it is a symbolic link, which is no part of a profile"
 cause_text reasons.Kind = codes "neither a folder nor a regular file, or it can't be looked at"
 cause_text reasons.Name = codes "its name is no UTF-8"
 cause_text reasons.SameName = codes "same name: its folder lists the name twice"

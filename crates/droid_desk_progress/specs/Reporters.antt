@@ -1,5 +1,5 @@
 -- What a reporter does with what it learns (this project's own).
-use Rattle.std.specs.Prelude.{◌≡◌, ℕ}
+use Rattle.std.specs.Prelude.{◌≡◌, ℕ, Some}
 use Rattle.droid_tree.specs.Heard.{Heard}
 use Rattle.droid_tree.specs.declared.tree_size.Counted.{Counted}
 use Rattle.droid_desk_progress.specs.Estimates.{amount_of}
@@ -13,4 +13,4 @@ ReporterHears old heard new = Hears old.totals heard new.totals × IsReported ol
 
 -- it knows how much there is, and counts on from what it has counted
 abbrev pub ReporterExpects : {R : Type 0} → Reporter R → Counted → Reporter R → Type 0
-ReporterExpects old counted new = (new.all ≡ amount_of counted) × (new.totals ≡ old.totals)
+ReporterExpects old counted new = (new.all ≡ Some (amount_of counted)) × (new.totals ≡ old.totals)

@@ -1,7 +1,13 @@
 -- When a line of progress is printed (this project's own).
-use Rattle.std.specs.Prelude.{◌≡◌, ◌⊎◌, ℕ, ◌+◌, ◌-◌, ◌≤◌, Bool, true, false, ◌&&◌, List, [], ◌∷◌, nat_lt, nat_le, count_by, if◌then◌else◌}
+use Rattle.std.specs.Prelude.{◌≡◌, ◌⊎◌, ℕ, ◌+◌, ◌-◌, ◌*◌, ◌==◌, ◌≤◌, min, Bool, true, false, ◌&&◌, List, [], ◌∷◌, nat_lt, nat_le, count_by, if◌then◌else◌}
 use Rattle.droid_desk_progress.specs.declared.verbosity.Verbosity.{Verbosity}
 use Rattle.droid_desk_progress.specs.declared.verbosity.Verbosity.TheVariants.{Quiet, Lines, Terminal}
+
+-- how much is printed, by whether that is asked to be nothing, and whether standard error is a terminal
+abbrev pub verbosity_of : Bool → Bool → Verbosity
+verbosity_of true on_terminal = Quiet
+verbosity_of false true = Terminal
+verbosity_of false false = Lines
 
 -- a line is due at `now`, if the last one was printed at `reported`: on a terminal after a tenth of a second, elsewhere
 -- after ten seconds
@@ -26,3 +32,8 @@ TenLinesASecond = (verbosity : Verbosity) (reported from : ℕ) (moments : List 
 -- no line was printed, or one was due
 abbrev pub IsReported : Verbosity → ℕ → Verbosity → ℕ → Type 0
 IsReported verbosity reported verbosity_after reported_after = (verbosity_after ≡ verbosity) × ((reported_after ≡ reported) ⊎ (is_due verbosity reported reported_after ≡ true))
+
+-- How many calls of the reporter pass until it reads the clock again: none, or where the clock shows what it showed
+-- before, twice as many as the last time and one, up to 15.
+abbrev pub calls_after : ℕ → ℕ → ℕ → ℕ
+calls_after calls looked now = if now == looked then min (calls * 2 + 1) 15 else 0

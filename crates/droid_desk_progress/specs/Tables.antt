@@ -16,6 +16,10 @@ unfoldable pub formats_text : Option (List FormatCount) → List ℕ
 formats_text None = codes "formats: there was no memory to count them" ++ 10 ∷ []
 formats_text (Some reported) = flat_map format_line reported
 
+-- how many of the skipped entries are symbolic links, unless none is
+abbrev pub links_text : ℕ → List ℕ
+links_text links = if links == 0 then [] else count_line (codes "of these symbolic links, which are no part of a profile") links
+
 -- the bytes that the service already held, unless they are 0
 abbrev pub held_text : ℕ → List ℕ
 held_text held = if held == 0 then [] else count_line (codes "bytes that were there") held

@@ -1,11 +1,13 @@
 -- How a walk is counted (this project's own).
-use Rattle.std.specs.Prelude.{◌≡◌, ℕ, ◌+◌, Bool, true, List, [], String, count_by, unwrap_or, bytes_eq, ◌==◌, if◌then◌else◌}
+use Rattle.std.specs.Prelude.{◌≡◌, ℕ, ◌+◌, Bool, true, false, List, [], String, count_by, unwrap_or, bytes_eq, ◌==◌, if◌then◌else◌}
 use Rattle.std.specs.BTreeMap.{BTreeMap, get_by_text}
 use Rattle.droid_frame.specs.types.method.Method.{Method}
 use Rattle.droid_frame.specs.types.method.Method.TheVariants.{Unidentified, Signature, Extension}
 use Rattle.droid_frame.specs.types.reply.Reply.{Reply}
 use Rattle.droid_frame.specs.types.reply.Reply.TheVariants as replies
 use Rattle.droid_tree.specs.Heard.{Heard, Left, Held, TookBytes, TookFolder, TookFile}
+use Rattle.droid_tree.specs.declared.skipped.Skipped.{Skipped}
+use Rattle.droid_tree.specs.declared.skipped.Skipped.TheVariants as reasons
 use Rattle.droid_desk_progress.specs.Units.{saturated}
 use Rattle.droid_desk_progress.specs.declared.estimate.Amount.{Amount}
 use Rattle.droid_desk_progress.specs.declared.counts.Counts.{Counts}
@@ -14,12 +16,16 @@ use Rattle.droid_desk_progress.specs.declared.totals.Totals.{Totals}
 abbrev pub next : ℕ → ℕ
 next n = saturated (n + 1)
 
--- one more folder or file in the profile, one more skipped entry, more bytes read
+abbrev pub is_link : Skipped → Bool
+is_link reasons.Link = true
+is_link _ = false
+
+-- one more folder or file in the profile, one more skipped entry, which may be a symbolic link, more bytes read
 abbrev pub after_taken : Counts → Counts
 after_taken counts = record counts { taken = next counts.taken }
 
-abbrev pub after_skipped : Counts → Counts
-after_skipped counts = record counts { skipped = next counts.skipped }
+abbrev pub after_skipped : Skipped → Counts → Counts
+after_skipped why counts = record counts { skipped = next counts.skipped; links = (if is_link why then next counts.links else counts.links) }
 
 abbrev pub after_bytes : ℕ → Counts → Counts
 after_bytes n counts = record counts { bytes = saturated (counts.bytes + n) }
@@ -45,7 +51,7 @@ after_found other counts = counts
 
 -- the watcher was informed of this
 abbrev pub after_heard : Heard → Counts → Counts
-after_heard (Left path why) counts = after_skipped counts
+after_heard (Left path why) counts = after_skipped why counts
 after_heard (Held path count) counts = after_held count counts
 after_heard (TookBytes path count) counts = after_bytes count counts
 after_heard (TookFolder path) counts = after_taken counts

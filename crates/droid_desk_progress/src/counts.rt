@@ -1,18 +1,21 @@
 //! Counts what a walk did.
 
 ghost use Rattle.std.specs.Prelude.{◌≡◌};
-ghost use Rattle.droid_desk_progress.specs.WalkCounts.{after_bytes, after_found, after_held, after_skipped, after_method, after_mismatch, after_taken, done_in};
+ghost use Rattle.droid_desk_progress.specs.WalkCounts.{after_bytes, after_found, after_held, after_skipped, after_method, after_mismatch, after_taken, done_in, is_link};
 
 use crate::estimate::Amount;
 use droid_frame::{Method, Reply};
+use droid_tree::Skipped;
 
 /// The counts of a walk.
 #[derive(Clone, Copy)]
 pub(crate) struct Counts {
     /// Folders and files in the profile.
     pub taken: u64,
-    /// Skipped entries.
+    /// Skipped entries, with symbolic links.
     pub skipped: u64,
+    /// Symbolic links.
+    pub links: u64,
     /// Bytes read from files.
     pub bytes: u64,
     /// Bytes not read, since the service already held them.
@@ -30,11 +33,12 @@ pub(crate) struct Counts {
 impl Counts {
     /// Starts with zeros.
     pub fn none() -> Counts
-        ensures { result ≡ record { taken = 0; skipped = 0; bytes = 0; held = 0; by_signature = 0; by_extension = 0; unidentified = 0; mismatches = 0 } }
+        ensures { result ≡ record { taken = 0; skipped = 0; links = 0; bytes = 0; held = 0; by_signature = 0; by_extension = 0; unidentified = 0; mismatches = 0 } }
     {
         Counts {
             taken: 0,
             skipped: 0,
+            links: 0,
             bytes: 0,
             held: 0,
             by_signature: 0,
@@ -61,11 +65,14 @@ impl Counts {
         self.taken = self.taken.saturating_add(1);
     }
 
-    /// Counts a skipped entry.
-    pub fn count_skipped(&mut self)
-        ensures { self.new ≡ after_skipped self.old }
+    /// Counts an entry that was skipped for this reason.
+    pub fn count_skipped(&mut self, why: Skipped)
+        ensures { self.new ≡ after_skipped why self.old }
     {
         self.skipped = self.skipped.saturating_add(1);
+        if is_link(why) {
+            self.links = self.links.saturating_add(1);
+        }
     }
 
     /// Counts bytes that were read.
@@ -113,5 +120,21 @@ impl Counts {
         if mismatch {
             self.mismatches = self.mismatches.saturating_add(1);
         }
+    }
+}
+
+/// Returns whether an entry was skipped because it is a symbolic link.
+fn is_link(why: Skipped) -> bool
+    ensures { result ≡ is_link why }
+{
+    match why {
+        Skipped::Link => true,
+        Skipped::Kind
+        | Skipped::Name
+        | Skipped::SameName
+        | Skipped::Refused(_)
+        | Skipped::Unreadable
+        | Skipped::Changed
+        | Skipped::OtherHash => false,
     }
 }

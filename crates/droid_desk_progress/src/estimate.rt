@@ -1,7 +1,7 @@
-//! Estimates how far a walk is and how long it still takes.
+//! Says how far a walk is and, if it is known how much there is, estimates how long it still takes.
 
 ghost use Rattle.std.specs.Prelude.{◌≡◌, [], Some};
-ghost use Rattle.droid_desk_progress.specs.Estimates.{amount_of, left_text, estimate_text, time_left, work_in};
+ghost use Rattle.droid_desk_progress.specs.Estimates.{amount_of, left_text, estimate_text, progress_text, so_far_text, time_left, work_in};
 
 use crate::measures::{Span, Speed, rate, unit_for};
 use droid_tree::Counted;
@@ -52,6 +52,65 @@ impl Amount {
 }
 
 /// How far a walk is after some time.
+#[derive(Clone, Copy)]
+pub(crate) struct Progress {
+    /// The whole amount, if it is known.
+    pub all: Option<Amount>,
+    /// The amount that is done.
+    pub done: Amount,
+    /// How many milliseconds it has taken so far.
+    pub milliseconds: u64,
+}
+
+impl Display for Progress {
+    ghost output = { λ progress. Some (progress_text progress) };
+
+    fn fmt<W: Write>(&self, f: &mut Formatter<W>) -> fmt::Result {
+        let Progress {
+            all,
+            done,
+            milliseconds,
+        } = *self;
+        match all {
+            Some(all) => write!(
+                f,
+                "{}",
+                Estimate {
+                    all,
+                    done,
+                    milliseconds
+                }
+            ),
+            None => write!(f, "{}", SoFar { done, milliseconds }),
+        }
+    }
+}
+
+/// How far a walk is of which it is not known how much there is.
+#[derive(Clone, Copy)]
+struct SoFar {
+    done: Amount,
+    milliseconds: u64,
+}
+
+impl Display for SoFar {
+    ghost output = { λ far. Some (so_far_text far.done far.milliseconds) };
+
+    #[tactic(auto, unfolding(crate::specs::Estimates::so_far_text))]
+    fn fmt<W: Write>(&self, f: &mut Formatter<W>) -> fmt::Result {
+        let Amount { entries, bytes } = self.done;
+        let unit = unit_for(bytes);
+        write!(
+            f,
+            "{entries} entries, {} {}, {}",
+            bytes / unit.bytes,
+            unit.name,
+            Speed(rate(bytes, self.milliseconds))
+        )
+    }
+}
+
+/// How far a walk of a known amount is after some time.
 #[derive(Clone, Copy)]
 pub(crate) struct Estimate {
     /// The whole amount.

@@ -2,12 +2,12 @@
 
 ghost use Rattle.std.specs.Prelude.{◌≡◌, ◌≤◌, IfOk, Some};
 ghost use Rattle.droid_desk_progress.specs.Cuts.{columns_of};
-ghost use Rattle.droid_desk_progress.specs.Estimates.{estimate_text};
+ghost use Rattle.droid_desk_progress.specs.Estimates.{progress_text};
 ghost use Rattle.droid_desk_progress.specs.Lines.{columns_for, framed_text, joined_text, IsLine};
 ghost use Rattle.droid_desk_progress.specs.Paths.{shown_text};
 
 use crate::columns::{end_within, front_within};
-use crate::estimate::Estimate;
+use crate::estimate::Progress;
 use crate::path_text::Shown;
 use crate::verbosity::Verbosity;
 use droid_frame::Text;
@@ -15,7 +15,7 @@ use std::alloc::{AllocError, Global};
 use std::fmt::{self, Display, Formatter, Write};
 use unicode_width::UnicodeWidthStr;
 
-/// How many columns stand between the estimate and the path.
+/// How many columns stand between how far the walk is and the path.
 const BETWEEN: usize = 2;
 
 /// How wide a line of progress is at most, in columns.
@@ -24,17 +24,17 @@ const LINE_COLUMNS: usize = 160;
 /// How wide it is at most on a terminal: one column less than 80. A narrower terminal is told to cut the line.
 const TERMINAL_COLUMNS: usize = 79;
 
-/// Returns the estimate and the end of the path, within these columns.
+/// Returns how far the walk is and the end of the path, within these columns.
 pub(crate) fn line_of(
     alloc: Global,
-    estimate: Estimate,
+    progress: Progress,
     path: &str,
     columns: usize,
 ) -> Result<Text, AllocError>
     ensures width { IfOk result (λ line. columns_of line ≤ columns) }
-    ensures line { IfOk result (λ line. IsLine columns (estimate_text estimate) (shown_text path.now) line) }
+    ensures line { IfOk result (λ line. IsLine columns (progress_text progress) (shown_text path.now) line) }
 {
-    let far = format!(in alloc; "{estimate}")?;
+    let far = format!(in alloc; "{progress}")?;
     let far = front_within(far.as_str(), columns);
     let shown = format!(in alloc; "{}", Shown(path.as_bytes()))?;
     let room = columns.saturating_sub(far.width()).saturating_sub(BETWEEN);
@@ -43,7 +43,7 @@ pub(crate) fn line_of(
     Ok(line)
 }
 
-/// Joins the estimate and the end of the path. Returns the estimate alone if the end is empty or if both do not fit the
+/// Joins how far the walk is and the end of the path. Returns the first alone if the end is empty or if both do not fit the
 /// columns.
 #[tactic(auto, unfolding(crate::specs::Lines::joined_text))]
 fn joined(alloc: Global, far: &str, end: &str, columns: usize) -> Result<Text, AllocError>

@@ -69,6 +69,7 @@ pub fn cause(why: Skipped) -> &'static str
     ensures { result.now ≡ cause_text why }
 {
     match why {
+        Skipped::Link => "it is a symbolic link, which is no part of a profile",
         Skipped::Kind => "neither a folder nor a regular file, or it can't be looked at",
         Skipped::Name => "its name is no UTF-8",
         Skipped::SameName => "same name: its folder lists the name twice",

@@ -1,17 +1,17 @@
 //! Prints on standard error what a walk does.
 
-ghost use Rattle.std.specs.Prelude.{◌≡◌, ◌⊎◌, true};
+ghost use Rattle.std.specs.Prelude.{◌≡◌, Some};
 ghost use Rattle.droid_desk_progress.specs.Estimates.{amount_of};
-ghost use Rattle.droid_desk_progress.specs.Rhythms.{is_due, IsReported};
+ghost use Rattle.droid_desk_progress.specs.Rhythms.{IsReported, calls_after};
 ghost use Rattle.droid_desk_progress.specs.Reporters.{ReporterHears};
 
-use crate::estimate::{Amount, Estimate};
+use crate::estimate::{Amount, Progress};
 use crate::format_counts::most_frequent;
 use crate::line::{Framed, columns_for, line_of};
 use crate::path_text::SkippedLine;
-use crate::table::{CountLine, Table, Took};
+use crate::table::{CountLine, Links, Table, Took};
 use crate::totals::Totals;
-use crate::verbosity::{Verbosity, is_due};
+use crate::verbosity::{Verbosity, calls_after, is_due};
 use droid_frame::Reply;
 use droid_tree::{Counted, Skipped, Watcher};
 use std::alloc::Global;
@@ -23,10 +23,13 @@ pub struct Reporter<'a, R> {
     runtime: &'a R,
     alloc: Global,
     verbosity: Verbosity,
-    all: Amount,
+    all: Option<Amount>,
     totals: Totals,
     begun: Option<Instant>,
     reported: u64,
+    looked: u64,
+    calls: u32,
+    unseen: u32,
 }
 
 impl<'a, R: Eprint + Clock> Reporter<'a, R> {
@@ -36,22 +39,25 @@ impl<'a, R: Eprint + Clock> Reporter<'a, R> {
             runtime,
             alloc,
             verbosity,
-            all: Amount::none(),
+            all: None,
             totals: Totals::new(alloc),
             begun: Instant::now(runtime).ok(),
             reported: 0,
+            looked: 0,
+            calls: 0,
+            unseen: 0,
         }
     }
 
     /// Sets the size of the tree.
     pub fn expect(&mut self, counted: Counted)
-        ensures all { self.new.all ≡ amount_of counted }
+        ensures all { self.new.all ≡ Some (amount_of counted) }
         ensures totals { self.new.totals ≡ self.old.totals }
     {
-        self.all = Amount::of(counted);
+        self.all = Some(Amount::of(counted));
     }
 
-    /// Prints a line of progress if one is due.
+    /// Prints a line of progress if one is due. While calls come fast, most of them don't read the clock.
     fn print_progress(&mut self, path: &str)
         ensures totals { self.new.totals ≡ self.old.totals }
         ensures reported { IsReported self.old.verbosity self.old.reported self.new.verbosity self.new.reported }
@@ -59,13 +65,29 @@ impl<'a, R: Eprint + Clock> Reporter<'a, R> {
         if self.verbosity == Verbosity::Quiet {
             return;
         }
+        if self.unseen > 0 {
+            self.unseen -= 1;
+            return;
+        }
         let Some(now) = self.milliseconds() else {
             return;
         };
+        self.see(now);
         if is_due(self.verbosity, self.reported, now) {
             self.reported = now;
             self.print_line(path, now);
         }
+    }
+
+    /// Notes that the clock was read at this millisecond, and how many calls may pass until it is read again.
+    fn see(&mut self, now: u64)
+        ensures totals { self.new.totals ≡ self.old.totals }
+        ensures reported { (self.new.verbosity ≡ self.old.verbosity) × (self.new.reported ≡ self.old.reported) }
+        ensures calls { self.new.unseen ≡ calls_after self.old.calls self.old.looked now }
+    {
+        self.calls = calls_after(self.calls, self.looked, now);
+        self.unseen = self.calls;
+        self.looked = now;
     }
 
     /// Returns the milliseconds since the walk began.
@@ -77,13 +99,13 @@ impl<'a, R: Eprint + Clock> Reporter<'a, R> {
 
     /// Prints a line of progress. If there is no memory for it, prints nothing.
     fn print_line(&self, path: &str, milliseconds: u64) {
-        let estimate = Estimate {
+        let progress = Progress {
             all: self.all,
             done: self.totals.counts.done(),
             milliseconds,
         };
         let verbosity = self.verbosity;
-        let Ok(line) = line_of(self.alloc, estimate, path, columns_for(verbosity)) else {
+        let Ok(line) = line_of(self.alloc, progress, path, columns_for(verbosity)) else {
             return;
         };
         let line = line.as_str();
@@ -107,7 +129,8 @@ impl<'a, R: Eprint + Clock> Reporter<'a, R> {
         if self.verbosity == Verbosity::Quiet && skipped.count == 0 {
             return;
         }
-        let _ = eprint!(self.runtime; "{skipped}");
+        let links = Links(self.totals.counts.links);
+        let _ = eprint!(self.runtime; "{skipped}{links}");
         if self.verbosity != Verbosity::Quiet {
             self.print_table();
         }
@@ -134,7 +157,7 @@ impl<R: Eprint + Clock> Watcher for Reporter<'_, R> {
     ghost hears = { λ old heard new. ReporterHears old heard new };
 
     fn skipped(&mut self, path: &[u8], why: Skipped) {
-        self.totals.counts.count_skipped();
+        self.totals.counts.count_skipped(why);
         self.clear();
         let _ = eprint!(self.runtime; "{}", SkippedLine { path, why });
     }

@@ -2,7 +2,7 @@
 
 ghost use Rattle.std.specs.Prelude.{Some, option_map, flat_map};
 ghost use Rattle.std.specs.Fmt.{WritesOnOk};
-ghost use Rattle.droid_desk_progress.specs.Tables.{count_line, format_line, formats_text, held_text, seconds_text, table_text};
+ghost use Rattle.droid_desk_progress.specs.Tables.{count_line, format_line, formats_text, held_text, links_text, seconds_text, table_text};
 
 use crate::counts::Counts;
 use crate::format_counts::FormatCount;
@@ -109,6 +109,25 @@ impl Display for FormatCount {
             count: self.count,
         };
         write!(f, "format {line}")
+    }
+}
+
+/// How many of the skipped entries are symbolic links. Prints nothing for 0.
+#[derive(Clone, Copy)]
+pub(crate) struct Links(pub u64);
+
+impl Display for Links {
+    ghost output = { λ links. Some (links_text links.0) };
+
+    fn fmt<W: Write>(&self, f: &mut Formatter<W>) -> fmt::Result {
+        if self.0 == 0 {
+            return Ok(());
+        }
+        let line = CountLine {
+            name: "of these symbolic links, which are no part of a profile",
+            count: self.0,
+        };
+        write!(f, "{line}")
     }
 }
 

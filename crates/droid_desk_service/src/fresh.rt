@@ -39,7 +39,8 @@ pub fn fresh_service<F: SteadyRead>(
     }
 }
 
-fn service_with(alloc: Global, registry: Registry) -> Result<Service, Ending>
+/// Makes an empty service that identifies files by this registry and has the program's limits.
+pub(crate) fn service_with(alloc: Global, registry: Registry) -> Result<Service, Ending>
     ensures made { IfOk result (IsMadeWith registry) }
     ensures not_made { IfErr result IsNoService }
     ensures registry_read { (fault : _) → IsErrOf result (Ending.Registry fault) → ⊥ }

@@ -1,5 +1,5 @@
 //! The commands of a service: `script` over lines, `run` over frames of standard input, `serve` over connections to a
-//! port, and `send`, a client of one. Also makes the service that `profile` uses.
+//! port, and `send`, a client of one. Also reads the registry that `profile` uses.
 #![tactic(auto)]
 
 mod advice;
@@ -18,4 +18,4 @@ mod stream;
 pub use commands::{run_command, script_command, send_command, serve_command};
 pub use ended::Ended;
 pub use ending::Ending;
-pub use registry::service_for;
+pub use registry::registry_for;

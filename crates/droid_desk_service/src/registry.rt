@@ -1,48 +1,60 @@
 //! The registry that a command uses: the sample, the built-in one, or a file.
 
 use crate::ended::Ended;
-use crate::fresh::fresh_service;
+use crate::ending::Ending;
+use crate::fresh::service_with;
 use crate::sample::sample_registry;
 use droid_core::Service;
 use droid_desk_arguments::RegistrySource;
 use droid_frame::Noted;
+use droid_pronom::Registry;
 use droid_pronom_common::common_registry;
 use std::fs::{self, Files, OpenFile};
 use std::io::ErrorKind;
 
-/// Makes an empty service that identifies files by this registry. A registry file without formats is noted on standard
-/// error.
-pub fn service_for<'a, R: Files + Eprint + AllocGlobal>(
+/// Makes an empty service that identifies files by this registry.
+pub(crate) fn service_for<'a, R: Files + Eprint + AllocGlobal>(
     rt: &R,
     source: RegistrySource<'a>,
 ) -> Result<Service, Ended<'a>> {
-    let made = match source {
-        RegistrySource::Sample => fresh_service(rt.alloc(), &mut sample_registry(), &mut None),
-        RegistrySource::Everyday => fresh_service(rt.alloc(), &mut common_registry(), &mut None),
-        RegistrySource::File(path) => return service_by_file(rt, path),
-    };
-    match made {
+    let registry = registry_for(rt, source)?;
+    match service_with(rt.alloc(), registry) {
         Ok(service) => Ok(service),
         Err(ending) => Err(Ended::over(ending, source)),
     }
 }
 
-fn service_by_file<'a, R: Files + Eprint + AllocGlobal>(
+/// Reads this registry. A registry file without formats is noted on standard error.
+pub fn registry_for<'a, R: Files + Eprint + AllocGlobal>(
+    rt: &R,
+    source: RegistrySource<'a>,
+) -> Result<Registry, Ended<'a>> {
+    let read = match source {
+        RegistrySource::Sample => Registry::read(rt.alloc(), &mut sample_registry()),
+        RegistrySource::Everyday => Registry::read(rt.alloc(), &mut common_registry()),
+        RegistrySource::File(path) => return registry_by_file(rt, path),
+    };
+    match read {
+        Ok(registry) => Ok(registry),
+        Err(fault) => Err(Ended::over(Ending::Registry(fault), source)),
+    }
+}
+
+fn registry_by_file<'a, R: Files + Eprint + AllocGlobal>(
     rt: &R,
     path: &'a str,
-) -> Result<Service, Ended<'a>> {
+) -> Result<Registry, Ended<'a>> {
     let source = RegistrySource::File(path);
     let file = match open_registry(rt, path) {
         Ok(file) => file,
         Err(cause) => return Err(Ended::unopened(source, cause)),
     };
-    let mut formats = None;
-    match fresh_service(rt.alloc(), &mut Noted::new(file), &mut formats) {
-        Ok(service) => {
-            note_formats(rt, path, formats);
-            Ok(service)
+    match Registry::read(rt.alloc(), &mut Noted::new(file)) {
+        Ok(registry) => {
+            note_formats(rt, path, Some(registry.len()));
+            Ok(registry)
         }
-        Err(ending) => Err(Ended::over(ending, source)),
+        Err(fault) => Err(Ended::over(Ending::Registry(fault), source)),
     }
 }
 

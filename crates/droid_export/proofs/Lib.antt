@@ -2,9 +2,11 @@ pub mod CivilDays
 pub mod CsvText
 pub mod Escapes
 pub mod Examples
+pub mod Records
 pub mod TextConcatenation
 pub mod IndexContents
 pub mod FlagMarks
 pub mod ListPlaces
+pub mod Lines
 pub mod CsvRoundTrip
 pub mod WriterStops

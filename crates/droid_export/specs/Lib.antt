@@ -1,4 +1,5 @@
 pub mod Civil
+pub mod Columns
 pub mod Csv
 pub mod ExportOutcome
 pub mod Filters

@@ -14,6 +14,10 @@ use Rattle.droid_export.specs.Rows.{Row, fields, header, rows}
 abbrev pub row_text : Row → List ℕ
 row_text row = line (fields row)
 
+-- the text of the rows of one record
+abbrev pub record_text : Contents → Record → List ℕ
+record_text registry node = flat_map row_text (rows registry node)
+
 -- the rows of each record that meets the filter
 abbrev pub chosen_rows : Contents → Filter → List Record → List Row
 chosen_rows registry criteria records = flat_map (rows registry) (filter (meets criteria) records)

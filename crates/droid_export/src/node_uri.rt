@@ -1,6 +1,6 @@
 //! Writes the URI of a node.
 
-ghost use Rattle.std.specs.Prelude.{◌≡◌, IfOk};
+ghost use Rattle.std.specs.Prelude.{◌≡◌, ◌++◌, IfOk, OnOk, string_bytes};
 ghost use Rattle.droid_export.specs.Uris as uris;
 
 use droid_frame::{NodeKind, Text};
@@ -27,10 +27,18 @@ pub fn uri(alloc: Global, path: &str, kind: NodeKind) -> Result<Text, AllocError
 {
     let room = path.len().saturating_mul(3).saturating_add(6);
     let mut text = String::with_capacity(alloc, room)?;
-    text.push_str("file:")?;
-    percent_encode(path.as_bytes(), ESCAPED).append_to(&mut text)?;
-    text.push_str(uri_end(kind))?;
+    add_uri(&mut text, path, kind)?;
     Ok(Text::from(text))
+}
+
+/// Appends the URI that [`uri`] returns.
+pub(crate) fn add_uri(text: &mut String, path: &str, kind: NodeKind) -> Result<(), AllocError>
+    ensures { OnOk result (string_bytes text.new ≡ string_bytes text.old ++ uris.uri path.now kind) }
+{
+    text.push_str("file:")?;
+    percent_encode(path.as_bytes(), ESCAPED).append_to(text)?;
+    text.push_str(uri_end(kind))?;
+    Ok(())
 }
 
 /// Returns the end of the URI of a node of this kind.

@@ -1,29 +1,31 @@
-//! Writes the header and the rows of a record.
+//! Appends the header and the rows of a record to a buffer.
 
-ghost use Rattle.std.specs.Prelude.{◌≡◌, ◌++◌, ℕ, List, OnOk, codes, map};
+ghost use Rattle.std.specs.Prelude.{◌≡◌, ◌++◌, OnOk, codes, map};
 ghost use Rattle.std.specs.List.{flat_map};
 ghost use Rattle.std.specs.Option.{option_copied};
 ghost use Rattle.droid_export.specs.Filters.{found_by, mismatch};
 ghost use Rattle.droid_export.specs.Moments.{IsMoment};
 ghost use Rattle.droid_export.specs.Rows.{header, of_format, row, rows, shown, shown_by};
 ghost use Rattle.droid_export.specs.Rows as spec;
-ghost use Rattle.droid_export.specs.Text.{row_text};
-ghost use Rattle.droid_export.specs.CsvBuffer.{Holds, IsCommon};
+ghost use Rattle.droid_export.specs.Columns.{IsCommon};
+ghost use Rattle.droid_export.specs.Text.{record_text, row_text};
 
 use crate::extension::extension;
 use crate::filter::{found_by, mismatch};
-use crate::shared_columns::Common;
-use crate::table::write_record;
-use csv::Writer;
+use crate::moment::moment_bytes;
+use crate::node_uri::add_uri;
+use crate::shared_columns::{Common, count_text, hash_text, parent_text, size_text};
+use crate::table::add_line;
 use droid_frame::{HashKind, Method, NodeKind, Record};
 use droid_pronom::{Format, Registry};
-use std::alloc::{AllocError, Global};
+use itoa::Buffer;
+use std::alloc::AllocError;
 
-/// Writes the names of the columns. One of them depends on the kind of hash.
-pub(crate) fn write_header(writer: &mut Writer<Vec<u8>>, hash: HashKind) -> Result<(), AllocError>
-    ensures { OnOk result ((text : List ℕ) → Holds writer.old text → Holds writer.new (text ++ row_text (header hash))) }
+/// Appends the names of the columns. One of them depends on the kind of hash.
+pub(crate) fn add_header(text: &mut Vec<u8>, hash: HashKind) -> Result<(), AllocError>
+    ensures { OnOk result (text.new.items ≡ text.old.items ++ row_text (header hash)) }
 {
-    let names: [&[u8]; 18] = [
+    let names: [&[u8]; 17] = [
         b"ID",
         b"PARENT_ID",
         b"URI",
@@ -41,9 +43,8 @@ pub(crate) fn write_header(writer: &mut Writer<Vec<u8>>, hash: HashKind) -> Resu
         b"PUID",
         b"MIME_TYPE",
         b"FORMAT_NAME",
-        b"FORMAT_VERSION",
     ];
-    write_record(writer, &names)
+    add_line(text, &names, b"FORMAT_VERSION")
 }
 
 /// Returns the name of the hash column.
@@ -57,38 +58,67 @@ fn hash_column(hash: HashKind) -> &'static str
     }
 }
 
-/// Writes the rows of a record: one for each of its formats, in order, or one row without a format.
+/// Appends the rows of a record: one for each of its formats, in order, or one row without a format. `uri` is a place
+/// for the URI.
 #[tactic(auto, unfolding(crate::specs::Rows::rows))]
-pub(crate) fn write_rows(
-    alloc: Global,
-    writer: &mut Writer<Vec<u8>>,
+pub(crate) fn add_rows(
+    text: &mut Vec<u8>,
+    uri: &mut String,
     registry: &Registry,
     node: &Record,
 ) -> Result<(), AllocError>
     requires { IsMoment node.now.modified }
-    ensures { OnOk result ((text : List ℕ) → Holds writer.old text → Holds writer.new (text ++ flat_map row_text (rows registry.now node.now))) }
+    ensures { OnOk result (text.new.items ≡ text.old.items ++ record_text registry.now node.now) }
 {
-    let common = Common::of(alloc, node)?;
-    if node.puids.is_empty() {
-        return write_row(writer, node, &common, "", None);
-    }
-    write_format_rows(writer, registry, node, &common)
+    let mut id = Buffer::new();
+    let mut parent_id = Buffer::new();
+    let mut size = Buffer::new();
+    let mut format_count = Buffer::new();
+    let hash = hash_text(node);
+    uri.clear();
+    add_uri(uri, node.path.as_str(), node.kind)?;
+    let common = Common {
+        id: id.format(node.id),
+        parent_id: parent_text(&mut parent_id, node.parent),
+        uri: uri.as_str(),
+        size: size_text(&mut size, node),
+        last_modified: moment_bytes(node.modified),
+        hash: hash.as_slice(),
+        format_count: count_text(&mut format_count, node),
+    };
+    add_rows_with(text, &*registry, &*node, &common)
 }
 
-/// Writes a row for each format of a record.
-fn write_format_rows(
-    writer: &mut Writer<Vec<u8>>,
-    registry: &Registry,
-    node: &Record,
-    common: &Common,
+/// Appends the rows of a record with these shared columns.
+fn add_rows_with<'a>(
+    text: &mut Vec<u8>,
+    registry: &'a Registry,
+    node: &'a Record,
+    common: &'a Common<'a>,
 ) -> Result<(), AllocError>
     requires { IsCommon node.now common.now }
-    ensures { OnOk result ((text : List ℕ) → Holds writer.old text → Holds writer.new (text ++ flat_map row_text (map (λ puid. row node.now (shown registry.now puid)) node.now.puids))) }
+    ensures { OnOk result (text.new.items ≡ text.old.items ++ record_text registry.now node.now) }
+{
+    if node.puids.is_empty() {
+        return add_row(text, node, common, "", None);
+    }
+    add_format_rows(text, registry, node, common)
+}
+
+/// Appends a row for each format of a record.
+fn add_format_rows<'a>(
+    text: &mut Vec<u8>,
+    registry: &'a Registry,
+    node: &'a Record,
+    common: &'a Common<'a>,
+) -> Result<(), AllocError>
+    requires { IsCommon node.now common.now }
+    ensures { OnOk result (text.new.items ≡ text.old.items ++ flat_map row_text (map (λ puid. row node.now (shown registry.now puid)) node.now.puids)) }
 {
     for place in 0..node.puids.len() {
         if let Some(puid) = node.puids.get(place) {
             let puid = puid.as_str();
-            write_row(writer, node, common, puid, format_of(registry, puid))?;
+            add_row(text, node, common, puid, format_of(registry, puid))?;
         }
     }
     Ok(())
@@ -102,22 +132,22 @@ fn format_of<'a>(registry: &'a Registry, puid: &str) -> Option<&'a Format>
     registry.format(registry.by_puid(puid)?)
 }
 
-/// Writes a row of a record.
+/// Appends a row of a record.
 #[tactic(auto, unfolding(crate::specs::Rows::row))]
-fn write_row<'a>(
-    writer: &mut Writer<Vec<u8>>,
+fn add_row<'a>(
+    text: &mut Vec<u8>,
     node: &'a Record,
-    common: &'a Common,
+    common: &'a Common<'a>,
     puid: &'a str,
     format: Option<&'a Format>,
 ) -> Result<(), AllocError>
     requires { IsCommon node.now common.now }
-    ensures { OnOk result ((text : List ℕ) → Holds writer.old text → Holds writer.new (text ++ row_text (row node.now (shown_by puid.now (option_copied format.entry))))) }
+    ensures { OnOk result (text.new.items ≡ text.old.items ++ row_text (row node.now (shown_by puid.now (option_copied format.entry)))) }
 {
-    let row: [&[u8]; 18] = [
+    let row: [&[u8]; 17] = [
         common.id.as_bytes(),
         common.parent_id.as_bytes(),
-        common.uri.as_str().as_bytes(),
+        common.uri.as_bytes(),
         node.path.as_str().as_bytes(),
         node.name.as_str().as_bytes(),
         method_name(node).as_bytes(),
@@ -127,14 +157,13 @@ fn write_row<'a>(
         extension(node).as_bytes(),
         common.last_modified.as_slice(),
         mismatch_text(node).as_bytes(),
-        common.hash.as_bytes(),
+        common.hash,
         common.format_count.as_bytes(),
         puid.as_bytes(),
         mime_type(format).as_bytes(),
         format_name(format).as_bytes(),
-        format_version(format).as_bytes(),
     ];
-    write_record(writer, &row)
+    add_line(text, &row, format_version(format).as_bytes())
 }
 
 fn mime_type(format: Option<&Format>) -> &str

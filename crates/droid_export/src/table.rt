@@ -1,38 +1,66 @@
-//! Writes CSV records to a buffer, with each field between double quotes.
+//! Appends records of CSV to a buffer, with each field between double quotes.
 
-ghost use Rattle.std.specs.Prelude.{◌≡◌, ◌<◌, ◌++◌, ℕ, List, [], OnOk, IfOk, length, map};
-ghost use Rattle.droid_export.specs.Csv.{line};
-ghost use Rattle.droid_export.specs.CsvBuffer.{Holds};
+ghost use Rattle.std.specs.Prelude.{◌≡◌, ◌++◌, ◌∷◌, [], IsTrue, OnOk, map};
+ghost use Rattle.std.specs.List.{flat_map};
+ghost use Rattle.droid_export.specs.Csv.{doubled, line, quoted};
 
-use csv::{QuoteStyle, Writer, WriterBuilder};
-use std::alloc::{AllocError, Global};
+use memchr::memchr;
+use std::alloc::AllocError;
 
-/// Makes a writer with an empty buffer. Takes no memory.
-pub(crate) fn new_writer(alloc: Global) -> Writer<Vec<u8>>
-    ensures { Holds result [] }
+/// Appends a record of these fields, and of one more. Fails only if the buffer can't grow.
+pub(crate) fn add_line(text: &mut Vec<u8>, fields: &[&[u8]], last: &[u8]) -> Result<(), AllocError>
+    ensures { OnOk result (text.new.items ≡ text.old.items ++ line (map (λ field. field.now) fields.now ++ last.now ∷ [])) }
 {
-    WriterBuilder::new()
-        .quote_style(QuoteStyle::Always)
-        .from_writer(Vec::new(alloc))
-}
-
-/// Writes a record of at least two fields. Fails only if the buffer can't grow.
-pub(crate) fn write_record(writer: &mut Writer<Vec<u8>>, fields: &[&[u8]]) -> Result<(), AllocError>
-    requires { 1 < length fields.now }
-    ensures { OnOk result ((text : List ℕ) → Holds writer.old text → Holds writer.new (text ++ line (map (λ field. field.now) fields.now))) }
-{
-    match writer.write_fields(fields) {
-        Ok(()) => Ok(()),
-        Err(_) => Err(AllocError),
+    for field in fields {
+        add_field(text, *field, b',')?;
     }
+    add_field(text, last, b'\n')
 }
 
-/// Returns the buffer with all that was written. Fails only if the buffer can't grow.
-pub(crate) fn finish(writer: Writer<Vec<u8>>) -> Result<Vec<u8>, AllocError>
-    ensures { IfOk result (λ bytes. (text : List ℕ) → Holds writer text → bytes.items ≡ text) }
+/// Appends a field between double quotes, and the byte behind it.
+#[tactic(auto, unfolding(crate::specs::Csv::quoted))]
+fn add_field(text: &mut Vec<u8>, field: &[u8], end: u8) -> Result<(), AllocError>
+    ensures { OnOk result (text.new.items ≡ text.old.items ++ (quoted field.now ++ end ∷ [])) }
 {
-    match writer.into_inner() {
-        Ok(bytes) => Ok(bytes),
-        Err(_) => Err(AllocError),
+    text.push(b'"')?;
+    add_doubled(text, field)?;
+    text.push(b'"')?;
+    text.push(end)?;
+    Ok(())
+}
+
+/// Appends a field with each of its double quotes written twice.
+fn add_doubled(text: &mut Vec<u8>, field: &[u8]) -> Result<(), AllocError>
+    ensures { OnOk result (text.new.items ≡ text.old.items ++ flat_map doubled field.now) }
+{
+    if has_no_quote(field) {
+        text.extend_from_slice(field)?;
+        return Ok(());
+    }
+    for byte in field {
+        add_byte(text, *byte)?;
+    }
+    Ok(())
+}
+
+/// Appends a byte, and a double quote twice.
+fn add_byte(text: &mut Vec<u8>, byte: u8) -> Result<(), AllocError>
+    ensures { OnOk result (text.new.items ≡ text.old.items ++ doubled byte) }
+{
+    if byte == b'"' {
+        text.push(byte)?;
+    }
+    text.push(byte)?;
+    Ok(())
+}
+
+/// Returns whether there is no double quote in the field.
+#[tactic(auto, using(crate::proofs::Lines::plain_field))]
+fn has_no_quote(field: &[u8]) -> bool
+    ensures { IsTrue result → flat_map doubled field.now ≡ field.now }
+{
+    match memchr(b'"', field) {
+        None => true,
+        Some(_) => false,
     }
 }

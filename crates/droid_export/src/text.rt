@@ -1,16 +1,13 @@
 //! The text of an export.
 
-ghost use Rattle.std.specs.Prelude.{◌≡◌, ◌++◌, ℕ, List, IfOk, OnOk};
+ghost use Rattle.std.specs.Prelude.{◌≡◌, ◌++◌, IfOk, OnOk};
 ghost use Rattle.std.specs.List.{flat_map};
 ghost use Rattle.droid_export.specs.Index.{IsIndex};
 ghost use Rattle.droid_export.specs.Text.{HaveMoments, chosen_rows, row_text, text};
-ghost use Rattle.droid_export.specs.CsvBuffer.{Holds};
 
 use crate::index::Index;
-use crate::rows::{write_header, write_rows};
+use crate::row_text::RowText;
 use crate::selection::is_chosen;
-use crate::table::{finish, new_writer};
-use csv::Writer;
 use droid_frame::{Blob, Filter, HashKind, Record};
 use droid_pronom::Registry;
 use std::alloc::{AllocError, Global};
@@ -35,16 +32,16 @@ pub fn export_text(
     ensures { IfOk result (λ bytes. bytes ≡ text registry.now filter.now hash records.now) }
 {
     let index = Index::build(alloc, &filter.criteria)?;
-    let mut writer = new_writer(alloc);
-    write_header(&mut writer, hash)?;
-    write_records(alloc, &mut writer, records, registry, filter, &index)?;
-    Ok(Blob::from(finish(writer)?))
+    let mut rows = RowText::new(alloc);
+    rows.add_header(hash)?;
+    add_records(alloc, &mut rows, records, registry, filter, &index)?;
+    Ok(Blob::from(rows.into_vec()))
 }
 
-/// Writes the rows of each record that meets the filter.
-fn write_records(
+/// Appends the rows of each record that meets the filter.
+fn add_records(
     alloc: Global,
-    writer: &mut Writer<Vec<u8>>,
+    rows: &mut RowText,
     records: &[Record],
     registry: &Registry,
     filter: &Filter,
@@ -52,12 +49,12 @@ fn write_records(
 ) -> Result<(), AllocError>
     requires moments { HaveMoments records.now }
     requires index { IsIndex filter.now.criteria index.now }
-    ensures { OnOk result ((before : List ℕ) → Holds writer.old before → Holds writer.new (before ++ flat_map row_text (chosen_rows registry.now filter.now records.now))) }
+    ensures { OnOk result (rows.new ≡ rows.old ++ flat_map row_text (chosen_rows registry.now filter.now records.now)) }
 {
     for node in records {
         let chosen = is_chosen(alloc, filter, index, node)?;
         if chosen {
-            write_rows(alloc, writer, registry, node)?;
+            rows.add(registry, node)?;
         }
     }
     Ok(())

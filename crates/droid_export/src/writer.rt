@@ -43,7 +43,7 @@ pub fn export<W: SteadyWrite>(
 }
 
 /// Writes the whole text, or as much of it as the writer takes.
-fn write_text<W: SteadyWrite>(writer: &mut W, bytes: &[u8]) -> Result<(), WriteFault>
+pub(crate) fn write_text<W: SteadyWrite>(writer: &mut W, bytes: &[u8]) -> Result<(), WriteFault>
     requires { length bytes.now < 2 ^ 64 }
     ensures ok { OnOk result (Appends (W.contents writer.old) (W.contents writer.new) bytes.now) }
     ensures err { IfErr result (λ fault. StopsWithin (W.contents writer.old) (W.contents writer.new) bytes.now 0 fault.written) }

@@ -18,6 +18,8 @@ mod nodes;
 #[cfg(test)]
 mod page;
 #[cfg(test)]
+mod row_texts;
+#[cfg(test)]
 mod rows;
 #[cfg(test)]
 mod uris;

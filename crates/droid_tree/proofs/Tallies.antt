@@ -6,6 +6,7 @@ use Rattle.std.proofs.lemmas.List.{map-append, take_more, take_all}
 use Rattle.std.proofs.lemmas.List.Elements.{All-nil}
 use Rattle.std.proofs.lemmas.List.Sums.{sum_by-append}
 use Rattle.droid_tree.specs.Counts.{Item, AFolder, AFile, NoNode, Adds, CountedFolder, IsItem, IsCounted, CountsItem, CountsItems, CountsFolder, CountsTooMany, CountsTree, bytes_in, entry_in, folders_in, is_file, is_folder, is_no_node, is_unread, items_in, path_of_item, paths_of, observed_of_counted, repeated_in}
+use Rattle.droid_tree.specs.Kinds.{IsNoNode}
 use Rattle.droid_tree.specs.Listings.{AreInOrder, AreRepeated, HasNameOf, ListsInOrder}
 use Rattle.droid_tree.specs.Observation.{Observation, Unlisted, GoesOver}
 use Rattle.droid_tree.specs.Paths.{below}
@@ -23,7 +24,7 @@ one_sum f xs x = sum_by-append f xs (x ∷ []) ∙ omega arith
 -- ---- an entry
 
 module _ (path : List ℕ) (entry : FolderEntry) (before after : Counted) (waiting : List PendingFolder) where
-  pub counts_none : (¬ (IsUtf8 entry.name)) ⊎ (entry.kind ≡ kinds.Other) → after ≡ record before { skipped = before.skipped + 1 } → CountsItem path entry before after waiting waiting
+  pub counts_none : (¬ (IsUtf8 entry.name)) ⊎ IsNoNode entry.kind → after ≡ record before { skipped = before.skipped + 1 } → CountsItem path entry before after waiting waiting
   counts_none is added = record {
     item = NoNode entry;
     its = refl;

@@ -3,6 +3,7 @@ use Rattle.std.specs.Prelude.{◌≡◌, ◌⊎◌, ℕ, ◌+◌, ◌<◌, Bool,
 use Rattle.std.specs.List.{flat_map, count_by, AllByRecursion}
 use Rattle.droid_tree.specs.Observation.{Observation, GoesOver}
 use Rattle.droid_tree.specs.Listings.{AreInOrder, AreRepeated, AreThose, observed_of_folder}
+use Rattle.droid_tree.specs.Kinds.{IsNoNode}
 use Rattle.droid_tree.specs.Paths.{below}
 use Rattle.droid_tree.specs.declared.tree_size.Counted.{Counted}
 use Rattle.droid_tree.specs.declared.folder_entry.FolderEntry.{FolderEntry}
@@ -24,7 +25,7 @@ entry_in (NoNode entry) = entry
 abbrev pub IsItem : Item → Type 0
 IsItem (AFolder entry) = IsUtf8 entry.name × (entry.kind ≡ kinds.Folder)
 IsItem (AFile entry) = IsUtf8 entry.name × (entry.kind ≡ kinds.File)
-IsItem (NoNode entry) = (¬ (IsUtf8 entry.name)) ⊎ (entry.kind ≡ kinds.Other)
+IsItem (NoNode entry) = (¬ (IsUtf8 entry.name)) ⊎ IsNoNode entry.kind
 
 abbrev pub is_folder : Item → Bool
 is_folder (AFolder entry) = true

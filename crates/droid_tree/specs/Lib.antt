@@ -1,5 +1,6 @@
 pub mod Counts
 pub mod Heard
+pub mod Kinds
 pub mod Listings
 pub mod Observation
 pub mod Order

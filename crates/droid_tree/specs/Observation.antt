@@ -7,6 +7,10 @@ pub data Observation : Type 0 where
   Listed : (path : List ℕ) (entries : List FolderEntry) → Observation
   -- the folder could not be read
   Unlisted : (path : List ℕ) → Observation
+  -- the folder can be listed now
+  Opened : (path : List ℕ) → Observation
+  -- the folder could not be opened for listing
+  Unopened : (path : List ℕ) → Observation
   -- `wanted` bytes of the file were asked for from offset `from`, and these came
   Read : (path : List ℕ) (entry : FolderEntry) (from wanted : ℕ) (bytes : List ℕ) → Observation
   -- `wanted` bytes of the file were asked for from offset `from`, and could not be read

@@ -9,7 +9,9 @@ pub enum EntryKind {
     Folder,
     /// A regular file.
     File,
-    /// Anything else, such as a symbolic link, a socket or a device.
+    /// A symbolic link.
+    Link,
+    /// Anything else, such as a socket or a device.
     Other,
 }
 

@@ -12,7 +12,9 @@ use droid_frame::Refusal;
 /// Why something of a tree is not in its profile, or not as it is now.
 #[derive(Clone, Copy, Debug, PartialEq, Eq)]
 pub enum Skipped {
-    /// It is neither a folder nor a regular file.
+    /// It is a symbolic link.
+    Link,
+    /// It is neither a folder nor a regular file nor a symbolic link.
     Kind,
     /// Its name is not valid UTF-8.
     Name,

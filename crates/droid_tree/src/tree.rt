@@ -1,7 +1,7 @@
 //! The trait for reading a tree.
 
 ghost use Rattle.std.specs.Prelude.{◌≡◌, ◌≢◌, IfErr, IfOk, OnOk};
-ghost use Rattle.droid_tree.specs.Observation.{Observation, Listed, Unlisted, Unread, Exchanged, BytesCame};
+ghost use Rattle.droid_tree.specs.Observation.{Observation, Listed, Unlisted, Opened, Unopened, Unread, Exchanged, BytesCame};
 ghost use Rattle.droid_tree.specs.declared.fault.TreeFault.TheVariants as faults;
 
 use crate::fault::TreeFault;
@@ -18,6 +18,11 @@ pub trait Tree {
     fn entries(&mut self, alloc: Global, path: &str) -> Result<Vec<FolderEntry>, TreeFault>
         ensures listed { IfOk result (λ entries. observes self.old (Listed path.now entries.items) self.new) }
         ensures unlisted { IfErr result (λ fault. fault ≢ faults.Memory → observes self.old (Unlisted path.now) self.new) };
+
+    /// Checks that a folder can be listed now, without listing it.
+    fn see_folder(&mut self, alloc: Global, path: &str) -> Result<(), TreeFault>
+        ensures opened { OnOk result (observes self.old (Opened path.now) self.new) }
+        ensures unopened { IfErr result (λ fault. fault ≢ faults.Memory → observes self.old (Unopened path.now) self.new) };
 
     /// Appends up to `wanted` bytes of a file, starting at offset `from`. Appends fewer only if the file ends before.
     /// `entry` is the file as its folder listed it. Fails with `Changed` if another file is at the path.

@@ -122,6 +122,10 @@ fn count_entry(
             let after = one_file(before, entry.len)?;
             Ok(after)
         }
+        EntryKind::Link => {
+            let after = some_skipped(before, 1)?;
+            Ok(after)
+        }
         EntryKind::Other => {
             let after = some_skipped(before, 1)?;
             Ok(after)

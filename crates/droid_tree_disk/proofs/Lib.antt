@@ -1,5 +1,6 @@
 pub mod Bytes
 pub mod FilteredParts
+pub mod HeldFiles
 pub mod Looks
 pub mod Paths
 pub mod Tops

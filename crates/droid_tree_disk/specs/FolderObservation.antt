@@ -6,7 +6,7 @@ use Rattle.droid_tree.specs.Observation.{GoesOver}
 use Rattle.droid_tree.specs.Paths.{below}
 use Rattle.droid_tree.specs.declared.folder_entry.FolderEntry.{FolderEntry}
 use Rattle.droid_tree.specs.declared.folder_entry.EntryKind.TheVariants as kinds
-use Rattle.droid_tree_disk.specs.Said.{Said, Names, NoNames, Looked, Opened, NotOpened, Gave, GaveNone}
+use Rattle.droid_tree_disk.specs.Said.{Said, Names, NoNames, FolderOpened, FolderNotOpened, Looked, Opened, NotOpened, Gave, GaveNone}
 use Rattle.droid_tree_disk.specs.declared.disk.FileMetadata.{FileMetadata}
 
 -- ---- the entries of a folder
@@ -40,6 +40,11 @@ pub record IsFileOf (entry : FolderEntry) (found : FileMetadata) : Type 0 where
   pub kind : found.kind ≡ kinds.File
   pub device : found.device ≡ entry.device
   pub inode : found.inode ≡ entry.inode
+
+-- an open file is that of this entry, and was opened by this path
+pub record IsHeld {F : Type 0} (path_of : F → List ℕ) (metadata_of : F → FileMetadata) (path : List ℕ) (entry : FolderEntry) (file : F) : Type 0 where
+  pub opened_by : path_of file ≡ path
+  pub its : IsFileOf entry (metadata_of file)
 
 -- the entry's file is at this path, and it is the file that was opened
 pub record OpensAt {D : Type 0} (says : D → Said → D → Type 0) (path : List ℕ) (entry : FolderEntry) (found : FileMetadata) (disk disk_after : D) : Type 0 where
@@ -119,6 +124,8 @@ folder_path top path = top ++ path
 abbrev pub ObservesBelow : {D : Type 0} → (D → Said → D → Type 0) → List ℕ → D → tree.Observation → D → Type 0
 ObservesBelow says top disk (tree.Listed path entries) disk_after = ListsAll says (folder_path top path) (top ++ path) entries disk disk_after
 ObservesBelow says top disk (tree.Unlisted path) disk_after = says disk (NoNames (folder_path top path)) disk_after
+ObservesBelow says top disk (tree.Opened path) disk_after = says disk (FolderOpened (folder_path top path)) disk_after
+ObservesBelow says top disk (tree.Unopened path) disk_after = says disk (FolderNotOpened (folder_path top path)) disk_after
 ObservesBelow says top disk (tree.Read path entry from wanted bytes) disk_after = ReadsAt says (top ++ path) entry from wanted bytes disk disk_after
 ObservesBelow says top disk (tree.Unread path entry from wanted) disk_after =
     OpensNone says (top ++ path) entry disk disk_after ⊎ ReadFails says (top ++ path) entry from wanted disk disk_after

@@ -1,18 +1,19 @@
 -- What the machine's file system may say, as far as it is known (this project's own).
 use Rattle.std.specs.Prelude.{◌≡◌, ℕ, ◌≤◌, List, ◌++◌, length, Some, None}
-use Rattle.std.specs.Fs.{IsDir, IsFile, file_type, metadata_len}
+use Rattle.std.specs.Fs.{IsDir, IsFile, IsSymlink, file_type, metadata_len}
 use Rattle.std.specs.declared.fs.attrs.FileType.{FileType}
 use Rattle.std.specs.declared.fs.attrs.Metadata.{Metadata}
-use Rattle.droid_tree_disk.specs.Said.{Said, Names, NoNames, Looked, Opened, NotOpened, Gave, GaveNone}
+use Rattle.droid_tree_disk.specs.Said.{Said, Names, NoNames, FolderOpened, FolderNotOpened, Looked, Opened, NotOpened, Gave, GaveNone}
 use Rattle.droid_tree_disk.specs.declared.disk.FileMetadata.{FileMetadata}
 use Rattle.droid_tree.specs.declared.folder_entry.EntryKind.{EntryKind}
 use Rattle.droid_tree.specs.declared.folder_entry.EntryKind.TheVariants as kinds
 
--- a folder, a regular file, or neither
+-- a folder, a regular file, a symbolic link, or none of these
 abbrev pub IsKindOf : FileType → EntryKind → Type 0
 IsKindOf type kinds.Folder = IsDir type
 IsKindOf type kinds.File = IsFile type
-IsKindOf type kinds.Other = (IsDir type → ⊥) × (IsFile type → ⊥)
+IsKindOf type kinds.Link = IsSymlink type
+IsKindOf type kinds.Other = (IsDir type → ⊥) × (IsFile type → ⊥) × (IsSymlink type → ⊥)
 
 -- it has the type and the length of these metadata
 abbrev pub IsMetadataOf : Metadata → FileMetadata → Type 0
@@ -27,6 +28,8 @@ IsOfSome found = (metadata : Metadata) × IsMetadataOf metadata found
 abbrev pub MaySay : Said → Type 0
 MaySay (Names path names) = Unit {0}
 MaySay (NoNames path) = Unit {0}
+MaySay (FolderOpened path) = Unit {0}
+MaySay (FolderNotOpened path) = Unit {0}
 MaySay (Looked path None) = Unit {0}
 MaySay (Looked path (Some found)) = IsOfSome found
 MaySay (Opened path found) = IsOfSome found

@@ -7,6 +7,10 @@ pub data Said : Type 0 where
   Names : (path : List ℕ) (names : List (List ℕ)) → Said
   -- the folder at this path could not be listed
   NoNames : (path : List ℕ) → Said
+  -- the folder at this path was opened for listing
+  FolderOpened : (path : List ℕ) → Said
+  -- the folder at this path could not be opened for listing
+  FolderNotOpened : (path : List ℕ) → Said
   -- the path has these metadata, or none could be read
   Looked : (path : List ℕ) (found : Option FileMetadata) → Said
   -- the file at this path was opened and has these metadata

@@ -1,8 +1,8 @@
 //! The file system calls that reading a tree needs.
 
-ghost use Rattle.std.specs.Prelude.{◌≡◌, ◌≢◌, ℕ, List, IfErr, IfOk, IsTrue, OnOk};
+ghost use Rattle.std.specs.Prelude.{◌≡◌, ◌≢◌, ◌++◌, ℕ, List, IfErr, IfOk, IsTrue, OnOk};
 
-use droid_frame::Blob;
+use droid_frame::{Blob, Text};
 use droid_tree::{EntryKind, TreeFault};
 use std::alloc::Global;
 
@@ -23,7 +23,7 @@ pub struct FileMetadata {
 
 /// A file system.
 pub trait Disk {
-    ghost use Rattle.droid_tree_disk.specs.Said.{Said, Names, NoNames, Looked, Opened, NotOpened, GaveNone};
+    ghost use Rattle.droid_tree_disk.specs.Said.{Said, Names, NoNames, FolderOpened, FolderNotOpened, Looked, Opened, NotOpened, GaveNone};
     ghost use Rattle.droid_tree_disk.specs.Given.{Gives};
     ghost use Rattle.droid_tree_disk.specs.declared.disk.FileMetadata.{FileMetadata};
     ghost use Rattle.droid_tree.specs.declared.fault.TreeFault.TheVariants.{Memory, Unreadable, Changed};
@@ -46,24 +46,29 @@ pub trait Disk {
         ensures says { IfOk result (λ names. says self.old (Names path.now names.items) self.new) }
         ensures failed { IfErr result (λ fault. fault ≢ Memory → says self.old (NoNames path.now) self.new) };
 
+    /// Opens a folder for listing, and closes it again. Fails for a link to a folder, unless the path ends in `/`.
+    fn see_folder(&mut self, path: &str) -> Result<(), TreeFault>
+        ensures opened { OnOk result (says self.old (FolderOpened path.now) self.new) }
+        ensures failed { IfErr result (λ fault. fault ≢ Memory → says self.old (FolderNotOpened path.now) self.new) };
+
     /// Returns the metadata of a path, or `None` if there are none. Does not follow links.
     fn look(&mut self, path: &str) -> Option<FileMetadata>
         ensures { says self.old (Looked path.now result) self.new };
 
-    /// Opens a file for reading.
-    fn open(&mut self, alloc: Global, path: &str) -> Result<Self::File, TreeFault>
-        ensures says { IfOk result (λ file. says self.old (Opened path.now (metadata_of file)) self.new) }
-        ensures path { IfOk result (λ file. path_of file ≡ path.now) }
-        ensures failed { IfErr result (λ fault. fault ≡ Unreadable → says self.old (NotOpened path.now) self.new) }
+    /// Opens a file for reading. Takes the path over.
+    fn open(&mut self, path: Text) -> Result<Self::File, TreeFault>
+        ensures says { IfOk result (λ file. says self.old (Opened path (metadata_of file)) self.new) }
+        ensures path { IfOk result (λ file. path_of file ≡ path) }
+        ensures failed { IfErr result (λ fault. fault ≡ Unreadable → says self.old (NotOpened path) self.new) }
         ensures known { IfErr result (λ fault. fault ≢ Changed) };
 
     /// Returns the metadata of an open file, taken when it was opened.
     fn metadata(file: &Self::File) -> FileMetadata
         ensures { result ≡ metadata_of file.now };
 
-    /// Returns whether the file was opened by this path.
-    fn is_at(file: &Self::File, path: &str) -> bool
-        ensures { IsTrue result → path_of file.now ≡ path.now };
+    /// Returns whether the file was opened by the path that these two make.
+    fn is_at(file: &Self::File, top: &str, path: &str) -> bool
+        ensures { IsTrue result → path_of file.now ≡ top.now ++ path.now };
 
     /// Appends up to `wanted` bytes of an open file, starting at offset `from`. Appends fewer only if the file ends
     /// before.

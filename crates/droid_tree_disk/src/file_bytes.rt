@@ -12,9 +12,11 @@ use std::os::unix::fs::FileExt;
 /// How often a read is tried: once, and again after each of up to 64 interruptions.
 const TURNS: u32 = 65;
 
-/// Appends up to `wanted` bytes of a file, starting at offset `from`. Appends fewer only if the file ends before.
+/// Appends up to `wanted` bytes of a file, starting at offset `from`. Appends fewer only if the file ends before. `len`
+/// is the length that the file had when it was opened: a read that comes short there is not tried again.
 pub(crate) fn add_bytes(
     file: &File,
+    len: u64,
     from: u64,
     wanted: u32,
     bytes: &mut Vec<u8>,
@@ -29,26 +31,35 @@ pub(crate) fn add_bytes(
     if bytes.resize(after, 0).is_err() {
         return Err(TreeFault::Memory);
     }
-    let filled = fill(file, from, &mut bytes[before..])?;
+    let filled = fill(file, len, from, &mut bytes[before..])?;
     bytes.truncate(before + filled);
     Ok(())
 }
 
 /// Fills a buffer with bytes of a file, starting at offset `from`. Returns how many bytes came: fewer if the file ends
 /// before.
-fn fill(file: &File, from: u64, buffer: &mut [u8]) -> Result<usize, TreeFault>
+fn fill(file: &File, len: u64, from: u64, buffer: &mut [u8]) -> Result<usize, TreeFault>
     ensures within { IfOk result (λ count. count ≤ length buffer.new) }
     ensures known { IfErr result (λ fault. fault ≢ Changed) }
 {
     let mut filled = 0;
     while filled < buffer.len() {
-        let count = read_some(file, place_after(from, filled)?, &mut buffer[filled..])?;
+        let place = place_after(from, filled)?;
+        let count = read_some(file, place, &mut buffer[filled..])?;
         if count == 0 {
             return Ok(filled);
         }
         filled += count;
+        if is_end(len, place, count) {
+            return Ok(filled);
+        }
     }
     Ok(filled)
+}
+
+/// Returns whether `count` bytes from this offset on reach the end of a file of this length.
+fn is_end(len: u64, place: u64, count: usize) -> bool {
+    len.saturating_sub(place) <= count as u64
 }
 
 /// Returns the offset after `count` more bytes.

@@ -7,19 +7,20 @@ ghost use Rattle.droid_tree_disk.specs.Tops.{IsWithoutSlashes};
 
 use crate::disk::{Disk, FileMetadata};
 use crate::entries::list;
+use crate::open_files::{keep, make_room, take_open};
 use droid_frame::Text;
 use droid_tree::{EntryKind, FolderEntry, Tree, TreeFault};
 use std::alloc::{AllocError, Global};
 
-/// A folder with everything below it. The file that was read last stays open until another one is read.
+/// A folder with everything below it. Up to eight files stay open while they are read.
 #[derive(Drop)]
 pub struct Folder<D: Disk + Drop> {
     /// The file system.
     pub disk: D,
     /// The path of the folder, without a `/` at its end.
     pub top: Text,
-    /// The file that was read last.
-    pub open: Option<D::File>,
+    /// The files that were read and have not ended. The one that was read last stands last.
+    pub open: Vec<D::File>,
 }
 
 impl<D: Disk + Drop> Folder<D> {
@@ -32,7 +33,7 @@ impl<D: Disk + Drop> Folder<D> {
         Ok(Folder {
             disk,
             top: Text::copy_of(alloc, top)?,
-            open: None,
+            open: Vec::new(alloc),
         })
     }
 }
@@ -41,11 +42,15 @@ impl<D: Disk + Drop> Tree for Folder<D> {
     ghost observes = { λ old observed new. ObservesBelow D.says old.top old.disk observed new.disk × (new.top ≡ old.top) };
 
     fn entries(&mut self, alloc: Global, path: &str) -> Result<Vec<FolderEntry>, TreeFault> {
-        self.open = None;
         let top = self.top.as_str();
         let place = kept(folder_at(alloc, top, path))?;
         let folder = kept(place_of(alloc, top, path))?;
         list(alloc, &mut self.disk, place.as_str(), folder.as_str())
+    }
+
+    fn see_folder(&mut self, alloc: Global, path: &str) -> Result<(), TreeFault> {
+        let place = kept(folder_at(alloc, self.top.as_str(), path))?;
+        self.disk.see_folder(place.as_str())
     }
 
     fn read(
@@ -57,11 +62,12 @@ impl<D: Disk + Drop> Tree for Folder<D> {
         bytes: &mut Vec<u8>,
     ) -> Result<(), TreeFault> {
         let alloc = *bytes.allocator();
-        let place = kept(place_of(alloc, self.top.as_str(), path))?;
-        let held = self.open.take();
-        let file = file_at(alloc, &mut self.disk, held, place.as_str(), entry)?;
+        let before = bytes.len();
+        let top = self.top.as_str();
+        let file = file_at(alloc, &mut self.disk, &mut self.open, top, path, entry)?;
         self.disk.read_at(&file, from, wanted, bytes)?;
-        self.open = Some(file);
+        let count = bytes.len().saturating_sub(before);
+        keep(&mut self.open, file, count == wanted as usize);
         Ok(())
     }
 }
@@ -106,51 +112,36 @@ fn folder_at(alloc: Global, top: &str, path: &str) -> Result<Text, AllocError>
 fn file_at<D: Disk>(
     alloc: Global,
     disk: &mut D,
-    held: Option<D::File>,
+    files: &mut Vec<D::File>,
+    top: &str,
     path: &str,
     entry: &FolderEntry,
 ) -> Result<D::File, TreeFault>
-    ensures path { IfOk result (λ file. D.path_of file ≡ path.now) }
+    ensures path { IfOk result (λ file. D.path_of file ≡ top.now ++ path.now) }
     ensures its { IfOk result (λ file. IsFileOf entry.now (D.metadata_of file)) }
-    ensures opened { IfOk result (λ file. OpensAt D.says path.now entry.now (D.metadata_of file) disk.old disk.new ⊎ (disk.new ≡ disk.old)) }
-    ensures failed { IfErr result (λ fault. fault ≡ Unreadable → OpensNone D.says path.now entry.now disk.old disk.new) }
-    ensures other { IfErr result (λ fault. fault ≡ Changed → IsExchanged D.says path.now entry.now disk.old disk.new) }
+    ensures opened { IfOk result (λ file. OpensAt D.says (top.now ++ path.now) entry.now (D.metadata_of file) disk.old disk.new ⊎ (disk.new ≡ disk.old)) }
+    ensures failed { IfErr result (λ fault. fault ≡ Unreadable → OpensNone D.says (top.now ++ path.now) entry.now disk.old disk.new) }
+    ensures other { IfErr result (λ fault. fault ≡ Changed → IsExchanged D.says (top.now ++ path.now) entry.now disk.old disk.new) }
 {
-    let Some(file) = held else {
-        return open_at(alloc, disk, path, entry);
-    };
-    if is_open_for::<D>(&file, path, entry) {
+    if let Some(file) = take_open::<D>(files, top, path, entry) {
         return Ok(file);
     }
-    open_at(alloc, disk, path, entry)
-}
-
-/// Returns whether an open file is that of this entry, and was opened by this path.
-fn is_open_for<D: Disk>(file: &D::File, path: &str, entry: &FolderEntry) -> bool
-    ensures path { IsTrue result → D.path_of file.now ≡ path.now }
-    ensures its { IsTrue result → IsFileOf entry.now (D.metadata_of file.now) }
-{
-    if !D::is_at(file, path) {
-        return false;
-    }
-    is_file_of(D::metadata(file), entry)
+    make_room(files);
+    let place = kept(place_of(alloc, top, path))?;
+    let file = open_at(disk, place, entry)?;
+    Ok(file)
 }
 
 /// Opens the regular file of an entry. Opens nothing else, such as a pipe or a link. Fails with `Changed` if another
 /// regular file is at the path, or was opened.
-fn open_at<D: Disk>(
-    alloc: Global,
-    disk: &mut D,
-    path: &str,
-    entry: &FolderEntry,
-) -> Result<D::File, TreeFault>
-    ensures path { IfOk result (λ file. D.path_of file ≡ path.now) }
+fn open_at<D: Disk>(disk: &mut D, path: Text, entry: &FolderEntry) -> Result<D::File, TreeFault>
+    ensures path { IfOk result (λ file. D.path_of file ≡ path) }
     ensures its { IfOk result (λ file. IsFileOf entry.now (D.metadata_of file)) }
-    ensures opened { IfOk result (λ file. OpensAt D.says path.now entry.now (D.metadata_of file) disk.old disk.new) }
-    ensures failed { IfErr result (λ fault. fault ≡ Unreadable → OpensNone D.says path.now entry.now disk.old disk.new) }
-    ensures other { IfErr result (λ fault. fault ≡ Changed → IsExchanged D.says path.now entry.now disk.old disk.new) }
+    ensures opened { IfOk result (λ file. OpensAt D.says path entry.now (D.metadata_of file) disk.old disk.new) }
+    ensures failed { IfErr result (λ fault. fault ≡ Unreadable → OpensNone D.says path entry.now disk.old disk.new) }
+    ensures other { IfErr result (λ fault. fault ≡ Changed → IsExchanged D.says path entry.now disk.old disk.new) }
 {
-    let Some(there) = disk.look(path) else {
+    let Some(there) = disk.look(path.as_str()) else {
         return Err(TreeFault::Unreadable);
     };
     if !is_file(there) {
@@ -159,7 +150,7 @@ fn open_at<D: Disk>(
     if !is_file_of(there, entry) {
         return Err(TreeFault::Changed);
     }
-    let file = disk.open(alloc, path)?;
+    let file = disk.open(path)?;
     if is_file_of(D::metadata(&file), entry) {
         Ok(file)
     } else {
@@ -168,7 +159,7 @@ fn open_at<D: Disk>(
 }
 
 /// Returns whether it is a regular file, and the one that was listed as this entry.
-fn is_file_of(found: FileMetadata, entry: &FolderEntry) -> bool
+pub(crate) fn is_file_of(found: FileMetadata, entry: &FolderEntry) -> bool
     ensures same { IsTrue result → IsFileOf entry.now found }
     ensures other { IsFalse result → IsFileOf entry.now found → ⊥ }
 {
@@ -189,6 +180,7 @@ fn is_file(found: FileMetadata) -> bool
     match found.kind {
         EntryKind::File => true,
         EntryKind::Folder => false,
+        EntryKind::Link => false,
         EntryKind::Other => false,
     }
 }

@@ -2,7 +2,7 @@
 
 ghost use Rattle.std.specs.Prelude.{◌≡◌, None};
 
-use crate::unfinished_file::{Made, UnfinishedFile};
+use crate::unfinished_file::{FileId, Made, UnfinishedFile};
 use droid_frame::{Noted, SteadyWrite, Text};
 use std::alloc::Global;
 use std::fs::{self, Files, OpenFile};
@@ -21,8 +21,8 @@ pub enum OutputFault {
 }
 
 /// An output file. It is written under another name beside its path and renamed when it is complete; an older file at
-/// the path stays until then. The new file is created when the first bytes are written, so that a walk over the same
-/// folder that comes before does not meet it.
+/// the path stays until then. The new file is created by [`Output::begin`] or when the first bytes are written, so that a
+/// walk over the same folder that comes before does not meet it.
 #[derive(Drop)]
 pub struct Output<'a, R: Files> {
     file: Noted<UnfinishedFile<'a, R>>,
@@ -46,6 +46,12 @@ impl<'a, R: Files> Output<'a, R> {
         Ok(Output {
             file: Noted::new(beside),
         })
+    }
+
+    /// Creates the file now, before anything is written to it, and returns which it is: what is read of a folder from
+    /// then on can leave it out.
+    pub fn begin(&mut self) -> Result<FileId, OutputFault> {
+        self.file.stream.begin_now()
     }
 
     /// Renames the complete file to its path. Removes it if that fails.

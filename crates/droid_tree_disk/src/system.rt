@@ -47,6 +47,14 @@ impl<'a, R: Files<File = File>> System<'a, R> {
             None => None,
         }
     }
+
+    /// Returns whether the folder at this path can be opened for listing.
+    fn can_list(&self, path: &str) -> bool {
+        match self.place(path) {
+            Some(place) => can_list_at(self.runtime, place.as_str()),
+            None => can_list_at(self.runtime, path),
+        }
+    }
 }
 
 impl<R: Files<File = File>> Disk for System<'_, R> {
@@ -67,6 +75,14 @@ impl<R: Files<File = File>> Disk for System<'_, R> {
         Ok(names)
     }
 
+    fn see_folder(&mut self, path: &str) -> Result<(), TreeFault> {
+        if self.can_list(path) {
+            Ok(())
+        } else {
+            Err(TreeFault::Unreadable)
+        }
+    }
+
     fn look(&mut self, path: &str) -> Option<FileMetadata> {
         match self.place(path) {
             Some(place) => look_at(self.runtime, place.as_str()),
@@ -74,13 +90,10 @@ impl<R: Files<File = File>> Disk for System<'_, R> {
         }
     }
 
-    fn open(&mut self, alloc: Global, path: &str) -> Result<Opened, TreeFault> {
-        let Ok(path_kept) = Text::copy_of(alloc, path) else {
-            return Err(TreeFault::Memory);
-        };
-        match self.place(path) {
-            Some(place) => open_by(self.runtime, place.as_str(), path_kept),
-            None => open_by(self.runtime, path, path_kept),
+    fn open(&mut self, path: Text) -> Result<Opened, TreeFault> {
+        match self.place(path.as_str()) {
+            Some(place) => with_metadata(file_by(self.runtime, place.as_str())?, path),
+            None => with_metadata(file_by(self.runtime, path.as_str())?, path),
         }
     }
 
@@ -88,8 +101,11 @@ impl<R: Files<File = File>> Disk for System<'_, R> {
         file.metadata
     }
 
-    fn is_at(file: &Opened, path: &str) -> bool {
-        file.path.as_str() == path
+    fn is_at(file: &Opened, top: &str, path: &str) -> bool {
+        match file.path.as_str().strip_prefix(top) {
+            Some(rest) => rest == path,
+            None => false,
+        }
     }
 
     fn read_at(
@@ -99,7 +115,7 @@ impl<R: Files<File = File>> Disk for System<'_, R> {
         wanted: u32,
         bytes: &mut Vec<u8>,
     ) -> Result<(), TreeFault> {
-        add_bytes(&file.file, from, wanted, bytes)
+        add_bytes(&file.file, file.metadata.len, from, wanted, bytes)
     }
 }
 
@@ -127,6 +143,15 @@ fn names_at<R: Files>(rt: &R, alloc: Global, path: &str) -> Result<Vec<Blob>, Tr
     }
 }
 
+/// Opens the folder at this path for listing, and closes it again. Returns whether it could be opened: a link to a
+/// folder is not, unless the path ends in `/`.
+fn can_list_at<R: Files>(rt: &R, path: &str) -> bool {
+    match look_at(rt, path) {
+        Some(there) => there.kind == EntryKind::Folder && rt.open_dir(path).is_ok(),
+        None => false,
+    }
+}
+
 /// Returns the metadata of this path, or `None` if there are none.
 fn look_at<R: Files>(rt: &R, path: &str) -> Option<FileMetadata>
     ensures { IfSome result IsOfSome }
@@ -137,14 +162,12 @@ fn look_at<R: Files>(rt: &R, path: &str) -> Option<FileMetadata>
     }
 }
 
-/// Opens the file at this place, which has this path.
-fn open_by<R: Files<File = File>>(rt: &R, place: &str, path: Text) -> Result<Opened, TreeFault>
-    ensures path { IfOk result (λ opened. opened.path ≡ path) }
-    ensures found { IfOk result (λ opened. IsOfSome opened.metadata) }
-    ensures known { IfErr result (λ fault. fault ≢ Changed) }
+/// Opens the file at this place.
+fn file_by<R: Files<File = File>>(rt: &R, place: &str) -> Result<File, TreeFault>
+    ensures { IfErr result (λ fault. fault ≢ Changed) }
 {
     match fs::open(rt, place) {
-        Ok(file) => with_metadata(file, path),
+        Ok(file) => Ok(file),
         Err(_) => Err(TreeFault::Unreadable),
     }
 }
@@ -187,6 +210,9 @@ fn kind_by(metadata: &Metadata) -> EntryKind
     }
     if metadata.is_file() {
         return EntryKind::File;
+    }
+    if metadata.is_symlink() {
+        return EntryKind::Link;
     }
     EntryKind::Other
 }

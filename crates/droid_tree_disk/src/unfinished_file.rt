@@ -1,13 +1,23 @@
-//! A file beside the path of an output file, created when the first bytes are written to it.
+//! A file beside the path of an output file, created when that is asked for or the first bytes are written to it.
 
 use crate::output::OutputFault;
 use droid_frame::Text;
 use std::alloc::{AllocError, Global};
-use std::fs::{self, File, Files};
+use std::fs::{self, File, Files, OpenFile};
 use std::io::{self, Error, ErrorKind, Write};
+use std::os::unix::fs::MetadataExt;
 
 /// How many file names are tried.
 const NAMES: u32 = 1_000;
+
+/// Which file it is: its device, and its number on that device.
+#[derive(Clone, Copy, Debug, PartialEq, Eq)]
+pub struct FileId {
+    /// The device.
+    pub device: u64,
+    /// The number on that device.
+    pub inode: u64,
+}
 
 /// The file and its path.
 #[derive(Drop)]
@@ -47,6 +57,20 @@ impl<'a, R: Files> UnfinishedFile<'a, R> {
         let _ = fs::remove_file(self.runtime, path.as_str());
         self.free = Some(path);
         Ok(())
+    }
+
+    /// Creates the file now, and returns which it is.
+    pub fn begin_now(&mut self) -> Result<FileId, OutputFault> {
+        let made = self.begin()?;
+        let found = made.file.metadata();
+        self.made = Some(made);
+        match found {
+            Ok(metadata) => Ok(FileId {
+                device: metadata.dev(),
+                inode: metadata.ino(),
+            }),
+            Err(_) => Err(OutputFault::Refused),
+        }
     }
 
     /// Returns the parts: the output file's path, and the unfinished file if it was created.

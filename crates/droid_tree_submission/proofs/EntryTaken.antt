@@ -6,9 +6,11 @@ use Rattle.droid_frame.specs.types.reply.Reply.{Reply}
 use Rattle.droid_frame.specs.types.reply.Reply.TheVariants as replies
 use Rattle.droid_frame.specs.types.request.Request.TheVariants.{AddFolder}
 use Rattle.droid_tree.specs.Heard.{Left, TookFolder}
+use Rattle.droid_tree.specs.Kinds.{IsNoNode, reason_of_kind}
 use Rattle.droid_tree.specs.Observation.{GoesOver}
 use Rattle.droid_tree.specs.Paths.{below}
 use Rattle.droid_tree.specs.declared.folder_entry.FolderEntry.{FolderEntry}
+use Rattle.droid_tree.specs.declared.folder_entry.EntryKind.{EntryKind}
 use Rattle.droid_tree.specs.declared.folder_entry.EntryKind.TheVariants as kinds
 use Rattle.droid_tree.specs.declared.pending_folder.PendingFolder.{PendingFolder}
 use Rattle.droid_tree.specs.declared.skipped.Skipped.TheVariants as reasons
@@ -60,13 +62,13 @@ module _ {T C W : Type 0} (does : Upload T C W → Deed → Upload T C W → Typ
       nodes = sym (append-nil found.nodes.items);
     }
 
-    pub other_taken : (path : List ℕ) → path ≡ here → IsUtf8 entry.name → entry.kind ≡ kinds.Other → does old (Informed (Left path reasons.Kind)) new → TakesKid does into folder entry false old new found found
-    other_taken path is_here text is_other left = record {
+    pub other_taken : (path : List ℕ) → path ≡ here → IsUtf8 entry.name → (kind : EntryKind) → entry.kind ≡ kind → IsNoNode kind → does old (Informed (Left path (reason_of_kind kind))) new → TakesKid does into folder entry false old new found found
+    other_taken path is_here text kind is none left = record {
       kid = OtherKind entry;
       its = refl;
-      may_come = (text, is_other);
+      may_come = (text, subst IsNoNode (sym is) none);
       taken_is = refl;
-      happened = over_one does old new (Informed (Left here reasons.Kind)) (subst (λ (p : List ℕ). does old (Informed (Left p reasons.Kind)) new) is_here left);
+      happened = over_one does old new (Informed (Left here (reason_of_kind entry.kind))) (subst (λ (k : EntryKind). does old (Informed (Left here (reason_of_kind k))) new) (sym is) (subst (λ (p : List ℕ). does old (Informed (Left p (reason_of_kind kind))) new) is_here left));
       pending = sym (append-nil found.pending.items);
       nodes = sym (append-nil found.nodes.items);
     }

@@ -7,6 +7,7 @@ use Rattle.droid_frame.specs.types.reply.Reply.TheVariants as replies
 use Rattle.droid_frame.specs.types.request.Request.{Request}
 use Rattle.droid_frame.specs.types.request.Request.TheVariants.{AddFolder}
 use Rattle.droid_tree.specs.Heard.{Left, TookFolder}
+use Rattle.droid_tree.specs.Kinds.{IsNoNode, reason_of_kind}
 use Rattle.droid_tree.specs.Paths.{below}
 use Rattle.droid_tree.specs.declared.folder_entry.FolderEntry.{FolderEntry}
 use Rattle.droid_tree.specs.declared.folder_entry.EntryKind.TheVariants as kinds
@@ -42,7 +43,7 @@ abbrev pub MayCome : Destination → Kid → Type 0
 MayCome into (Subfolder entry number) = IsUtf8 entry.name × (entry.kind ≡ kinds.Folder)
 MayCome into (RefusedFolder entry refusal) = IsUtf8 entry.name × (entry.kind ≡ kinds.Folder) × (skips refusal ≡ true)
 MayCome into (AFile entry outcome) = IsUtf8 entry.name × (entry.kind ≡ kinds.File) × MayComeOfFile into entry outcome
-MayCome into (OtherKind entry) = IsUtf8 entry.name × (entry.kind ≡ kinds.Other)
+MayCome into (OtherKind entry) = IsUtf8 entry.name × IsNoNode entry.kind
 MayCome into (NoText entry) = ¬ (IsUtf8 entry.name)
 
 -- the request for a folder
@@ -55,7 +56,7 @@ deeds_of_kid into path (Subfolder entry number) = Called (Answered 0 (folder_req
 deeds_of_kid into path (RefusedFolder entry refusal) =
     Called (Answered 0 (folder_request into entry) (replies.Refused refusal)) ∷ Informed (Left (below path entry.name) (reasons.Refused refusal)) ∷ []
 deeds_of_kid into path (AFile entry outcome) = deeds_of_file into (below path entry.name) entry outcome
-deeds_of_kid into path (OtherKind entry) = Informed (Left (below path entry.name) reasons.Kind) ∷ []
+deeds_of_kid into path (OtherKind entry) = Informed (Left (below path entry.name) (reason_of_kind entry.kind)) ∷ []
 deeds_of_kid into path (NoText entry) = Informed (Left (below path entry.name) reasons.Name) ∷ []
 
 -- the folder that it is, which is pending now

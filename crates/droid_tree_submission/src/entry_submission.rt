@@ -42,6 +42,10 @@ pub(crate) fn submit_entry<T: Tree, C: Client, W: Watcher>(
             let taken = submit_file(upload, into, path, name, entry, found)?;
             Ok(taken)
         }
+        EntryKind::Link => {
+            report(upload, path.as_str().as_bytes(), Skipped::Link);
+            Ok(false)
+        }
         EntryKind::Other => {
             report(upload, path.as_str().as_bytes(), Skipped::Kind);
             Ok(false)

@@ -5,15 +5,23 @@ import sys
 import unittest
 
 from lib.program import TOP
-from lib.trees import OWN_REGISTRY, InFolder, lines, profile
+from lib.trees import ALL_SKIPPED, LINK, LINKS, OWN_REGISTRY, SKIPPED, InFolder, lines, profile
 
 
 class Arguments(InFolder):
     def test_wrong(self):
-        for words in ([], [self.top, self.top], [self.top, "--limit", "0"], [self.top, "--limit", "65537"], [self.top, "--hash", "sha1"], [self.top, "--output"]):
+        for words in ([], [self.top, self.top], [self.top, "--limit", "0"], [self.top, "--limit", "65537"], [self.top, "--hash", "sha1"], [self.top, "--output"], [self.top, "--manifest"], [self.top, "--skipped"]):
             status, out, err = profile(*words)
             self.assertEqual((status, out), (2, b""), words)
             self.assertNotEqual(err, b"")
+
+    def test_checksums_without_a_hash(self):
+        sentence = b"the option '--manifest <FILE>' writes checksums: it cannot be used with '--hash none'"
+        for words in (["--hash", "none", "--manifest", self.work + b"/sums"], ["--manifest", self.work + b"/sums", "--hash", "none"]):
+            status, out, err = profile(self.top, *words)
+            self.assertEqual((status, out), (2, b""))
+            self.assertIn(sentence, err)
+        self.assertEqual(os.listdir(self.work), [b"tree"])
 
     def test_no_folder(self):
         self.file(b"/a.txt", b"a")
@@ -39,8 +47,8 @@ class Arguments(InFolder):
         self.assertEqual(err.splitlines(), [OWN_REGISTRY])
         os.symlink(b"nowhere", self.top + b"/link")
         status, out, err = profile(self.top, "--quiet")
-        self.assertEqual(status, 5)
-        self.assertEqual(len(err.splitlines()), 3)
+        self.assertEqual(status, 0)
+        self.assertEqual(err.splitlines(), [OWN_REGISTRY, SKIPPED + b"/link: " + LINK, ALL_SKIPPED + b"1", LINKS + b"1"])
 
     def test_registry_in_the_program(self):
         # the program's sources have the registry as it stands in registries/

@@ -6,27 +6,26 @@ import unittest
 
 from lib.program import Serve
 from lib.submissions import records, submit
-from lib.trees import SKIPPED, InFolder, lines, profile, walk
+from lib.trees import CHANGED, KIND, LINK, SKIPPED, TWICE, UNREAD, InFolder, lines, profile, status_of, walk
 
 PATH = b"/in/b.txt"
-TWICE = b"same name: its folder lists the name twice"
-CHANGED = b"it changed while it was read"
-UNREAD = b"it could not be opened or read"
-KIND = b"neither a folder nor a regular file, or it can't be looked at"
-# The program looks at each file when it counts, when it lists the folder again, and before it opens the file. Then it
-# opens the file, which has the number 0 here. What is put there before the second listing is taken as it is.
-DUE = {
+# `profile` looks at each file when it lists the folder, and before it opens the file. Then it opens the file, which has
+# the number 0 here. What is put there before the listing is taken as it is.
+DUE_OF_PROFILE = {
     ("file", 1): None,
-    ("file", 2): None,
-    ("file", 3): CHANGED,
+    ("file", 2): CHANGED,
     ("file", 0): CHANGED,
     ("pipe", 1): KIND,
-    ("pipe", 2): KIND,
-    ("pipe", 3): UNREAD,
-    ("link", 2): KIND,
-    ("link", 3): UNREAD,
+    ("pipe", 2): UNREAD,
+    ("link", 1): LINK,
+    ("link", 2): UNREAD,
     ("link", 0): CHANGED,
 }
+# `submit` lists each folder once before that, to count.
+DUE_OF_SUBMIT = {("file", 1): None, ("pipe", 1): KIND} | {
+    (kind, look + 1 if look else 0): reason for (kind, look), reason in DUE_OF_PROFILE.items()
+}
+DUE = {"profile": DUE_OF_PROFILE, "submit": DUE_OF_SUBMIT}
 
 
 class Exchanged(InFolder):
@@ -60,10 +59,11 @@ class Exchanged(InFolder):
                 text = file.read()
         return status, lines(err, SKIPPED), text
 
-    def check(self, ended, reason):
+    def check(self, command, ended, reason):
         """Checks that the file was skipped for this reason, and nothing else; or nothing at all."""
         status, skipped, text = ended
-        self.assertEqual((status, skipped), (5, [PATH + b": " + reason]) if reason else (0, []))
+        due = 5 if reason and command == "submit" else status_of({PATH: reason} if reason else {})
+        self.assertEqual((status, skipped), (due, [PATH + b": " + reason] if reason else []))
         due = {row["FILE_PATH"] for row in walk(self.top)[0]} - ({PATH.decode()} if reason and reason != TWICE else set())
         self.assertEqual(set(records(text)), due)
 
@@ -71,15 +71,15 @@ class Exchanged(InFolder):
         """The second one is skipped."""
         for command in ("profile", "submit"):
             self.make("file")
-            self.check(self.ended(command, LISTED_TWICE="b.txt"), TWICE)
+            self.check(command, self.ended(command, LISTED_TWICE="b.txt"), TWICE)
 
     def test_exchanged(self):
         for command in ("profile", "submit"):
-            for (kind, look), reason in DUE.items():
+            for (kind, look), reason in DUE[command].items():
                 with self.subTest(command=command, kind=kind, look=look):
                     self.make(kind)
                     there = {"EXCHANGED": "b.txt", "EXCHANGED_BY": os.fsdecode(self.other), "EXCHANGED_TO": os.fsdecode(self.top + PATH)}
-                    self.check(self.ended(command, EXCHANGED_LOOK=str(look), **there), reason)
+                    self.check(command, self.ended(command, EXCHANGED_LOOK=str(look), **there), reason)
                     self.assertFalse(os.path.lexists(self.other))
 
 

@@ -8,10 +8,12 @@ import unicodedata
 import unittest
 
 from lib.program import PROGRAM
-from lib.trees import ALL_SKIPPED, OWN_REGISTRY, SKIPPED, InFolder, lines, profile, read
+from lib.trees import ALL_SKIPPED, LINKS, OWN_REGISTRY, SKIPPED, InFolder, lines, profile, read
 
 UNIT = rb"(?:bytes|kB|MB|GB)"
-LINE = re.compile(rb"(\d+) of (\d+) entries, (\d+) of (\d+) " + UNIT + rb", \d+ " + UNIT + rb"/s(?:, (?:\d+ s|\d+ min|\d+ h \d+ min) left)?(?:: (.*))?")
+# entries and bytes so far: how many there are is not known before
+LINE = re.compile(rb"(\d+) entries, (\d+) (" + UNIT + rb"), \d+ " + UNIT + rb"/s(?:: (.*))?")
+BYTES = {b"bytes": 1, b"kB": 1_000, b"MB": 1_000_000, b"GB": 1_000_000_000}
 # the codes before and after a line of progress, between which the terminal cuts long lines
 BEGIN, END = b"\r\x1b[?7l", b"\x1b[K\x1b[?7h"
 AWAY = b"\r\x1b[K"
@@ -50,7 +52,7 @@ class Progress(InFolder):
         name = "建築図面 " * 15 + "plan.bin"
         self.file(b"/" + name.encode(), b"x" * (12 << 20))
         self.file(b"/z.bin", b"x" * (12 << 20))
-        written, seconds = self.on_terminal(env=slow(60))
+        written, seconds = self.on_terminal(env=slow(8))
         shown = re.findall(re.escape(BEGIN) + b"(.*?)" + re.escape(END), written, re.DOTALL)
         self.assertTrue(5 <= len(shown) <= 10 * seconds + 1, (len(shown), seconds))
         done = 0
@@ -58,9 +60,9 @@ class Progress(InFolder):
             found = LINE.fullmatch(line)
             self.assertTrue(found, line)
             self.assertTrue(columns(line.decode()) <= 79, line)
-            self.assertEqual((found[2], found[4]), (b"2", b"25"))
-            self.assertTrue(done <= int(found[3]) <= 25)
-            done = int(found[3])
+            self.assertLessEqual(int(found[1]), 2)
+            self.assertTrue(done <= int(found[2]) * BYTES[found[3]] <= 24 << 20)
+            done = int(found[2]) * BYTES[found[3]]
         self.assertTrue(any("図面 plan.bin".encode() in line for line in shown))
         self.assertIn(AWAY + ALL_SKIPPED + b"0\r\n", written)
         self.assertNotIn(b"\n", written.split(AWAY)[0].split(BEGIN, 1)[1])
@@ -70,22 +72,24 @@ class Progress(InFolder):
         self.file(b"/a.bin", b"x" * (8 << 20))
         self.file(b"/b\xff", b"")
         self.file(b"/c.bin", b"x" * (8 << 20))
-        written, _ = self.on_terminal(status=5, env=slow(50))
+        written, _ = self.on_terminal(status=5, env=slow(8))
         self.assertIn(AWAY + SKIPPED + b"/b\\xff: its name is no UTF-8\r\n", written)
 
     def test_quiet_on_terminal(self):
         self.file(b"/a.bin", b"x" * (8 << 20))
-        written, _ = self.on_terminal("--quiet", env=slow(50))
+        written, _ = self.on_terminal("--quiet", env=slow(8))
         self.assertEqual([line for line in written.replace(AWAY, b"").split(b"\r\n") if line], [OWN_REGISTRY])
 
     def test_lines(self):
         # on no terminal there is a line every ten seconds
         for number in range(6):
             self.file(b"/%d.txt" % number, b"some text")
-        status, out, err = profile(self.top, env=slow(2_200))
+        begun = time.monotonic()
+        status, out, err = profile(self.top, env=slow(3_700))
+        seconds = time.monotonic() - begun
         self.assertEqual((status, len(read(out))), (0, 6))
         progress = [line for line in err.split(b"\n") if LINE.fullmatch(line)]
-        self.assertEqual(len(progress), 2)
+        self.assertTrue(2 <= len(progress) <= seconds / 10, (progress, seconds))
         self.assertTrue(re.fullmatch(rb".*: /\d\.txt", progress[0]))
         self.assertNotIn(b"\x1b", err)
         self.assertNotIn(b"\r", err)
@@ -108,7 +112,9 @@ class Progress(InFolder):
         expected["dev/sig"] += 6
         self.file(b"/unknown.bin", b"nothing")
         self.folder(b"/folder")
-        os.symlink(b"nowhere", self.top + b"/link")
+        for link in (b"/link", b"/folder/link"):
+            os.symlink(b"nowhere", self.top + link)
+        os.mkfifo(self.top + b"/pipe")
         status, out, err = profile(self.top, "--registry", registry)
         self.assertEqual(status, 5)
         files = [row for row in read(out) if row["TYPE"] == "File"]
@@ -118,7 +124,8 @@ class Progress(InFolder):
         self.assertEqual(lines(err, b"files by extension: "), [b"%d" % methods["Extension"]])
         self.assertEqual(lines(err, b"files not identified: "), [b"%d" % methods[""]])
         self.assertEqual(lines(err, b"mismatches: "), [b"1"])
-        self.assertEqual(lines(err, ALL_SKIPPED), [b"1"])
+        self.assertEqual(lines(err, ALL_SKIPPED), [b"3"])
+        self.assertEqual(lines(err, LINKS), [b"2"])
         self.assertEqual(lines(err, b"bytes read: "), [b"%d" % sum(int(row["SIZE"]) for row in files)])
         self.assertEqual(len(lines(err, b"seconds: ")), 1)
         most = sorted(expected.items(), key=lambda it: (-it[1], it[0].encode()))[:10]

@@ -5,7 +5,8 @@ import unittest
 
 from lib.trees import SKIPPED, InFolder, lines, profile, walk
 
-PIECE = 1 << 20
+# so many bytes are read at once
+PIECE = 1 << 16
 
 
 class Reads(InFolder):
@@ -20,7 +21,7 @@ class Reads(InFolder):
         return profile(self.top, env={**os.environ, "LD_PRELOAD": os.environ["PRELOAD_READS"], **how})
 
     def test_no_difference(self):
-        for how in ({}, {"PREAD_INTERRUPTIONS": "64"}, {"PREAD_WIDTH": "1000"}, {"PREAD_WIDTH": "300000"}):
+        for how in ({}, {"PREAD_INTERRUPTIONS": "64"}, {"PREAD_FAILS": "5", "PREAD_OF": "a.bin"}, {"PREAD_WIDTH": "1000"}, {"PREAD_WIDTH": "300000"}):
             status, out, err = self.with_reads(**how)
             self.assertEqual((status, lines(err, SKIPPED)), (0, []), how)
             self.same(out, walk(self.top)[0])
@@ -36,12 +37,13 @@ class Reads(InFolder):
         self.same(out, rows)
 
     def test_interrupted_too_often(self):
-        self.skipped(b"/a.bin", PREAD_INTERRUPTIONS="65")
+        for path in (b"/a.bin", b"/b.txt", b"/c.txt"):
+            self.skipped(path, PREAD_OF=path[1:], PREAD_INTERRUPTIONS="65")
 
     def test_failed(self):
-        # four pieces and the end of the first file, the end of the second, and then the third
-        for number, path in ((1, b"/a.bin"), (4, b"/a.bin"), (5, b"/a.bin"), (6, b"/b.txt"), (7, b"/c.txt"), (8, b"/c.txt")):
-            self.skipped(path, PREAD_FAILS=str(number))
+        # the first read and the last one of a file of four pieces, and the only one of the others
+        for number, path in ((1, b"/a.bin"), (4, b"/a.bin"), (1, b"/b.txt"), (1, b"/c.txt")):
+            self.skipped(path, PREAD_OF=path[1:], PREAD_FAILS=str(number))
 
 
 if __name__ == "__main__":

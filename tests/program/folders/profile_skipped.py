@@ -1,17 +1,40 @@
 """Entries that can't be profiled are reported with their path and the cause, and the rest is profiled."""
 import os
+import re
+import shutil
 import socket
 import subprocess
 import unittest
 
-from lib.trees import ALL_SKIPPED, SKIPPED, InFolder, lines, profile, read, walk
+from lib.program import PROGRAM
+from lib.trees import ALL_SKIPPED, CHANGED, KIND, LINK, LINKS, SKIPPED, UNREAD, InFolder, lines, profile, read, read_skipped, status_of, walk
+
+REASON = re.compile(rb"(.*?): ((?:it |neither |its |same name: |the profile ).*)")
 
 
 class Skipped(InFolder):
     def reported(self, err):
-        """Returns the path of each skipped entry with the cause."""
-        pairs = [line.rsplit(b": ", 1) for line in lines(err, SKIPPED)]
-        return {path: cause for path, cause in pairs}
+        """Returns the path of each skipped entry with the reason."""
+        found = [REASON.fullmatch(line).groups() for line in lines(err, SKIPPED)]
+        self.assertEqual(len(dict(found)), len(found))
+        return dict(found)
+
+    def check(self):
+        """Profiles the folder, and checks that the rows are those of Python's walk, and that what is skipped is reported
+        with the same reasons on standard error, in the file of --skipped and in the summary: its standard error."""
+        rows, skipped = walk(self.top)
+        file = self.work + b"/skipped.csv"
+        status, out, err = profile(self.top, "--skipped", file)
+        self.assertEqual(status, status_of(skipped))
+        self.same(out, rows)
+        self.assertEqual(dict(read_skipped(file)), skipped)
+        self.assertEqual(len(read_skipped(file)), len(skipped))
+        shown = {path.replace(b"\xe9", b"\\xe9").replace(b"\xff\xfe", b"\\xff\\xfe"): reason for path, reason in skipped.items()}
+        self.assertEqual(self.reported(err), shown)
+        links = list(skipped.values()).count(LINK)
+        self.assertEqual(lines(err, ALL_SKIPPED), [b"%d" % len(skipped)])
+        self.assertEqual(lines(err, LINKS), [b"%d" % links] if links else [])
+        return err
 
     def test_kinds_and_names(self):
         self.folder(b"/in")
@@ -27,22 +50,45 @@ class Skipped(InFolder):
         self.file(b"/caf\xe9.txt", b"no text")
         self.folder(b"/in/\xff\xfe")
         self.file(b"/in/\xff\xfe/below.txt", b"not reached")
-        status, out, err = profile(self.top)
-        rows, skipped = walk(self.top)
-        self.assertEqual(status, 5)
-        self.same(out, rows)
-        reported = self.reported(err)
-        escaped = {path.replace(b"\xe9", b"\\xe9").replace(b"\xff\xfe", b"\\xff\\xfe") for path in skipped}
-        self.assertEqual(set(reported), escaped)
-        self.assertEqual(lines(err, ALL_SKIPPED), [str(len(skipped)).encode()])
-        self.assertIn(b"UTF-8", reported[b"/caf\\xe9.txt"])
-        self.assertIn(b"regular file", reported[b"/link_to_file"])
+        self.assertEqual(status_of(walk(self.top)[1]), 5)
+        self.check()
+
+    def test_links_alone(self):
+        """Symbolic links are no part of a profile: the status stays 0, as without them."""
+        self.folder(b"/in")
+        self.file(b"/in/kept.txt", b"kept")
+        self.check()
+        for link, target in ((b"/link", b"nowhere"), (b"/in/link_to_file", b"kept.txt"), (b"/in/link_to_folder", b"..")):
+            os.symlink(target, self.top + link)
+            self.assertEqual(status_of(walk(self.top)[1]), 0)
+            self.check()
+        os.mkfifo(self.top + b"/pipe")
+        self.assertEqual(status_of(walk(self.top)[1]), 5)
+        self.check()
+
+    def test_nothing_skipped(self):
+        self.file(b"/kept.txt", b"kept")
+        self.check()
+        with open(self.work + b"/skipped.csv", "rb") as file:
+            self.assertEqual(file.read(), b'"path","reason"\n')
+
+    def test_odd_paths(self):
+        """The file of --skipped has each path byte for byte, and each field between double quotes."""
+        for name in (b'a "link", with a comma', b"two\nlines", b"-dash", b" ", b"back\\slash", b"caf\xe9"):
+            os.symlink(b"nowhere", self.top + b"/" + name)
+        file = self.work + b"/skipped.csv"
+        status = profile(self.top, "--skipped", file, "--quiet")[0]
+        self.assertEqual((status, dict(read_skipped(file))), (5, walk(self.top)[1]))
+        with open(file, "rb") as there:
+            text = there.read()
+        self.assertIn(b'\n"/a ""link"", with a comma","' + LINK + b'"\n', text)
+        self.assertIn(b'\n"/caf\xe9","its name is no UTF-8"\n', text)
 
     def test_control_characters_are_escaped(self):
         os.symlink(b"nowhere", self.top + b"/two\nlines\x1b[2J")
         status, _, err = profile(self.top)
-        self.assertEqual(status, 5)
-        self.assertEqual(list(self.reported(err)), [b"/two\\nlines\\x1b[2J"])
+        self.assertEqual(status, 0)
+        self.assertEqual(self.reported(err), {b"/two\\nlines\\x1b[2J": LINK})
 
     def test_path_too_long(self):
         # longer than the system allows in one call, so it is made folder by folder
@@ -57,7 +103,8 @@ class Skipped(InFolder):
         status, out, err = profile(self.top)
         self.assertEqual(status, 5)
         self.assertTrue(14 <= len(read(out)) <= 16)
-        self.assertEqual(len(self.reported(err)), 1)
+        [reason] = self.reported(err).values()
+        self.assertEqual(reason, b"its path is longer than 4,096 bytes")
 
     def test_unreadable_for_all(self):
         # files that nobody may read
@@ -77,19 +124,33 @@ class Skipped(InFolder):
         self.assertEqual({path for path in sealed if b"opened" in reported.get(path, b"")}, sealed)
         self.assertEqual({row["FILE_PATH"].encode() for row in read(out)} & sealed, set())
 
-    @unittest.skipIf(os.geteuid() == 0, "all can be read by root")
     def test_no_permission(self):
-        self.folder(b"/sealed")
-        self.file(b"/sealed/inside.txt", b"x")
-        self.file(b"/kept.txt", b"kept")
-        self.file(b"/secret.txt", b"secret")
-        os.chmod(self.top + b"/secret.txt", 0)
-        os.chmod(self.top + b"/sealed", 0)
-        self.addCleanup(os.chmod, self.top + b"/sealed", 0o700)
-        status, out, err = profile(self.top)
+        """A folder that can't be listed has no row. All can be read by root, so it is another user who reads."""
+        self.folder(b"/a")
+        self.folder(b"/sealed/below")
+        self.folder(b"/unsearched")
+        for path in (b"/a/kept.txt", b"/kept.txt", b"/secret.txt", b"/sealed/inside.txt", b"/unsearched/inside.txt"):
+            self.file(path, path)
+        for path, mode in ((b"/a", 0o755), (b"/secret.txt", 0), (b"/sealed", 0o111), (b"/unsearched", 0o444)):
+            os.chmod(self.top + path, mode)
+            self.addCleanup(os.chmod, self.top + path, 0o700)
+        status, out, err = self.as_nobody()
         self.assertEqual(status, 5)
-        self.assertEqual(set(self.reported(err)), {b"/secret.txt", b"/sealed"})
-        self.assertEqual([row["FILE_PATH"] for row in read(out)], ["/kept.txt", "/sealed"])
+        self.assertEqual([row["FILE_PATH"] for row in read(out)], ["/a", "/kept.txt", "/unsearched", "/a/kept.txt"])
+        self.assertEqual(self.reported(err), {b"/sealed": UNREAD, b"/secret.txt": UNREAD, b"/unsearched/inside.txt": KIND})
+
+    def as_nobody(self):
+        """Runs a copy of the program over the folder as a user who is not root: its status, its standard output and its
+        standard error."""
+        if os.geteuid():
+            return profile(self.top)
+        for path in (self.work, self.top):
+            os.chmod(path, 0o755)
+        copy = self.work + b"/program"
+        shutil.copy(PROGRAM, copy)
+        os.chmod(copy, 0o755)
+        run = subprocess.run([copy, "profile", self.top], capture_output=True, timeout=120, user=65534, group=65534, extra_groups=[], cwd="/", check=False)
+        return run.returncode, run.stdout, run.stderr
 
     def test_file_that_grows(self):
         # a file to which another process writes all the time is skipped, or has the bytes of one moment
@@ -102,7 +163,7 @@ class Skipped(InFolder):
             self.assertEqual(len(read(out)), 1)
             return
         self.assertEqual((status, read(out)), (5, []))
-        self.assertEqual(self.reported(err), {b"/grows.bin": b"it changed while it was read"})
+        self.assertEqual(self.reported(err), {b"/grows.bin": CHANGED})
 
     def test_files_of_the_kernel(self):
         # files whose size is given as 0, and that have bytes

@@ -32,7 +32,7 @@ class Trees(InFolder):
         self.nested()
         status, out, err = profile(self.top)
         rows, skipped = walk(self.top)
-        self.assertEqual((status, skipped), (0, set()))
+        self.assertEqual((status, skipped), (0, {}))
         self.same(out, rows)
         self.assertEqual(lines(err, SKIPPED), [])
         self.assertEqual(lines(err, b"folders and files: "), [str(len(rows)).encode()])

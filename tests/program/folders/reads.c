@@ -1,5 +1,6 @@
 /* Preloaded into a program, this interrupts its calls of pread, cuts them short or lets them fail, by environment
  * variables:
+ *   PREAD_OF              only calls for files of this name count, are interrupted and fail
  *   PREAD_INTERRUPTIONS   interrupts this many calls first
  *   PREAD_FAILS           lets the call of this number fail, counted from 1
  *   PREAD_WIDTH           a call takes at most this many bytes
@@ -7,7 +8,9 @@
 #define _GNU_SOURCE
 #include <dlfcn.h>
 #include <errno.h>
+#include <stdio.h>
 #include <stdlib.h>
+#include <string.h>
 #include <time.h>
 #include <unistd.h>
 
@@ -16,6 +19,19 @@ static long calls;
 static long number(const char *name, long otherwise) {
     const char *found = getenv(name);
     return found ? atol(found) : otherwise;
+}
+
+/* whether calls for this file count */
+static int is_meant(int fd) {
+    const char *name = getenv("PREAD_OF");
+    char link[64], path[4096];
+    if (!name) return 1;
+    snprintf(link, sizeof link, "/proc/self/fd/%d", fd);
+    ssize_t length = readlink(link, path, sizeof path - 1);
+    if (length < 0) return 0;
+    path[length] = 0;
+    const char *last = strrchr(path, '/');
+    return strcmp(last ? last + 1 : path, name) == 0;
 }
 
 static ssize_t failed(int error) {
@@ -29,9 +45,11 @@ static ssize_t read_from(const char *name, int fd, void *bytes, size_t count, of
     long sleeps = number("PREAD_SLEEPS", 0);
     struct timespec long_enough = {sleeps / 1000, sleeps % 1000 * 1000000};
     if (sleeps) nanosleep(&long_enough, NULL);
-    calls++;
-    if (calls <= number("PREAD_INTERRUPTIONS", 0)) return failed(EINTR);
-    if (calls == number("PREAD_FAILS", 0)) return failed(EIO);
+    if (is_meant(fd)) {
+        calls++;
+        if (calls <= number("PREAD_INTERRUPTIONS", 0)) return failed(EINTR);
+        if (calls == number("PREAD_FAILS", 0)) return failed(EIO);
+    }
     return real(fd, bytes, count < width ? count : width, place);
 }
 

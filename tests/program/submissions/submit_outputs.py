@@ -1,5 +1,4 @@
 """What `submit` writes: the profile's number, and the files of --export and --skipped, which must not lie in the folder."""
-import csv
 import os
 import unittest
 
@@ -8,7 +7,7 @@ from lib.frames import ADD_FILE, CAUSES, EXPORT
 from lib.lying import Lying, closing, first_of, refusing
 from lib.program import Serve
 from lib.submissions import WithSmallTree, fault, submit, submit_and_print
-from lib.trees import SKIPPED, lines, walk
+from lib.trees import KIND, LINK, NAME, SKIPPED, lines, read_skipped, walk
 
 IN_FOLDER = "%s: lies in the folder that is submitted, and would change it: choose another place"
 NO_FOLDER = "%s: cannot be created: its folder does not exist: create it first"
@@ -18,10 +17,6 @@ class Outputs(WithSmallTree):
     def setUp(self):
         super().setUp()
         self.skipped = self.work + b"/skipped.csv"
-
-    def read_skipped(self):
-        with open(self.skipped, encoding="utf-8", errors="surrogateescape", newline="") as file:
-            return list(csv.reader(file, strict=True))
 
 
 class Printed(Outputs):
@@ -54,12 +49,11 @@ class Written(Outputs):
         self.file(b"/caf\xe9", b"its name is no text")
         with Serve.lasting() as service:
             status, err = submit(self.top, service.port, 7, "--skipped", self.skipped, "--export", self.export)
-        kind = "neither a folder nor a regular file, or it can't be looked at"
-        paths = [('/a "link", with a comma', kind), ("/caf\udce9", "its name is no UTF-8"), ("/pipe\nof two lines", kind)]
+        paths = [(b'/a "link", with a comma', LINK), (b"/caf\xe9", NAME), (b"/pipe\nof two lines", KIND)]
         self.assertEqual(status, 5)
-        self.assertEqual(self.read_skipped(), [["path", "reason"], *map(list, paths)])
+        self.assertEqual(read_skipped(self.skipped), paths)
         with open(self.skipped, "rb") as file:
-            self.assertTrue(file.read().startswith(b'"path","reason"\n"/a ""link"", with a comma","neither '))
+            self.assertTrue(file.read().startswith(b'"path","reason"\n"/a ""link"", with a comma","it is '))
         self.assertEqual(len(lines(err, SKIPPED)), 3)
         self.same(self.exported(), walk(self.top)[0])
         self.assertEqual(self.beside(), [b"skipped.csv"])
@@ -67,7 +61,7 @@ class Written(Outputs):
     def test_nothing_skipped(self):
         with Serve.lasting() as service:
             self.assertEqual(submit(self.top, service.port, 7, "--skipped", self.skipped), (0, b""))
-        self.assertEqual(self.read_skipped(), [["path", "reason"]])
+        self.assertEqual(read_skipped(self.skipped), [])
 
     def test_what_is_not_in_the_folder_is_not_skipped(self):
         with Serve.lasting() as service:
@@ -75,7 +69,7 @@ class Written(Outputs):
             os.remove(self.top + b"/z.bin")
             ended = submit(self.top, service.port, 7, "--skipped", self.skipped)
         self.assertEqual(ended, (5, b"not in the folder: /z.bin\n"))
-        self.assertEqual(self.read_skipped(), [["path", "reason"]])
+        self.assertEqual(read_skipped(self.skipped), [])
 
     def test_unchanged_after_a_fault(self):
         """Files that were there stay as they were, and nothing is left beside them."""
@@ -94,7 +88,7 @@ class Written(Outputs):
             with Lying(first_of(EXPORT, refusing(CAUSES["NoSuchProfile"]))) as service:
                 ended = submit(self.top, service.port, 7, "--export", self.export, "--skipped", self.skipped)
             self.assertEqual((ended[0], content_of(self.export)), (4, there))
-            self.assertEqual(self.read_skipped(), [["path", "reason"]])
+            self.assertEqual(read_skipped(self.skipped), [])
 
     def put(self, content):
         """Makes both files with this content, or removes them."""

@@ -4,7 +4,7 @@ import unittest
 
 from lib.program import SAMPLE, Serve
 from lib.submissions import WithTree, fault, submit
-from lib.trees import ALL_SKIPPED, profile, walk
+from lib.trees import ALL_SKIPPED, LINK, profile, walk
 
 
 class Whole(WithTree):
@@ -23,7 +23,7 @@ class Whole(WithTree):
             status, err = submit(self.top, service.port, 7, "--export", self.export)
         self.assertEqual(status, 5)
         self.assertIn(b"/link", err)
-        self.assertEqual(skipped, {b"/link"})
+        self.assertEqual(skipped, {b"/link": LINK})
         self.same(self.exported(), rows)
 
     def test_same_text_as_profile(self):

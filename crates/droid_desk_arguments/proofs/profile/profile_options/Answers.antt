@@ -1,4 +1,4 @@
-use Rattle.std.proofs.Common.{◌∙◌, Option, codes, subst}
+use Rattle.std.proofs.Common.{◌∙◌, Option, codes, subst, sym}
 use Rattle.std.specs.Str.Parse.{ExplainsUnsignedError, HasUnsignedDigitsIfOk, ParsesUnsigned}
 use Rattle.clap.specs.Words.{Text, found_of}
 use Rattle.clap.proofs.WalkLemmas.{first_value-rows}
@@ -15,6 +15,8 @@ returns c =
     found (codes "limit") c.get_one.result c.unwrap_or-limit.result c.get_one.ensures.none c.get_one.ensures.value c.unwrap_or-limit.ensures in
     let hash = subst (λ (o : Option Text). IsHash o c.in_ok-hash.hash) (c.get_str-hash_word.ensures ∙ first_value-rows found (codes "hash")) c.in_ok-hash.ensures in
     let output = c.get_str-output.ensures ∙ first_value-rows found (codes "output") in
+    let manifest = c.get_str-manifest.ensures ∙ first_value-rows found (codes "manifest") in
+    let skipped = c.get_str-skipped.ensures ∙ first_value-rows found (codes "skipped") in
     record {
       folder = folder;
       registry = registry;
@@ -22,5 +24,8 @@ returns c =
       match_all = c.flag_of-match_all.ensures;
       hash = hash;
       output = output;
+      manifest = manifest;
+      checksums = sym c.has_no_checksums.ensures ∙ c.if-has_no_checksums.false;
+      skipped = skipped;
       quiet = c.flag_of-quiet.ensures;
     }

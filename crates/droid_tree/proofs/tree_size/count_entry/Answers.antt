@@ -1,4 +1,5 @@
-use Rattle.std.proofs.Common.{ℕ, List, ◌∷◌, ◌++◌, inl, inr, ap, ◌∙◌}
+use Rattle.std.proofs.Common.{ℕ, List, ◌∷◌, ◌++◌, inl, inr, ap, sym, subst, ◌∙◌}
+use Rattle.droid_tree.specs.Kinds.{IsNoNode}
 use Rattle.droid_tree.proofs.Tallies.{counts_none, counts_file, counts_folder}
 use Rattle.droid_tree.proofs.tree_size.count_entry.Goals as goal
 
@@ -16,6 +17,10 @@ pub returns-in_ok-after-in-File-clause-counted : goal.returns-in_ok-after-in-Fil
 returns-in_ok-after-in-File-clause-counted c =
     counts_file c.args.folder.now.path c.args.entry.now c.args.before c.in_ok-after-in-File.after c.args.pending.now.items c.in-Some.ensures.1 c.in-File.is c.in_ok-after-in-File.ensures.counted
 
+pub returns-in_ok-after-in-Link-clause-counted : goal.returns-in_ok-after-in-Link-clause-counted
+returns-in_ok-after-in-Link-clause-counted c =
+    counts_none c.args.folder.now.path c.args.entry.now c.args.before c.in_ok-after-in-Link.after c.args.pending.now.items (inr (subst IsNoNode (sym c.in-Link.is) tt)) c.in_ok-after-in-Link.ensures.counted
+
 pub returns-in_ok-after-in-Other-clause-counted : goal.returns-in_ok-after-in-Other-clause-counted
 returns-in_ok-after-in-Other-clause-counted c =
-    counts_none c.args.folder.now.path c.args.entry.now c.args.before c.in_ok-after-in-Other.after c.args.pending.now.items (inr c.in-Other.is) c.in_ok-after-in-Other.ensures.counted
+    counts_none c.args.folder.now.path c.args.entry.now c.args.before c.in_ok-after-in-Other.after c.args.pending.now.items (inr (subst IsNoNode (sym c.in-Other.is) tt)) c.in_ok-after-in-Other.ensures.counted

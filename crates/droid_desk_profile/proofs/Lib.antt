@@ -1,0 +1,4 @@
+pub mod FolderEnds
+pub mod OtherEntries
+pub mod SkippedLines
+pub mod WriterEnds

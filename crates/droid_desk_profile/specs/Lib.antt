@@ -1,0 +1,5 @@
+pub mod OtherFiles
+pub mod ProfileEndings
+pub mod ProfiledFolders
+pub mod SkippedFiles
+pub mod WalkOptions

@@ -1,0 +1,224 @@
+//! The profile of a folder of this machine.
+
+use crate::other_files::OtherFiles;
+use crate::output_files::OutputFiles;
+use crate::profile_ending::ProfileEnding;
+use crate::skipped_file::SkippedFile;
+use crate::skipped_writer::SkippedWriter;
+use crate::tree_profile::profile_tree;
+use crate::walk_options::walk_options;
+use droid_desk_arguments::ProfileOptions;
+use droid_desk_progress::{Reporter, Verbosity};
+use droid_frame::{Noted, SteadyWrite};
+use droid_profile_csv::{CsvFault, CsvRecipient, Profiler};
+use droid_pronom::Registry;
+use droid_tree_disk::{FileId, Folder, Output, System, is_folder};
+use std::alloc::Global;
+use std::fs::{File, Files};
+use std::io;
+use std::time::Clock;
+
+/// A folder without the files that the command writes in it.
+type FolderTree<'a, R> = OtherFiles<Folder<System<'a, R>>>;
+
+/// Where the texts go.
+#[derive(Drop)]
+struct Writers<'a, R: Files, O> {
+    /// The CSV.
+    csv: O,
+    /// The list of checksums.
+    manifest: Option<Output<'a, R>>,
+    /// The CSV of what was skipped.
+    skipped: Option<Output<'a, R>>,
+}
+
+/// Profiles a folder of this machine, and prints on standard error what is skipped. Each file is complete at the end, or
+/// as it was before.
+pub fn profile_folder<R>(
+    rt: &R,
+    registry: &Registry,
+    options: ProfileOptions<'_>,
+    on_terminal: bool,
+) -> ProfileEnding
+where
+    R: Files<File = File> + Clock + Print + Eprint + AllocGlobal,
+{
+    if !is_folder(rt, options.folder) {
+        return ProfileEnding::NoFolder;
+    }
+    let mut files = match OutputFiles::create(rt, options) {
+        Ok(files) => files,
+        Err(ending) => return ending,
+    };
+    match tree_of(rt, options, &mut files) {
+        Ok(tree) => {
+            let verbosity = Verbosity::of(options.quiet, on_terminal);
+            profile_to_files(rt, registry, options, verbosity, tree, files)
+        }
+        Err(ending) => {
+            files.give_up();
+            ending
+        }
+    }
+}
+
+/// Creates the files, and returns the folder without them.
+fn tree_of<'a, R>(
+    rt: &'a R,
+    options: ProfileOptions<'_>,
+    files: &mut OutputFiles<'a, R>,
+) -> Result<FolderTree<'a, R>, ProfileEnding>
+where
+    R: Files<File = File> + AllocGlobal,
+{
+    let own = files.begin(rt.alloc())?;
+    match Folder::new(rt.alloc(), System::new(rt), options.folder) {
+        Ok(tree) => Ok(OtherFiles { tree, own }),
+        Err(_) => Err(ProfileEnding::Fault(CsvFault::Memory)),
+    }
+}
+
+/// Writes the profile to the files, and puts them in their places once they are complete. If no file is named for the CSV,
+/// it goes to standard output.
+fn profile_to_files<'a, R>(
+    rt: &'a R,
+    registry: &Registry,
+    options: ProfileOptions<'_>,
+    verbosity: Verbosity,
+    tree: FolderTree<'a, R>,
+    files: OutputFiles<'a, R>,
+) -> ProfileEnding
+where
+    R: Files<File = File> + Clock + Print + Eprint + AllocGlobal,
+{
+    let OutputFiles {
+        csv,
+        manifest,
+        skipped,
+    } = files;
+    match csv {
+        Some(csv) => {
+            let writers = Writers {
+                csv,
+                manifest,
+                skipped,
+            };
+            let (ending, writers) = profile_to(rt, registry, options, verbosity, tree, writers);
+            let Writers {
+                csv,
+                manifest,
+                skipped,
+            } = writers;
+            let csv = Some(csv);
+            settle(
+                ending,
+                OutputFiles {
+                    csv,
+                    manifest,
+                    skipped,
+                },
+            )
+        }
+        None => {
+            let writers = Writers {
+                csv: Noted::new(io::writer(rt)),
+                manifest,
+                skipped,
+            };
+            let (ending, writers) = profile_to(rt, registry, options, verbosity, tree, writers);
+            let Writers {
+                manifest,
+                skipped,
+                ..
+            } = writers;
+            let csv = None;
+            settle(
+                ending,
+                OutputFiles {
+                    csv,
+                    manifest,
+                    skipped,
+                },
+            )
+        }
+    }
+}
+
+/// Puts the files in their places if everything was written, and otherwise removes them.
+fn settle<R: Files<File = File> + AllocGlobal>(
+    ending: ProfileEnding,
+    files: OutputFiles<'_, R>,
+) -> ProfileEnding {
+    if !ending.is_written() {
+        files.give_up();
+        return ending;
+    }
+    match files.complete() {
+        Ok(()) => ending,
+        Err(ending) => ending,
+    }
+}
+
+/// Writes the profile, and prints the summary.
+fn profile_to<'a, R, O: SteadyWrite + Drop>(
+    rt: &'a R,
+    registry: &Registry,
+    options: ProfileOptions<'_>,
+    verbosity: Verbosity,
+    tree: FolderTree<'a, R>,
+    writers: Writers<'a, R, O>,
+) -> (ProfileEnding, Writers<'a, R, O>)
+where
+    R: Files<File = File> + Clock + Eprint + AllocGlobal,
+{
+    let alloc = rt.alloc();
+    let Writers {
+        csv,
+        manifest,
+        skipped,
+    } = writers;
+    let mut profiler = Profiler {
+        alloc,
+        tree,
+        watcher: SkippedWriter {
+            alloc,
+            watcher: Reporter::new(rt, alloc, verbosity),
+            file: begin_skipped(alloc, skipped),
+        },
+        recipient: CsvRecipient::new(alloc, registry, csv, manifest),
+    };
+    let ending = profile_tree(&mut profiler, walk_options(options));
+    let Profiler {
+        watcher,
+        recipient,
+        ..
+    } = profiler;
+    let SkippedWriter { watcher, file, .. } = watcher;
+    watcher.end();
+    let CsvRecipient { csv, manifest, .. } = recipient;
+    let skipped = output_in(file);
+    (
+        ending,
+        Writers {
+            csv,
+            manifest,
+            skipped,
+        },
+    )
+}
+
+/// Begins the CSV of what is skipped, if there is a file for it.
+fn begin_skipped<S: SteadyWrite>(alloc: Global, output: Option<S>) -> Option<SkippedFile<S>> {
+    match output {
+        Some(output) => Some(SkippedFile::begin(alloc, output)),
+        None => None,
+    }
+}
+
+/// Returns where the CSV of what was skipped was written, if there is a file for it.
+fn output_in<S>(file: Option<SkippedFile<S>>) -> Option<S> {
+    match file {
+        Some(SkippedFile { output, .. }) => Some(output),
+        None => None,
+    }
+}

@@ -1,0 +1,22 @@
+//! The command `profile`: writes the CSV of a folder of this machine, and if that is asked for a list of checksums and what
+//! was skipped.
+#![tactic(auto)]
+
+mod folder_profile;
+pub mod laws;
+mod other_files;
+mod output_files;
+mod profile_ending;
+mod profile_sentences;
+mod skipped_file;
+mod skipped_writer;
+mod tree_profile;
+mod walk_options;
+
+pub use folder_profile::profile_folder;
+pub use other_files::OtherFiles;
+pub use output_files::OutputFile;
+pub use profile_ending::ProfileEnding;
+pub use skipped_file::{SkippedFault, SkippedFile};
+pub use skipped_writer::SkippedWriter;
+pub use tree_profile::profile_tree;

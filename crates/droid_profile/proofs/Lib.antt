@@ -1,0 +1,7 @@
+pub mod ChosenReadings
+pub mod FileHanded
+pub mod Handing
+pub mod ReportKinds
+pub mod WalkEnds
+pub mod Walks
+pub mod WholeVisits

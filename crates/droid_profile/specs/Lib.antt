@@ -1,0 +1,2 @@
+pub mod HandedOut
+pub mod Walking

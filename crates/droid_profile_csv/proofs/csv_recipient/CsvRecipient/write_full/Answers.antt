@@ -1,0 +1,15 @@
+use Rattle.std.proofs.Common.{[]}
+use Rattle.std.proofs.lemmas.Result.{on_ok_weaker}
+use Rattle.droid_profile_csv.proofs.Takings.{on-list_stopped, on-more}
+use Rattle.droid_profile_csv.proofs.csv_recipient.CsvRecipient.write_full.Goals as goal
+
+pub returns-clause-ok : goal.returns-clause-ok
+returns-clause-ok g c =
+    on_ok_weaker c.write_full_lines.result
+    (λ more. on-more g.O.Write.contents g.O.SteadyWrite.seen g.M.Write.contents g.M.SteadyWrite.seen c.args.self.now c.write_full_rows.new.self c.write_full_lines.new.self [] [] [] [] c.in_ok-write_full_rows.ensures.ok more)
+    c.write_full_lines.ensures.ok
+
+pub returns-clause-err : goal.returns-clause-err
+returns-clause-err g c =
+    on-list_stopped g.O.Write.contents g.O.SteadyWrite.seen g.M.Write.contents g.M.SteadyWrite.seen g.O.SteadyWrite.room g.M.SteadyWrite.room c.args.self.now c.write_full_rows.new.self c.write_full_lines.new.self c.write_full_lines.result
+    c.in_ok-write_full_rows.ensures.ok c.write_full_lines.ensures.err c.write_full_lines.ensures.flag

@@ -1,0 +1,39 @@
+//! Why the profile of a tree was not written, or only in part.
+
+ghost use Rattle.std.specs.Prelude.{◌≡◌};
+
+use droid_frame::WriteFault;
+use std::alloc::AllocError;
+use thiserror::Error;
+
+/// Why the profile of a tree was not written, or only in part.
+///
+/// After a fault of the first three kinds, all rows and lines of the records that were taken are written.
+#[derive(Clone, Copy, Debug, PartialEq, Eq, Error)]
+pub enum CsvFault {
+    /// Out of memory.
+    #[error("out of memory")]
+    Memory,
+    /// There are more than 4,294,967,295 folders and files.
+    #[error("there are too many folders and files")]
+    Numbers,
+    /// A file had no end.
+    #[error("a file had no end")]
+    Turns,
+    /// The CSV could not be written. The fault counts the bytes of the last write.
+    #[error("the CSV could not be written")]
+    Csv(WriteFault),
+    /// The list of checksums could not be written. The fault counts the bytes of the last write.
+    #[error("the list of checksums could not be written")]
+    Manifest(WriteFault),
+}
+
+impl From<AllocError> for CsvFault {
+    ghost use Rattle.droid_profile_csv.specs.declared.csv_fault.CsvFault.TheVariants.{Memory};
+
+    ghost from_gives = { λ _ fault. fault ≡ Memory };
+
+    fn from(_error: AllocError) -> CsvFault {
+        CsvFault::Memory
+    }
+}

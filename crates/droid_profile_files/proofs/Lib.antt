@@ -1,0 +1,13 @@
+pub mod AdvanceSteps
+pub mod BatchEnds
+pub mod BatchMoves
+pub mod BatchSteps
+pub mod FileFound
+pub mod LaneEnd
+pub mod LaneRead
+pub mod MoreReads
+pub mod PassSteps
+pub mod Places
+pub mod ReadingSteps
+pub mod ReadsSplit
+pub mod WaitingSteps

@@ -1,0 +1,10 @@
+-- so many lanes were made
+use Rattle.std.proofs.Common.{◌≡◌, ℕ, Some, length, slice_get}
+use Rattle.droid_profile_files.specs.declared.file_lane.FileLane.{FileLane}
+use Rattle.droid_profile_files.proofs.batch.idle_lanes.Given as goal
+
+abbrev pub invariant-loop : goal.invariant-loop
+invariant-loop l = record {
+  counted : length l.lanes.items ≡ l.counter;
+  limits : (j : ℕ) (its : FileLane) → slice_get l.lanes.items j ≡ Some its → its.ends.limit ≡ l.limit;
+}

@@ -1,0 +1,58 @@
+use Rattle.std.proofs.Common.{List, ◌++◌, refl, sym, subst, arith}
+use Rattle.droid_profile_spec.specs.Calls.{Call}
+use Rattle.droid_profile_spec.specs.declared.fault.ProfileFault.TheVariants as faults
+use Rattle.droid_profile_files.specs.BatchFits.{BatchFits}
+use Rattle.droid_profile_files.specs.FilesRead.{ReadsFront, ReadsMore}
+use Rattle.droid_profile_files.specs.declared.batch.Batch.{Batch}
+use Rattle.droid_profile_files.specs.declared.file_row.FileRow.{FileRow}
+use Rattle.droid_profile_files.proofs.AdvanceSteps.{advanced}
+use Rattle.droid_profile_files.proofs.BatchEnds.{always, front, read_on, still_on}
+use Rattle.droid_profile_files.proofs.reader.read_turn.Goals as goal
+
+pub loop-lane-init : goal.loop-lane-init
+loop-lane-init g c = record { fits = c.requires; goes_on = λ first start heard on. on }
+
+pub loop-lane-preserved : goal.loop-lane-preserved
+loop-lane-preserved g c =
+    let registry = c.args.registry.now in
+    let options = c.args.options in
+    let now = c.loop-lane in
+    let begun : Batch = c.begin_file.new.batch in
+    let new : Batch = record begun { lanes = c.read_on.new.lanes; files = c.read_on.new.files } in
+    let step : (first : List FileRow) (calls : List Call) → BatchFits registry options first now.batch calls
+    → ReadsMore g.T.Tree.observes g.W.Watcher.hears registry options first new calls now.tree c.read_on.new.tree now.watcher c.read_on.new.watcher =
+    λ first calls fits. c.in_ok-read_on.ensures.read registry options first calls begun (c.begin_file.ensures registry options first calls (c.in_ok-end_file.ensures first calls fits)) in
+    let before = now.invariant.fits in
+    let more = step before.first before.calls before.fits in
+    record {
+      fits = record { first = before.first; calls = before.calls ++ more.more; fits = more.fits };
+      goes_on = λ first start heard on.
+          read_on g.T.Tree.observes g.W.Watcher.hears registry options first now.batch new start now.tree c.read_on.new.tree heard now.watcher c.read_on.new.watcher (now.invariant.goes_on first start heard on) (step first);
+    }
+
+pub advance-requires : goal.advance-requires
+advance-requires g c = c.loop-lane.invariant.fits.fits.made.eight
+
+pub returns-clause-read : goal.returns-clause-read
+returns-clause-read g c = λ first start heard on.
+    let now = c.loop-lane in
+    let new : Batch = record now.batch { lanes = c.advance.new.lanes; hashes = c.advance.new.hashes } in
+    still_on g.T.Tree.observes g.W.Watcher.hears c.args.registry.now c.args.options first now.batch new start now.tree heard now.watcher (now.invariant.goes_on first start heard on)
+    (λ calls fits. advanced c.args.registry.now c.args.options now.batch new refl refl c.advance.ensures first calls fits)
+
+pub returns-in_err-end_file-clause-ended : goal.returns-in_err-end_file-clause-ended
+returns-in_err-end_file-clause-ended g c = always c.from_residual.result (λ first start heard on.
+    let now = c.loop-lane in
+    front g.T.Tree.observes g.W.Watcher.hears c.args.registry.now c.args.options first now.batch faults.Memory start now.tree now.tree heard now.watcher refl (now.invariant.goes_on first start heard on))
+
+pub returns-in_err-read_on-clause-ended : goal.returns-in_err-read_on-clause-ended
+returns-in_err-read_on-clause-ended g c = always c.from_residual-in_err-read_on.result (λ first start heard on.
+    let now = c.loop-lane in
+    subst (λ (w : g.row.W.Denot). ReadsFront g.T.Tree.observes g.W.Watcher.hears first faults.Memory start c.read_on.new.tree heard w) (sym c.in_err-read_on.ensures.unheard)
+    (front g.T.Tree.observes g.W.Watcher.hears c.args.registry.now c.args.options first now.batch faults.Memory start now.tree c.read_on.new.tree heard now.watcher refl (now.invariant.goes_on first start heard on)))
+
+pub read_on-requires : goal.read_on-requires
+read_on-requires g c =
+    let before = c.loop-lane.invariant.fits in
+    let after = c.begin_file.ensures c.args.registry.now c.args.options before.first before.calls (c.in_ok-end_file.ensures before.first before.calls before.fits) in
+    omega (arith, after.made.eight, c.loop-lane-test.true, c.len-lane-end.ensures, c.requires.fits.made.eight, c.args.batch.now.lanes.ok.0)

@@ -1,0 +1,72 @@
+use Rattle.std.proofs.Common.{◌≡◌, inl, List, ℕ, None, refl, subst}
+use Rattle.std.proofs.lemmas.Result.{IfOk-from_err}
+use Rattle.droid_profile_spec.specs.Kids.{entry_refusal}
+use Rattle.droid_profile_spec.specs.declared.fault.ProfileFault.TheVariants.{Memory}
+use Rattle.droid_profile_rows.specs.StepsTaken.{IsSkipped}
+use Rattle.droid_profile_rows.proofs.ScanSteps.{is_folder, not_taken, takes_file, takes_folder, takes_no_text, takes_skipped}
+use Rattle.droid_profile_rows.proofs.StepsMade.{folder_step}
+use Rattle.droid_profile_rows.proofs.entries.take_entry.Goals as goal
+
+-- ---- something that is skipped
+
+pub returns-in_default-clause-taken : goal.returns-in_default-clause-taken
+returns-in_default-clause-taken g c = λ before next.
+    takes_no_text g.T.Tree.observes c.args.entry before _ c.args.rows.now.items c.args.scan.now next c.args.files.now.items c.args.tree.now c.in_default.ensures refl c.push_left_below.new.rows.items c.in_ok-push_left_below.ensures
+
+pub returns-in-Some-skip_reason-clause-taken : goal.returns-in-Some-skip_reason-clause-taken
+returns-in-Some-skip_reason-clause-taken g c = λ before next.
+    takes_skipped g.T.Tree.observes c.args.entry before _ c.args.rows.now.items c.args.scan.now next c.in-Some-skip_reason.why c.args.files.now.items c.args.tree.now c.in-Some.ensures.1
+    (subst (λ (path : List ℕ). IsSkipped path c.args.entry c.in-Some-skip_reason.why) c.as_str.ensures.value c.in-Some-skip_reason.ensures) refl c.push_left_below-in-Some-skip_reason.new.rows.items c.in_ok-push_left_below-in-Some-skip_reason.ensures
+
+-- ---- a file or a folder
+
+pub returns-in_ok-take_file-in-File-clause-taken :
+    goal.returns-in_ok-take_file-in-File-clause-taken
+returns-in_ok-take_file-in-File-clause-taken g c = λ before next.
+    takes_file g.T.Tree.observes c.args.entry before c.take_file.new.scan c.args.rows.now.items c.args.scan.now next c.in-Some.ensures.1
+    (subst (λ (path : List ℕ). entry_refusal path c.args.entry ≡ None) c.as_str.ensures.value c.in-None.ensures.1)
+    c.take_file.new.rows.items c.args.files.now.items c.take_file.new.files.items c.args.tree.now c.in-File.is c.in_ok-take_file-in-File.ensures.taken
+
+pub returns-in_ok-take_folder-in_default-kind : goal.returns-in_ok-take_folder-in_default-kind
+returns-in_ok-take_folder-in_default-kind g c = record {
+  taken = λ before next.
+      takes_folder g.T.Tree.observes c.args.entry before c.take_folder.new.scan c.args.rows.now.items c.args.scan.now next c.in-Some.ensures.1
+      (subst (λ (path : List ℕ). entry_refusal path c.args.entry ≡ None) c.as_str.ensures.value c.in-None.ensures.1)
+      c.take_folder.new.rows.items c.args.files.now.items c.args.tree.now c.take_folder.new.tree (is_folder c.args.entry c.in-None.ensures.0 c.in_default-kind.not-File) c.in_ok-take_folder-in_default-kind.ensures.taken;
+  step = folder_step g.T.Tree.observes c.args.entry c.args.scan.now c.take_folder.new.scan c.args.rows.now.items c.take_folder.new.rows.items c.args.tree.now c.take_folder.new.tree c.in_ok-take_folder-in_default-kind.ensures.taken;
+  ended = tt;
+}
+
+-- ---- early ends
+
+pub returns-in_err-push_left_below-clause-ended : goal.returns-in_err-push_left_below-clause-ended
+returns-in_err-push_left_below-clause-ended g c =
+    not_taken g.T.Tree.observes c.args.entry c.args.scan.now c.args.rows.now.items c.args.files.now.items c.args.tree.now c.args.tree.now c.from_residual.result Memory c.from_residual.ensures.1 (inl refl) (inl refl)
+
+pub returns-in_err-push_left_below-in-Some-skip_reason-clause-ended :
+    goal.returns-in_err-push_left_below-in-Some-skip_reason-clause-ended
+returns-in_err-push_left_below-in-Some-skip_reason-clause-ended g c =
+    not_taken g.T.Tree.observes c.args.entry c.args.scan.now c.args.rows.now.items c.args.files.now.items c.args.tree.now c.args.tree.now
+    c.from_residual-in_err-push_left_below-in-Some-skip_reason.result Memory c.from_residual-in_err-push_left_below-in-Some-skip_reason.ensures.1 (inl refl) (inl refl)
+
+pub returns-in_err-path-clause-ended : goal.returns-in_err-path-clause-ended
+returns-in_err-path-clause-ended g c =
+    not_taken g.T.Tree.observes c.args.entry c.args.scan.now c.args.rows.now.items c.args.files.now.items c.args.tree.now c.args.tree.now c.from_residual-in_err-path.result Memory c.from_residual-in_err-path.ensures.1 (inl refl) (inl refl)
+
+pub returns-in_err-name-clause-ended : goal.returns-in_err-name-clause-ended
+returns-in_err-name-clause-ended g c =
+    not_taken g.T.Tree.observes c.args.entry c.args.scan.now c.args.rows.now.items c.args.files.now.items c.args.tree.now c.args.tree.now c.from_residual-in_err-name.result Memory c.from_residual-in_err-name.ensures.1 (inl refl) (inl refl)
+
+pub returns-in_err-take_file-in-File-clause-ended :
+    goal.returns-in_err-take_file-in-File-clause-ended
+returns-in_err-take_file-in-File-clause-ended g c =
+    not_taken g.T.Tree.observes c.args.entry c.args.scan.now c.args.rows.now.items c.args.files.now.items c.args.tree.now c.args.tree.now
+    c.from_residual-in_err-take_file-in-File.result _ c.from_residual-in_err-take_file-in-File.ensures.1 c.in_err-take_file-in-File.ensures.ended (inl refl)
+
+pub returns-in_err-take_folder-in_default-kind : goal.returns-in_err-take_folder-in_default-kind
+returns-in_err-take_folder-in_default-kind g c = record {
+  taken = IfOk-from_err c.from_residual-in_err-take_folder-in_default-kind.result _ c.from_residual-in_err-take_folder-in_default-kind.ensures.0;
+  step = IfOk-from_err c.from_residual-in_err-take_folder-in_default-kind.result _ c.from_residual-in_err-take_folder-in_default-kind.ensures.0;
+  ended = not_taken g.T.Tree.observes c.args.entry c.args.scan.now c.args.rows.now.items c.args.files.now.items c.args.tree.now c.take_folder.new.tree
+      c.from_residual-in_err-take_folder-in_default-kind.result _ c.from_residual-in_err-take_folder-in_default-kind.ensures.1 c.in_err-take_folder-in_default-kind.ensures.ended c.in_err-take_folder-in_default-kind.ensures.stands;
+}

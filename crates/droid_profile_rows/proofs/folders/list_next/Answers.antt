@@ -1,0 +1,21 @@
+use Rattle.std.proofs.Common.{inl, inr, List, refl, sym}
+use Rattle.droid_profile_files.specs.declared.file_row.FileRow.{FileRow}
+use Rattle.droid_profile_rows.specs.ScanFits.{EndsTaking}
+use Rattle.droid_profile_rows.specs.declared.scan.Scan.{Scan}
+use Rattle.droid_profile_rows.proofs.Runs.{ends_now, handed_on, takes_same}
+use Rattle.droid_profile_rows.proofs.ScanSteps.{takes_listing}
+use Rattle.droid_profile_rows.proofs.folders.list_next.Goals as goal
+
+pub returns-in_default-clause-taken : goal.returns-in_default-clause-taken
+returns-in_default-clause-taken g c = λ files. takes_same g.T.Tree.observes c.args.scan.now _ c.args.rows.now.items files c.args.tree.now (record { entries = refl; waiting = sym c.in_default.ensures.items; folder = refl; number = refl })
+
+pub returns-in_err-list_folder-clause-ended : goal.returns-in_err-list_folder-clause-ended
+returns-in_err-list_folder-clause-ended g c =
+    handed_on (λ its. (files : List FileRow) → EndsTaking g.T.Tree.observes its c.args.scan.now c.args.rows.now.items files c.args.tree.now c.list_folder.new.tree) c.from_residual.result _ c.from_residual.ensures.1
+    (λ files. ends_now g.T.Tree.observes _ c.args.scan.now c.args.rows.now.items files c.args.tree.now c.list_folder.new.tree (inl c.in_err-list_folder.ensures.ended) (inr c.in_err-list_folder.ensures.ended))
+
+pub returns-clause-taken : goal.returns-clause-taken
+returns-clause-taken g c = λ files.
+    let popped : Scan = record { waiting = c.pop_front.new.self; folder = c.args.scan.now.folder; entries = c.args.scan.now.entries; number = c.args.scan.now.number } in
+    takes_listing g.T.Tree.observes c.in-Some.folder c.args.scan.now popped c.list_folder.new.scan _ c.args.rows.now.items c.list_folder.new.rows.items files c.args.tree.now c.list_folder.new.tree
+    c.requires c.in-Some.ensures.items refl c.in_ok-list_folder.ensures.listed refl

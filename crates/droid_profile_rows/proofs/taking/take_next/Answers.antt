@@ -1,0 +1,32 @@
+use Rattle.std.proofs.Common.{◌≡◌, List, [], ◌++◌, append-nil, refl, sym, ◌∙◌}
+use Rattle.droid_profile_rows.specs.ScanFits.{EndsTaking}
+use Rattle.droid_profile_rows.specs.declared.scan.Scan.{Scan}
+use Rattle.droid_profile_rows.proofs.Runs.{ends_then, handed_on, takes_same, takes_then}
+use Rattle.droid_profile_rows.proofs.taking.take_next.Goals as goal
+
+-- of a list from which nothing was taken all is left
+left_none : {A : Type 0} {xs left : List A} → xs ≡ left ++ [] → left ≡ xs
+left_none {left = left} is = sym (is ∙ append-nil left)
+
+pub returns-in_ok-take_entry-in-Some-clause-taken : goal.returns-in_ok-take_entry-in-Some-clause-taken
+returns-in_ok-take_entry-in-Some-clause-taken g c = c.in_ok-take_entry-in-Some.ensures.taken c.args.scan.now (record { same = refl; entries = c.in-Some.ensures.items })
+
+pub returns-in_err-take_entry-in-Some-clause-ended : goal.returns-in_err-take_entry-in-Some-clause-ended
+returns-in_err-take_entry-in-Some-clause-ended g c =
+    handed_on (λ its. EndsTaking g.T.Tree.observes its c.args.scan.now c.args.rows.now.items c.args.files.now.items c.args.tree.now c.take_entry.new.tree) c.from_residual.result _ c.from_residual.ensures.1
+    (c.in_err-take_entry-in-Some.ensures.ended c.args.scan.now (record { same = refl; entries = c.in-Some.ensures.items }))
+
+pub returns-in_ok-more-in-None-clause-taken : goal.returns-in_ok-more-in-None-clause-taken
+returns-in_ok-more-in-None-clause-taken g c =
+    let scan : Scan = record { waiting = c.args.scan.now.waiting; folder = c.args.scan.now.folder; entries = c.pop.new.self; number = c.args.scan.now.number } in
+    let same = takes_same g.T.Tree.observes c.args.scan.now scan c.args.rows.now.items c.args.files.now.items c.args.tree.now (record { entries = left_none c.in-None.ensures.items; waiting = refl; folder = refl; number = refl }) in
+    takes_then g.T.Tree.observes c.args.scan.now scan c.args.rows.now.items c.args.rows.now.items c.args.files.now.items c.args.files.now.items c.args.tree.now c.args.tree.now c.list_next.new.tree same
+    c.list_next.new.scan c.list_next.new.rows.items c.args.files.now.items (c.in_ok-more-in-None.ensures.taken c.args.files.now.items)
+
+pub returns-in_err-more-in-None-clause-ended : goal.returns-in_err-more-in-None-clause-ended
+returns-in_err-more-in-None-clause-ended g c =
+    let scan : Scan = record { waiting = c.args.scan.now.waiting; folder = c.args.scan.now.folder; entries = c.pop.new.self; number = c.args.scan.now.number } in
+    let same = takes_same g.T.Tree.observes c.args.scan.now scan c.args.rows.now.items c.args.files.now.items c.args.tree.now (record { entries = left_none c.in-None.ensures.items; waiting = refl; folder = refl; number = refl }) in
+    handed_on (λ its. EndsTaking g.T.Tree.observes its c.args.scan.now c.args.rows.now.items c.args.files.now.items c.args.tree.now c.list_next.new.tree) c.from_residual-in_err-more-in-None.result _ c.from_residual-in_err-more-in-None.ensures.1
+    (ends_then g.T.Tree.observes c.args.scan.now scan c.args.rows.now.items c.args.rows.now.items c.args.files.now.items c.args.files.now.items c.args.tree.now c.args.tree.now c.list_next.new.tree same _
+    (c.in_err-more-in-None.ensures.ended c.args.files.now.items))

@@ -1,0 +1,4 @@
+pub mod RowsPushed
+pub mod RowsTaken
+pub mod ScanFits
+pub mod StepsTaken

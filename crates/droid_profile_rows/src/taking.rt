@@ -1,0 +1,65 @@
+//! Takes entries of a tree in order, folder by folder.
+
+ghost use Rattle.std.specs.Prelude.{◌≡◌, ◌⊎◌, ◌<◌, [], false, true, IfErr, IfOk, OnOk, length};
+ghost use Rattle.droid_profile_rows.specs.ScanFits.{EndsTaking, Takes};
+ghost use Rattle.droid_profile_rows.specs.StepsTaken.{MakesSteps};
+
+use crate::entries::take_entry;
+use crate::folders::list_next;
+use crate::row::Row;
+use crate::scan::Scan;
+use droid_profile_files::FileRow;
+use droid_profile_spec::ProfileFault;
+use droid_tree::Tree;
+use std::alloc::Global;
+
+/// How many entries and folders are taken for one batch.
+const TAKEN: usize = 1_024;
+
+/// Takes the next entries of a tree. Returns whether something is left.
+pub fn take_rows<T: Tree>(
+    alloc: Global,
+    tree: &mut T,
+    scan: &mut Scan,
+    rows: &mut Vec<Row>,
+    files: &mut Vec<FileRow>,
+) -> Result<bool, ProfileFault>
+    ensures taken { OnOk result (Takes T.observes scan.old scan.new rows.old.items rows.new.items files.old.items files.new.items tree.old tree.new) }
+    ensures all { IfOk result (λ more. more ≡ false → (scan.new.entries.items ≡ []) × (scan.new.waiting.items ≡ [])) }
+    // If something is left, something was taken.
+    ensures progress { IfOk result (λ more. more ≡ true → (length rows.old.items < length rows.new.items) ⊎ (length scan.new.waiting.items < length scan.old.waiting.items)) }
+    ensures ended { IfErr result (λ fault. EndsTaking T.observes fault scan.old rows.old.items files.old.items tree.old tree.new) }
+{
+    for _ in 0..TAKEN {
+        let more = take_next(alloc, tree, scan, rows, files)?;
+        if !more {
+            return Ok(false);
+        }
+    }
+    Ok(true)
+}
+
+/// Takes the next entry, or lists the next folder. Returns whether there was one.
+fn take_next<T: Tree>(
+    alloc: Global,
+    tree: &mut T,
+    scan: &mut Scan,
+    rows: &mut Vec<Row>,
+    files: &mut Vec<FileRow>,
+) -> Result<bool, ProfileFault>
+    ensures taken { OnOk result (Takes T.observes scan.old scan.new rows.old.items rows.new.items files.old.items files.new.items tree.old tree.new) }
+    ensures all { IfOk result (λ more. more ≡ false → (scan.new.entries.items ≡ []) × (scan.new.waiting.items ≡ [])) }
+    ensures step { IfOk result (λ more. more ≡ true → MakesSteps 1 scan.old scan.new rows.old.items rows.new.items) }
+    ensures ended { IfErr result (λ fault. EndsTaking T.observes fault scan.old rows.old.items files.old.items tree.old tree.new) }
+{
+    match scan.entries.pop() {
+        Some(entry) => {
+            take_entry(alloc, tree, scan, rows, files, entry)?;
+            Ok(true)
+        }
+        None => {
+            let more = list_next(alloc, tree, scan, rows)?;
+            Ok(more)
+        }
+    }
+}

@@ -1,0 +1,5 @@
+pub mod NodePaths
+pub mod ShownEntries
+pub mod ShownTree
+pub mod SomeNodes
+pub mod VisitSteps

@@ -1,0 +1,60 @@
+-- What stands after the profiling of a tree that ended early (this project's own).
+use Rattle.std.specs.Prelude.{◌≡◌, ◌⊎◌, List, [], ◌∷◌, ◌++◌, length, map, filter}
+use Rattle.std.specs.List.{flat_map}
+use Rattle.droid_frame.specs.types.record.Record.{Record}
+use Rattle.droid_pronom.specs.Registry.{Contents}
+use Rattle.droid_tree.specs.Heard.{Heard}
+use Rattle.droid_tree.specs.Observation.{Observation, GoesOver}
+use Rattle.droid_tree.specs.Paths.{top}
+use Rattle.droid_tree.specs.declared.folder_entry.FolderEntry.{FolderEntry}
+use Rattle.droid_tree.specs.declared.pending_folder.PendingFolder.{PendingFolder}
+use Rattle.droid_profile_spec.specs.Calls.{Call, heard_of_calls, observation_of}
+use Rattle.droid_profile_spec.specs.ProfileRecords.{records_of}
+use Rattle.droid_profile_spec.specs.Profiles.{AreCallsOf, is_of_bytes, is_of_entry}
+use Rattle.droid_profile_spec.specs.Visits.{Visit, Follow, InTurn, IsBegun, IsVisit, heard_of_visit, numbers_of}
+use Rattle.droid_profile_spec.specs.declared.fault.ProfileFault.{ProfileFault}
+use Rattle.droid_profile_spec.specs.declared.fault.ProfileFault.TheVariants as faults
+use Rattle.droid_profile_spec.specs.declared.options.Options.{Options}
+use Rattle.droid_profile_spec.specs.declared.recipient.RecipientFault.{RecipientFault}
+
+-- the first of these items
+pub record AreFirst {A : Type 0} (first all : List A) : Type 0 where
+  pub rest : List A
+  pub are : all ≡ first ++ rest
+
+-- of each visit something came of each entry, but of the last one some entries may be left
+abbrev pub AreBegun : List Visit → Type 0
+AreBegun [] = Unit {0}
+AreBegun (visit ∷ []) = (rest : List FolderEntry) × IsBegun rest visit
+AreBegun (visit ∷ (next ∷ visits)) = IsVisit visit × AreBegun (next ∷ visits)
+
+-- the tree stands where the calls led; if memory ran out, nothing is said of the tree's own state
+abbrev pub TreeStands : {T : Type 0} → ProfileFault → T → T → Type 0
+TreeStands fault reached tree = (tree ≡ reached) ⊎ (fault ≡ faults.Memory)
+
+-- The recipient took the first of these records, and no more; or it failed at the next one, which is the fault.
+pub data TakesFirst {R : Type 0} (takes : R → Record → R → Type 0) (fails : R → Record → RecipientFault → R → Type 0) (fault : ProfileFault) (records : List Record) (old new : R) : Type 0 where
+  Took : (taken : List Record) → AreFirst taken records → GoesOver takes old taken new → ((why : RecipientFault) → ¬ (fault ≡ faults.Recipient why)) → TakesFirst takes fails fault records old new
+  Failed : (taken : List Record) (next : Record) (reached : R) (why : RecipientFault) → AreFirst (taken ++ next ∷ []) records → GoesOver takes old taken reached → fails reached next why new → fault ≡ faults.Recipient why → TakesFirst takes fails fault records old new
+
+-- The profiling ended with this fault: the same calls and reports in the same order as without it, up to some entry. Of
+-- the files that were being read only the first reads are there. The last number was given if the fault is that
+-- numbers end.
+pub record EndsEarly {T W R : Type 0} (observes : T → Observation → T → Type 0) (hears : W → Heard → W → Type 0) (takes : R → Record → R → Type 0) (fails : R → Record → RecipientFault → R → Type 0) (registry : Contents) (options : Options) (fault : ProfileFault)
+    (tree tree_after : T) (watcher watcher_after : W) (recipient recipient_after : R) : Type 0 where
+  pub visits : List Visit
+  pub waiting : List PendingFolder
+  pub in_turn : InTurn (top ∷ []) visits waiting
+  pub begun : AreBegun visits
+  pub numbered : Follow 0 (flat_map numbers_of visits)
+  pub calls : List Call
+  pub are_calls : AreCallsOf visits calls
+  pub reached : T
+  pub observed : GoesOver observes tree (map observation_of calls) reached
+  pub stands : TreeStands fault reached tree_after
+  pub heard : List Heard
+  pub entries : AreFirst (filter is_of_entry heard) (flat_map (heard_of_visit registry options) visits)
+  pub bytes : filter is_of_bytes heard ≡ heard_of_calls calls
+  pub informed : GoesOver hears watcher heard watcher_after
+  pub taken : TakesFirst takes fails fault (records_of registry options visits) recipient recipient_after
+  pub all_numbers : fault ≡ faults.Numbers → length (flat_map numbers_of visits) ≡ 4294967295

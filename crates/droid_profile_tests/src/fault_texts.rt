@@ -1,0 +1,57 @@
+//! The texts of the errors of trees, walks and profiles.
+
+use droid_frame::WriteFault;
+use droid_profile_csv::CsvFault;
+use droid_tree::{TreeFault, WalkFault};
+use std::alloc::Global;
+use std::fmt::Display;
+use std::process::Abort;
+use std::test::Fail;
+
+const TREE_FAULTS: [(TreeFault, &str); 3] = [
+    (TreeFault::Memory, "out of memory"),
+    (TreeFault::Unreadable, "it could not be read"),
+    (TreeFault::Changed, "it is not the file that was listed"),
+];
+
+const WALK_FAULTS: [(WalkFault, &str); 7] = [
+    (WalkFault::Memory, "out of memory"),
+    (WalkFault::Exchange, "no reply came"),
+    (WalkFault::Reply, "a reply was not to the request"),
+    (WalkFault::TooLong, "a request is too long"),
+    (WalkFault::Folders, "there are too many folders"),
+    (WalkFault::Entries, "there are too many folders and files"),
+    (WalkFault::Bytes, "the files are too long together"),
+];
+
+const CSV_FAULTS: [(CsvFault, &str); 4] = [
+    (CsvFault::Memory, "out of memory"),
+    (CsvFault::Numbers, "there are too many folders and files"),
+    (
+        CsvFault::Csv(WriteFault { written: 7 }),
+        "the CSV could not be written",
+    ),
+    (
+        CsvFault::Manifest(WriteFault { written: 7 }),
+        "the list of checksums could not be written",
+    ),
+];
+
+/// Returns whether the value prints as this text.
+fn says<T: Display>(alloc: Global, value: &T, text: &str) -> Result<bool, Fail> {
+    Ok(format!(in alloc; "{value}")?.as_str() == text)
+}
+
+fn each_says<T: Display>(rt: &impl Abort, alloc: Global, rows: &[(T, &str)]) -> Result<(), Fail> {
+    for (value, text) in rows {
+        assert!(rt; says(alloc, value, text)?, "{text}");
+    }
+    Ok(())
+}
+
+#[test]
+fn texts(rt: HostRuntime) -> Result<(), Fail> {
+    each_says(&rt, rt.alloc(), &TREE_FAULTS)?;
+    each_says(&rt, rt.alloc(), &WALK_FAULTS)?;
+    each_says(&rt, rt.alloc(), &CSV_FAULTS)
+}

@@ -1,5 +1,0 @@
-pub mod Entries
-pub mod Full
-pub mod Sending
-pub mod Taking
-pub mod Visiting

@@ -1,4 +1,0 @@
-pub mod Asked
-pub mod Steps
-pub mod Visits
-pub mod Walks
