@@ -1,7 +1,7 @@
 //! Lists of checksums of odd names, as `md5sum` and `sha256sum` of GNU coreutils 9.1 print them in such a folder.
 
 use crate::memory_tree::Row;
-use crate::written::{memory, written};
+use crate::written::{Written, list_of, to_memory, write_tree};
 use droid_frame::HashKind;
 use droid_pronom::Registry;
 use droid_pronom_sample::SAMPLE;
@@ -68,12 +68,15 @@ fn odd_names(rt: HostRuntime) -> Result<(), Fail> {
         (HashKind::Sha256, SHA256),
         (HashKind::Nothing, ""),
     ] {
-        let csv = memory(alloc);
-        let got = written(alloc, &registry, &ROWS, hash, csv, Some(memory(alloc)));
-        assert!(rt; got.ended == Ok(true));
-        let Some(list) = got.manifest else {
-            return Err(Fail::from("no list"));
-        };
+        let csv = to_memory(alloc);
+        let got = write_tree(alloc, &registry, &ROWS, hash, csv, Some(to_memory(alloc)));
+        let Written {
+            ended,
+            manifest,
+            ..
+        } = got;
+        let list = list_of(manifest)?;
+        assert!(rt; ended == Ok(true));
         assert!(rt; list.stream.as_slice() == text.as_bytes());
     }
     Ok(())

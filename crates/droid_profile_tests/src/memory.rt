@@ -1,7 +1,7 @@
 //! A profile while memory runs out.
 
 use crate::profiles::{LIST, ROWS, TEXT};
-use crate::written::{Memory, Written, memory, written};
+use crate::written::{Memory, Written, to_memory, write_tree};
 use droid_frame::HashKind;
 use droid_profile_csv::CsvFault;
 use droid_pronom::Registry;
@@ -32,8 +32,15 @@ fn each_allocation(rt: HostRuntime) -> Result<(), Fail> {
 }
 
 fn profile_of_all(alloc: Global, registry: &Registry) -> Written<Memory, Memory> {
-    let list = Some(memory(alloc));
-    written(alloc, registry, &ROWS, HashKind::Md5, memory(alloc), list)
+    let list = Some(to_memory(alloc));
+    write_tree(
+        alloc,
+        registry,
+        &ROWS,
+        HashKind::Md5,
+        to_memory(alloc),
+        list,
+    )
 }
 
 /// Returns whether what was written is as the result says: all, whole rows and lines of the first records, or first bytes.

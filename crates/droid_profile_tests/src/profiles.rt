@@ -1,7 +1,7 @@
 //! The profile of a small tree, as CSV. (The digests are those of RFC 1321's test suite.)
 
 use crate::memory_tree::Row;
-use crate::written::{Memory, memory, written};
+use crate::written::{Memory, Written, list_of, to_memory, write_tree};
 use droid_frame::HashKind;
 use droid_pronom::Registry;
 use droid_pronom_sample::SAMPLE;
@@ -38,23 +38,22 @@ f96b697d7cb7938d525a2f31aaf161d0  d/digest.msg\n";
 fn small_tree(rt: HostRuntime) -> Result<(), Fail> {
     let alloc = rt.alloc();
     let registry = Registry::parse(alloc, SAMPLE.as_bytes())?;
-    let got = written(
-        alloc,
-        &registry,
-        &ROWS,
-        HashKind::Md5,
-        memory(alloc),
-        Some(memory(alloc)),
-    );
-    assert!(rt; got.ended == Ok(true));
-    assert!(rt; got.csv.stream.as_slice() == TEXT.as_bytes());
-    let Some(list) = got.manifest else {
-        return Err(Fail::from("no list"));
-    };
+    let csv = to_memory(alloc);
+    let list = Some(to_memory(alloc));
+    let got = write_tree(alloc, &registry, &ROWS, HashKind::Md5, csv, list);
+    let Written {
+        ended,
+        watcher,
+        csv,
+        manifest,
+    } = got;
+    let list = list_of(manifest)?;
+    assert!(rt; ended == Ok(true));
+    assert!(rt; csv.stream.as_slice() == TEXT.as_bytes());
     assert!(rt; list.stream.as_slice() == LIST.as_bytes());
-    assert!(rt; got.watcher.files == 3);
-    assert!(rt; got.watcher.folders == 1);
-    assert!(rt; got.watcher.bytes == 15);
+    assert!(rt; watcher.files == 3);
+    assert!(rt; watcher.folders == 1);
+    assert!(rt; watcher.bytes == 15);
     Ok(())
 }
 
@@ -68,12 +67,12 @@ fn a_skipped_file(rt: HostRuntime) -> Result<(), Fail> {
         ("", b"a", EntryKind::File, 1, Some(b"a")),
     ];
     let none: Option<Memory> = None;
-    let got = written(
+    let got = write_tree(
         alloc,
         &registry,
         &rows,
         HashKind::Nothing,
-        memory(alloc),
+        to_memory(alloc),
         none,
     );
     let text =

@@ -2,7 +2,7 @@
 
 use crate::memory_tree::Row;
 use crate::profiles::{LIST, ROWS, TEXT};
-use crate::written::{Memory, memory, written};
+use crate::written::{Memory, Written, list_of, to_memory, write_tree};
 use droid_frame::{HashKind, Noted, WriteFault};
 use droid_frame_shaky::{STEADY, ShakyWriter, Stop};
 use droid_profile_csv::CsvFault;
@@ -29,19 +29,23 @@ fn csv_stops_after_each_byte(rt: HostRuntime) -> Result<(), Fail> {
             Stop::Ends
         };
         let csv = stopping(alloc, room, stop);
-        let list = Some(memory(alloc));
-        let got = written(alloc, &registry, &ROWS, HashKind::Md5, csv, list);
+        let list = Some(to_memory(alloc));
+        let got = write_tree(alloc, &registry, &ROWS, HashKind::Md5, csv, list);
+        let Written {
+            ended,
+            csv,
+            manifest,
+            ..
+        } = got;
+        let list = list_of(manifest)?;
         assert!(rt;
-            got.ended == Err(CsvFault::Csv(WriteFault { written: room })),
+            ended == Err(CsvFault::Csv(WriteFault { written: room })),
             "{room}"
         );
         assert!(rt;
-            Some(got.csv.stream.taken()) == TEXT.as_bytes().get(..room),
+            Some(csv.stream.taken()) == TEXT.as_bytes().get(..room),
             "{room}"
         );
-        let Some(list) = got.manifest else {
-            return Err(Fail::from("no list"));
-        };
         assert!(rt; list.stream.is_empty());
     }
     Ok(())
@@ -53,16 +57,21 @@ fn list_stops_after_each_byte(rt: HostRuntime) -> Result<(), Fail> {
     let alloc = rt.alloc();
     let registry = Registry::parse(alloc, SAMPLE.as_bytes())?;
     for room in 0..LIST.len() {
+        let csv = to_memory(alloc);
         let list = Some(stopping(alloc, room, Stop::Fails));
-        let got = written(alloc, &registry, &ROWS, HashKind::Md5, memory(alloc), list);
+        let got = write_tree(alloc, &registry, &ROWS, HashKind::Md5, csv, list);
+        let Written {
+            ended,
+            csv,
+            manifest,
+            ..
+        } = got;
+        let list = list_of(manifest)?;
         assert!(rt;
-            got.ended == Err(CsvFault::Manifest(WriteFault { written: room })),
+            ended == Err(CsvFault::Manifest(WriteFault { written: room })),
             "{room}"
         );
-        assert!(rt; got.csv.stream.as_slice() == TEXT.as_bytes());
-        let Some(list) = got.manifest else {
-            return Err(Fail::from("no list"));
-        };
+        assert!(rt; csv.stream.as_slice() == TEXT.as_bytes());
         assert!(rt;
             Some(list.stream.taken()) == LIST.as_bytes().get(..room),
             "{room}"
@@ -74,10 +83,7 @@ fn list_stops_after_each_byte(rt: HostRuntime) -> Result<(), Fail> {
 /// A name of 250 bytes.
 const LONG: &[u8; 250] = &[b'x'; 250];
 
-/// How many files the folder has.
-const MANY: usize = 300;
-
-/// A folder of files with long names: more rows and lines than are pending at a time.
+/// A folder of 300 files with long names: more rows and lines than are pending at a time.
 fn many_files<'a>(alloc: Global, names: &'a [Vec<u8>]) -> Result<Vec<Row<'a>>, Fail> {
     let mut rows = Vec::new(alloc);
     for name in names {
@@ -89,7 +95,7 @@ fn many_files<'a>(alloc: Global, names: &'a [Vec<u8>]) -> Result<Vec<Row<'a>>, F
 
 fn names(alloc: Global) -> Result<Vec<Vec<u8>>, Fail> {
     let mut names = Vec::new(alloc);
-    for number in 100..100 + MANY {
+    for number in 100..400_usize {
         let mut name = Vec::new(alloc);
         name.extend_from_slice(LONG)?;
         name.push(b'0' + (number / 100 % 10) as u8)?;
@@ -100,50 +106,82 @@ fn names(alloc: Global) -> Result<Vec<Vec<u8>>, Fail> {
     Ok(names)
 }
 
-/// Writers that stop when the walk hasn't come to its end.
-#[test]
-fn stops_in_the_walk(rt: HostRuntime) -> Result<(), Fail> {
-    let alloc = rt.alloc();
-    let registry = Registry::parse(alloc, SAMPLE.as_bytes())?;
+/// Returns the CSV and the list of a folder with many files.
+fn texts_of_many(alloc: Global, registry: &Registry) -> Result<(Vec<u8>, Vec<u8>), Fail> {
     let names = names(alloc)?;
     let rows = many_files(alloc, names.as_slice())?;
-    let rows = rows.as_slice();
-    let whole = written(
-        alloc,
-        &registry,
-        rows,
-        HashKind::Md5,
-        memory(alloc),
-        Some(memory(alloc)),
-    );
-    assert!(rt; whole.ended == Ok(true));
-    let Some(list) = whole.manifest else {
-        return Err(Fail::from("no list"));
-    };
-    let text = whole.csv.stream.as_slice();
-    let lines = list.stream.as_slice();
-    assert!(rt; lines.len() == MANY * 288);
-    assert!(rt; lines.iter().filter(|byte| **byte == b'\n').count() == MANY);
-    assert!(rt; text.iter().filter(|byte| **byte == b'\n').count() == MANY + 1);
+    let csv = to_memory(alloc);
+    let list = Some(to_memory(alloc));
+    let got = write_tree(alloc, registry, rows.as_slice(), HashKind::Md5, csv, list);
+    let Written { csv, manifest, .. } = got;
+    let list = list_of(manifest)?;
+    let Noted { stream: text, .. } = csv;
+    let Noted { stream: lines, .. } = list;
+    Ok((text, lines))
+}
 
-    let none: Option<Memory> = None;
+fn line_feeds(text: &[u8]) -> usize {
+    text.iter().filter(|byte| **byte == b'\n').count()
+}
+
+#[test]
+fn many_rows_and_lines(rt: HostRuntime) -> Result<(), Fail> {
+    let alloc = rt.alloc();
+    let registry = Registry::parse(alloc, SAMPLE.as_bytes())?;
+    let (text, lines) = texts_of_many(alloc, &registry)?;
+    assert!(rt; lines.len() == 300 * 288);
+    assert!(rt; line_feeds(lines.as_slice()) == 300);
+    assert!(rt; line_feeds(text.as_slice()) == 301);
+    Ok(())
+}
+
+/// The CSV's writer stops when the walk hasn't come to its end.
+#[test]
+fn csv_stops_in_the_walk(rt: HostRuntime) -> Result<(), Fail> {
+    let alloc = rt.alloc();
+    let registry = Registry::parse(alloc, SAMPLE.as_bytes())?;
+    let (text, _) = texts_of_many(alloc, &registry)?;
+    let names = names(alloc)?;
+    let rows = many_files(alloc, names.as_slice())?;
     let csv = stopping(alloc, 65_000, Stop::Fails);
-    let got = written(alloc, &registry, rows, HashKind::Md5, csv, none);
-    assert!(rt; got.ended == Err(CsvFault::Csv(WriteFault { written: 65_000 })));
-    assert!(rt; Some(got.csv.stream.taken()) == text.get(..65_000));
-    assert!(rt; got.watcher.files < 100);
+    let none: Option<Memory> = None;
+    let got = write_tree(alloc, &registry, rows.as_slice(), HashKind::Md5, csv, none);
+    let Written {
+        ended,
+        csv,
+        watcher,
+        ..
+    } = got;
+    assert!(rt; ended == Err(CsvFault::Csv(WriteFault { written: 65_000 })));
+    assert!(rt; Some(csv.stream.taken()) == text.as_slice().get(..65_000));
+    assert!(rt; watcher.files < 100);
+    Ok(())
+}
 
+/// The list's writer stops when the walk hasn't come to its end. The CSV ends with a whole row.
+#[test]
+fn list_stops_in_the_walk(rt: HostRuntime) -> Result<(), Fail> {
+    let alloc = rt.alloc();
+    let registry = Registry::parse(alloc, SAMPLE.as_bytes())?;
+    let (text, lines) = texts_of_many(alloc, &registry)?;
+    let names = names(alloc)?;
+    let rows = many_files(alloc, names.as_slice())?;
+    let csv = to_memory(alloc);
     let list = Some(stopping(alloc, 65_000, Stop::Ends));
-    let got = written(alloc, &registry, rows, HashKind::Md5, memory(alloc), list);
-    assert!(rt; got.ended == Err(CsvFault::Manifest(WriteFault { written: 65_000 })));
-    let Some(list) = got.manifest else {
-        return Err(Fail::from("no list"));
-    };
-    assert!(rt; Some(list.stream.taken()) == lines.get(..65_000));
-    let front = got.csv.stream.as_slice();
-    assert!(rt; text.starts_with(front));
-    assert!(rt; front.ends_with(b"\n"));
+    let got = write_tree(alloc, &registry, rows.as_slice(), HashKind::Md5, csv, list);
+    let Written {
+        ended,
+        csv,
+        manifest,
+        watcher,
+    } = got;
+    let list = list_of(manifest)?;
+    let Noted { stream: front, .. } = csv;
+    assert!(rt; ended == Err(CsvFault::Manifest(WriteFault { written: 65_000 })));
+    assert!(rt; Some(list.stream.taken()) == lines.as_slice().get(..65_000));
+    assert!(rt; text.as_slice().starts_with(front.as_slice()));
+    assert!(rt; front.as_slice().ends_with(b"\n"));
     assert!(rt; front.len() > 65_536);
-    assert!(rt; got.watcher.files < 300);
+    assert!(rt; watcher.files < 300);
     Ok(())
 }

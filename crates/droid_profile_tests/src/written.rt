@@ -6,6 +6,7 @@ use droid_frame::{HashKind, Noted, SteadyWrite};
 use droid_profile_csv::{CsvFault, CsvRecipient, Options, Profiler, write_profile};
 use droid_pronom::Registry;
 use std::alloc::Global;
+use std::test::Fail;
 
 /// What came of the writing of a profile.
 #[derive(Drop)]
@@ -17,7 +18,7 @@ pub struct Written<O, M> {
 }
 
 /// Writes the profile of such a tree.
-pub fn written<O: SteadyWrite, M: SteadyWrite>(
+pub fn write_tree<O: SteadyWrite, M: SteadyWrite>(
     alloc: Global,
     registry: &Registry,
     rows: &[Row],
@@ -54,6 +55,13 @@ pub fn written<O: SteadyWrite, M: SteadyWrite>(
 /// A writer to memory.
 pub type Memory = Noted<Vec<u8>>;
 
-pub fn memory(alloc: Global) -> Memory {
+pub fn to_memory(alloc: Global) -> Memory {
     Noted::new(Vec::new(alloc))
+}
+
+pub fn list_of<M>(manifest: Option<M>) -> Result<M, Fail> {
+    match manifest {
+        Some(list) => Ok(list),
+        None => Err(Fail::from("no list")),
+    }
 }
