@@ -1,9 +1,11 @@
 //! Reads the command line, runs the command that it asks for, and returns the exit status.
 
 use droid_desk_arguments::{
-    Asked, NoCommand, ProfileOptions, RegistrySource, SubmitOptions, unread_words, what_is_asked,
+    Asked, ConversionOptions, NoCommand, ProfileOptions, RegistrySource, SubmitOptions,
+    unread_words, what_is_asked,
 };
 use droid_desk_folders::{profile_folder, submit_folder};
+use droid_desk_registry::registry_command;
 use droid_desk_service::{
     Ended, run_command, script_command, send_command, serve_command, service_for,
 };
@@ -31,6 +33,7 @@ fn fulfil(rt: &HostRuntime, asked: Asked<'_>, on_terminal: bool) -> ExitCode {
     match asked {
         Asked::Profile(options) => profile(rt, options, on_terminal),
         Asked::Submit(options) => submit(rt, options, on_terminal),
+        Asked::Registry(options) => registry(rt, options),
         Asked::Script { registry } => end(rt, &script_command(rt, registry)),
         Asked::Run { registry } => end(rt, &run_command(rt, registry)),
         Asked::Serve {
@@ -66,6 +69,12 @@ fn profile(rt: &HostRuntime, options: ProfileOptions<'_>, on_terminal: bool) -> 
 
 fn submit(rt: &HostRuntime, options: SubmitOptions<'_>, on_terminal: bool) -> ExitCode {
     let ending = submit_folder(rt, options, on_terminal);
+    let _ = ending.print(rt, options);
+    ExitCode::from(ending.status())
+}
+
+fn registry(rt: &HostRuntime, options: ConversionOptions<'_>) -> ExitCode {
+    let ending = registry_command(rt, options);
     let _ = ending.print(rt, options);
     ExitCode::from(ending.status())
 }

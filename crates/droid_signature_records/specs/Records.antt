@@ -34,10 +34,12 @@ pub record FormatRecord : Type 0 where
   pub extensions : List (List ℕ)
   pub priorities : List ℕ
 
--- a whole file: version, date, signatures, formats, and the names that the reader does not know
+-- a whole file: version, date, signatures, formats, the names that the reader does not know, and how many elements and attributes have
+-- further such names
 pub record FileRecord : Type 0 where
   pub version : List ℕ
   pub created : List ℕ
   pub signatures : List SignatureRecord
   pub formats : List FormatRecord
   pub unknown : List UnknownName
+  pub unlisted : ℕ

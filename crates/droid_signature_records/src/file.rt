@@ -31,6 +31,7 @@ pub struct SignatureFile {
     signatures: Vec<InternalSignature>,
     formats: Vec<FileFormat>,
     unknown: Vec<UnknownName>,
+    unlisted: u64,
 }
 
 impl Model for SignatureFile {
@@ -38,14 +39,14 @@ impl Model for SignatureFile {
 
     ghost Value = { FileRecord };
 
-    ghost view = { λ it. record { version = it.version; created = it.created; signatures = it.signatures.items; formats = it.formats.items; unknown = it.unknown.items } };
+    ghost view = { λ it. record { version = it.version; created = it.created; signatures = it.signatures.items; formats = it.formats.items; unknown = it.unknown.items; unlisted = it.unlisted } };
 }
 
 impl SignatureFile {
     /// Makes a file without signatures and formats, from the attributes `Version` and `DateCreated`. One that is missing
     /// is empty. Allocates nothing.
     pub fn new(alloc: Global, version: Text, created: Text) -> SignatureFile
-        ensures { result ≡ record { version = version; created = created; signatures = []; formats = []; unknown = [] } }
+        ensures { result ≡ record { version = version; created = created; signatures = []; formats = []; unknown = []; unlisted = 0 } }
     {
         SignatureFile {
             version,
@@ -53,6 +54,7 @@ impl SignatureFile {
             signatures: Vec::new(alloc),
             formats: Vec::new(alloc),
             unknown: Vec::new(alloc),
+            unlisted: 0,
         }
     }
 
@@ -74,11 +76,12 @@ impl SignatureFile {
         Ok(())
     }
 
-    /// Replaces the names that the reader does not know.
-    pub fn set_unknown(&mut self, unknown: Vec<UnknownName>)
-        ensures { self.new ≡ record self.old { unknown = unknown.items } }
+    /// Replaces the names that the reader does not know, and the number of elements and attributes with further such names.
+    pub fn set_unknown(&mut self, unknown: Vec<UnknownName>, unlisted: u64)
+        ensures { self.new ≡ record self.old { unknown = unknown.items; unlisted = unlisted } }
     {
         self.unknown = unknown;
+        self.unlisted = unlisted;
     }
 
     /// Returns the attribute `Version`.
@@ -114,5 +117,12 @@ impl SignatureFile {
         ensures { result.now ≡ self.now.unknown }
     {
         self.unknown.as_slice()
+    }
+
+    /// Returns how many elements and attributes have a name that the reader does not know and that is not listed.
+    pub fn unlisted(&self) -> u64
+        ensures { result ≡ self.now.unlisted }
+    {
+        self.unlisted
     }
 }
