@@ -1,11 +1,15 @@
 //! The registry of a signature file.
 
-use crate::extensions::write_extensions;
-use crate::formats::{ids_of, kept_formats, write_formats};
+ghost use Rattle.std.specs.Prelude.{◌≡◌};
+ghost use Rattle.droid_signature.specs.Conversion.{Makes};
+ghost use Rattle.droid_signature.specs.declared.conversion.ConversionFault.TheVariants as faults;
+
+use crate::draft::Draft;
+use crate::kept::{ids_of, keep_formats};
 use crate::left_out::LeftOut;
-use crate::priorities::write_priorities;
-use crate::rows::Rows;
-use crate::signatures::{Outcomes, leave_out_unnamed, write_signatures};
+use crate::links::{push_extensions, push_priorities};
+use crate::outcomes::Outcomes;
+use crate::signatures::{leave_out_unnamed, push_signatures};
 use droid_signature_records::SignatureFile;
 use std::alloc::{AllocError, AllocFailed, Global};
 
@@ -22,12 +26,16 @@ pub enum ConversionFault {
 }
 
 impl From<AllocError> for ConversionFault {
+    ghost from_gives = { λ _ e. e ≡ faults.Memory };
+
     fn from(_: AllocError) -> Self {
         ConversionFault::Memory
     }
 }
 
 impl<T: Drop> From<AllocFailed<T>> for ConversionFault {
+    ghost from_gives = { λ _ e. e ≡ faults.Memory };
+
     fn from(_: AllocFailed<T>) -> Self {
         ConversionFault::Memory
     }
@@ -55,30 +63,35 @@ pub struct Converted {
 }
 
 /// Makes a registry of a signature file.
-pub fn convert(alloc: Global, file: &SignatureFile) -> Result<Converted, ConversionFault> {
-    let mut omissions = Vec::new(alloc);
-    let mut rows = Rows::new(alloc);
-    let kept = kept_formats(alloc, file.formats(), &mut omissions)?;
-    let kept = kept.as_slice();
-    write_formats(&mut rows, kept)?;
-    let extensions = write_extensions(&mut rows, kept, &mut omissions)?;
-    let ids = ids_of(alloc, kept)?;
-    let priorities = write_priorities(&mut rows, kept, &ids, &mut omissions)?;
+pub fn convert(alloc: Global, file: &SignatureFile) -> Result<Converted, ConversionFault>
+    ensures { Makes file.now result }
+{
+    let mut draft = Draft::new(alloc);
+    let kept = keep_formats(alloc, &mut draft, file.formats())?;
+    push_extensions(&mut draft, kept.as_slice())?;
+    let ids = ids_of(alloc, kept.as_slice())?;
+    push_priorities(&mut draft, kept.as_slice(), &ids)?;
     let outcomes = Outcomes::of(alloc, file.signatures())?;
-    let signatures = write_signatures(&mut rows, kept, &outcomes, &mut omissions)?;
-    leave_out_unnamed(alloc, file.signatures(), file.formats(), &mut omissions)?;
+    push_signatures(&mut draft, kept.as_slice(), &outcomes)?;
+    leave_out_unnamed(alloc, &mut draft, file.signatures(), file.formats())?;
+    finished(draft)
+}
+
+/// Returns what is made, unless it is too long.
+fn finished(draft: Draft) -> Result<Converted, ConversionFault> {
+    let Draft {
+        rows,
+        left_out,
+        taken,
+        ..
+    } = draft;
     let csv = rows.finish()?;
     if csv.len() > BYTES_LIMIT {
         return Err(ConversionFault::TooLong);
     }
     Ok(Converted {
         csv,
-        taken: Taken {
-            formats: kept.len() as u64,
-            extensions,
-            priorities,
-            signatures,
-        },
-        left_out: omissions,
+        taken,
+        left_out,
     })
 }

@@ -1,5 +1,8 @@
 //! What has an ID.
 
+ghost use Rattle.std.specs.Prelude.{◌≡◌, ℕ, List, ◌++◌, ◌∷◌, [], length, OnOk};
+ghost use Rattle.droid_signature.specs.Holders.{holder, one_more};
+
 use std::alloc::{AllocError, Global};
 use std::collections::BTreeMap;
 
@@ -18,15 +21,21 @@ pub(crate) struct Ids {
 }
 
 impl Ids {
+    ghost use Rattle.droid_signature.specs.IdMaps.{AreOf};
+
     /// Nothing has an ID yet. Allocates nothing.
-    pub(crate) fn new(alloc: Global) -> Ids {
+    pub(crate) fn new(alloc: Global) -> Ids
+        ensures { AreOf result [] }
+    {
         Ids {
             holders: BTreeMap::new(alloc),
         }
     }
 
     /// Notes that what stands at a place has this ID.
-    pub(crate) fn note(&mut self, id: u32, place: u32) -> Result<(), AllocError> {
+    pub(crate) fn note(&mut self, id: u32, place: u32) -> Result<(), AllocError>
+        ensures { OnOk result ((ids : List ℕ) → AreOf self.old ids → place ≡ length ids → AreOf self.new (ids ++ id ∷ [])) }
+    {
         let holder = match self.holder(id) {
             Holder::Nobody => Holder::Only(place),
             Holder::Only(_) | Holder::Several => Holder::Several,
@@ -36,7 +45,9 @@ impl Ids {
     }
 
     /// Returns what has this ID.
-    pub(crate) fn holder(&self, id: u32) -> Holder {
+    pub(crate) fn holder(&self, id: u32) -> Holder
+        ensures { (ids : List ℕ) → AreOf self.now ids → result ≡ holder id ids }
+    {
         match self.holders.get(&id) {
             Some(holder) => *holder,
             None => Holder::Nobody,

@@ -1,7 +1,6 @@
 //! What a registry does not have of a signature file, and why.
 
 use droid_signature_patterns::Reason;
-use std::alloc::AllocError;
 
 /// Something that the registry does not have.
 #[derive(Clone, Copy, Debug, PartialEq, Eq)]
@@ -59,22 +58,4 @@ pub enum Why {
     NoSignatureLeft,
     /// The registry has as many rows of this kind as it may have.
     Full,
-}
-
-/// The list of what was left out so far.
-pub(crate) type Omissions = Vec<LeftOut>;
-
-/// Adds something that belongs to the format at a place.
-pub(crate) fn leave_out(
-    omissions: &mut Omissions,
-    format: u32,
-    item: Item,
-    why: Why,
-) -> Result<(), AllocError> {
-    omissions.push(LeftOut {
-        format: Some(format),
-        item,
-        why,
-    })?;
-    Ok(())
 }

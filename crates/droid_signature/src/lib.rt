@@ -5,11 +5,12 @@
 #![tactic(auto)]
 
 mod conversion;
-mod extensions;
-mod formats;
+mod draft;
 mod ids;
+mod kept;
 mod left_out;
-mod priorities;
+mod links;
+mod outcomes;
 mod rows;
 mod signatures;
 

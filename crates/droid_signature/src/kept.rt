@@ -1,15 +1,19 @@
 //! Which formats the registry has.
 
+ghost use Rattle.std.specs.Prelude.{◌≡◌, ◌≤◌, ℕ, List, IfOk, map, length};
+ghost use Rattle.droid_signature.specs.Formats as spec;
+ghost use Rattle.droid_signature.specs.Views.{draft_of, kept_of};
+
+use crate::draft::Draft;
 use crate::ids::Ids;
-use crate::left_out::{Item, Omissions, Why, leave_out};
-use crate::rows::Rows;
+use crate::left_out::{Item, Why};
 use droid_pronom_formats::is_format;
 use droid_signature_records::FileFormat;
 use std::alloc::{AllocError, Global};
 use std::collections::BTreeMap;
 
 /// The most formats of a registry.
-const FORMATS_LIMIT: usize = 4096;
+const FORMATS_LIMIT: u64 = 4096;
 
 /// A format of the registry.
 #[derive(Clone, Copy)]
@@ -20,26 +24,25 @@ pub(crate) struct Kept<'a> {
     pub format: &'a FileFormat,
 }
 
-/// Returns the formats that a registry can hold, in the file's order.
-pub(crate) fn kept_formats<'a>(
+/// Writes the rows of the formats that a registry can hold. Returns these formats, in the file's order.
+pub(crate) fn keep_formats<'a>(
     alloc: Global,
+    draft: &mut Draft,
     formats: &'a [FileFormat],
-    omissions: &mut Omissions,
-) -> Result<Vec<Kept<'a>>, AllocError> {
+) -> Result<Vec<Kept<'a>>, AllocError>
+    ensures { IfOk result (λ kept. record { kept = map kept_of kept.items; draft = draft_of draft.new } ≡ spec.keep_from 0 (record { kept = []; draft = draft_of draft.old }) formats.entry.now) }
+{
     let mut kept = Vec::new(alloc);
     let mut puids = BTreeMap::new(alloc);
-    for at in 0..formats.len() {
-        let place = at as u32;
-        let format = &formats[at];
-        match judged(&puids, format) {
-            Err(why) => leave_out(omissions, place, Item::Format, why)?,
-            Ok(_) if kept.len() >= FORMATS_LIMIT => {
-                leave_out(omissions, place, Item::Format, Why::Full)?;
-            }
+    for place in 0..formats.len() {
+        let format = &formats[place];
+        match judged(&puids, kept.len() as u64, format) {
+            Err(why) => draft.leave_out(place as u32, Item::Format, why)?,
             Ok(puid) => {
+                draft.push_format(puid, format)?;
                 puids.insert(String::from_str(alloc, puid)?, ())?;
                 kept.push(Kept {
-                    place,
+                    place: place as u32,
                     puid,
                     format,
                 })?;
@@ -49,8 +52,12 @@ pub(crate) fn kept_formats<'a>(
     Ok(kept)
 }
 
-/// Returns the PUID of a format, or why a registry with these PUIDs cannot hold the format.
-fn judged<'a>(puids: &BTreeMap<String, ()>, format: &'a FileFormat) -> Result<&'a str, Why> {
+/// Returns the PUID of a format, or why a registry that has `count` formats with these PUIDs cannot hold it.
+fn judged<'a>(
+    puids: &BTreeMap<String, ()>,
+    count: u64,
+    format: &'a FileFormat,
+) -> Result<&'a str, Why> {
     let Some(puid) = format.puid() else {
         return Err(Why::NoPuid);
     };
@@ -67,27 +74,18 @@ fn judged<'a>(puids: &BTreeMap<String, ()>, format: &'a FileFormat) -> Result<&'
     if !is_format(puid, format.name(), format.version(), format.mime(), "") {
         return Err(Why::LongNote);
     }
-    Ok(puid)
+    if count < FORMATS_LIMIT {
+        Ok(puid)
+    } else {
+        Err(Why::Full)
+    }
 }
 
 /// Returns what has the IDs of these formats, by the place among them.
 pub(crate) fn ids_of(alloc: Global, kept: &[Kept<'_>]) -> Result<Ids, AllocError> {
     let mut ids = Ids::new(alloc);
-    for at in 0..kept.len() {
-        ids.note(kept[at].format.id(), at as u32)?;
+    for place in 0..kept.len() {
+        ids.note(kept[place].format.id(), place as u32)?;
     }
     Ok(ids)
-}
-
-/// Writes the rows of the formats.
-pub(crate) fn write_formats(rows: &mut Rows, kept: &[Kept<'_>]) -> Result<(), AllocError> {
-    for it in kept {
-        rows.format(
-            it.puid,
-            it.format.name(),
-            it.format.version(),
-            it.format.mime(),
-        )?;
-    }
-    Ok(())
 }
