@@ -11,7 +11,7 @@ use Rattle.droid_signature_text.specs.Expansions.{patterns_of}
 use Rattle.droid_signature_text.specs.Terms.{Atom, Plain, Outside, Between, Quoted, Term, One, OneOf}
 use Rattle.droid_signature_text.specs.TermText.{AreBounds, SpellsTerms}
 use Rattle.droid_signature_meaning.specs.Meaning.{TextMatches, lowest, outermost}
-use Rattle.droid_signature_meaning.specs.Pieces.{ArePieces, IsPiece, Piece, Side, outermost_side}
+use Rattle.droid_signature_meaning.specs.Pieces.{ArePieces, Piece}
 use Rattle.droid_signature_meaning.specs.Sequences.{ArePatternsOf}
 use Rattle.droid_signature_parser.specs.TermValues.{term_of}
 use Rattle.droid_signature_parser.specs.declared.term.TextTerm.{TextTerm}
@@ -51,6 +51,20 @@ abbrev pub are_numbered : ℕ → List SubSequenceRecord → Bool
 are_numbered n [] = true
 are_numbered n (part ∷ parts) = (part.position == n) && are_numbered (suc n) parts
 
+-- the bounds of ranges of several bytes are bounds, as in what a text spells
+abbrev pub IsBounded : Atom → Type 0
+IsBounded (Plain element) = ⊤
+IsBounded (Outside low high) = ⊤
+IsBounded (Between low high) = AreBounds low high
+IsBounded (Quoted bytes) = ⊤
+
+abbrev pub IsBoundedTerm : Term → Type 0
+IsBoundedTerm (One atom) = IsBounded atom
+IsBoundedTerm (OneOf alternatives) = AllByRecursion (AllByRecursion IsBounded) alternatives
+
+abbrev pub AreBounded : List Term → Type 0
+AreBounded terms = AllByRecursion IsBoundedTerm terms
+
 -- a range of at most 16 bytes
 abbrev pub IsExpandable : Atom → Type 0
 IsExpandable (Plain element) = ⊤
@@ -69,6 +83,7 @@ AreExpandable terms = AllByRecursion AreExpandableTerms terms
 pub record IsReadText (text : List ℕ) (terms : Vec TextTerm Global) : Type 0 where
   pub spelled : SpellsTerms text (map term_of terms.items)
   pub expandable : AreExpandable (map term_of terms.items)
+  pub some : patterns_of (map term_of terms.items) ≢ []
   pub patterns : ArePatternsOf (TextMatches text) (patterns_of (map term_of terms.items))
 
 abbrev pub IsReasonOfText : List ℕ → Reason → Type 0
@@ -111,13 +126,3 @@ IsReasonOfSequence sequence reason =
     IsReasonOfParts sequence reason
     ⊎ ((part : SubSequenceRecord) × (further : List SubSequenceRecord) × (sequence.parts ≡ part ∷ further)
     × (IsReasonOfBounds part.offsets reason ⊎ IsReasonOfPart part reason ⊎ IsReasonOfFurther further reason))
-
--- each position of fragments has one, and each text has a pattern: so what is written out grows with each
-pub record AreSound (sides : List Side) : Type 0 where
-  pub patterns : AllByRecursion (λ side. side.patterns ≢ []) sides
-  pub places : (position : ℕ) → 0 < position → position ≤ outermost_side sides → AnyOf (λ side. side.position ≡ position) sides
-
-pub record IsSound (piece : Piece) : Type 0 where
-  pub left : AreSound piece.left
-  pub patterns : piece.patterns ≢ []
-  pub right : AreSound piece.right

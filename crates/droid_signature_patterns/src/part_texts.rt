@@ -1,12 +1,11 @@
 //! The texts of the patterns that stand for subsequences.
 
 ghost use Rattle.std.specs.Prelude.{◌≡◌, map};
-ghost use Rattle.droid_signature_meaning.specs.Pieces.{further_patterns, piece_patterns, row_patterns};
+ghost use Rattle.droid_signature_meaning.specs.Pieces.{gap_patterns, outermost_side, piece_patterns, row_patterns};
 ghost use Rattle.droid_signature_patterns.specs.Outcomes.{Becomes, BecomesFrom};
-ghost use Rattle.droid_signature_patterns.specs.Reasons.{AreSound, IsSound};
-ghost use Rattle.droid_signature_patterns.specs.ReadValues.{piece_of, side_of};
+ghost use Rattle.droid_signature_patterns.specs.ReadValues.{AreSound, CanBeWritten, IsSound, IsSoundSequence, piece_of, side_of};
 ghost use Rattle.droid_signature_patterns.specs.Texts.{joined};
-ghost use Rattle.droid_signature_patterns.specs.Written.{level_patterns, written_each};
+ghost use Rattle.droid_signature_patterns.specs.Written.{level_patterns, side_patterns, written_each};
 
 use crate::element_texts::push_gap;
 use crate::pattern_texts::PatternTexts;
@@ -24,7 +23,7 @@ pub(crate) enum Side {
 
 /// Returns the texts of the patterns that stand for a byte sequence.
 pub(crate) fn sequence_texts(alloc: Global, read: &ReadSequence) -> Result<PatternTexts, Stop>
-    requires { IsSound (piece_of read.now.first) }
+    requires { IsSoundSequence read.now }
     ensures { BecomesFrom result (written_each (row_patterns (piece_of read.now.first) (map piece_of read.now.further.items))) }
 {
     let mut texts = PatternTexts::with_empty(alloc)?;
@@ -40,7 +39,7 @@ pub(crate) fn sequence_texts(alloc: Global, read: &ReadSequence) -> Result<Patte
 
 /// Appends a subsequence: left fragments from the outermost in, its sequence, right fragments from the innermost out.
 fn append_part(alloc: Global, texts: &mut PatternTexts, part: &ReadPart) -> Result<(), Stop>
-    requires { IsSound (piece_of part.now) }
+    requires { IsSound part.now }
     ensures { Becomes result texts.new (joined texts.old (written_each (piece_patterns (piece_of part.now)))) }
 {
     let outer = outermost(part.left.as_slice());
@@ -55,7 +54,9 @@ fn append_part(alloc: Global, texts: &mut PatternTexts, part: &ReadPart) -> Resu
 }
 
 /// Returns the position of the outermost fragment, 0 if there are none.
-fn outermost(sides: &[ReadSide]) -> u32 {
+fn outermost(sides: &[ReadSide]) -> u32
+    ensures { result ≡ outermost_side (map side_of sides.now) }
+{
     let mut last = 0;
     for side in sides {
         last = last.max(side.position);
@@ -71,7 +72,7 @@ fn append_level(
     position: u32,
     side: Side,
 ) -> Result<(), Stop>
-    requires { AreSound (map side_of sides.now) }
+    requires { AreSound sides.now }
     ensures { Becomes result texts.new (joined texts.old (written_each (level_patterns side position (map side_of sides.now)))) }
 {
     let mut level = PatternTexts::new(alloc);
@@ -84,7 +85,10 @@ fn append_level(
 }
 
 /// Returns the texts of a fragment with its gap, which lies behind a left one and before a right one.
-fn side_texts(alloc: Global, it: &ReadSide, side: Side) -> Result<PatternTexts, Stop> {
+fn side_texts(alloc: Global, it: &ReadSide, side: Side) -> Result<PatternTexts, Stop>
+    requires { CanBeWritten it.now.terms }
+    ensures { BecomesFrom result (written_each (side_patterns side (side_of it.now))) }
+{
     let mut texts = PatternTexts::with_empty(alloc)?;
     if side == Side::Right {
         append_gap(alloc, &mut texts, it)?;
@@ -97,7 +101,9 @@ fn side_texts(alloc: Global, it: &ReadSide, side: Side) -> Result<PatternTexts, 
 }
 
 /// Appends the gap of a fragment, if it may have a byte.
-fn append_gap(alloc: Global, texts: &mut PatternTexts, it: &ReadSide) -> Result<(), Stop> {
+fn append_gap(alloc: Global, texts: &mut PatternTexts, it: &ReadSide) -> Result<(), Stop>
+    ensures { Becomes result texts.new (joined texts.old (written_each (gap_patterns it.now.least it.now.most))) }
+{
     if it.most == 0 {
         return Ok(());
     }

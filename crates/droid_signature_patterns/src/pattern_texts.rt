@@ -107,7 +107,7 @@ impl PatternTexts {
         ensures { Becomes result self.new (self.old ++ spec.joined (own.now ∷ []) others.now) }
     {
         for other in others.texts.as_slice() {
-            let mut text = Vec::with_capacity(alloc, own.len().max(other.len()))?;
+            let mut text = Vec::new(alloc);
             lengthen(&mut text, own)?;
             lengthen(&mut text, other.as_slice())?;
             self.add(text)?;

@@ -1,12 +1,13 @@
 //! Reads the texts of byte sequences, and checks what a registry asks of their offsets and positions.
 
-ghost use Rattle.std.specs.Prelude.{◌≡◌, ◌×◌, IfOk, Some, map};
+ghost use Rattle.std.specs.Prelude.{IfOk, MatchBool, map};
 ghost use Rattle.droid_signature_meaning.specs.Sequences.{IsAnchorOf};
-ghost use Rattle.droid_signature_meaning.specs.Meaning.{lowest};
 ghost use Rattle.droid_signature_meaning.specs.Pieces.{IsPiece, IsSide, AreSides};
+ghost use Rattle.droid_signature_parser.specs.TermValues.{term_of};
 ghost use Rattle.droid_signature_patterns.specs.Outcomes.{IfLeftOut};
 ghost use Rattle.droid_signature_patterns.specs.Reasons as reasons;
-ghost use Rattle.droid_signature_patterns.specs.ReadValues.{IsReadSequence, piece_of, side_of};
+ghost use Rattle.std.specs.List.{AllByRecursion};
+ghost use Rattle.droid_signature_patterns.specs.ReadValues.{AreSound, CanBeWritten, IsReadSequence, IsSound, IsSoundSequence, piece_of, side_of};
 
 use crate::offsets::{bounds_of, lower_of};
 use crate::positions::{are_numbered, see_fragments};
@@ -23,6 +24,7 @@ const MOST_RANGE_BYTES: usize = 16;
 /// Reads a byte sequence.
 pub(crate) fn read_sequence(alloc: Global, sequence: &SequenceRecord) -> Result<ReadSequence, Stop>
     ensures ok { IfOk result (IsReadSequence sequence.now) }
+    ensures sound { IfOk result IsSoundSequence }
     ensures err { IfLeftOut result (reasons.IsReasonOfSequence sequence.now) }
 {
     let anchor = anchor_of(sequence.reference())?;
@@ -60,6 +62,7 @@ fn anchor_of(reference: Reference) -> Result<Anchor, Reason>
 /// Reads the subsequences behind the first.
 fn read_further(alloc: Global, parts: &[SubSequence]) -> Result<Vec<ReadPart>, Stop>
     ensures ok { IfOk result (λ read. reasons.AreReadFurther parts.now (map piece_of read.items)) }
+    ensures sound { IfOk result (λ read. AllByRecursion IsSound read.items) }
     ensures err { IfLeftOut result (reasons.IsReasonOfFurther parts.now) }
 {
     let mut read = Vec::new(alloc);
@@ -75,6 +78,7 @@ fn read_further(alloc: Global, parts: &[SubSequence]) -> Result<Vec<ReadPart>, S
 /// Reads a subsequence.
 fn read_part(alloc: Global, part: &SubSequence) -> Result<ReadPart, Stop>
     ensures ok { IfOk result (λ read. IsPiece part.now (piece_of read)) }
+    ensures sound { IfOk result IsSound }
     ensures err { IfLeftOut result (reasons.IsReasonOfPart part.now) }
 {
     let least = lower_of(part.offsets())?;
@@ -92,6 +96,7 @@ fn read_part(alloc: Global, part: &SubSequence) -> Result<ReadPart, Stop>
 /// Reads the fragments on one side.
 fn read_sides(alloc: Global, fragments: &[Fragment]) -> Result<Vec<ReadSide>, Stop>
     ensures ok { IfOk result (λ read. AreSides fragments.now (map side_of read.items)) }
+    ensures sound { IfOk result (λ read. AreSound read.items) }
     ensures err { IfLeftOut result (reasons.IsReasonOfSide fragments.now) }
 {
     see_fragments(fragments)?;
@@ -105,6 +110,7 @@ fn read_sides(alloc: Global, fragments: &[Fragment]) -> Result<Vec<ReadSide>, St
 /// Reads a fragment.
 fn read_side(alloc: Global, fragment: &Fragment) -> Result<ReadSide, Stop>
     ensures ok { IfOk result (λ read. IsSide fragment.now (side_of read)) }
+    ensures sound { IfOk result (λ read. CanBeWritten read.terms) }
     ensures err { IfLeftOut result (reasons.IsReasonOfFragment fragment.now) }
 {
     let (least, most) = bounds_of(fragment.offsets)?;
@@ -134,7 +140,10 @@ fn read_terms(alloc: Global, text: &str) -> Result<Vec<TextTerm>, Stop>
 }
 
 /// Returns whether one of the terms has a range of more than 16 bytes.
-fn has_long_range(terms: &[TextTerm]) -> bool {
+fn has_long_range(terms: &[TextTerm]) -> bool
+    requires { reasons.AreBounded (map term_of terms.now) }
+    ensures { MatchBool result (reasons.AreExpandable (map term_of terms.now) → ⊥) (reasons.AreExpandable (map term_of terms.now)) }
+{
     for term in terms {
         let is_long = match term {
             TextTerm::One(item) => is_long_range(item),
