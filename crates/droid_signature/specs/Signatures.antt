@@ -1,5 +1,5 @@
 -- Which signatures the registry has, by what each signature of the file becomes.
-use Rattle.std.specs.Prelude.{ℕ, zero, suc, ◌+◌, ◌*◌, ◌==◌, ◌&&◌, Bool, not, nat_le, nat_eq, List, [], ◌∷◌, ◌++◌, length, map, Option, Some, None, Result, Ok, Err, if◌then◌else◌, ⊤}
+use Rattle.std.specs.Prelude.{ℕ, zero, suc, ◌+◌, ◌*◌, ◌==◌, ◌&&◌, Bool, not, nat_le, nat_lt, nat_eq, List, [], ◌∷◌, ◌++◌, length, map, Option, Some, None, Result, Ok, Err, if◌then◌else◌, ⊤}
 use Rattle.std.specs.List.{flat_map, fold, list_any}
 use Rattle.droid_signature_records.specs.Records.{FormatRecord, SignatureRecord}
 use Rattle.droid_signature_patterns.specs.Choices.{AreTaken, IsReasonOf}
@@ -68,7 +68,7 @@ with_signature it draft all =
 abbrev pub signature_by : Kept → Draft → ℕ → Result (List Choices) Why → Draft
 signature_by it draft id (Err reason) = without draft it.place (items.Signature id) reason
 signature_by it draft id (Ok all) =
-    if nat_le (draft.signatures + length (combined all)) 16384 && nat_le (draft.sequences + length (combined all) * length all) 32768
+    if nat_lt draft.taken.signatures 16384 && nat_le (draft.signatures + length (combined all)) 16384 && nat_le (draft.sequences + length (combined all) * length all) 32768
     then with_signature it draft all
     else without draft it.place (items.Signature id) why.Full
 

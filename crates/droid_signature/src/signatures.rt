@@ -59,9 +59,12 @@ fn push_signature(
         Err(why) => return draft.leave_out(it.place, Item::Signature(id), why),
     };
     let count = ways(all);
-    let signatures = draft.signatures + count;
-    let sequences = draft.sequences + count * all.len() as u64;
-    if signatures > SIGNATURES_LIMIT || sequences > SEQUENCES_LIMIT {
+    let signatures = draft.signatures.saturating_add(count);
+    let sequences = draft
+        .sequences
+        .saturating_add(count.saturating_mul(all.len() as u64));
+    let is_full = draft.taken.signatures >= SIGNATURES_LIMIT;
+    if is_full || signatures > SIGNATURES_LIMIT || sequences > SEQUENCES_LIMIT {
         return draft.leave_out(it.place, Item::Signature(id), Why::Full);
     }
     for number in 0..count {

@@ -47,6 +47,16 @@ inside_of tag parts = if tag.is_empty then [] else take (inner_len 0 parts) part
 abbrev pub own_len : Tag → List Part → ℕ
 own_len tag parts = if tag.is_empty then 0 else suc (inner_len 0 parts)
 
+-- how many pieces belong to the element that a piece begins, behind that piece
+abbrev pub len_of : Part → List Part → ℕ
+len_of (Start tag) parts = own_len tag parts
+len_of (End name) parts = 0
+len_of (Text text) parts = 0
+len_of (Data text) parts = 0
+len_of (Reference char) parts = 0
+len_of (Comment text) parts = 0
+len_of (Instruction target text) parts = 0
+
 abbrev pub node : Tag → List Part → Node
 node tag parts = record { name = tag.name; attributes = tag.attributes; inside = inside_of tag parts }
 
@@ -70,7 +80,7 @@ word (Instruction target text) = []
 abbrev pub words_from : ℕ → List Part → List ℕ
 words_from skip [] = []
 words_from (suc skip) (part ∷ parts) = words_from skip parts
-words_from zero (part ∷ parts) = word part ++ words_from (choose (tag_of part) (λ tag. own_len tag parts) 0) parts
+words_from zero (part ∷ parts) = word part ++ words_from (len_of part parts) parts
 
 -- the value of the attribute of this name, which may be missing
 abbrev pub value_of : List ℕ → List Setting → Option (List ℕ)

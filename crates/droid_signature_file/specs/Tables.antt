@@ -1,5 +1,5 @@
 -- The pieces of a document without its search tables, comments and processing instructions, which mean nothing here.
-use Rattle.std.specs.Prelude.{ℕ, zero, suc, ◌||◌, Bool, true, false, if◌then◌else◌, List, [], ◌∷◌, codes}
+use Rattle.std.specs.Prelude.{ℕ, zero, suc, ◌||◌, Bool, true, false, if◌then◌else◌, List, [], ◌∷◌, ◌++◌, codes}
 use Rattle.std.specs.Str.{bytes_eq}
 use Rattle.droid_xml.specs.Pieces.{Part, Start, End, Text, Data, Reference, Comment, Instruction}
 use Rattle.droid_xml.specs.Tags.{Tag}
@@ -35,7 +35,16 @@ abbrev pub is_kept : ℕ → Part → Bool
 is_kept zero part = has_meaning part
 is_kept (suc depth) part = false
 
+-- a piece, if it is kept
+abbrev pub kept_piece : ℕ → Part → List Part
+kept_piece depth part = if is_kept depth part then part ∷ [] else []
+
 -- the pieces that are kept
 abbrev pub meaningful : ℕ → List Part → List Part
 meaningful depth [] = []
-meaningful depth (part ∷ parts) = if is_kept depth part then part ∷ meaningful (depth_behind depth part) parts else meaningful (depth_behind depth part) parts
+meaningful depth (part ∷ parts) = kept_piece depth part ++ meaningful (depth_behind depth part) parts
+
+-- how many elements are open in a search table behind pieces
+abbrev pub depth_after : ℕ → List Part → ℕ
+depth_after depth [] = depth
+depth_after depth (part ∷ parts) = depth_after (depth_behind depth part) parts

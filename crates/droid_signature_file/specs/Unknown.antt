@@ -1,6 +1,6 @@
 -- The names of elements and attributes that a signature file has beside those that are known here. What stands in an unknown
 -- element is not looked at.
-use Rattle.std.specs.Prelude.{ℕ, ◌+◌, ◌||◌, ◌&&◌, nat_lt, Bool, true, false, if◌then◌else◌, List, [], ◌∷◌, ◌++◌, length, codes, Option, Some, None}
+use Rattle.std.specs.Prelude.{ℕ, ◌+◌, ◌-◌, ◌^◌, min, ◌||◌, ◌&&◌, nat_lt, Bool, true, false, if◌then◌else◌, List, [], ◌∷◌, ◌++◌, length, codes, Option, Some, None}
 use Rattle.std.specs.List.{fold}
 use Rattle.std.specs.Str.{bytes_eq}
 use Rattle.droid_xml.specs.Attributes.{Setting}
@@ -11,6 +11,10 @@ use Rattle.droid_signature_records.specs.declared.file.UnknownPart.{UnknownPart}
 use Rattle.droid_signature_records.specs.declared.file.UnknownPart.TheVariants as parts
 use Rattle.droid_signature_file.specs.declared.kinds.Kind.{Kind}
 use Rattle.droid_signature_file.specs.declared.kinds.Kind.TheVariants as kinds
+
+-- a number, or the largest of 64 bits
+abbrev pub capped : ℕ → ℕ
+capped n = min n (2 ^ 64 - 1)
 
 -- the names, each with how often it stands there, in the order in which they come first; and how many names came beyond the first 64
 pub record Tally : Type 0 where
@@ -67,14 +71,14 @@ same_part parts.Attribute parts.Attribute = true
 abbrev pub noted_in : UnknownPart → List ℕ → List UnknownName → Option (List UnknownName)
 noted_in part name [] = None
 noted_in part name (known ∷ names) =
-    if same_part known.part part && bytes_eq known.name name then Some (record known { count = known.count + 1 } ∷ names)
+    if same_part known.part part && bytes_eq known.name name then Some (record known { count = capped (known.count + 1) } ∷ names)
     else (elim (noted_in part name names) as (λ _. Option (List UnknownName)) [ | None ↦ None | Some more ↦ Some (known ∷ more) ])
 
 -- one more name: at its place, or as a new one, or beyond the first 64
 abbrev pub noted_new : UnknownPart → List ℕ → Tally → Tally
 noted_new part name found =
     if nat_lt (length found.names) 64 then record found { names = found.names ++ record { part = part; name = name; count = 1 } ∷ [] }
-    else record found { unlisted = found.unlisted + 1 }
+    else record found { unlisted = capped (found.unlisted + 1) }
 
 abbrev pub noted_by : Option (List UnknownName) → UnknownPart → List ℕ → Tally → Tally
 noted_by (Some names) part name found = record found { names = names }

@@ -1,6 +1,6 @@
 //! Elements, and what stands directly in them.
 
-ghost use Rattle.std.specs.Prelude.{◌≡◌, ◌++◌, [], IfOk, OnOk, map, string_bytes};
+ghost use Rattle.std.specs.Prelude.{◌≡◌, ◌+◌, ◌<◌, ◌≤◌, ◌^◌, ◌++◌, ◌∷◌, [], IfOk, IfSome, MatchOption, OnOk, drop, length, map, string_bytes};
 ghost use Rattle.std.specs.Option.{option_map};
 ghost use Rattle.droid_xml.specs.Views.{part, tag};
 ghost use Rattle.droid_signature_file.specs.Elements as spec;
@@ -61,7 +61,10 @@ impl<'a> Node<'a> {
 }
 
 /// Returns the first element that stands directly among the pieces, and the pieces behind it.
-pub(crate) fn first_node<'a>(pieces: &'a [Piece<'a>]) -> Option<(Node<'a>, &'a [Piece<'a>])> {
+pub(crate) fn first_node<'a>(pieces: &'a [Piece<'a>]) -> Option<(Node<'a>, &'a [Piece<'a>])>
+    ensures found { MatchOption result (spec.nodes_from 0 (map part pieces.entry.now) ≡ []) (λ found. spec.nodes_from 0 (map part pieces.entry.now) ≡ node_of found.0 ∷ spec.nodes_from 0 (map part found.1.now)) }
+    ensures shorter { IfSome result (λ found. length found.1.now < length pieces.entry.now) }
+{
     let mut rest = pieces;
     while let Some((piece, behind)) = rest.split_first() {
         if let Piece::Start(element) = piece {
@@ -85,37 +88,56 @@ fn inside_of<'a>(element: &Element<'_>, behind: &'a [Piece<'a>]) -> &'a [Piece<'
 
 /// Returns the pieces behind the element that a piece begins, out of those behind the piece. A piece that begins no element
 /// has all of them behind it.
-fn past_element<'a>(piece: &Piece<'_>, behind: &'a [Piece<'a>]) -> &'a [Piece<'a>] {
+fn past_element<'a>(piece: &Piece<'_>, behind: &'a [Piece<'a>]) -> &'a [Piece<'a>]
+    ensures value { map part result.now ≡ drop (spec.len_of (part piece.now) (map part behind.entry.now)) (map part behind.entry.now) }
+    ensures few { length result.now ≤ length behind.entry.now }
+{
+    let own = own_len(piece, behind).min(behind.len());
+    &behind[own..]
+}
+
+/// Returns how many pieces belong to the element that a piece begins, behind that piece.
+fn own_len(piece: &Piece<'_>, behind: &[Piece<'_>]) -> usize
+    ensures { result ≡ spec.len_of (part piece.now) (map part behind.now) }
+{
     match piece {
-        Piece::Start(element) if !element.is_empty => {
-            let inner = inner_len(behind);
-            match behind.split_at(inner).1.split_first() {
-                Some((_end, rest)) => rest,
-                None => &[],
+        Piece::Start(element) => {
+            if element.is_empty {
+                0
+            } else {
+                inner_len(behind) + 1
             }
         }
-        _ => behind,
+        _ => 0,
     }
 }
 
 /// Returns how many pieces stand before the end tag of the element that they are in.
 fn inner_len(pieces: &[Piece<'_>]) -> usize
-    ensures { result ≡ spec.inner_len 0 (map part pieces.now) }
+    ensures value { result ≡ spec.inner_len 0 (map part pieces.now) }
+    ensures few { result ≤ length pieces.now }
 {
     let mut depth = 0;
     for (place, piece) in pieces.iter().enumerate() {
-        match piece {
-            Piece::Start(element) if !element.is_empty => depth += 1,
-            Piece::End(_) => {
-                if depth == 0 {
-                    return place;
-                }
-                depth -= 1;
-            }
-            _ => {}
+        match deeper(depth, piece) {
+            Some(next) => depth = next,
+            None => return place,
         }
     }
     pieces.len()
+}
+
+/// Returns how many elements are open behind a piece, where `depth` were before it, or `None` where it ends the element
+/// outside.
+fn deeper(depth: usize, piece: &Piece<'_>) -> Option<usize>
+    requires { depth + 1 < 2 ^ 64 }
+    ensures { result ≡ spec.deeper depth (part piece.now) }
+{
+    match piece {
+        Piece::Start(element) => Some(if element.is_empty { depth } else { depth + 1 }),
+        Piece::End(_) => depth.checked_sub(1),
+        _ => Some(depth),
+    }
 }
 
 /// Adds the text of a piece.

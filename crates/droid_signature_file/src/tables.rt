@@ -1,6 +1,6 @@
 //! Search tables, which a signature file has for programs that search, and which mean nothing.
 
-ghost use Rattle.std.specs.Prelude.{◌≡◌};
+ghost use Rattle.std.specs.Prelude.{◌≡◌, ◌+◌, ◌<◌, ◌^◌};
 ghost use Rattle.droid_xml.specs.Views.{part};
 ghost use Rattle.droid_signature_file.specs.Tables as spec;
 
@@ -14,7 +14,8 @@ pub(crate) fn is_table(name: &str) -> bool
 }
 
 /// Returns how many elements are open in a search table behind a piece, the table itself included. Before it `depth` were.
-pub(crate) fn depth_behind(depth: u32, piece: &Piece<'_>) -> u32
+pub(crate) fn depth_behind(depth: u64, piece: &Piece<'_>) -> u64
+    requires { depth + 1 < 2 ^ 64 }
     ensures { result ≡ spec.depth_behind depth (part piece.now) }
 {
     match piece {
@@ -26,7 +27,7 @@ pub(crate) fn depth_behind(depth: u32, piece: &Piece<'_>) -> u32
 }
 
 /// Returns whether a piece is kept, where `depth` elements are open in a search table.
-pub(crate) fn is_kept(depth: u32, piece: &Piece<'_>) -> bool
+pub(crate) fn is_kept(depth: u64, piece: &Piece<'_>) -> bool
     ensures { result ≡ spec.is_kept depth (part piece.now) }
 {
     if depth > 0 {
