@@ -1,5 +1,5 @@
 -- The registry of a signature file, by what each of its signatures becomes.
-use Rattle.std.specs.Prelude.{◌≡◌, ◌×◌, ◌<◌, ℕ, List, [], map, length, Option, Some, Result, Ok, Err, ⊤}
+use Rattle.std.specs.Prelude.{◌≡◌, ◌<◌, ℕ, List, [], map, length, Option, Some, Result, Ok, Err, ⊤}
 use Rattle.std.specs.List.{fold}
 use Rattle.droid_signature_records.specs.Records.{FileRecord}
 use Rattle.droid_signature.specs.Drafts.{Draft, nothing}

@@ -1,6 +1,6 @@
 //! What each signature of a file becomes.
 
-ghost use Rattle.std.specs.Prelude.{◌≡◌, ◌×◌, IfOk, map};
+ghost use Rattle.std.specs.Prelude.{◌≡◌, IfOk, map};
 ghost use Rattle.droid_signature.specs.Signatures.{AreOutcomes, IsOutcome};
 
 use crate::ids::{Holder, Ids};

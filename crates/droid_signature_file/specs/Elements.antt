@@ -39,6 +39,16 @@ tag_of (Reference char) = None
 tag_of (Comment text) = None
 tag_of (Instruction target text) = None
 
+-- whether a piece begins an element
+abbrev pub is_start : Part → Bool
+is_start (Start tag) = true
+is_start (End name) = false
+is_start (Text text) = false
+is_start (Data text) = false
+is_start (Reference char) = false
+is_start (Comment text) = false
+is_start (Instruction target text) = false
+
 -- the pieces inside the element of a tag, out of those behind the tag
 abbrev pub inside_of : Tag → List Part → List Part
 inside_of tag parts = if tag.is_empty then [] else take (inner_len 0 parts) parts

@@ -1,6 +1,7 @@
 //! Elements, and what stands directly in them.
 
-ghost use Rattle.std.specs.Prelude.{◌≡◌, ◌+◌, ◌<◌, ◌≤◌, ◌^◌, ◌++◌, ◌∷◌, [], IfOk, IfSome, MatchOption, OnOk, drop, length, map, string_bytes};
+ghost use Rattle.std.specs.Prelude.{◌≡◌, ◌+◌, ◌<◌, ◌≤◌, ◌^◌, ◌++◌, ◌∷◌, [], IfOk, IfSome, MatchOption, OnOk, drop, filter, length, map, string_bytes};
+ghost use Rattle.std.specs.List.{position_or_len};
 ghost use Rattle.std.specs.Option.{option_map};
 ghost use Rattle.droid_xml.specs.Views.{part, tag};
 ghost use Rattle.droid_signature_file.specs.Elements as spec;
@@ -38,9 +39,7 @@ impl<'a> Node<'a> {
         let mut nodes = Vec::new(alloc);
         let mut rest = self.inside;
         while let Some((node, behind)) = first_node(rest) {
-            if node.element.name == name {
-                nodes.push(node)?;
-            }
+            add_named(&mut nodes, node, name)?;
             rest = behind;
         }
         Ok(nodes)
@@ -65,15 +64,40 @@ pub(crate) fn first_node<'a>(pieces: &'a [Piece<'a>]) -> Option<(Node<'a>, &'a [
     ensures found { MatchOption result (spec.nodes_from 0 (map part pieces.entry.now) ≡ []) (λ found. spec.nodes_from 0 (map part pieces.entry.now) ≡ node_of found.0 ∷ spec.nodes_from 0 (map part found.1.now)) }
     ensures shorter { IfSome result (λ found. length found.1.now < length pieces.entry.now) }
 {
-    let mut rest = pieces;
-    while let Some((piece, behind)) = rest.split_first() {
-        if let Piece::Start(element) = piece {
-            let inside = inside_of(element, behind);
-            return Some((Node { element, inside }, past_element(piece, behind)));
+    let (piece, behind) = pieces[start_place(pieces)..].split_first()?;
+    let Piece::Start(element) = piece else {
+        return None;
+    };
+    let inside = inside_of(element, behind);
+    Some((Node { element, inside }, past_element(piece, behind)))
+}
+
+/// Returns how many pieces stand before the first that begins an element.
+fn start_place(pieces: &[Piece<'_>]) -> usize
+    ensures { result ≡ position_or_len spec.is_start (map part pieces.now) }
+{
+    for (place, piece) in pieces.iter().enumerate() {
+        if is_start(piece) {
+            return place;
         }
-        rest = behind;
     }
-    None
+    pieces.len()
+}
+
+fn is_start(piece: &Piece<'_>) -> bool
+    ensures { result ≡ spec.is_start (part piece.now) }
+{
+    matches!(piece, Piece::Start(_))
+}
+
+/// Adds an element, if it has this name.
+fn add_named<'a>(nodes: &mut Vec<Node<'a>>, node: Node<'a>, name: &str) -> Result<(), AllocError>
+    ensures { OnOk result (map node_of nodes.new.items ≡ map node_of nodes.old.items ++ filter (spec.is_named name.now) (node_of node ∷ [])) }
+{
+    if node.element.name == name {
+        nodes.push(node)?;
+    }
+    Ok(())
 }
 
 /// Returns the pieces inside an element, out of those behind its start tag.

@@ -1,6 +1,6 @@
 //! The pieces of a document that mean something.
 
-ghost use Rattle.std.specs.Prelude.{◌≡◌, ◌×◌, List, map, IfOk, IfErr};
+ghost use Rattle.std.specs.Prelude.{◌≡◌, List, map, IfOk, IfErr};
 ghost use Rattle.droid_xml.specs.Documents.{IsDocument};
 ghost use Rattle.droid_xml.specs.Pieces.{Part};
 ghost use Rattle.droid_xml.specs.Views.{IsFaultOf, part};

@@ -124,3 +124,7 @@ nothing_quoted body none (Quoted bytes) (is, some, all) = absurd (omega (arith, 
 nothing_quoted body none (Plain e) h = h
 nothing_quoted body none (Outside low high) h = h
 nothing_quoted body none (Between low high) h = h
+
+pub some_length : (xs : List ℕ) → (xs ≡ [] → ⊥) → 0 < length xs
+some_length [] some = absurd (some refl)
+some_length (x ∷ xs) some = omega arith

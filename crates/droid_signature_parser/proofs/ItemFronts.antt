@@ -1,7 +1,8 @@
 -- The item at the front of a text.
-use Rattle.std.proofs.Common.{◌≡◌, ◌≢◌, ◌⊎◌, ℕ, zero, suc, ◌+◌, ◌*◌, ◌<◌, ◌≤◌, List, [], ◌∷◌, ◌++◌, length, Contains, inl, inr, ⊎_elim, refl, sym, ap, ◌∙◌, arith, append_assoc}
+use Rattle.std.proofs.Common.{◌≡◌, ◌≢◌, ◌⊎◌, ℕ, zero, suc, ◌+◌, ◌*◌, ◌<◌, ◌≤◌, List, [], ◌∷◌, ◌++◌, length, Contains, inl, inr, ⊎_elim, refl, sym, subst, ap, ◌∙◌, arith, append_assoc}
 use Rattle.std.specs.List.{AllByRecursion}
 use Rattle.std.specs.Char.{digit_value}
+use Rattle.std.proofs.lemmas.Bool.{cases_eq}
 use Rattle.std.proofs.lemmas.List.{append-nil, length-append}
 use Rattle.std.proofs.lemmas.List.Elements.{Contains-append_cases}
 use Rattle.droid_pronom_pattern.specs.Patterns.{Element, Byte, AnyByte, Gap, OpenGap, Range, Except, Choice}
@@ -335,3 +336,29 @@ no_brackets body except range outside several (Plain (Choice alternatives)) h = 
 no_brackets body except range outside several (Outside low high) h = outside low high h
 no_brackets body except range outside several (Between low high) h = several low high h
 no_brackets body except range outside several (Quoted bytes) h = h
+
+-- two characters of which the first is a parenthesis are no item
+no_open_pair : (second : ℕ) (a : Atom) → InPair 40 second a → ⊥
+no_open_pair second (Plain (Byte b)) pair = absurd (let low = pair.0 in omega arith)
+no_open_pair second (Plain AnyByte) marks = absurd (let is = marks.0 in omega arith)
+no_open_pair second (Plain (Gap n m)) h = h
+no_open_pair second (Plain (OpenGap n)) h = h
+no_open_pair second (Plain (Range low high)) h = h
+no_open_pair second (Plain (Except b)) h = h
+no_open_pair second (Plain (Choice alternatives)) h = h
+no_open_pair second (Outside low high) h = h
+no_open_pair second (Between low high) h = h
+no_open_pair second (Quoted bytes) h = h
+
+-- The front of a text that begins with no mark but perhaps a parenthesis: two characters.
+module _ (first : ℕ) (a : first ≡ 42 → ⊥) (b : first ≡ 123 → ⊥) (c : first ≡ 91 → ⊥) (q : first ≡ 39 → ⊥) where
+  pub pair_front : (text after rest : List ℕ) (second : ℕ) (item : Atom) → text ≡ first ∷ after → after ≡ second ∷ rest → InPair first second item → IsOnlyFront SpellsAtom text item rest
+  pair_front text after rest second item is cut pair =
+      two_front first a b c (λ (open_one : first ≡ 40). no_open_pair second item (subst (λ (x : ℕ). InPair x second item) open_one pair)) q text after rest second item is cut pair
+
+  pub no_pair_front : (text after rest : List ℕ) (second : ℕ) → text ≡ first ∷ after → after ≡ second ∷ rest → ((e : Element) → SpellsInPair first second e → ⊥) → HasNoFront SpellsAtom text
+  no_pair_front text after rest second is cut none =
+      ⊎_elim
+      (λ e item front behind there spelled. not_parenthesis after item front behind (ap (λ (x : ℕ). x ∷ after) (sym e) ∙ sym is ∙ there) spelled)
+      (λ other. no_two_front first a b c other q text after rest second is cut none)
+      (cases_eq first 40)

@@ -197,19 +197,19 @@ module _ (text behind : List ℕ) (c : ℕ) (is : text ≡ c ∷ behind) (other 
     where
       go : (t : Term) (start after : List ℕ) → text ≡ start ++ after → SpellsTerm start t → (t ≡ One a) × (after ≡ rest)
       go (One a') start after there spelled = let same = first.only a' start after there spelled in (ap One same.0, same.1)
-      go (OneOf alternatives) start after there (body, open, spelled) =
-          absurd (other (heads c 40 behind ((body ++ (41 ∷ [])) ++ after) (sym is ∙ there ∙ ap (λ z. z ++ after) open)).0)
+      go (OneOf alternatives) start after there (body, opened, spelled) =
+          absurd (other (heads c 40 behind ((body ++ (41 ∷ [])) ++ after) (sym is ∙ there ∙ ap (λ z. z ++ after) opened)).0)
 
   pub no_item_front : HasNoFront SpellsAtom text → HasNoFront SpellsTerm text
   no_item_front none (One a) front rest there spelled = none a front rest there spelled
-  no_item_front none (OneOf alternatives) front rest there (body, open, spelled) =
-      other (heads c 40 behind ((body ++ (41 ∷ [])) ++ rest) (sym is ∙ there ∙ ap (λ z. z ++ rest) open)).0
+  no_item_front none (OneOf alternatives) front rest there (body, opened, spelled) =
+      other (heads c 40 behind ((body ++ (41 ∷ [])) ++ rest) (sym is ∙ there ∙ ap (λ z. z ++ rest) opened)).0
 
 -- or alternatives in parentheses
 in_parentheses : (text behind : List ℕ) → text ≡ 40 ∷ behind → (alternatives : List (List Atom)) (start after : List ℕ) → text ≡ start ++ after → SpellsTerm start (OneOf alternatives)
     → InParentheses behind alternatives after
-in_parentheses text behind is alternatives start after there (body, open, spelled) =
-    (body, (heads 40 40 behind ((body ++ (41 ∷ [])) ++ after) (sym is ∙ there ∙ ap (λ z. z ++ after) open)).1 ∙ append_assoc body (41 ∷ []) after, spelled)
+in_parentheses text behind is alternatives start after there (body, opened, spelled) =
+    (body, (heads 40 40 behind ((body ++ (41 ∷ [])) ++ after) (sym is ∙ there ∙ ap (λ z. z ++ after) opened)).1 ∙ append_assoc body (41 ∷ []) after, spelled)
 
 pub choice_front : (text behind rest : List ℕ) (alternatives : List (List Atom)) → text ≡ 40 ∷ behind → InParentheses behind alternatives rest
     → ((all : List (List Atom)) (end : List ℕ) → InParentheses behind all end → (all ≡ alternatives) × (end ≡ rest)) → IsOnlyFront SpellsTerm text (OneOf alternatives) rest
@@ -232,7 +232,7 @@ no_choice_front text behind is none (OneOf others) front rest there spelled = no
 -- no term is written by nothing
 some_term : (t : Term) (front : List ℕ) → SpellsTerm front t → 0 < length front
 some_term (One a) front spelled = some_item a front spelled
-some_term (OneOf alternatives) front (body, open, spelled) = omega (arith, ap length open)
+some_term (OneOf alternatives) front (body, opened, spelled) = omega (arith, ap length opened)
 
 pub no_term_of_nothing : (text : List ℕ) → text ≡ [] → HasNoFront SpellsTerm text
 no_term_of_nothing text none t front rest there spelled = absurd (omega (arith, some_term t front spelled, ap length (sym none ∙ there), length-append front rest))

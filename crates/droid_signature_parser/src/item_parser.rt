@@ -122,7 +122,7 @@ fn except_of(body: &[u8]) -> Option<u8>
         (λ b. SpellsInBrackets body.now (Except b)) }
 {
     match body {
-        [b'!', high, low] => byte_of(*high, *low),
+        [b'!', high, low] => Some(byte_of(*high, *low)?),
         _ => None,
     }
 }

@@ -1,5 +1,5 @@
 -- What an operation on texts gives: the wanted texts, or why a registry cannot hold them. Running out of memory says nothing.
-use Rattle.std.specs.Prelude.{◌≡◌, ◌⊎◌, ◌×◌, ℕ, ◌<◌, List, length, Result, Ok, Err, ⊤}
+use Rattle.std.specs.Prelude.{◌≡◌, ◌⊎◌, ℕ, ◌<◌, List, length, Result, Ok, Err, ⊤}
 use Rattle.droid_pronom_formats.specs.Registry.{AnyOf}
 use Rattle.droid_signature_patterns.specs.declared.reason.Stop.{Stop}
 use Rattle.droid_signature_patterns.specs.declared.reason.Stop.TheVariants as stops

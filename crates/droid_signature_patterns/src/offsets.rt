@@ -1,6 +1,6 @@
 //! Offsets that a registry can hold.
 
-ghost use Rattle.std.specs.Prelude.{◌≡◌, ◌×◌, ◌≤◌, Some, IfErr, IfOk};
+ghost use Rattle.std.specs.Prelude.{◌≡◌, ◌≤◌, Some, IfErr, IfOk};
 ghost use Rattle.droid_signature_meaning.specs.Meaning.{lowest};
 ghost use Rattle.droid_signature_patterns.specs.Reasons.{IsReasonOfBounds, IsReasonOfLower};
 

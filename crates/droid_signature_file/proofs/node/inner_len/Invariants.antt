@@ -1,4 +1,4 @@
-use Rattle.std.proofs.Common.{◌≡◌, ◌≤◌, ◌+◌, ◌×◌, drop, map}
+use Rattle.std.proofs.Common.{◌≡◌, ◌≤◌, ◌+◌, drop, map}
 use Rattle.droid_xml.specs.Views.{part}
 use Rattle.droid_signature_file.specs.Elements.{inner_len}
 use Rattle.droid_signature_file.proofs.node.inner_len.Given as goal

@@ -1,4 +1,4 @@
-use Rattle.std.proofs.Common.{◌≤◌, ◌×◌, map}
+use Rattle.std.proofs.Common.{◌≤◌, map}
 use Rattle.droid_xml.specs.Views.{part, place}
 use Rattle.droid_signature_file.proofs.KeptPieces.{HasKept}
 use Rattle.droid_signature_file.proofs.pieces.pieces_of.Given as goal

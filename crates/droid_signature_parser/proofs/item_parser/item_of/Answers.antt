@@ -2,7 +2,7 @@
 use Rattle.std.proofs.Common.{◌∷◌, refl, ap, ◌∙◌, arith}
 use Rattle.droid_signature_parser.specs.TextFronts.{InBraces, InBrackets, InQuotes}
 use Rattle.droid_signature_parser.proofs.FaultLemmas.{passed_on}
-use Rattle.droid_signature_parser.proofs.ItemFronts.{opens_braces, opens_brackets, opens_quotes, spells_braces, spells_brackets, spells_quotes, same_braces, same_brackets, same_quotes, only_plain_braces, marked_front, unmarked_front, bad_front, star_front, two_front, no_two_front}
+use Rattle.droid_signature_parser.proofs.ItemFronts.{opens_braces, opens_brackets, opens_quotes, spells_braces, spells_brackets, spells_quotes, same_braces, same_brackets, same_quotes, only_plain_braces, marked_front, unmarked_front, bad_front, star_front, pair_front, no_pair_front}
 use Rattle.droid_signature_parser.proofs.item_parser.item_of.Goals as goal
 
 pub returns-in-42-clause-front : goal.returns-in-42-clause-front
@@ -81,7 +81,7 @@ returns-in_err-item-in_default-clause-bad c = λ _.
     let first = c.in_ok-first.first.now in
     let whole = (rw c.in_ok-first.ensures.ok_part at c.split_first.ensures.cases).0 in
     let cut = (rw c.in_ok-second-in_default.ensures.ok_part at c.split_first-in_default.ensures.cases).0 in
-    no_two_front first (λ e. absurd (omega arith)) (λ e. absurd (omega arith)) (λ e. absurd (omega arith)) (λ e. absurd (omega arith)) (λ e. absurd (omega arith))
+    no_pair_front first (λ e. absurd (omega arith)) (λ e. absurd (omega arith)) (λ e. absurd (omega arith)) (λ e. absurd (omega arith))
     c.args.text.now c.in_ok-first.after.now c.in_ok-second-in_default.rest.now c.in_ok-second-in_default.second.now whole cut (rw c.in_err-item-in_default.ensures.ok_part at c.item_of_pair.ensures)
 
 pub returns-in_ok-item-in_default-clause-front : goal.returns-in_ok-item-in_default-clause-front
@@ -89,5 +89,5 @@ returns-in_ok-item-in_default-clause-front c =
     let first = c.in_ok-first.first.now in
     let whole = (rw c.in_ok-first.ensures.ok_part at c.split_first.ensures.cases).0 in
     let cut = (rw c.in_ok-second-in_default.ensures.ok_part at c.split_first-in_default.ensures.cases).0 in
-    two_front first (λ e. absurd (omega arith)) (λ e. absurd (omega arith)) (λ e. absurd (omega arith)) (λ e. absurd (omega arith)) (λ e. absurd (omega arith))
+    pair_front first (λ e. absurd (omega arith)) (λ e. absurd (omega arith)) (λ e. absurd (omega arith)) (λ e. absurd (omega arith))
     c.args.text.now c.in_ok-first.after.now c.in_ok-second-in_default.rest.now c.in_ok-second-in_default.second.now _ whole cut (rw c.in_ok-item-in_default.ensures.ok_part at c.item_of_pair.ensures)

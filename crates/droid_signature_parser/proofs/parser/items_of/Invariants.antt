@@ -4,8 +4,8 @@ use Rattle.droid_signature_parser.specs.TermValues.{atom_of}
 use Rattle.droid_signature_parser.proofs.TermFronts.{ItemsLeft}
 use Rattle.droid_signature_parser.proofs.parser.items_of.Given as goal
 
-abbrev pub invariant-loop-rest : goal.invariant-loop-rest
-invariant-loop-rest l = ItemsLeft l.text (map atom_of l.items.items) l.rest
+abbrev pub invariant-loop-alloc : goal.invariant-loop-alloc
+invariant-loop-alloc l = ItemsLeft l.text (map atom_of l.items.items) l.rest
 
-abbrev pub decreases-loop-rest : goal.decreases-loop-rest
-decreases-loop-rest l = length l.rest
+abbrev pub decreases-loop-alloc : goal.decreases-loop-alloc
+decreases-loop-alloc l = length l.rest
