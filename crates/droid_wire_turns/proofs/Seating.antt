@@ -1,0 +1,420 @@
+-- All open connections, after one of them had its part of a turn, after one came, and after one left.
+use Rattle.std.proofs.Common.{◌≡◌, ◌≢◌, ℕ, ◌+◌, ◌-◌, ◌<◌, ◌≤◌, Bool, true, false, cond, List, [], ◌∷◌, ◌++◌, length, Option, Some, None, fold, refl, sym, ap, subst, ◌∙◌, append_assoc, arith, inl, inr, ◌⊎◌}
+use Rattle.std.specs.List.{AllByRecursion}
+use Rattle.std.proofs.lemmas.List.{append-nil, length-append}
+use Rattle.std.proofs.lemmas.List.Sums.{fold-append, sum_by-append}
+use Rattle.std.proofs.lemmas.Bool.{cases_lt, ne_eqb}
+use Rattle.droid_frame.specs.Replies.{HasReplySpelling}
+use Rattle.droid_frame.specs.Streams.{IsReadable}
+use Rattle.droid_frame.specs.types.frame.Frame.{Frame}
+use Rattle.droid_frame.specs.types.reply.Reply.{Reply}
+use Rattle.std.proofs.lemmas.Bool.Decides.{eqb_tells}
+use Rattle.droid_wire_turns.specs.Departures.{IsServed, IsStopped, Serves, is_wait}
+use Rattle.droid_wire_turns.specs.Events.{Event, Opened, NoneOpened, Read, Ended, Unread, Wrote, Unwritten, Closed, Told, Waited, Unwaited}
+use Rattle.droid_wire_turns.specs.Halls.{Heard, Holds, IsPatient, IsWithin, Keeps, NoPeer, Served, Unheard, one_at, times_among, times_in}
+use Rattle.droid_wire_turns.specs.Peers.{Departs, Hears, InTurn, IsNew, IsQuiet, IsWhole, Kept, Stands, Stays, keep, kept_of}
+use Rattle.droid_wire_turns.specs.Serving.{AreAll, HadShare, HadTurn, HasLeft, IsFair, IsOpenAfter, IsReady, IsSettled}
+use Rattle.droid_wire_turns.specs.Steps.{Always, AreOfOthers, Happened, Handles, Happens, IsOf, IsOfOther, IsTraffic, Step, Times, bytes_read, bytes_written, came, clock_behind, clock_of, handled, handled_in, spelled_frames, spelled_replies, times_of, turn_behind, turn_of, went}
+use Rattle.droid_wire_turns.specs.declared.departure.Departure.{Departure}
+use Rattle.droid_wire_turns.specs.declared.departure.Departure.TheVariants as departures
+use Rattle.droid_wire_turns.specs.declared.peer.Peer.{Peer}
+use Rattle.droid_wire_turns.specs.declared.rules.Rules.{Rules}
+use Rattle.droid_wire_turns.proofs.Gathered.{Elsewhere, IsCalm, all_elsewhere, at_once, calm, clock_more, clock_told, closed_elsewhere, none_elsewhere, none_gathered, none_more, opened_elsewhere, times_now, times_one, times_opened, turn_more}
+use Rattle.droid_wire_turns.proofs.Keeping.{Leaves, cases_zero, keeps_as, keeps_closed, keeps_none, keeps_opened, keeps_told, keeps_traffic, keeps_unwaited, keeps_waited, lt_self, one_here, one_other}
+use Rattle.droid_wire_turns.proofs.Moments.{all_as, all_both, all_first, all_last, always_end}
+use Rattle.droid_wire_turns.proofs.Standing.{happened_then, stands_told}
+use Rattle.droid_wire_turns.proofs.Stepping.{serves_as}
+use Rattle.droid_wire_turns.proofs.Turning.{IsAsBefore, heard_by, heard_elsewhere, served_by, served_elsewhere, unheard_elsewhere, unheard_waited}
+
+-- ---- which are open
+
+times_push : (id : ℕ) (peers : List Peer) (peer : Peer) → times_in id (peers ++ peer ∷ []) ≡ times_in id peers + one_at peer.id id
+times_push id [] peer = omega arith
+times_push id (one ∷ peers) peer = omega (arith, times_push id peers peer)
+
+size_push : (peers : List Peer) (peer : Peer) → length (peers ++ peer ∷ []) ≡ length peers + 1
+size_push peers peer = omega (arith, length-append peers (peer ∷ []))
+
+not_one : (who id : ℕ) (n : ℕ) → one_at who id + n ≡ 0 → who ≡ id → ⊥
+not_one who id n none is = let here : one_at who id ≡ 1 = subst (λ (i : ℕ). one_at who i ≡ 1) is (one_here who) in absurd (omega (arith, none, here))
+
+-- of those that are another connection
+others_stay : (P Q : Peer → Type 0) (who : ℕ) (peers : List Peer) → times_in who peers ≡ 0 → ((peer : Peer) → (who ≡ peer.id → ⊥) → P peer → Q peer) → AllByRecursion P peers → AllByRecursion Q peers
+others_stay P Q who [] none stay all = tt
+others_stay P Q who (peer ∷ peers) none stay all =
+    (stay peer (λ is. not_one peer.id who (times_in who peers) none (sym is)) all.0, others_stay P Q who peers (omega (arith, none)) stay all.1)
+
+-- one that is among them
+pub record Found (P : Peer → Type 0) (id : ℕ) : Type 0 where
+  peer : Peer
+  its : peer.id ≡ id
+  holds : P peer
+
+find_one : (P : Peer → Type 0) (id : ℕ) (peers : List Peer) → 0 < times_in id peers → AllByRecursion P peers → Found P id
+find_one P id [] some all = absurd (omega (arith, some))
+find_one P id (peer ∷ peers) some all =
+    elim (eqb_tells peer.id id) [
+      | inl is ↦ record { peer = peer; its = is.1; holds = all.0 }
+      | inr is ↦ find_one P id peers (omega (arith, some, one_other peer.id id is.1)) all.1
+    ]
+
+-- ---- one is heard
+
+moved_over : (id : ℕ) (rest served : List Peer) (old new : Peer) → new.id ≡ old.id → times_among (rest ++ old ∷ []) served id ≡ times_among rest (served ++ new ∷ []) id
+moved_over id rest served old new same = omega (arith, times_push id rest old, times_push id served new, ap (λ (i : ℕ). one_at i id) same)
+
+sized_over : (rest served : List Peer) (old new : Peer) → length (rest ++ old ∷ []) + length served ≡ length rest + length (served ++ new ∷ [])
+sized_over rest served old new = omega (arith, size_push rest old, size_push served new)
+
+alone_in : (rules : Rules) (count places : ℕ) (rest served : List Peer) (old : Peer) (steps : List Step) → Keeps rules count (times_among (rest ++ old ∷ []) served) places steps → (times_in old.id rest ≡ 0) × (times_in old.id served ≡ 0)
+alone_in rules count places rest served old steps keeps =
+    let once : times_among (rest ++ old ∷ []) served old.id ≤ 1 = keeps.apart old.id in
+    let pushed = times_push old.id rest old in
+    let here = one_here old.id in
+    (omega (arith, once, pushed, here), omega (arith, once, pushed, here))
+
+pub hear_one : (rules : Rules) (now count : ℕ) (rest served : List Peer) (old new : Peer) (steps more : List Step) → Holds rules (Unheard now) (Heard now) now count (rest ++ old ∷ []) served steps
+    → IsWhole new → new.id ≡ old.id → Hears now old new more → Holds rules (Unheard now) (Heard now) now count rest (served ++ new ∷ []) (steps ++ more)
+hear_one rules now count rest served old new steps more holds whole same hears =
+    let unheard : Unheard now steps old = (all_last (Unheard now steps) rest (old ∷ []) holds.all_waiting).0 in
+    let heard : Heard now (steps ++ more) new = heard_by now old new steps more unheard whole same hears in
+    let own = hears.goes.own in
+    let alone = alone_in rules count (length (rest ++ old ∷ []) + length served) rest served old steps holds.keeps in
+    let within : IsWithin new.id (turn_of (steps ++ more)) = record { frames = omega (arith, heard.in_turn.frames, heard.few); bytes = heard.in_turn.bytes.within } in
+    let moved : Keeps rules count (times_among rest (served ++ new ∷ [])) (length rest + length (served ++ new ∷ [])) steps =
+        keeps_as rules count (times_among (rest ++ old ∷ []) served) (times_among rest (served ++ new ∷ [])) (length (rest ++ old ∷ []) + length served) (length rest + length (served ++ new ∷ [])) steps
+        (λ id. moved_over id rest served old new same) (sized_over rest served old new) holds.keeps in
+    let there : 0 < times_among rest (served ++ new ∷ []) old.id = omega (arith, times_push old.id served new, ap (λ (i : ℕ). one_at i old.id) same, one_here old.id) in
+    record {
+      keeps = keeps_traffic rules count (times_among rest (served ++ new ∷ [])) (length rest + length (served ++ new ∷ [])) old.id steps more moved there own
+          (hears.goes.stands steps unheard.stands).0 (subst (λ (i : ℕ). IsWithin i (turn_of (steps ++ more))) same within);
+      clock = clock_more steps more (calm old.id more own) ∙ holds.clock;
+      all_waiting = others_stay (Unheard now steps) (Unheard now (steps ++ more)) old.id rest alone.0
+          (λ peer other it. unheard_elsewhere now steps more peer (all_elsewhere old.id peer.id more own other) (calm old.id more own) it) (all_first (Unheard now steps) rest (old ∷ []) holds.all_waiting);
+      all_served = all_both (Heard now (steps ++ more)) served (new ∷ []) (others_stay (Heard now steps) (Heard now (steps ++ more)) old.id served alone.1
+          (λ peer other it. heard_elsewhere now steps more peer (all_elsewhere old.id peer.id more own other) (calm old.id more own) it) holds.all_served) (heard, tt);
+    }
+
+-- ---- one is told
+
+within_told : (id : ℕ) (steps more : List Step) → AllByRecursion (IsTraffic id) more → IsQuiet id more → IsWithin id (turn_of steps) → IsWithin id (turn_of (steps ++ more))
+within_told id steps more own quiet within =
+    let turn = turn_more steps more (calm id more own) in
+    record {
+      frames = omega (arith, within.frames, ap (λ (t : List Step). length (handled id t)) turn, ap length (none_gathered (handled_in id) (turn_of steps) more quiet.nothing_handled));
+      bytes = omega (arith, within.bytes, ap (λ (t : List Step). length (came id t)) turn, ap length (none_gathered (bytes_read id) (turn_of steps) more quiet.nothing_came));
+    }
+
+-- it stays open
+pub tell_one : (rules : Rules) (now count : ℕ) (waiting rest : List Peer) (old new : Peer) (steps more : List Step) → Holds rules (Served rules.idle now) (Heard now) now count waiting (rest ++ old ∷ []) steps
+    → IsWhole new → IsAsBefore old new → Stays rules.idle now old new more → IsQuiet old.id more → Holds rules (Served rules.idle now) (Heard now) now count (waiting ++ new ∷ []) rest (steps ++ more)
+tell_one rules now count waiting rest old new steps more holds whole same stays quiet =
+    let heard : Heard now steps old = (all_last (Heard now steps) rest (old ∷ []) holds.all_served).0 in
+    let told : Served rules.idle now (steps ++ more) new = served_by rules.idle now old new steps more heard whole same stays quiet in
+    let own = stays.goes.own in
+    let once : times_among waiting (rest ++ old ∷ []) old.id ≤ 1 = holds.keeps.apart old.id in
+    let pushed = times_push old.id rest old in
+    let here = one_here old.id in
+    let none_waits : times_in old.id waiting ≡ 0 = omega (arith, once, pushed, here) in
+    let none_rests : times_in old.id rest ≡ 0 = omega (arith, once, pushed, here) in
+    let moved : Keeps rules count (times_among (waiting ++ new ∷ []) rest) (length (waiting ++ new ∷ []) + length rest) steps =
+        keeps_as rules count (times_among waiting (rest ++ old ∷ [])) (times_among (waiting ++ new ∷ []) rest) (length waiting + length (rest ++ old ∷ [])) (length (waiting ++ new ∷ []) + length rest) steps
+        (λ id. omega (arith, times_push id rest old, times_push id waiting new, ap (λ (i : ℕ). one_at i id) same.id)) (omega (arith, size_push rest old, size_push waiting new)) holds.keeps in
+    let there : 0 < times_among (waiting ++ new ∷ []) rest old.id = omega (arith, times_push old.id waiting new, ap (λ (i : ℕ). one_at i old.id) same.id, here) in
+    record {
+      keeps = keeps_traffic rules count (times_among (waiting ++ new ∷ []) rest) (length (waiting ++ new ∷ []) + length rest) old.id steps more moved there own
+          (stays.goes.stands steps heard.stands).0 (within_told old.id steps more own quiet (holds.keeps.within old.id));
+      clock = clock_more steps more (calm old.id more own) ∙ holds.clock;
+      all_waiting = all_both (Served rules.idle now (steps ++ more)) waiting (new ∷ []) (others_stay (Served rules.idle now steps) (Served rules.idle now (steps ++ more)) old.id waiting none_waits
+          (λ peer other it. served_elsewhere rules.idle now steps more peer (all_elsewhere old.id peer.id more own other) (calm old.id more own) it) holds.all_waiting) (told, tt);
+      all_served = others_stay (Heard now steps) (Heard now (steps ++ more)) old.id rest none_rests
+          (λ peer other it. heard_elsewhere now steps more peer (all_elsewhere old.id peer.id more own other) (calm old.id more own) it) (all_first (Heard now steps) rest (old ∷ []) holds.all_served);
+    }
+
+closed_calm : (who : ℕ) (why : Departure) → IsCalm (Happens (Closed who why))
+closed_calm who why = record { turn = λ turn. refl; clock = λ now. refl }
+
+-- it is over
+pub close_one : (rules : Rules) (now count : ℕ) (waiting rest : List Peer) (old new : Peer) (why : Departure) (steps more : List Step) → Holds rules (Served rules.idle now) (Heard now) now count waiting (rest ++ old ∷ []) steps
+    → Departs rules.idle now old new why more → IsQuiet old.id more → Holds rules (Served rules.idle now) (Heard now) now count waiting rest (steps ++ (more ++ Happens (Closed old.id why) ∷ []))
+close_one rules now count waiting rest old new why steps more holds departs quiet =
+    let heard : Heard now steps old = (all_last (Heard now steps) rest (old ∷ []) holds.all_served).0 in
+    let step : Step = Happens (Closed old.id why) in
+    let own = departs.own in
+    let left = departs.stands steps heard.stands in
+    let once : times_among waiting (rest ++ old ∷ []) old.id ≤ 1 = holds.keeps.apart old.id in
+    let pushed = times_push old.id rest old in
+    let here = one_here old.id in
+    let none_waits : times_in old.id waiting ≡ 0 = omega (arith, once, pushed, here) in
+    let none_rests : times_in old.id rest ≡ 0 = omega (arith, once, pushed, here) in
+    let there : 0 < times_among waiting (rest ++ old ∷ []) old.id = omega (arith, pushed, here) in
+    let still : AllByRecursion IsCalm (more ++ step ∷ []) = all_both IsCalm more (step ∷ []) (calm old.id more own) (closed_calm old.id why, tt) in
+    let away : (id : ℕ) → (old.id ≡ id → ⊥) → AllByRecursion (Elsewhere id) (more ++ step ∷ []) = λ (id : ℕ) (other : old.id ≡ id → ⊥). all_both (Elsewhere id) more (step ∷ []) (all_elsewhere old.id id more own other) (closed_elsewhere old.id why id, tt) in
+    let went_on : Keeps rules count (times_among waiting (rest ++ old ∷ [])) (length waiting + length (rest ++ old ∷ [])) (steps ++ more) =
+        keeps_traffic rules count (times_among waiting (rest ++ old ∷ [])) (length waiting + length (rest ++ old ∷ [])) old.id steps more holds.keeps there own left.0 (within_told old.id steps more own quiet (holds.keeps.within old.id)) in
+    let gone : Keeps rules count (times_among waiting rest) (length waiting + length rest) ((steps ++ more) ++ step ∷ []) =
+        keeps_closed rules count (times_among waiting (rest ++ old ∷ [])) (times_among waiting rest) (length waiting + length (rest ++ old ∷ [])) (length waiting + length rest) old.id why (steps ++ more) went_on
+        (record { held = left.1.0; queued = left.1.1; serves = left.1.2; explained = left.1.3 })
+        (λ id. omega (arith, times_push id rest old)) (omega (arith, size_push rest old)) in
+    record {
+      keeps = subst (Keeps rules count (times_among waiting rest) (length waiting + length rest)) (append_assoc steps more (step ∷ [])) gone;
+      clock = clock_more steps (more ++ step ∷ []) still ∙ holds.clock;
+      all_waiting = others_stay (Served rules.idle now steps) (Served rules.idle now (steps ++ (more ++ step ∷ []))) old.id waiting none_waits
+          (λ peer other it. served_elsewhere rules.idle now steps (more ++ step ∷ []) peer (away peer.id other) still it) holds.all_waiting;
+      all_served = others_stay (Heard now steps) (Heard now (steps ++ (more ++ step ∷ []))) old.id rest none_rests
+          (λ peer other it. heard_elsewhere now steps (more ++ step ∷ []) peer (away peer.id other) still it) (all_first (Heard now steps) rest (old ∷ []) holds.all_served);
+    }
+
+-- ---- steps of others
+
+-- nothing is gathered of what is not of it
+record IsNothingOf (id : ℕ) (step : Step) : Type 0 where
+  reads : bytes_read id step ≡ []
+  writes : bytes_written id step ≡ []
+  handles : handled_in id step ≡ []
+
+nothing_of : (id : ℕ) (step : Step) → (IsOf id step → ⊥) → IsNothingOf id step
+nothing_of id (Happens (Read one bytes)) other = record { reads = ap (λ (b : Bool). cond b bytes []) (ne_eqb one id other); writes = refl; handles = refl }
+nothing_of id (Happens (Wrote one bytes)) other = record { reads = refl; writes = ap (λ (b : Bool). cond b bytes []) (ne_eqb one id other); handles = refl }
+nothing_of id (Happens (Ended one)) other = record { reads = refl; writes = refl; handles = refl }
+nothing_of id (Happens (Unread one)) other = record { reads = refl; writes = refl; handles = refl }
+nothing_of id (Happens (Unwritten one)) other = record { reads = refl; writes = refl; handles = refl }
+nothing_of id (Happens (Waited limit)) other = record { reads = refl; writes = refl; handles = refl }
+nothing_of id (Happens Unwaited) other = record { reads = refl; writes = refl; handles = refl }
+nothing_of id (Happens (Told time)) other = record { reads = refl; writes = refl; handles = refl }
+nothing_of id (Happens (Opened one)) other = record { reads = refl; writes = refl; handles = refl }
+nothing_of id (Happens NoneOpened) other = record { reads = refl; writes = refl; handles = refl }
+nothing_of id (Happens (Closed one why)) other = record { reads = refl; writes = refl; handles = refl }
+nothing_of id (Handles one frame reply) other = record { reads = refl; writes = refl; handles = ap (λ (b : Bool). cond b ((frame, reply) ∷ []) []) (ne_eqb one id other) }
+
+others_elsewhere : (id : ℕ) (steps : List Step) → AreOfOthers id steps → (came id steps ≡ []) × (went id steps ≡ []) × (handled id steps ≡ [])
+others_elsewhere id [] others = (refl, refl, refl)
+others_elsewhere id (step ∷ steps) others =
+    let here = nothing_of id step others.0 in
+    let later = others_elsewhere id steps others.1 in
+    (ap (λ (l : List ℕ). l ++ came id steps) here.reads ∙ later.0, ap (λ (l : List ℕ). l ++ went id steps) here.writes ∙ later.1, ap (λ (l : List (Frame × Reply)). l ++ handled id steps) here.handles ∙ later.2)
+
+-- it was not opened
+none_opened_of : (id : ℕ) (steps : List Step) → AreOfOthers id steps → Happened (Opened id) steps → ⊥
+none_opened_of id [] others there = there
+none_opened_of id (step ∷ steps) others (inl here) = (subst (λ (s : Step). IsOf id s → ⊥) here others.0) refl
+none_opened_of id (step ∷ steps) others (inr later) = none_opened_of id steps others.1 later
+
+happened_among : (event : Event) (before later : List Step) → Happened event (before ++ Happens event ∷ later)
+happened_among event [] later = inl refl
+happened_among event (step ∷ before) later = inr (happened_among event before later)
+
+others_behind : (id : ℕ) (turn : List Step) (step : Step) → AreOfOthers id turn → (IsOf id step → ⊥) → AreOfOthers id (turn_behind turn step)
+others_behind id turn (Happens (Waited limit)) so_far other = tt
+others_behind id turn (Happens (Read one bytes)) so_far other = all_both (IsOfOther id) turn (Happens (Read one bytes) ∷ []) so_far (other, tt)
+others_behind id turn (Happens (Wrote one bytes)) so_far other = all_both (IsOfOther id) turn (Happens (Wrote one bytes) ∷ []) so_far (other, tt)
+others_behind id turn (Happens (Ended one)) so_far other = all_both (IsOfOther id) turn (Happens (Ended one) ∷ []) so_far (other, tt)
+others_behind id turn (Happens (Unread one)) so_far other = all_both (IsOfOther id) turn (Happens (Unread one) ∷ []) so_far (other, tt)
+others_behind id turn (Happens (Unwritten one)) so_far other = all_both (IsOfOther id) turn (Happens (Unwritten one) ∷ []) so_far (other, tt)
+others_behind id turn (Happens Unwaited) so_far other = all_both (IsOfOther id) turn (Happens Unwaited ∷ []) so_far (other, tt)
+others_behind id turn (Happens (Told time)) so_far other = all_both (IsOfOther id) turn (Happens (Told time) ∷ []) so_far (other, tt)
+others_behind id turn (Happens (Opened one)) so_far other = all_both (IsOfOther id) turn (Happens (Opened one) ∷ []) so_far (other, tt)
+others_behind id turn (Happens NoneOpened) so_far other = all_both (IsOfOther id) turn (Happens NoneOpened ∷ []) so_far (other, tt)
+others_behind id turn (Happens (Closed one why)) so_far other = all_both (IsOfOther id) turn (Happens (Closed one why) ∷ []) so_far (other, tt)
+others_behind id turn (Handles one frame reply) so_far other = all_both (IsOfOther id) turn (Handles one frame reply ∷ []) so_far (other, tt)
+
+quiet_more : (id : ℕ) (turn : List Step) (step : Step) → bytes_read id step ≡ [] → handled_in id step ≡ [] → IsQuiet id turn → IsQuiet id (turn ++ step ∷ [])
+quiet_more id turn step no_bytes no_frame quiet = record { nothing_came = none_more (bytes_read id) turn step no_bytes ∙ quiet.nothing_came; nothing_handled = none_more (handled_in id) turn step no_frame ∙ quiet.nothing_handled }
+
+turn_told : (steps : List Step) (time : ℕ) → turn_of (steps ++ Happens (Told time) ∷ []) ≡ turn_of steps ++ Happens (Told time) ∷ []
+turn_told steps time = fold-append turn_behind [] steps (Happens (Told time) ∷ [])
+
+clock_waited : (steps : List Step) (limit : ℕ) → clock_of (steps ++ Happens (Waited limit) ∷ []) ≡ clock_of steps
+clock_waited steps limit = fold-append clock_behind 0 steps (Happens (Waited limit) ∷ [])
+
+fresh_serves : (id : ℕ) (steps : List Step) → came id steps ≡ [] → went id steps ≡ [] → handled id steps ≡ [] → Serves id steps [] []
+fresh_serves id steps no_bytes none_out no_frame = record {
+  readable = subst (AllByRecursion (λ (one : Frame × Reply). IsReadable one.0)) (sym no_frame) tt;
+  spelled = subst (AllByRecursion (λ (one : Frame × Reply). HasReplySpelling one.0.version one.1)) (sym no_frame) tt;
+  read = no_bytes ∙ ap (λ (h : List (Frame × Reply)). spelled_frames h ++ []) (sym no_frame);
+  written = ap spelled_replies no_frame ∙ ap (λ (l : List ℕ). l ++ []) (sym none_out);
+  few = omega arith;
+  short = omega arith;
+}
+
+none_above : (rules : Rules) (count : ℕ) (open_as : ℕ → ℕ) (places : ℕ) (steps : List Step) → Keeps rules count open_as places steps → open_as count ≡ 0
+none_above rules count open_as places steps keeps = elim (cases_zero (open_as count)) [ inl none ↦ none | inr some ↦ absurd (lt_self count (keeps.below count some)) ]
+
+all_pairs : (P Q : Peer → Type 0) (peers : List Peer) → AllByRecursion P peers → AllByRecursion Q peers → AllByRecursion (λ peer. P peer × Q peer) peers
+all_pairs P Q [] one other = tt
+all_pairs P Q (peer ∷ peers) one other = ((one.0, other.0), all_pairs P Q peers one.1 other.1)
+
+others_in_turn : (id : ℕ) (turn steps : List Step) → AreOfOthers id turn → AreOfOthers id steps → AreOfOthers id (fold turn_behind turn steps)
+others_in_turn id turn [] so_far others = so_far
+others_in_turn id turn (step ∷ steps) so_far others = others_in_turn id (turn_behind turn step) steps (others_behind id turn step so_far others.0) others.1
+
+-- ---- one comes, or none
+
+none_at_all : (steps other : List Step) (peers : List Peer) → AllByRecursion (NoPeer steps) peers → AllByRecursion (NoPeer other) peers
+none_at_all steps other peers none = none
+
+-- there is none
+pub no_peers : (steps : List Step) (peers : List Peer) → AllByRecursion (NoPeer steps) peers → peers ≡ []
+no_peers steps [] none = refl
+no_peers steps (peer ∷ peers) none = absurd none.0
+
+pub tell_clock : (rules : Rules) (now time count : ℕ) (waiting served : List Peer) (steps : List Step) → Holds rules (Unheard now) NoPeer now count waiting served steps → Holds rules (Unheard time) NoPeer time count waiting served (steps ++ Happens (Told time) ∷ [])
+tell_clock rules now time count waiting served steps holds =
+    let step : Step = Happens (Told time) in
+    let turn : turn_of (steps ++ step ∷ []) ≡ turn_of steps ++ step ∷ [] = turn_told steps time in
+    record {
+      keeps = keeps_told rules count (times_among waiting served) (length waiting + length served) time steps holds.keeps;
+      clock = clock_told steps time;
+      all_waiting = all_as (Unheard now steps) (Unheard time (steps ++ step ∷ [])) waiting
+          (λ peer it. record { whole = it.whole; stands = stands_told peer.id (kept_of peer) now time steps it.stands; quiet = subst (IsQuiet peer.id) (sym turn) (quiet_more peer.id (turn_of steps) step refl refl it.quiet) }) holds.all_waiting;
+      all_served = holds.all_served;
+    }
+
+none_calm : AllByRecursion IsCalm (Happens NoneOpened ∷ [])
+none_calm = (record { turn = λ turn. refl; clock = λ now. refl }, tt)
+
+pub none_comes : (rules : Rules) (now count : ℕ) (waiting served : List Peer) (steps : List Step) → Holds rules (Unheard now) NoPeer now count waiting served steps → Holds rules (Unheard now) NoPeer now count waiting served (steps ++ Happens NoneOpened ∷ [])
+none_comes rules now count waiting served steps holds = record {
+  keeps = keeps_none rules count (times_among waiting served) (length waiting + length served) steps holds.keeps;
+  clock = clock_more steps (Happens NoneOpened ∷ []) none_calm ∙ holds.clock;
+  all_waiting = all_as (Unheard now steps) (Unheard now (steps ++ Happens NoneOpened ∷ [])) waiting (λ peer it. unheard_elsewhere now steps (Happens NoneOpened ∷ []) peer (none_elsewhere peer.id, tt) none_calm it) holds.all_waiting;
+  all_served = holds.all_served;
+}
+
+opened_calm : (id : ℕ) → IsCalm (Happens (Opened id))
+opened_calm id = record { turn = λ turn. refl; clock = λ now. refl }
+
+-- of a connection of which nothing has happened
+untouched_kept : (id now : ℕ) (steps : List Step) → AreOfOthers id steps → clock_of steps ≡ now → Stands id (keep [] [] None now) now (steps ++ Happens (Opened id) ∷ [])
+untouched_kept id now steps others clock =
+    let step : Step = Happens (Opened id) in
+    let away = others_elsewhere id steps others in
+    let times : times_of id (steps ++ step ∷ []) ≡ record { now = now; active = now } =
+        times_one id steps step (times_of id steps) refl ∙ (times_opened id (times_of id steps) ∙ ap at_once (times_now id steps ∙ clock)) in
+    record {
+      held = [];
+      queued = [];
+      serves = fresh_serves id (steps ++ step ∷ []) (none_more (bytes_read id) steps step refl ∙ away.0) (none_more (bytes_written id) steps step refl ∙ away.1) (none_more (handled_in id) steps step refl ∙ away.2);
+      is_left = (refl, refl);
+      times = times;
+    }
+
+pub one_comes : (rules : Rules) (now count : ℕ) (waiting served : List Peer) (peer : Peer) (steps : List Step) → Holds rules (Unheard now) NoPeer now count waiting served steps → length waiting + length served < rules.seats
+    → ((total : ℕ) → rules.total ≡ Some total → count < total) → IsNew count now peer → Holds rules (Unheard now) NoPeer now (count + 1) (waiting ++ peer ∷ []) served (steps ++ Happens (Opened count) ∷ [])
+one_comes rules now count waiting served peer steps holds seats wanted new =
+    let step : Step = Happens (Opened count) in
+    let more : List Step = step ∷ [] in
+    let still : AllByRecursion IsCalm more = (opened_calm count, tt) in
+    let stands : Stands peer.id (kept_of peer) now (steps ++ more) =
+        subst (λ (i : ℕ). Stands i (kept_of peer) now (steps ++ more)) (sym new.id_is) (subst (λ (k : Kept). Stands count k now (steps ++ more)) (sym new.kept) (untouched_kept count now steps (holds.keeps.others count (omega arith)) holds.clock)) in
+    let others : AreOfOthers count (turn_of steps) = others_in_turn count [] steps tt (holds.keeps.others count (omega arith)) in
+    let away = others_elsewhere count (turn_of steps) others in
+    let quiet : IsQuiet count (turn_of steps) = record { nothing_came = away.0; nothing_handled = away.2 } in
+    let told : Unheard now (steps ++ more) peer = record {
+      whole = new.whole;
+      stands = stands;
+      quiet = subst (λ (i : ℕ). IsQuiet i (turn_of (steps ++ more))) (sym new.id_is) (subst (IsQuiet count) (sym (turn_more steps more still)) (quiet_more count (turn_of steps) step refl refl quiet));
+    } in
+    let none_waits : times_among waiting served count ≡ 0 = none_above rules count (times_among waiting served) (length waiting + length served) steps holds.keeps in
+    record {
+      keeps = keeps_as rules (count + 1) (λ id. times_among waiting served id + one_at count id) (times_among (waiting ++ peer ∷ []) served) ((length waiting + length served) + 1) (length (waiting ++ peer ∷ []) + length served) (steps ++ more)
+          (λ id. omega (arith, times_push id waiting peer, ap (λ (i : ℕ). one_at i id) new.id_is)) (omega (arith, size_push waiting peer))
+          (keeps_opened rules count (times_among waiting served) (λ id. times_among waiting served id + one_at count id) (length waiting + length served) steps holds.keeps seats wanted (λ id. refl));
+      clock = clock_more steps more still ∙ holds.clock;
+      all_waiting = all_both (Unheard now (steps ++ more)) waiting (peer ∷ []) (others_stay (Unheard now steps) (Unheard now (steps ++ more)) count waiting (omega (arith, none_waits))
+          (λ one other it. unheard_elsewhere now steps more one (opened_elsewhere count one.id other, tt) still it) holds.all_waiting) (told, tt);
+      all_served = holds.all_served;
+    }
+
+-- or it is closed at once, since there is no memory for it
+pub one_fails : (rules : Rules) (now count : ℕ) (waiting served : List Peer) (steps : List Step) → Holds rules (Unheard now) NoPeer now count waiting served steps → length waiting + length served < rules.seats
+    → ((total : ℕ) → rules.total ≡ Some total → count < total) → Holds rules (Unheard now) NoPeer now (count + 1) waiting served (steps ++ Happens (Opened count) ∷ Happens (Closed count departures.Memory) ∷ [])
+one_fails rules now count waiting served steps holds seats wanted =
+    let first : Step = Happens (Opened count) in
+    let last : Step = Happens (Closed count departures.Memory) in
+    let more : List Step = first ∷ last ∷ [] in
+    let still : AllByRecursion IsCalm more = (opened_calm count, closed_calm count departures.Memory, tt) in
+    let none_waits : times_among waiting served count ≡ 0 = none_above rules count (times_among waiting served) (length waiting + length served) steps holds.keeps in
+    let came_in = keeps_opened rules count (times_among waiting served) (λ id. times_among waiting served id + one_at count id) (length waiting + length served) steps holds.keeps seats wanted (λ id. refl) in
+    let stands = untouched_kept count now steps (holds.keeps.others count (omega arith)) holds.clock in
+    let left : Leaves rules.idle count departures.Memory (steps ++ first ∷ []) = record { held = []; queued = []; serves = serves_as count (steps ++ first ∷ []) stands.held [] stands.queued [] stands.is_left.0 stands.is_left.1 stands.serves; explained = tt } in
+    record {
+      keeps = subst (Keeps rules (count + 1) (times_among waiting served) (length waiting + length served)) (append_assoc steps (first ∷ []) (last ∷ []))
+          (keeps_closed rules (count + 1) (λ id. times_among waiting served id + one_at count id) (times_among waiting served) ((length waiting + length served) + 1) (length waiting + length served) count departures.Memory (steps ++ first ∷ []) came_in left (λ id. refl) refl);
+      clock = clock_more steps more still ∙ holds.clock;
+      all_waiting = others_stay (Unheard now steps) (Unheard now (steps ++ more)) count waiting (omega (arith, none_waits))
+          (λ one other it. unheard_elsewhere now steps more one (opened_elsewhere count one.id other, closed_elsewhere count departures.Memory one.id, tt) still it) holds.all_waiting;
+      all_served = holds.all_served;
+    }
+
+-- ---- waiting
+
+ready_by : (rules : Rules) (now count limit : ℕ) (peer : Peer) (id : ℕ) (steps : List Step) → peer.id ≡ id → Served rules.idle now steps peer → IsPatient rules.idle now limit peer → IsReady rules.idle limit id steps (turn_of steps)
+ready_by rules now count limit peer id steps its served patient =
+    let times : times_of id steps ≡ record { now = now; active = peer.active } = subst (λ (i : ℕ). times_of i steps ≡ record { now = now; active = peer.active }) its served.stands.times in
+    record {
+      prompt = subst (λ (t : Times). (t.now - t.active) + limit ≤ rules.idle) (sym times) (omega (arith, served.active, patient.prompt));
+      served = elim served.settled [
+        | inl settled ↦ inl (subst (λ (i : ℕ). IsSettled i steps (turn_of steps)) its settled)
+        | inr share ↦ inr (patient.hungry share.0, subst (λ (i : ℕ). HadShare i steps (turn_of steps)) its share.1)
+      ];
+    }
+
+open_is_there : (rules : Rules) (count places id : ℕ) (open_as : ℕ → ℕ) (steps : List Step) → Keeps rules count open_as places steps → IsOpenAfter id steps → 0 < open_as id
+open_is_there rules count places id open_as steps keeps is_open = elim (cases_zero (open_as id)) [
+  | inr some ↦ some
+  | inl none ↦ elim (cases_lt id count) [
+    | inl is_below ↦ let left = keeps.gone id is_below none in absurd (is_open.stays left.why (subst (Happened (Closed id left.why)) (sym left.parts) (happened_among (Closed id left.why) left.before left.later)))
+    | inr above ↦ absurd (none_opened_of id steps (keeps.others id above) is_open.was_opened)
+  ]
+]
+
+pub fair_by : (rules : Rules) (now count limit : ℕ) (waiting served : List Peer) (steps : List Step) → Holds rules (Served rules.idle now) NoPeer now count waiting served steps → AllByRecursion (IsPatient rules.idle now limit) waiting → IsFair rules.idle steps (Happens (Waited limit))
+fair_by rules now count limit waiting served steps holds patient = λ id. record {
+  frames = (holds.keeps.within id).frames;
+  bytes = (holds.keeps.within id).bytes;
+  ready = λ is_open.
+      let none = no_peers steps served holds.all_served in
+      let some : 0 < times_among waiting served id = open_is_there rules count (length waiting + length served) id (times_among waiting served) steps holds.keeps is_open in
+      let here : 0 < times_in id waiting = omega (arith, some, ap (times_in id) none) in
+      let found = find_one (λ peer. Served rules.idle now steps peer × IsPatient rules.idle now limit peer) id waiting here (all_pairs (Served rules.idle now steps) (IsPatient rules.idle now limit) waiting holds.all_waiting patient) in
+      ready_by rules now count limit found.peer id steps found.its found.holds.0 found.holds.1;
+}
+
+pub wait_over : (rules : Rules) (now count limit : ℕ) (waiting served : List Peer) (steps : List Step) → Holds rules (Served rules.idle now) NoPeer now count waiting served steps → AllByRecursion (IsPatient rules.idle now limit) waiting
+    → Holds rules (Unheard now) NoPeer now count waiting served (steps ++ Happens (Waited limit) ∷ [])
+wait_over rules now count limit waiting served steps holds patient = record {
+  keeps = keeps_waited rules count (times_among waiting served) (length waiting + length served) limit steps holds.keeps (fair_by rules now count limit waiting served steps holds patient);
+  clock = clock_waited steps limit ∙ holds.clock;
+  all_waiting = all_as (Served rules.idle now steps) (Unheard now (steps ++ Happens (Waited limit) ∷ [])) waiting (λ peer it. unheard_waited rules.idle now limit steps peer it) holds.all_waiting;
+  all_served = holds.all_served;
+}
+
+-- ---- the end
+
+pub have_left : (rules : Rules) (count : ℕ) (steps : List Step) → Keeps rules count (λ id. 0) 0 steps → (id : ℕ) → Happened (Opened id) steps → HasLeft rules.idle id steps
+have_left rules count steps keeps id there = elim (cases_lt id count) [
+  | inl is_below ↦ keeps.gone id is_below refl
+  | inr above ↦ absurd (none_opened_of id steps (keeps.others id above) there)
+]
+
+pub none_open : (rules : Rules) (now count : ℕ) (waiting served : List Peer) (steps : List Step) → Holds rules (Served rules.idle now) NoPeer now count waiting served steps → waiting ≡ [] → Keeps rules count (λ id. 0) 0 steps
+none_open rules now count waiting served steps holds none =
+    let nobody = no_peers steps served holds.all_served in
+    keeps_as rules count (times_among waiting served) (λ id. 0) (length waiting + length served) 0 steps (λ id. omega (arith, ap (times_in id) none, ap (times_in id) nobody)) (omega (arith, ap length none, ap length nobody)) holds.keeps
+
+pub are_all : (rules : Rules) (count : ℕ) (steps : List Step) → Keeps rules count (λ id. 0) 0 steps → AreAll count steps
+are_all rules count steps keeps = record { each_opened = keeps.all; others = keeps.others }
+
+stopped_more : (steps more : List Step) → IsStopped steps → IsStopped (steps ++ more)
+stopped_more steps more (inl failed) = inl (happened_then Unwaited steps more failed)
+stopped_more steps more (inr many) = inr (omega (arith, many, sum_by-append (λ (s : Step). cond (is_wait s) 1 0) steps more))
+
+-- one is closed since the loop ends
+pub stop_one : (rules : Rules) (count : ℕ) (rest served : List Peer) (peer : Peer) (steps : List Step) → Keeps rules count (times_among (rest ++ peer ∷ []) served) (length (rest ++ peer ∷ []) + length served) steps → IsStopped steps
+    → IsStopped (steps ++ Happens (Closed peer.id departures.Stopped) ∷ []) × Keeps rules count (times_among rest served) (length rest + length served) (steps ++ Happens (Closed peer.id departures.Stopped) ∷ [])
+stop_one rules count rest served peer steps keeps stopped =
+    let now : IsServed peer.id steps = always_end (IsServed peer.id) [] steps (keeps.each peer.id) in
+    (stopped_more steps (Happens (Closed peer.id departures.Stopped) ∷ []) stopped,
+      keeps_closed rules count (times_among (rest ++ peer ∷ []) served) (times_among rest served) (length (rest ++ peer ∷ []) + length served) (length rest + length served) peer.id departures.Stopped steps keeps
+      (record { held = now.held; queued = now.queued; serves = now.serves; explained = stopped }) (λ id. omega (arith, times_push id rest peer)) (omega (arith, size_push rest peer)))
