@@ -118,6 +118,11 @@ pub data Rests (peer : Peer) (count : ℕ) : Type 0 where
   ByBytes : (is : peer.room ≡ 0) → Rests peer count
   ByQueue : (is : 8388608 < length peer.queue.bytes) → Rests peer count
 
+-- so far in a turn, in which so many frames were handled
+pub record HearsSo (now : ℕ) (old new : Peer) (count : ℕ) (steps : List Step) : Type 0 where
+  pub goes : Advances old.id now (kept_of old) (kept_of new) steps
+  pub turns : Turns old.id 4194304 new.room count steps
+
 -- it was heard in this turn
 pub record Hears (now : ℕ) (old new : Peer) (steps : List Step) : Type 0 where
   pub goes : Advances old.id now (kept_of old) (kept_of new) steps

@@ -5,6 +5,7 @@ ghost use Rattle.std.specs.List.{AllByRecursion};
 ghost use Rattle.droid_frame.specs.types.reply.Reply.{Reply};
 ghost use Rattle.droid_frame.specs.types.frame.Frame.{Frame};
 ghost use Rattle.droid_frame.specs.Versions.{IsVersion};
+ghost use Rattle.droid_wire_turns.specs.Events.{CameWithin, read_event};
 ghost use Rattle.droid_wire_turns.specs.Peers.{Advances, EndsAs, Hears, IsNew, IsQuiet, IsWhole, Kept, Lends, RanDry, Rests, Sends, Stands, Taking, Tells, Turns, is_hungry, is_over, kept_of, unread};
 ghost use Rattle.droid_wire_turns.specs.Steps.{Goes, Handles, IsTraffic, Moves, Step};
 
@@ -88,7 +89,13 @@ impl Peer {
     fn is_hungry(&self) -> bool
         ensures { result ≡ is_hungry self.now }
     {
-        self.leaving.is_none() && !self.drained && self.queue.len() <= QUEUE_LIMIT
+        if self.leaving.is_some() {
+            return false;
+        }
+        if self.drained {
+            return false;
+        }
+        self.queue.len() <= QUEUE_LIMIT
     }
 
     /// Reads and handles what has come of it: up to 16 frames, or until 4 MiB were read or 8 MiB wait. Queues the replies.
@@ -139,7 +146,10 @@ impl Peer {
         ensures few { result ≡ true → length self.now.queue.bytes ≤ 8388608 }
         ensures rests { result ≡ false → (count : ℕ) → Rests self.now count }
     {
-        self.leaving.is_none() && self.queue.len() <= QUEUE_LIMIT
+        if self.leaving.is_some() {
+            return false;
+        }
+        self.queue.len() <= QUEUE_LIMIT
     }
 
     /// Handles a frame, and queues its reply.
@@ -178,10 +188,14 @@ impl Peer {
             × (self.new.drained ≡ true → RanDry self.new steps)) }
     {
         loop {
-            if let Some(frame) = self.take() {
-                return Some(frame);
+            match self.take() {
+                Some(frame) => return Some(frame),
+                None => {}
             }
-            if self.leaving.is_some() || self.room == 0 {
+            if self.leaving.is_some() {
+                return None;
+            }
+            if self.room == 0 {
                 return None;
             }
             if !self.receive(connections, now) {
@@ -231,15 +245,19 @@ impl Peer {
         ensures goes_on { result ≡ true → (self.new.leaving ≡ None) × (self.new.drained ≡ false) × (self.new.room < self.old.room) }
         ensures rests { result ≡ false → (count : ℕ) → Rests self.new count }
     {
-        match connections.read(self.id, self.buffer.as_mut_slice()) {
-            Came::Bytes(count) if count > 0 => {
+        match read_into(connections, self.id, &mut self.buffer) {
+            Came::Bytes(count) => {
+                if count == 0 {
+                    self.drained = true;
+                    return false;
+                }
                 self.start = 0;
                 self.end = count;
                 self.active = now;
                 self.room = self.room.saturating_sub(count);
                 true
             }
-            Came::Bytes(_) | Came::Nothing => {
+            Came::Nothing => {
                 self.drained = true;
                 false
             }
@@ -306,16 +324,28 @@ impl Peer {
     {
         while self.queue.len() > 0 {
             match connections.write(self.id, self.queue.front()) {
-                Took::Bytes(count) if count > 0 => {
+                Took::Bytes(count) => {
+                    if count == 0 {
+                        return true;
+                    }
                     self.queue.advance(count);
                     self.active = now;
                 }
-                Took::Bytes(_) | Took::Nothing => return true,
+                Took::Nothing => return true,
                 Took::Broken => return false,
             }
         }
         true
     }
+}
+
+/// Reads once, into the front of a buffer.
+fn read_into<C: Connections>(connections: &mut C, id: u64, buffer: &mut Vec<u8>) -> Came
+    ensures size { length buffer.new.items ≡ length buffer.old.items }
+    ensures bound { CameWithin result (length buffer.new.items) }
+    ensures came { C.does connections.old (read_event id buffer.new.items result) connections.new }
+{
+    connections.read(id, buffer.as_mut_slice())
 }
 
 /// Returns why a connection is over whose input ended here.
