@@ -15,14 +15,15 @@ use Rattle.droid_frame_feed.specs.Feeding.{Brings, Fails, Waits}
 use Rattle.droid_frame_feed.specs.Held.{Held}
 use Rattle.droid_wire_queue.specs.Queued.{Queued}
 use Rattle.droid_wire_turns.specs.Departures.{held_bound}
-use Rattle.droid_wire_turns.specs.Events.{Ended, Read, Unread}
+use Rattle.droid_wire_turns.specs.Events.{Ended, Event, Read, Unread}
 use Rattle.droid_wire_turns.specs.Peers.{Advances, EndsAs, HearsSo, IsWhole, Kept, Lending, Lends, RanDry, Stands, Taking, Turns, keep, kept_of, unread}
-use Rattle.droid_wire_turns.specs.Steps.{Handles, Happened, Happens, Step}
+use Rattle.droid_wire_turns.specs.Steps.{Goes, Handles, Happened, Happens, Moves, Step}
 use Rattle.droid_wire_turns.specs.declared.departure.Departure.{Departure}
 use Rattle.droid_wire_turns.specs.declared.departure.Departure.TheVariants as departures
 use Rattle.droid_wire_turns.specs.declared.peer.Peer.{Peer}
-use Rattle.droid_wire_turns.proofs.Advancing.{advances_both, advances_handled, advances_none, advances_one, lending_both, turns_both, turns_handled, turns_none, turns_read, turns_still}
+use Rattle.droid_wire_turns.proofs.Advancing.{advances_both, advances_handled, advances_none, advances_one, taking_both, turns_both, turns_handled, turns_none, turns_read, turns_still}
 use Rattle.droid_wire_turns.proofs.Gathered.{read_here}
+use Rattle.droid_wire_turns.proofs.Moments.{goes_both, goes_handling, goes_moving}
 use Rattle.droid_wire_turns.proofs.Standing.{happened_here, lends, served, stands_dry, stands_ended, stands_handled, stands_lost, stands_read, stands_unread, stops}
 use Rattle.droid_wire_turns.proofs.Stepping.{answer_bytes}
 
@@ -63,8 +64,8 @@ unread_fed old feed taken whole within = unread_more old.buffer.items old.start 
 none_unread : (old : Peer) (feed : Held) (taken : ℕ) → IsWhole old → Waits old.feed.bytes (unread old) feed.bytes taken → unread (fed_on old feed taken) ≡ []
 none_unread old feed taken whole is = unread_fed old feed taken whole (omega (arith, is.all)) ∙ drop_whole taken (unread old) (omega (arith, is.all))
 
-pub whole_fed : (old : Peer) (feed : Held) (taken : ℕ) → IsWhole old → taken ≤ length (unread old) → length feed.bytes ≤ 4194386 → IsWhole (fed_on old feed taken)
-whole_fed old feed taken whole within few = record { ordered = omega (arith, within, unread_size old whole, whole.ordered); within = whole.within; sized = whole.sized; fed = few }
+pub whole_fed : (old : Peer) (feed : Held) (taken : ℕ) → IsWhole old → taken ≤ length (unread old) → length feed.bytes ≤ 4194386 → BeginsNoFrame feed.bytes → IsWhole (fed_on old feed taken)
+whole_fed old feed taken whole within few none = record { ordered = omega (arith, within, unread_size old whole, whole.ordered); within = whole.within; sized = whole.sized; fed = few; no_frame = none }
 
 -- what is held stays so where no frame is whole
 held_on : (old : Peer) (feed : Held) (taken : ℕ) → IsWhole old → Waits old.feed.bytes (unread old) feed.bytes taken → feed.bytes ++ unread (fed_on old feed taken) ≡ old.feed.bytes ++ unread old
@@ -126,7 +127,7 @@ none_in old buffer whole none =
     ap (λ (n : ℕ). take n (drop old.start buffer.items)) size
 
 pub whole_lent : (old : Peer) (buffer : Vec ℕ Global) → IsWhole old → length buffer.items ≡ length old.buffer.items → IsWhole (record old { buffer = buffer })
-whole_lent old buffer whole same = record { ordered = whole.ordered; within = omega (arith, whole.within, same); sized = omega (arith, whole.sized, same); fed = whole.fed }
+whole_lent old buffer whole same = record { ordered = whole.ordered; within = omega (arith, whole.within, same); sized = omega (arith, whole.sized, same); fed = whole.fed; no_frame = whole.no_frame }
 
 -- what is kept of it is what was kept
 kept_lent : (old : Peer) (buffer : Vec ℕ Global) → IsWhole old → unread old ≡ [] → kept_of old ≡ kept_of (record old { buffer = buffer })
@@ -257,3 +258,61 @@ hears_more now start old middle new count frame reply first later same also so l
       turns = subst (λ (r : ℕ). Turns id 4194304 r (count + 1) (first ++ (later ++ step ∷ []))) (sym room_is)
           (subst (λ (n : ℕ). Turns id 4194304 middle.room n (first ++ (later ++ step ∷ []))) sum all);
     }
+
+-- ---- what came, and then its reply
+
+pub record CameOne (now : ℕ) (old middle : Peer) (frame : Frame) (steps : List Step) : Type 0 where
+  pub lending : Lending old.id now (kept_of old) (kept_of middle) frame steps
+  pub turns : Turns old.id old.room middle.room 0 steps
+
+pub record AnswersOne (now : ℕ) (start old middle : Peer) (frame : Frame) (reply : Reply) (steps : List Step) : Type 0 where
+  pub came : List Step
+  pub parts : steps ≡ came ++ Handles start.id frame reply ∷ []
+  pub lending : Lending old.id now (kept_of old) (kept_of middle) frame came
+  pub turns : Turns old.id old.room middle.room 0 came
+
+pub answers_after : {C H : Type 0} (does : C → Event → C → Type 0) (handles : H → Frame → Reply → H → Type 0) (now : ℕ) (start old middle : Peer) (frame : Frame) (reply : Reply) (c c1 : C) (h h1 : H) → Moves does c c1 (CameOne now old middle frame)
+    → handles h frame reply h1 → Goes does handles c h c1 h1 (AnswersOne now start old middle frame reply)
+answers_after does handles now start old middle frame reply c c1 h h1 moves done =
+    goes_both does handles c c1 c1 h h h1 (CameOne now old middle frame) (λ (steps : List Step). steps ≡ Handles start.id frame reply ∷ []) (AnswersOne now start old middle frame reply)
+    (λ first later one is. record { came = first; parts = ap (λ (l : List Step). first ++ l) is; lending = one.lending; turns = one.turns })
+    (goes_moving does handles c c1 h (CameOne now old middle frame) moves)
+    (goes_handling does handles c1 h h1 start.id frame reply (λ (steps : List Step). steps ≡ Handles start.id frame reply ∷ []) done refl)
+
+-- ---- until a frame is whole
+
+-- so far, what was read and what is kept
+pub record ReadsSo (now : ℕ) (old new : Peer) (steps : List Step) : Type 0 where
+  pub goes : Advances old.id now (kept_of old) (kept_of new) steps
+  pub turns : Turns old.id old.room new.room 0 steps
+
+pub reads_so_none : (now : ℕ) (old : Peer) → ReadsSo now old old []
+reads_so_none now old = record { goes = advances_none old.id now (kept_of old); turns = turns_none old.id old.room }
+
+-- what was taken of what was read
+pub takes_so : (now : ℕ) (start old new : Peer) (frame : Option Frame) (steps : List Step) → old.id ≡ start.id → new.room ≡ old.room → ReadsSo now start old steps → Taking old.id now (kept_of old) (kept_of new) frame []
+    → Taking start.id now (kept_of start) (kept_of new) frame steps × Turns start.id start.room new.room 0 steps
+takes_so now start old new frame steps same room_is so taking = (
+  subst (Taking start.id now (kept_of start) (kept_of new) frame) (append-nil steps)
+      (taking_both start.id now (kept_of start) (kept_of old) (kept_of new) frame steps [] so.goes (subst (λ (i : ℕ). Taking i now (kept_of old) (kept_of new) frame []) same taking)),
+  subst (λ (r : ℕ). Turns start.id start.room r 0 steps) (sym room_is) so.turns,
+)
+
+-- and then more was read
+pub reads_so_more : (now : ℕ) (start old new : Peer) (first later : List Step) → old.id ≡ start.id → ReadsSo now start old first → Advances old.id now (kept_of old) (kept_of new) later → Turns old.id old.room new.room 0 later → ReadsSo now start new (first ++ later)
+reads_so_more now start old new first later same so goes turns =
+    record {
+      goes = advances_both start.id now (kept_of start) (kept_of old) (kept_of new) first later so.goes (subst (λ (i : ℕ). Advances i now (kept_of old) (kept_of new) later) same goes);
+      turns = turns_both start.id start.room old.room new.room 0 0 first later so.turns (subst (λ (i : ℕ). Turns i old.room new.room 0 later) same turns);
+    }
+
+-- a read that gave nothing, in a turn
+pub nothing_read : (old : Peer) (buffer : Vec ℕ Global) (now : ℕ) → IsWhole old → unread old ≡ []
+    → Advances old.id now (kept_of old) (kept_of (record old { buffer = buffer; drained = true })) (Happens (Read old.id []) ∷ [])
+        × Turns old.id old.room old.room 0 (Happens (Read old.id []) ∷ [])
+        × (true ≡ true → RanDry (record old { buffer = buffer; drained = true }) (Happens (Read old.id []) ∷ []))
+nothing_read old buffer now whole none = (
+  reads_none old buffer now whole none,
+  turns_still old.id old.room (Happens (Read old.id [])) (read_here old.id []) refl,
+  λ is. ran_dry old (record old { buffer = buffer; drained = true }) refl refl (none_in old buffer whole none) whole.no_frame,
+)

@@ -11,12 +11,13 @@ use Rattle.droid_frame.specs.types.reply.Reply.{Reply}
 use Rattle.std.proofs.lemmas.Bool.Decides.{eqb_tells}
 use Rattle.droid_wire_turns.specs.Departures.{IsServed, IsStopped, Serves, is_wait}
 use Rattle.droid_wire_turns.specs.Events.{Event, Opened, NoneOpened, Read, Ended, Unread, Wrote, Unwritten, Closed, Told, Waited, Unwaited}
-use Rattle.droid_wire_turns.specs.Halls.{Heard, Holds, IsPatient, IsWithin, Keeps, NoPeer, Served, Unheard, one_at, times_among, times_in}
-use Rattle.droid_wire_turns.specs.Peers.{Departs, Hears, InTurn, IsNew, IsQuiet, IsWhole, Kept, Stands, Stays, keep, kept_of}
+use Rattle.droid_wire_turns.specs.Halls.{Heard, Holds, IsPatient, IsWithin, Keeps, LeadsOn, NoPeer, Served, Unheard, one_at, times_among, times_in}
+use Rattle.droid_wire_turns.specs.Peers.{Departs, Hears, InTurn, IsNew, IsQuiet, Kept, Stands, Stays, keep, kept_of}
 use Rattle.droid_wire_turns.specs.Serving.{AreAll, HadShare, HadTurn, HasLeft, IsFair, IsOpenAfter, IsReady, IsSettled}
 use Rattle.droid_wire_turns.specs.Steps.{Always, AreOfOthers, Happened, Handles, Happens, IsOf, IsOfOther, IsTraffic, Step, Times, bytes_read, bytes_written, came, clock_behind, clock_of, handled, handled_in, spelled_frames, spelled_replies, times_of, turn_behind, turn_of, went}
 use Rattle.droid_wire_turns.specs.declared.departure.Departure.{Departure}
 use Rattle.droid_wire_turns.specs.declared.departure.Departure.TheVariants as departures
+use Rattle.droid_wire_turns.specs.declared.hall.Hall.{Hall}
 use Rattle.droid_wire_turns.specs.declared.peer.Peer.{Peer}
 use Rattle.droid_wire_turns.specs.declared.rules.Rules.{Rules}
 use Rattle.droid_wire_turns.proofs.Gathered.{Elsewhere, IsCalm, all_elsewhere, at_once, calm, clock_more, clock_told, closed_elsewhere, none_elsewhere, none_gathered, none_more, opened_elsewhere, times_now, times_one, times_opened, turn_more}
@@ -74,10 +75,10 @@ alone_in rules count places rest served old steps keeps =
     (omega (arith, once, pushed, here), omega (arith, once, pushed, here))
 
 pub hear_one : (rules : Rules) (now count : ℕ) (rest served : List Peer) (old new : Peer) (steps more : List Step) → Holds rules (Unheard now) (Heard now) now count (rest ++ old ∷ []) served steps
-    → IsWhole new → new.id ≡ old.id → Hears now old new more → Holds rules (Unheard now) (Heard now) now count rest (served ++ new ∷ []) (steps ++ more)
-hear_one rules now count rest served old new steps more holds whole same hears =
+    → new.id ≡ old.id → Hears now old new more → Holds rules (Unheard now) (Heard now) now count rest (served ++ new ∷ []) (steps ++ more)
+hear_one rules now count rest served old new steps more holds same hears =
     let unheard : Unheard now steps old = (all_last (Unheard now steps) rest (old ∷ []) holds.all_waiting).0 in
-    let heard : Heard now (steps ++ more) new = heard_by now old new steps more unheard whole same hears in
+    let heard : Heard now (steps ++ more) new = heard_by now old new steps more unheard same hears in
     let own = hears.goes.own in
     let alone = alone_in rules count (length (rest ++ old ∷ []) + length served) rest served old steps holds.keeps in
     let within : IsWithin new.id (turn_of (steps ++ more)) = record { frames = omega (arith, heard.in_turn.frames, heard.few); bytes = heard.in_turn.bytes.within } in
@@ -107,10 +108,10 @@ within_told id steps more own quiet within =
 
 -- it stays open
 pub tell_one : (rules : Rules) (now count : ℕ) (waiting rest : List Peer) (old new : Peer) (steps more : List Step) → Holds rules (Served rules.idle now) (Heard now) now count waiting (rest ++ old ∷ []) steps
-    → IsWhole new → IsAsBefore old new → Stays rules.idle now old new more → IsQuiet old.id more → Holds rules (Served rules.idle now) (Heard now) now count (waiting ++ new ∷ []) rest (steps ++ more)
-tell_one rules now count waiting rest old new steps more holds whole same stays quiet =
+    → IsAsBefore old new → Stays rules.idle now old new more → IsQuiet old.id more → Holds rules (Served rules.idle now) (Heard now) now count (waiting ++ new ∷ []) rest (steps ++ more)
+tell_one rules now count waiting rest old new steps more holds same stays quiet =
     let heard : Heard now steps old = (all_last (Heard now steps) rest (old ∷ []) holds.all_served).0 in
-    let told : Served rules.idle now (steps ++ more) new = served_by rules.idle now old new steps more heard whole same stays quiet in
+    let told : Served rules.idle now (steps ++ more) new = served_by rules.idle now old new steps more heard same stays quiet in
     let own = stays.goes.own in
     let once : times_among waiting (rest ++ old ∷ []) old.id ≤ 1 = holds.keeps.apart old.id in
     let pushed = times_push old.id rest old in
@@ -266,7 +267,7 @@ tell_clock rules now time count waiting served steps holds =
       keeps = keeps_told rules count (times_among waiting served) (length waiting + length served) time steps holds.keeps;
       clock = clock_told steps time;
       all_waiting = all_as (Unheard now steps) (Unheard time (steps ++ step ∷ [])) waiting
-          (λ peer it. record { whole = it.whole; stands = stands_told peer.id (kept_of peer) now time steps it.stands; quiet = subst (IsQuiet peer.id) (sym turn) (quiet_more peer.id (turn_of steps) step refl refl it.quiet) }) holds.all_waiting;
+          (λ peer it. record { stands = stands_told peer.id (kept_of peer) now time steps it.stands; quiet = subst (IsQuiet peer.id) (sym turn) (quiet_more peer.id (turn_of steps) step refl refl it.quiet) }) holds.all_waiting;
       all_served = holds.all_served;
     }
 
@@ -311,7 +312,6 @@ one_comes rules now count waiting served peer steps holds seats wanted new =
     let away = others_elsewhere count (turn_of steps) others in
     let quiet : IsQuiet count (turn_of steps) = record { nothing_came = away.0; nothing_handled = away.2 } in
     let told : Unheard now (steps ++ more) peer = record {
-      whole = new.whole;
       stands = stands;
       quiet = subst (λ (i : ℕ). IsQuiet i (turn_of (steps ++ more))) (sym new.id_is) (subst (IsQuiet count) (sym (turn_more steps more still)) (quiet_more count (turn_of steps) step refl refl quiet));
     } in
@@ -418,3 +418,103 @@ stop_one rules count rest served peer steps keeps stopped =
     (stopped_more steps (Happens (Closed peer.id departures.Stopped) ∷ []) stopped,
       keeps_closed rules count (times_among (rest ++ peer ∷ []) served) (times_among rest served) (length (rest ++ peer ∷ []) + length served) (length rest + length served) peer.id departures.Stopped steps keeps
       (record { held = now.held; queued = now.queued; serves = now.serves; explained = stopped }) (λ id. omega (arith, times_push id rest peer)) (omega (arith, size_push rest peer)))
+
+-- all are closed, one after the other
+abbrev pub Stopping : Rules → Hall → Hall → List Step → Type 0
+Stopping rules old new steps = (before : List Step) → IsStopped before → Keeps rules old.opened (times_among old.waiting.items old.served.items) (length old.waiting.items + length old.served.items) before
+    → IsStopped (before ++ steps) × Keeps rules new.opened (times_among new.waiting.items new.served.items) (length new.waiting.items + length new.served.items) (before ++ steps)
+
+-- ---- from one hall to the next
+
+pub leads_none : (rules : Rules) (P Q : List Step → Peer → Type 0) (hall : Hall) → LeadsOn rules P Q P Q hall hall []
+leads_none rules P Q hall before holds = subst (Holds rules P Q hall.time hall.opened hall.waiting.items hall.served.items) (sym (append-nil before)) holds
+
+pub leads_both : (rules : Rules) (P Q R S T U : List Step → Peer → Type 0) (old middle new : Hall) (first later : List Step) → LeadsOn rules P Q R S old middle first → LeadsOn rules R S T U middle new later → LeadsOn rules P Q T U old new (first ++ later)
+leads_both rules P Q R S T U old middle new first later one other before holds =
+    subst (Holds rules T U new.time new.opened new.waiting.items new.served.items) (append_assoc before first later) (other (before ++ first) (one before holds))
+
+-- where there is none of a kind, it is no matter which
+pub leads_as : (rules : Rules) (P Q R S T U V W : List Step → Peer → Type 0) (old new : Hall) (steps : List Step) → ((before : List Step) (peer : Peer) → T before peer → P before peer) → ((before : List Step) (peer : Peer) → U before peer → Q before peer)
+    → ((before : List Step) (peer : Peer) → R before peer → V before peer) → ((before : List Step) (peer : Peer) → S before peer → W before peer) → LeadsOn rules P Q R S old new steps → LeadsOn rules T U V W old new steps
+leads_as rules P Q R S T U V W old new steps p q r s leads before holds =
+    let there : Holds rules P Q old.time old.opened old.waiting.items old.served.items before = record {
+      keeps = holds.keeps;
+      clock = holds.clock;
+      all_waiting = all_as (T before) (P before) old.waiting.items (p before) holds.all_waiting;
+      all_served = all_as (U before) (Q before) old.served.items (q before) holds.all_served;
+    } in
+    let here = leads before there in
+    record {
+      keeps = here.keeps;
+      clock = here.clock;
+      all_waiting = all_as (R (before ++ steps)) (V (before ++ steps)) new.waiting.items (r (before ++ steps)) here.all_waiting;
+      all_served = all_as (S (before ++ steps)) (W (before ++ steps)) new.served.items (s (before ++ steps)) here.all_served;
+    }
+
+-- what holds of lists holds of the hall that has them
+holds_as : (rules : Rules) (P Q : List Step → Peer → Type 0) (now opened : ℕ) (waiting served : List Peer) (steps : List Step) (hall : Hall) → hall.time ≡ now → hall.opened ≡ opened → hall.waiting.items ≡ waiting → hall.served.items ≡ served
+    → Holds rules P Q now opened waiting served steps → Holds rules P Q hall.time hall.opened hall.waiting.items hall.served.items steps
+holds_as rules P Q now opened waiting served steps hall time is waits serves holds =
+    subst (λ (n : ℕ). Holds rules P Q n hall.opened hall.waiting.items hall.served.items steps) (sym time)
+    (subst (λ (n : ℕ). Holds rules P Q now n hall.waiting.items hall.served.items steps) (sym is)
+    (subst (λ (l : List Peer). Holds rules P Q now opened l hall.served.items steps) (sym waits)
+    (subst (λ (l : List Peer). Holds rules P Q now opened waiting l steps) (sym serves) holds)))
+
+-- one connection is heard
+pub leads_hearing : (rules : Rules) (now : ℕ) (old new : Hall) (before_it it : Peer) (rest : List Peer) (more : List Step) → now ≡ old.time → old.waiting.items ≡ rest ++ before_it ∷ [] → new.waiting.items ≡ rest → new.served.items ≡ old.served.items ++ it ∷ []
+    → new.time ≡ old.time → new.opened ≡ old.opened → it.id ≡ before_it.id → Hears old.time before_it it more → LeadsOn rules (Unheard now) (Heard now) (Unheard now) (Heard now) old new more
+leads_hearing rules now old new before_it it rest more same was waits serves time opened id hears before holds =
+    let start : Holds rules (Unheard now) (Heard now) now old.opened (rest ++ before_it ∷ []) old.served.items before =
+        subst (λ (n : ℕ). Holds rules (Unheard now) (Heard now) n old.opened (rest ++ before_it ∷ []) old.served.items before) (sym same)
+        (subst (λ (l : List Peer). Holds rules (Unheard now) (Heard now) old.time old.opened l old.served.items before) was holds) in
+    let heard : Holds rules (Unheard now) (Heard now) now old.opened rest (old.served.items ++ it ∷ []) (before ++ more) =
+        hear_one rules now old.opened rest old.served.items before_it it before more start id (subst (λ (n : ℕ). Hears n before_it it more) (sym same) hears) in
+    holds_as rules (Unheard now) (Heard now) now old.opened rest (old.served.items ++ it ∷ []) (before ++ more) new (time ∙ sym same) opened waits serves heard
+
+-- one connection is told, and stays
+pub leads_telling : (rules : Rules) (now : ℕ) (old new : Hall) (before_it it : Peer) (rest : List Peer) (more : List Step) → now ≡ old.time → old.served.items ≡ rest ++ before_it ∷ [] → new.served.items ≡ rest → new.waiting.items ≡ old.waiting.items ++ it ∷ []
+    → new.time ≡ old.time → new.opened ≡ old.opened → IsAsBefore before_it it → Stays rules.idle old.time before_it it more → IsQuiet before_it.id more → LeadsOn rules (Served rules.idle now) (Heard now) (Served rules.idle now) (Heard now) old new more
+leads_telling rules now old new before_it it rest more same was serves waits time opened as_before stays quiet before holds =
+    let start : Holds rules (Served rules.idle now) (Heard now) now old.opened old.waiting.items (rest ++ before_it ∷ []) before =
+        subst (λ (n : ℕ). Holds rules (Served rules.idle now) (Heard now) n old.opened old.waiting.items (rest ++ before_it ∷ []) before) (sym same)
+        (subst (λ (l : List Peer). Holds rules (Served rules.idle now) (Heard now) old.time old.opened old.waiting.items l before) was holds) in
+    let told : Holds rules (Served rules.idle now) (Heard now) now old.opened (old.waiting.items ++ it ∷ []) rest (before ++ more) =
+        tell_one rules now old.opened old.waiting.items rest before_it it before more start as_before (subst (λ (n : ℕ). Stays rules.idle n before_it it more) (sym same) stays) quiet in
+    holds_as rules (Served rules.idle now) (Heard now) now old.opened (old.waiting.items ++ it ∷ []) rest (before ++ more) new (time ∙ sym same) opened waits serves told
+
+-- one connection is over
+pub leads_closing : (rules : Rules) (now : ℕ) (old new : Hall) (before_it it : Peer) (why : Departure) (rest : List Peer) (more : List Step) → now ≡ old.time → old.served.items ≡ rest ++ before_it ∷ [] → new.served.items ≡ rest → new.waiting.items ≡ old.waiting.items
+    → new.time ≡ old.time → new.opened ≡ old.opened → Departs rules.idle old.time before_it it why more → IsQuiet before_it.id more → LeadsOn rules (Served rules.idle now) (Heard now) (Served rules.idle now) (Heard now) old new (more ++ Happens (Closed before_it.id why) ∷ [])
+leads_closing rules now old new before_it it why rest more same was serves waits time opened departs quiet before holds =
+    let start : Holds rules (Served rules.idle now) (Heard now) now old.opened old.waiting.items (rest ++ before_it ∷ []) before =
+        subst (λ (n : ℕ). Holds rules (Served rules.idle now) (Heard now) n old.opened old.waiting.items (rest ++ before_it ∷ []) before) (sym same)
+        (subst (λ (l : List Peer). Holds rules (Served rules.idle now) (Heard now) old.time old.opened old.waiting.items l before) was holds) in
+    let closed : Holds rules (Served rules.idle now) (Heard now) now old.opened old.waiting.items rest (before ++ (more ++ Happens (Closed before_it.id why) ∷ [])) =
+        close_one rules now old.opened old.waiting.items rest before_it it why before more start (subst (λ (n : ℕ). Departs rules.idle n before_it it why more) (sym same) departs) quiet in
+    holds_as rules (Served rules.idle now) (Heard now) now old.opened old.waiting.items rest (before ++ (more ++ Happens (Closed before_it.id why) ∷ [])) new (time ∙ sym same) opened waits serves closed
+
+-- the last that waited was taken: whatever was said of those that wait
+pub emptied_waiting : (rules : Rules) (P Q R S : List Step → Peer → Type 0) (old middle new : Hall) (steps : List Step) → middle.waiting.items ≡ [] → new.waiting.items ≡ [] → new.served.items ≡ middle.served.items → new.time ≡ middle.time → new.opened ≡ middle.opened
+    → LeadsOn rules P Q R S old middle steps → LeadsOn rules P Q NoPeer S old new steps
+emptied_waiting rules P Q R S old middle new steps was is serves time opened leads before holds =
+    let here = leads before holds in
+    let there : Holds rules NoPeer S middle.time middle.opened [] middle.served.items (before ++ steps) = record {
+      keeps = subst (λ (l : List Peer). Keeps rules middle.opened (times_among l middle.served.items) (length l + length middle.served.items) (before ++ steps)) was here.keeps;
+      clock = here.clock;
+      all_waiting = tt;
+      all_served = here.all_served;
+    } in
+    holds_as rules NoPeer S middle.time middle.opened [] middle.served.items (before ++ steps) new time opened is serves there
+
+-- the same of those that were served
+pub emptied_served : (rules : Rules) (P Q R S : List Step → Peer → Type 0) (old middle new : Hall) (steps : List Step) → middle.served.items ≡ [] → new.served.items ≡ [] → new.waiting.items ≡ middle.waiting.items → new.time ≡ middle.time → new.opened ≡ middle.opened
+    → LeadsOn rules P Q R S old middle steps → LeadsOn rules P Q R NoPeer old new steps
+emptied_served rules P Q R S old middle new steps was is waits time opened leads before holds =
+    let here = leads before holds in
+    let there : Holds rules R NoPeer middle.time middle.opened middle.waiting.items [] (before ++ steps) = record {
+      keeps = subst (λ (l : List Peer). Keeps rules middle.opened (times_among middle.waiting.items l) (length middle.waiting.items + length l) (before ++ steps)) was here.keeps;
+      clock = here.clock;
+      all_waiting = here.all_waiting;
+      all_served = tt;
+    } in
+    holds_as rules R NoPeer middle.time middle.opened middle.waiting.items [] (before ++ steps) new time opened waits is there

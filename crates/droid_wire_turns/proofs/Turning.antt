@@ -8,7 +8,7 @@ use Rattle.droid_frame.specs.declared.stream.fault.FrameFault.{FrameFault}
 use Rattle.droid_wire_turns.specs.Departures.{Serves, StopsBy}
 use Rattle.droid_wire_turns.specs.Events.{Ended, Read, Told, Waited, Wrote}
 use Rattle.droid_wire_turns.specs.Halls.{Heard, Rested, Served, SinceBytes, SinceDry, SinceFrames, SinceFull, SinceLeaving, Unheard}
-use Rattle.droid_wire_turns.specs.Peers.{Advances, ByBytes, ByDrought, ByFrames, ByLeaving, ByQueue, Hears, InTurn, IsLeft, IsQuiet, IsRoom, IsWhole, Kept, RanDry, Rests, Sends, Stands, Stays, is_hungry, is_over, is_over_for, keep, kept_of, unread}
+use Rattle.droid_wire_turns.specs.Peers.{Advances, ByBytes, ByDrought, ByFrames, ByLeaving, ByQueue, Hears, InTurn, IsLeft, IsQuiet, IsRoom, Kept, RanDry, Rests, Sends, Stands, Stays, is_hungry, is_over, is_over_for, keep, kept_of, unread}
 use Rattle.droid_wire_turns.specs.Serving.{HadShare, IsDrained, IsLeaving, IsSettled, WasFull}
 use Rattle.droid_wire_turns.specs.Steps.{Happened, Happens, IsTraffic, Step, bytes_read, came, handled, handled_in, turn_of}
 use Rattle.droid_wire_turns.specs.declared.departure.Departure.{Departure}
@@ -46,7 +46,6 @@ in_turn_on id room count turn more no_bytes no_frame in_turn = record {
 
 pub unheard_elsewhere : (now : ℕ) (steps more : List Step) (peer : Peer) → AllByRecursion (Elsewhere peer.id) more → AllByRecursion IsCalm more → Unheard now steps peer → Unheard now (steps ++ more) peer
 unheard_elsewhere now steps more peer all still unheard = record {
-  whole = unheard.whole;
   stands = stands_elsewhere peer.id (kept_of peer) now steps more all unheard.stands;
   quiet = subst (IsQuiet peer.id) (sym (turn_more steps more still)) (quiet_on peer.id (turn_of steps) more all unheard.quiet);
 }
@@ -65,7 +64,6 @@ pub heard_elsewhere : (now : ℕ) (steps more : List Step) (peer : Peer) → All
 heard_elsewhere now steps more peer all still heard =
     let turn = turn_more steps more still in
     record {
-      whole = heard.whole;
       stands = stands_elsewhere peer.id (kept_of peer) now steps more all heard.stands;
       count = heard.count;
       few = heard.few;
@@ -99,7 +97,6 @@ pub served_elsewhere : (idle now : ℕ) (steps more : List Step) (peer : Peer) �
 served_elsewhere idle now steps more peer all still served =
     let turn = turn_more steps more still in
     record {
-      whole = served.whole;
       stands = stands_elsewhere peer.id (kept_of peer) now steps more all served.stands;
       active = served.active;
       settled = elim served.settled [
@@ -112,7 +109,6 @@ served_elsewhere idle now steps more peer all still served =
 
 pub unheard_waited : (idle now limit : ℕ) (steps : List Step) (peer : Peer) → Served idle now steps peer → Unheard now (steps ++ Happens (Waited limit) ∷ []) peer
 unheard_waited idle now limit steps peer served = record {
-  whole = served.whole;
   stands = stands_waited peer.id (kept_of peer) now limit steps served.stands;
   quiet = subst (IsQuiet peer.id) (sym (turn_waited steps limit)) (record { nothing_came = refl; nothing_handled = refl });
 }
@@ -145,8 +141,8 @@ rested_by peer now count steps stands (ByQueue is) = SinceFull (record {
   full = omega (arith, is, left_at_least peer.id steps (kept_of peer) stands.held stands.queued peer.leaving stands.is_left);
 })
 
-pub heard_by : (now : ℕ) (old new : Peer) (steps more : List Step) → Unheard now steps old → IsWhole new → new.id ≡ old.id → Hears now old new more → Heard now (steps ++ more) new
-heard_by now old new steps more unheard whole same hears =
+pub heard_by : (now : ℕ) (old new : Peer) (steps more : List Step) → Unheard now steps old → new.id ≡ old.id → Hears now old new more → Heard now (steps ++ more) new
+heard_by now old new steps more unheard same hears =
     let turn = turn_more steps more (calm old.id more hears.goes.own) in
     let stands : Stands new.id (kept_of new) now (steps ++ more) = subst (λ (i : ℕ). Stands i (kept_of new) now (steps ++ more)) (sym same) (hears.goes.stands steps unheard.stands).1 in
     let fresh : InTurn old.id 4194304 0 (turn_of steps) = record {
@@ -160,7 +156,6 @@ heard_by now old new steps more unheard whole same hears =
     let so_far : InTurn old.id new.room (0 + hears.count) (turn_of steps ++ more) = hears.turns 0 (turn_of steps) fresh in
     let sum : 0 + hears.count ≡ hears.count = omega arith in
     record {
-      whole = whole;
       stands = stands;
       count = hears.count;
       few = hears.few;
@@ -250,8 +245,8 @@ rested_as old new count steps same (SinceFrames is) = SinceFrames is
 rested_as old new count steps same (SinceBytes is) = SinceBytes (same.room ∙ is)
 rested_as old new count steps same (SinceFull is) = SinceFull (subst (λ (i : ℕ). WasFull i steps (turn_of steps)) (sym same.id) is)
 
-pub served_by : (idle now : ℕ) (old new : Peer) (steps more : List Step) → Heard now steps old → IsWhole new → IsAsBefore old new → Stays idle now old new more → IsQuiet old.id more → Served idle now (steps ++ more) new
-served_by idle now old new steps more heard whole same stays quiet =
+pub served_by : (idle now : ℕ) (old new : Peer) (steps more : List Step) → Heard now steps old → IsAsBefore old new → Stays idle now old new more → IsQuiet old.id more → Served idle now (steps ++ more) new
+served_by idle now old new steps more heard same stays quiet =
     let still = calm old.id more stays.goes.own in
     let turn = turn_more steps more still in
     let stands : Stands new.id (kept_of new) now (steps ++ more) = subst (λ (i : ℕ). Stands i (kept_of new) now (steps ++ more)) (sym same.id) (stays.goes.stands steps heard.stands).1 in
@@ -262,7 +257,6 @@ served_by idle now old new steps more heard whole same stays quiet =
     let written : (new.queue.bytes ≡ []) ⊎ Happened (Wrote new.id []) (turn_of (steps ++ more)) =
         elim stays.sends [ inl none ↦ inl none | inr took ↦ inr (subst (Happened (Wrote new.id [])) (sym turn) (happened_last (Wrote new.id []) (turn_of steps) more took)) ] in
     record {
-      whole = whole;
       stands = stands;
       active = stays.active;
       settled = settled_by new now heard.count (steps ++ more) new.leaving refl stands stands.is_left stays.stays written in_turn

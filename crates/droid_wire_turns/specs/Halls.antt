@@ -50,7 +50,6 @@ pub record Keeps (rules : Rules) (count : ℕ) (open_as : ℕ → ℕ) (places :
 
 -- it was not heard in this turn
 pub record Unheard (now : ℕ) (steps : List Step) (peer : Peer) : Type 0 where
-  pub whole : IsWhole peer
   pub stands : Stands peer.id (kept_of peer) now steps
   pub quiet : IsQuiet peer.id (turn_of steps)
 
@@ -64,7 +63,6 @@ pub data Rested (peer : Peer) (count : ℕ) (steps : List Step) : Type 0 where
 
 -- it was heard in this turn, and what waits for it is still to be written
 pub record Heard (now : ℕ) (steps : List Step) (peer : Peer) : Type 0 where
-  pub whole : IsWhole peer
   pub stands : Stands peer.id (kept_of peer) now steps
   pub count : ℕ
   pub few : count ≤ 16
@@ -74,7 +72,6 @@ pub record Heard (now : ℕ) (steps : List Step) (peer : Peer) : Type 0 where
 
 -- it had its turn
 pub record Served (idle now : ℕ) (steps : List Step) (peer : Peer) : Type 0 where
-  pub whole : IsWhole peer
   pub stands : Stands peer.id (kept_of peer) now steps
   pub active : now - peer.active < idle
   pub settled : IsSettled peer.id steps (turn_of steps) ⊎ ((is_hungry peer ≡ true) × HadShare peer.id steps (turn_of steps))
@@ -101,11 +98,13 @@ IsAtRest rules hall steps = Holds rules (Served rules.idle hall.time) NoPeer hal
 abbrev pub LeadsOn : Rules → (List Step → Peer → Type 0) → (List Step → Peer → Type 0) → (List Step → Peer → Type 0) → (List Step → Peer → Type 0) → Hall → Hall → List Step → Type 0
 LeadsOn rules P Q R S old new steps = (before : List Step) → Holds rules P Q old.time old.opened old.waiting.items old.served.items before → Holds rules R S new.time new.opened new.waiting.items new.served.items (before ++ steps)
 
--- there is room for so many connections, wherever each stands
+-- there is room for so many connections, wherever each stands, and what is kept of each is whole
 pub record HasRooms (seats : ℕ) (hall : Hall) : Type 0 where
   pub waiting : seats ≤ vec_capacity hall.waiting
   pub served : seats ≤ vec_capacity hall.served
   pub places : length hall.waiting.items + length hall.served.items ≤ seats
+  pub whole_waiting : AllByRecursion IsWhole hall.waiting.items
+  pub whole_served : AllByRecursion IsWhole hall.served.items
 
 -- a wait of so many milliseconds is not too long for it
 pub record IsPatient (idle now limit : ℕ) (peer : Peer) : Type 0 where

@@ -58,12 +58,13 @@ pub record Lends (id : ℕ) (kept : Kept) (now : ℕ) (steps : List Step) (frame
   pub stays : kept.leaving ≡ None
   pub times : times_of id steps ≡ record { now = now; active = kept.active }
 
--- the bytes that were read lie within the buffer, and no more is held than there is room for
+-- the bytes that were read lie within the buffer; what was fed is no whole frame, and less than the longest
 pub record IsWhole (peer : Peer) : Type 0 where
   pub ordered : peer.start ≤ peer.end
   pub within : peer.end ≤ length peer.buffer.items
   pub sized : length peer.buffer.items ≡ 65536
   pub fed : length peer.feed.bytes ≤ 4194386
+  pub no_frame : BeginsNoFrame peer.feed.bytes
 
 -- a connection that was just opened
 pub record IsNew (id now : ℕ) (peer : Peer) : Type 0 where

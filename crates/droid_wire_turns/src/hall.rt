@@ -152,7 +152,7 @@ impl Hall {
         ensures now { self.new.time ≡ self.old.time }
         ensures all { self.new.served.items ≡ [] }
         ensures moves { (rules : RulesValue) → rules.idle ≡ idle → Moves C.does connections.old connections.new
-            (LeadsOn rules (HadTurn idle self.old.time) (Heard self.old.time) (HadTurn idle self.old.time) NoPeer self.old self.new) }
+            (LeadsOn rules (HadTurn rules.idle self.old.time) (Heard self.old.time) (HadTurn rules.idle self.old.time) NoPeer self.old self.new) }
     {
         while let Some(mut peer) = self.served.pop() {
             match peer.tell(connections, self.time, idle) {

@@ -166,10 +166,11 @@ impl Peer {
     {
         let (version, client, number) = (frame.version, frame.client, frame.number);
         let reply = handler.handle(frame);
-        if self.queue.push(version, client, number, &reply).is_err() {
-            self.leaving = Some(Departure::Memory);
-        }
         self.frames = self.frames.saturating_add(1);
+        match self.queue.push(version, client, number, &reply) {
+            Ok(()) => {}
+            Err(_) => self.leaving = Some(Departure::Memory),
+        }
     }
 
     /// Returns the next frame, if it comes whole before as many bytes were read as may be in this turn.
@@ -285,6 +286,7 @@ impl Peer {
         ensures drained { self.new.drained ≡ self.old.drained }
         ensures leaving { self.new.leaving ≡ self.old.leaving }
         ensures room { self.new.room ≡ self.old.room }
+        ensures held { self.new.feed.bytes ++ unread self.new ≡ self.old.feed.bytes ++ unread self.old }
         ensures tells { Moves C.does connections.old connections.new (λ steps. Tells idle now self.old self.new result steps × IsQuiet self.old.id steps) }
     {
         if !self.send(connections, now) {
@@ -318,6 +320,7 @@ impl Peer {
         ensures drained { self.new.drained ≡ self.old.drained }
         ensures leaving { self.new.leaving ≡ self.old.leaving }
         ensures room { self.new.room ≡ self.old.room }
+        ensures held { self.new.feed.bytes ++ unread self.new ≡ self.old.feed.bytes ++ unread self.old }
         ensures moves { Moves C.does connections.old connections.new (λ steps. Advances self.old.id now (kept_of self.old) (kept_of self.new) steps
             × IsQuiet self.old.id steps
             × Sends self.new steps result) }
