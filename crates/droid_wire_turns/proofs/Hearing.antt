@@ -16,7 +16,7 @@ use Rattle.droid_frame_feed.specs.Held.{Held}
 use Rattle.droid_wire_queue.specs.Queued.{Queued}
 use Rattle.droid_wire_turns.specs.Departures.{held_bound}
 use Rattle.droid_wire_turns.specs.Events.{Ended, Event, Read, Unread}
-use Rattle.droid_wire_turns.specs.Peers.{Advances, EndsAs, HearsSo, IsWhole, Kept, Lending, Lends, RanDry, Stands, Taking, Turns, keep, kept_of, unread}
+use Rattle.droid_wire_turns.specs.Peers.{Advances, EndsAs, HearsSo, IsNew, IsWhole, Kept, Lending, Lends, RanDry, Stands, Taking, Turns, keep, kept_of, unread}
 use Rattle.droid_wire_turns.specs.Steps.{Goes, Handles, Happened, Happens, Moves, Step}
 use Rattle.droid_wire_turns.specs.declared.departure.Departure.{Departure}
 use Rattle.droid_wire_turns.specs.declared.departure.Departure.TheVariants as departures
@@ -100,6 +100,11 @@ pub none_left : (old : Peer) (feed : Held) (taken : ℕ) (frame : Option Frame) 
     → IfNone frame (unread (fed_on old feed taken) ≡ [])
 none_left old feed taken (Some frame) whole brings = tt
 none_left old feed taken None whole is = none_unread old feed taken whole is
+
+-- all was fed, whether it leaves or not
+pub all_fed : (frame : Option Frame) (P Q : Type 0) → IfNone frame P → IfNone frame (Q → P)
+all_fed (Some frame) P Q is = tt
+all_fed None P Q is = λ q. is
 
 -- the next header has a fault, or there is no memory for its body
 pub stops_on : (old : Peer) (feed : Held) (now : ℕ) (fault : FrameFault) → old.leaving ≡ None → Fails old.feed.bytes (unread old) feed.bytes fault
@@ -316,3 +321,19 @@ nothing_read old buffer now whole none = (
   turns_still old.id old.room (Happens (Read old.id [])) (read_here old.id []) refl,
   λ is. ran_dry old (record old { buffer = buffer; drained = true }) refl refl (none_in old buffer whole none) whole.no_frame,
 )
+
+-- ---- a connection that was just accepted
+
+begins_none : BeginsNoFrame []
+begins_none frame rest readable is = absurd cc
+
+pub new_peer : (peer : Peer) (now : ℕ) → peer.start ≡ 0 → peer.end ≡ 0 → length peer.buffer.items ≡ 65536 → peer.feed.bytes ≡ [] → peer.queue.bytes ≡ [] → peer.leaving ≡ None → peer.active ≡ now → IsNew peer.id now peer
+new_peer peer now start end sized fed queue stays active =
+    let none : unread peer ≡ [] =
+        let size : peer.end - peer.start ≡ 0 = omega (arith, start, end) in ap (λ (n : ℕ). take n (drop peer.start peer.buffer.items)) size in
+    record {
+      id_is = refl;
+      whole = record { ordered = omega (arith, start, end); within = omega (arith, end); sized = sized; fed = omega (arith, ap length fed); no_frame = subst BeginsNoFrame (sym fed) begins_none };
+      kept = ap (λ (h : List ℕ). keep h peer.queue.bytes peer.leaving peer.active) (held_alone peer none ∙ fed)
+          ∙ (ap (λ (q : List ℕ). keep [] q peer.leaving peer.active) queue ∙ (ap (λ (l : Option Departure). keep [] [] l peer.active) stays ∙ ap (λ (a : ℕ). keep [] [] None a) active));
+    }

@@ -107,3 +107,17 @@ goes_both does handles c c1 c2 h h1 h2 P Q R both first later = record {
 
 pub goes_as : {C H : Type 0} (does : C → Event → C → Type 0) (handles : H → Frame → Reply → H → Type 0) (c c1 : C) (h h1 : H) (P Q : List Step → Type 0) → ((steps : List Step) → P steps → Q steps) → Goes does handles c h c1 h1 P → Goes does handles c h c1 h1 Q
 goes_as does handles c c1 h h1 P Q f goes = record { steps = goes.steps; done = goes.done; holds = f goes.steps goes.holds }
+
+-- ---- one event more
+
+pub moves_event : {C : Type 0} (does : C → Event → C → Type 0) (old middle new : C) (event : Event) (P Q : List Step → Type 0) → ((first : List Step) → P first → Q (first ++ Happens event ∷ [])) → Moves does old middle P → does middle event new → Moves does old new Q
+moves_event does old middle new event P Q more first done =
+    moves_both does old middle new P (λ (steps : List Step). steps ≡ Happens event ∷ []) Q
+    (λ before later so is. subst Q (sym (ap (λ (l : List Step). before ++ l) is)) (more before so)) first
+    (moves_one does middle new event (λ (steps : List Step). steps ≡ Happens event ∷ []) done refl)
+
+pub moves_events : {C : Type 0} (does : C → Event → C → Type 0) (old middle then new : C) (one other : Event) (P Q : List Step → Type 0) → ((first : List Step) → P first → Q (first ++ Happens one ∷ Happens other ∷ [])) → Moves does old middle P → does middle one then → does then other new → Moves does old new Q
+moves_events does old middle then new one other P Q more first does_one does_other =
+    moves_both does old middle new P (λ (steps : List Step). steps ≡ Happens one ∷ Happens other ∷ []) Q
+    (λ before later so is. subst Q (sym (ap (λ (l : List Step). before ++ l) is)) (more before so)) first
+    (record { events = one ∷ other ∷ []; done = (then, does_one, (new, does_other, refl)); holds = refl })

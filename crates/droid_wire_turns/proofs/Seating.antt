@@ -1,7 +1,7 @@
 -- All open connections, after one of them had its part of a turn, after one came, and after one left.
-use Rattle.std.proofs.Common.{◌≡◌, ◌≢◌, ℕ, ◌+◌, ◌-◌, ◌<◌, ◌≤◌, Bool, true, false, cond, List, [], ◌∷◌, ◌++◌, length, Option, Some, None, fold, refl, sym, ap, subst, ◌∙◌, append_assoc, arith, inl, inr, ◌⊎◌}
+use Rattle.std.proofs.Common.{◌≡◌, ◌≢◌, ℕ, ◌+◌, ◌-◌, ◌<◌, ◌≤◌, Bool, true, cond, count_by, get_or, take, List, [], ◌∷◌, ◌++◌, length, Some, None, fold, refl, sym, ap, subst, ◌∙◌, append_assoc, arith, inl, inr, ◌⊎◌}
 use Rattle.std.specs.List.{AllByRecursion}
-use Rattle.std.proofs.lemmas.List.{append-nil, length-append}
+use Rattle.std.proofs.lemmas.List.{append-nil, length-append, take_more}
 use Rattle.std.proofs.lemmas.List.Sums.{fold-append, sum_by-append}
 use Rattle.std.proofs.lemmas.Bool.{cases_lt, ne_eqb}
 use Rattle.droid_frame.specs.Replies.{HasReplySpelling}
@@ -11,19 +11,21 @@ use Rattle.droid_frame.specs.types.reply.Reply.{Reply}
 use Rattle.std.proofs.lemmas.Bool.Decides.{eqb_tells}
 use Rattle.droid_wire_turns.specs.Departures.{IsServed, IsStopped, Serves, is_wait}
 use Rattle.droid_wire_turns.specs.Events.{Event, Opened, NoneOpened, Read, Ended, Unread, Wrote, Unwritten, Closed, Told, Waited, Unwaited}
-use Rattle.droid_wire_turns.specs.Halls.{Heard, Holds, IsPatient, IsWithin, Keeps, LeadsOn, NoPeer, Served, Unheard, one_at, times_among, times_in}
-use Rattle.droid_wire_turns.specs.Peers.{Departs, Hears, InTurn, IsNew, IsQuiet, Kept, Stands, Stays, keep, kept_of}
-use Rattle.droid_wire_turns.specs.Serving.{AreAll, HadShare, HadTurn, HasLeft, IsFair, IsOpenAfter, IsReady, IsSettled}
-use Rattle.droid_wire_turns.specs.Steps.{Always, AreOfOthers, Happened, Handles, Happens, IsOf, IsOfOther, IsTraffic, Step, Times, bytes_read, bytes_written, came, clock_behind, clock_of, handled, handled_in, spelled_frames, spelled_replies, times_of, turn_behind, turn_of, went}
+use Rattle.droid_wire_turns.specs.Halls.{Heard, Holds, IsAtRest, IsPatient, IsWithin, Keeps, LeadsOn, NoPeer, Served, Unheard, one_at, times_among, times_in}
+use Rattle.droid_wire_turns.specs.Peers.{Departs, Hears, IsNew, IsQuiet, Kept, Stands, Stays, is_hungry, keep, kept_of}
+use Rattle.droid_wire_turns.specs.Serving.{AreAll, EndsBy, HadShare, HasLeft, IsFair, IsOpenAfter, IsReady, IsSettled, ServesAll}
+use Rattle.droid_wire_turns.specs.Steps.{AreOfOthers, Goes, Happened, Handles, Happens, IsOf, IsOfOther, IsTraffic, Moves, Step, Times, bytes_read, bytes_written, came, clock_behind, clock_of, handled, handled_in, spelled_frames, spelled_replies, times_of, turn_behind, turn_of, went}
 use Rattle.droid_wire_turns.specs.declared.departure.Departure.{Departure}
 use Rattle.droid_wire_turns.specs.declared.departure.Departure.TheVariants as departures
 use Rattle.droid_wire_turns.specs.declared.hall.Hall.{Hall}
 use Rattle.droid_wire_turns.specs.declared.peer.Peer.{Peer}
 use Rattle.droid_wire_turns.specs.declared.rules.Rules.{Rules}
+use Rattle.droid_wire_turns.specs.declared.served.Served.{Served as Ending}
+use Rattle.droid_wire_turns.specs.declared.served.Served.TheVariants as ways
 use Rattle.droid_wire_turns.proofs.Gathered.{Elsewhere, IsCalm, all_elsewhere, at_once, calm, clock_more, clock_told, closed_elsewhere, none_elsewhere, none_gathered, none_more, opened_elsewhere, times_now, times_one, times_opened, turn_more}
-use Rattle.droid_wire_turns.proofs.Keeping.{Leaves, cases_zero, keeps_as, keeps_closed, keeps_none, keeps_opened, keeps_told, keeps_traffic, keeps_unwaited, keeps_waited, lt_self, one_here, one_other}
-use Rattle.droid_wire_turns.proofs.Moments.{all_as, all_both, all_first, all_last, always_end}
-use Rattle.droid_wire_turns.proofs.Standing.{happened_then, stands_told}
+use Rattle.droid_wire_turns.proofs.Keeping.{Leaves, cases_zero, keeps_as, keeps_closed, keeps_none, keeps_opened, keeps_start, keeps_told, keeps_traffic, keeps_unwaited, keeps_waited, lt_self, one_here, one_other}
+use Rattle.droid_wire_turns.proofs.Moments.{all_as, all_both, all_first, all_last, always_end, goes_both, goes_moving, moves_both, moves_event}
+use Rattle.droid_wire_turns.proofs.Standing.{happened_here, happened_then, stands_told}
 use Rattle.droid_wire_turns.proofs.Stepping.{serves_as}
 use Rattle.droid_wire_turns.proofs.Turning.{IsAsBefore, heard_by, heard_elsewhere, served_by, served_elsewhere, unheard_elsewhere, unheard_waited}
 
@@ -333,7 +335,7 @@ one_fails rules now count waiting served steps holds seats wanted =
     let first : Step = Happens (Opened count) in
     let last : Step = Happens (Closed count departures.Memory) in
     let more : List Step = first ∷ last ∷ [] in
-    let still : AllByRecursion IsCalm more = (opened_calm count, closed_calm count departures.Memory, tt) in
+    let still : AllByRecursion IsCalm more = (opened_calm count, (closed_calm count departures.Memory, tt)) in
     let none_waits : times_among waiting served count ≡ 0 = none_above rules count (times_among waiting served) (length waiting + length served) steps holds.keeps in
     let came_in = keeps_opened rules count (times_among waiting served) (λ id. times_among waiting served id + one_at count id) (length waiting + length served) steps holds.keeps seats wanted (λ id. refl) in
     let stands = untouched_kept count now steps (holds.keeps.others count (omega arith)) holds.clock in
@@ -343,7 +345,7 @@ one_fails rules now count waiting served steps holds seats wanted =
           (keeps_closed rules (count + 1) (λ id. times_among waiting served id + one_at count id) (times_among waiting served) ((length waiting + length served) + 1) (length waiting + length served) count departures.Memory (steps ++ first ∷ []) came_in left (λ id. refl) refl);
       clock = clock_more steps more still ∙ holds.clock;
       all_waiting = others_stay (Unheard now steps) (Unheard now (steps ++ more)) count waiting (omega (arith, none_waits))
-          (λ one other it. unheard_elsewhere now steps more one (opened_elsewhere count one.id other, closed_elsewhere count departures.Memory one.id, tt) still it) holds.all_waiting;
+          (λ one other it. unheard_elsewhere now steps more one (opened_elsewhere count one.id other, (closed_elsewhere count departures.Memory one.id, tt)) still it) holds.all_waiting;
       all_served = holds.all_served;
     }
 
@@ -518,3 +520,221 @@ emptied_served rules P Q R S old middle new steps was is waits time opened leads
       all_served = tt;
     } in
     holds_as rules R NoPeer middle.time middle.opened middle.waiting.items [] (before ++ steps) new time opened waits is there
+
+-- ---- one comes
+
+-- nobody came
+pub leads_nobody : (rules : Rules) (now : ℕ) (hall : Hall) → now ≡ hall.time → LeadsOn rules (Unheard now) NoPeer (Unheard now) NoPeer hall hall (Happens NoneOpened ∷ [])
+leads_nobody rules now hall same before holds =
+    let start : Holds rules (Unheard now) NoPeer now hall.opened hall.waiting.items hall.served.items before =
+        subst (λ (n : ℕ). Holds rules (Unheard now) NoPeer n hall.opened hall.waiting.items hall.served.items before) (sym same) holds in
+    subst (λ (n : ℕ). Holds rules (Unheard now) NoPeer n hall.opened hall.waiting.items hall.served.items (before ++ Happens NoneOpened ∷ [])) same (none_comes rules now hall.opened hall.waiting.items hall.served.items before start)
+
+-- a connection came
+pub leads_coming : (rules : Rules) (now : ℕ) (old new : Hall) (peer : Peer) → now ≡ old.time → length old.waiting.items + length old.served.items < rules.seats → ((total : ℕ) → rules.total ≡ Some total → old.opened < total) → IsNew old.opened old.time peer
+    → new.waiting.items ≡ old.waiting.items ++ peer ∷ [] → new.served.items ≡ old.served.items → new.time ≡ old.time → new.opened ≡ old.opened + 1 → LeadsOn rules (Unheard now) NoPeer (Unheard now) NoPeer old new (Happens (Opened old.opened) ∷ [])
+leads_coming rules now old new peer same seats wanted is_new waits serves time opened before holds =
+    let start : Holds rules (Unheard now) NoPeer now old.opened old.waiting.items old.served.items before =
+        subst (λ (n : ℕ). Holds rules (Unheard now) NoPeer n old.opened old.waiting.items old.served.items before) (sym same) holds in
+    let came : Holds rules (Unheard now) NoPeer now (old.opened + 1) (old.waiting.items ++ peer ∷ []) old.served.items (before ++ Happens (Opened old.opened) ∷ []) =
+        one_comes rules now old.opened old.waiting.items old.served.items peer before start seats wanted (subst (λ (n : ℕ). IsNew old.opened n peer) (sym same) is_new) in
+    holds_as rules (Unheard now) NoPeer now (old.opened + 1) (old.waiting.items ++ peer ∷ []) old.served.items (before ++ Happens (Opened old.opened) ∷ []) new (time ∙ sym same) opened waits serves came
+
+-- or there was no memory for it
+pub leads_failing : (rules : Rules) (now : ℕ) (old new : Hall) → now ≡ old.time → length old.waiting.items + length old.served.items < rules.seats → ((total : ℕ) → rules.total ≡ Some total → old.opened < total)
+    → new.waiting.items ≡ old.waiting.items → new.served.items ≡ old.served.items → new.time ≡ old.time → new.opened ≡ old.opened + 1
+    → LeadsOn rules (Unheard now) NoPeer (Unheard now) NoPeer old new (Happens (Opened old.opened) ∷ Happens (Closed old.opened departures.Memory) ∷ [])
+leads_failing rules now old new same seats wanted waits serves time opened before holds =
+    let start : Holds rules (Unheard now) NoPeer now old.opened old.waiting.items old.served.items before =
+        subst (λ (n : ℕ). Holds rules (Unheard now) NoPeer n old.opened old.waiting.items old.served.items before) (sym same) holds in
+    let more : List Step = Happens (Opened old.opened) ∷ Happens (Closed old.opened departures.Memory) ∷ [] in
+    let left : Holds rules (Unheard now) NoPeer now (old.opened + 1) old.waiting.items old.served.items (before ++ more) =
+        one_fails rules now old.opened old.waiting.items old.served.items before start seats wanted in
+    holds_as rules (Unheard now) NoPeer now (old.opened + 1) old.waiting.items old.served.items (before ++ more) new (time ∙ sym same) opened waits serves left
+
+-- the clock was read
+pub leads_telling_time : (rules : Rules) (now : ℕ) (old new : Hall) → now ≡ old.time → new.waiting.items ≡ old.waiting.items → new.served.items ≡ old.served.items → new.opened ≡ old.opened
+    → LeadsOn rules (Unheard now) NoPeer (Unheard new.time) NoPeer old new (Happens (Told new.time) ∷ [])
+leads_telling_time rules now old new same waits serves opened before holds =
+    let start : Holds rules (Unheard now) NoPeer now old.opened old.waiting.items old.served.items before =
+        subst (λ (n : ℕ). Holds rules (Unheard now) NoPeer n old.opened old.waiting.items old.served.items before) (sym same) holds in
+    holds_as rules (Unheard new.time) NoPeer new.time old.opened old.waiting.items old.served.items (before ++ Happens (Told new.time) ∷ []) new refl opened waits serves
+    (tell_clock rules now new.time old.opened old.waiting.items old.served.items before start)
+
+-- ---- all are closed
+
+pub stopping_none : (rules : Rules) (hall : Hall) → Stopping rules hall hall []
+stopping_none rules hall before stopped keeps = (
+  subst IsStopped (sym (append-nil before)) stopped,
+  subst (Keeps rules hall.opened (times_among hall.waiting.items hall.served.items) (length hall.waiting.items + length hall.served.items)) (sym (append-nil before)) keeps,
+)
+
+pub stopping_more : (rules : Rules) (start old new : Hall) (peer : Peer) (rest : List Peer) (first : List Step) → Stopping rules start old first → old.waiting.items ≡ rest ++ peer ∷ [] → new.waiting.items ≡ rest → new.served.items ≡ old.served.items → new.opened ≡ old.opened
+    → Stopping rules start new (first ++ Happens (Closed peer.id departures.Stopped) ∷ [])
+stopping_more rules start old new peer rest first stopping was waits serves opened before stopped keeps =
+    let step : Step = Happens (Closed peer.id departures.Stopped) in
+    let so_far = stopping before stopped keeps in
+    let here : Keeps rules old.opened (times_among (rest ++ peer ∷ []) old.served.items) (length (rest ++ peer ∷ []) + length old.served.items) (before ++ first) =
+        subst (λ (l : List Peer). Keeps rules old.opened (times_among l old.served.items) (length l + length old.served.items) (before ++ first)) was so_far.1 in
+    let closed = stop_one rules old.opened rest old.served.items peer (before ++ first) here so_far.0 in
+    let same : (before ++ first) ++ step ∷ [] ≡ before ++ (first ++ step ∷ []) = append_assoc before first (step ∷ []) in
+    let lists : Keeps rules new.opened (times_among new.waiting.items new.served.items) (length new.waiting.items + length new.served.items) ((before ++ first) ++ step ∷ []) =
+        subst (λ (n : ℕ). Keeps rules n (times_among new.waiting.items new.served.items) (length new.waiting.items + length new.served.items) ((before ++ first) ++ step ∷ [])) (sym opened)
+        (subst (λ (l : List Peer). Keeps rules old.opened (times_among l new.served.items) (length l + length new.served.items) ((before ++ first) ++ step ∷ [])) (sym waits)
+        (subst (λ (l : List Peer). Keeps rules old.opened (times_among rest l) (length rest + length l) ((before ++ first) ++ step ∷ [])) (sym serves) closed.1)) in
+    (subst IsStopped same closed.0, subst (Keeps rules new.opened (times_among new.waiting.items new.served.items) (length new.waiting.items + length new.served.items)) same lists)
+
+-- none is open any more
+pub stopping_all : (rules : Rules) (start old : Hall) (opened : ℕ) (first : List Step) → Stopping rules start old first → old.waiting.items ≡ [] → old.served.items ≡ [] → opened ≡ old.opened
+    → (before : List Step) → IsStopped before → IsAtRest rules start before → IsStopped (before ++ first) × Keeps rules opened (λ (id : ℕ). 0) 0 (before ++ first)
+stopping_all rules start old opened first stopping waits serves same before stopped rest =
+    let so_far = stopping before stopped rest.keeps in
+    let here : Keeps rules old.opened (times_among [] []) (0 + 0) (before ++ first) =
+        subst (λ (l : List Peer). Keeps rules old.opened (times_among l []) (length l + 0) (before ++ first)) waits
+        (subst (λ (l : List Peer). Keeps rules old.opened (times_among old.waiting.items l) (length old.waiting.items + length l) (before ++ first)) serves so_far.1) in
+    (so_far.0, keeps_as rules opened (times_among [] []) (λ (id : ℕ). 0) (0 + 0) 0 (before ++ first) (λ id. omega arith) (omega arith)
+        (subst (λ (n : ℕ). Keeps rules n (times_among [] []) (0 + 0) (before ++ first)) (sym same) here))
+
+-- ---- how long may be waited
+
+less_patient : (idle now limit less : ℕ) (peers : List Peer) → less ≤ limit → AllByRecursion (IsPatient idle now limit) peers → AllByRecursion (IsPatient idle now less) peers
+less_patient idle now limit less peers few all =
+    all_as (IsPatient idle now limit) (IsPatient idle now less) peers (λ peer it. record { hungry = λ is. omega (arith, few, it.hungry is); prompt = omega (arith, few, it.prompt) }) all
+
+pub patient_more : (idle now limit less one : ℕ) (peers : List Peer) (index : ℕ) (peer : Peer) → index < length peers → peer ≡ get_or peers index peer → AllByRecursion (IsPatient idle now limit) (take index peers) → less ≤ limit → less ≤ one
+    → (is_hungry peer ≡ true → one ≡ 0) → one ≤ idle - (now - peer.active) → AllByRecursion (IsPatient idle now less) (take (index + 1) peers)
+patient_more idle now limit less one peers index peer below is all few too hungry prompt =
+    let its : IsPatient idle now less peer = record { hungry = λ h. omega (arith, too, hungry h); prompt = omega (arith, too, prompt) } in
+    subst (AllByRecursion (IsPatient idle now less)) (sym (take_more peers index peer below ∙ ap (λ (p : Peer). take index peers ++ p ∷ []) (sym is)))
+    (all_both (IsPatient idle now less) (take index peers) (peer ∷ []) (less_patient idle now limit less (take index peers) few all) (its, tt))
+
+-- ---- a whole turn
+
+no_peer : {P : Type 0} (steps : List Step) (peer : Peer) → NoPeer steps peer → P
+no_peer steps peer none = absurd none
+
+pub whole_turn : {C H : Type 0} (does : C → Event → C → Type 0) (handles : H → Frame → Reply → H → Type 0) (rules : Rules) (old one two three four : Hall) (c c1 c2 c3 c4 : C) (h h1 : H)
+    → Moves does c c1 (LeadsOn rules (Unheard old.time) NoPeer (Unheard one.time) NoPeer old one)
+    → Moves does c1 c2 (LeadsOn rules (Unheard one.time) NoPeer (Unheard one.time) NoPeer one two)
+    → Goes does handles c2 h c3 h1 (LeadsOn rules (Unheard two.time) (Heard two.time) NoPeer (Heard two.time) two three)
+    → Moves does c3 c4 (LeadsOn rules (Served rules.idle three.time) (Heard three.time) (Served rules.idle three.time) NoPeer three four)
+    → two.time ≡ one.time → three.time ≡ two.time → four.time ≡ three.time
+    → Goes does handles c h c4 h1 (LeadsOn rules (Unheard old.time) NoPeer (Served rules.idle four.time) NoPeer old four)
+whole_turn does handles rules old one two three four c c1 c2 c3 c4 h h1 told admitted heard written second third fourth =
+    let now : ℕ = one.time in
+    let last : three.time ≡ now = third ∙ second in
+    let hearing : Goes does handles c2 h c3 h1 (LeadsOn rules (Unheard now) (Heard now) NoPeer (Heard now) two three) =
+        subst (λ (n : ℕ). Goes does handles c2 h c3 h1 (LeadsOn rules (Unheard n) (Heard n) NoPeer (Heard n) two three)) second heard in
+    let telling : Moves does c3 c4 (LeadsOn rules (Served rules.idle now) (Heard now) (Served rules.idle now) NoPeer three four) =
+        subst (λ (n : ℕ). Moves does c3 c4 (LeadsOn rules (Served rules.idle n) (Heard n) (Served rules.idle n) NoPeer three four)) last written in
+    let begins : Moves does c c2 (LeadsOn rules (Unheard old.time) NoPeer (Unheard now) NoPeer old two) =
+        moves_both does c c1 c2 (LeadsOn rules (Unheard old.time) NoPeer (Unheard now) NoPeer old one) (LeadsOn rules (Unheard now) NoPeer (Unheard now) NoPeer one two) (LeadsOn rules (Unheard old.time) NoPeer (Unheard now) NoPeer old two)
+        (λ first later so more. leads_both rules (Unheard old.time) NoPeer (Unheard now) NoPeer (Unheard now) NoPeer old one two first later so more) told admitted in
+    let middle : Goes does handles c h c3 h1 (LeadsOn rules (Unheard old.time) NoPeer NoPeer (Heard now) old three) =
+        goes_both does handles c c2 c3 h h h1 (LeadsOn rules (Unheard old.time) NoPeer (Unheard now) NoPeer old two) (LeadsOn rules (Unheard now) (Heard now) NoPeer (Heard now) two three) (LeadsOn rules (Unheard old.time) NoPeer NoPeer (Heard now) old three)
+        (λ first later so more. leads_both rules (Unheard old.time) NoPeer (Unheard now) NoPeer NoPeer (Heard now) old two three first later so
+        (leads_as rules (Unheard now) (Heard now) NoPeer (Heard now) (Unheard now) NoPeer NoPeer (Heard now) two three later (λ before peer it. it) (λ before peer it. no_peer before peer it) (λ before peer it. it) (λ before peer it. it) more))
+        (goes_moving does handles c c2 h (LeadsOn rules (Unheard old.time) NoPeer (Unheard now) NoPeer old two) begins) hearing in
+    subst (λ (n : ℕ). Goes does handles c h c4 h1 (LeadsOn rules (Unheard old.time) NoPeer (Served rules.idle n) NoPeer old four)) (sym (fourth ∙ last))
+    (goes_both does handles c c3 c4 h h1 h1 (LeadsOn rules (Unheard old.time) NoPeer NoPeer (Heard now) old three) (LeadsOn rules (Served rules.idle now) (Heard now) (Served rules.idle now) NoPeer three four)
+    (LeadsOn rules (Unheard old.time) NoPeer (Served rules.idle now) NoPeer old four)
+    (λ first later so more. leads_both rules (Unheard old.time) NoPeer NoPeer (Heard now) (Served rules.idle now) NoPeer old three four first later so
+    (leads_as rules (Served rules.idle now) (Heard now) (Served rules.idle now) NoPeer NoPeer (Heard now) (Served rules.idle now) NoPeer three four later (λ before peer it. no_peer before peer it) (λ before peer it. it) (λ before peer it. it) (λ before peer it. it) more))
+    middle (goes_moving does handles c3 c4 h1 (LeadsOn rules (Served rules.idle now) (Heard now) (Served rules.idle now) NoPeer three four) telling))
+
+-- one connection is told, and then closed
+pub closing_moves : {C : Type 0} (does : C → Event → C → Type 0) (rules : Rules) (now : ℕ) (start old new : Hall) (before_it it : Peer) (why : Departure) (rest : List Peer) (c c1 c2 c3 : C)
+    → Moves does c c1 (LeadsOn rules (Served rules.idle now) (Heard now) (Served rules.idle now) (Heard now) start old) → Moves does c1 c2 (λ (steps : List Step). Departs rules.idle old.time before_it it why steps × IsQuiet before_it.id steps)
+    → does c2 (Closed before_it.id why) c3 → now ≡ old.time → old.served.items ≡ rest ++ before_it ∷ [] → new.served.items ≡ rest → new.waiting.items ≡ old.waiting.items → new.time ≡ old.time → new.opened ≡ old.opened
+    → Moves does c c3 (LeadsOn rules (Served rules.idle now) (Heard now) (Served rules.idle now) (Heard now) start new)
+closing_moves does rules now start old new before_it it why rest c c1 c2 c3 so_far tells done same was serves waits time opened =
+    let P : List Step → Peer → Type 0 = Served rules.idle now in
+    moves_both does c c1 c3 (LeadsOn rules P (Heard now) P (Heard now) start old) (LeadsOn rules P (Heard now) P (Heard now) old new) (LeadsOn rules P (Heard now) P (Heard now) start new)
+    (λ first later one other. leads_both rules P (Heard now) P (Heard now) P (Heard now) start old new first later one other) so_far
+    (moves_event does c1 c2 c3 (Closed before_it.id why) (λ (steps : List Step). Departs rules.idle old.time before_it it why steps × IsQuiet before_it.id steps) (LeadsOn rules P (Heard now) P (Heard now) old new)
+    (λ later both. leads_closing rules now old new before_it it why rest later same was serves waits time opened both.0 both.1) tells done)
+
+-- ---- the loop
+
+-- at first
+pub at_rest_none : (rules : Rules) (hall : Hall) → hall.time ≡ 0 → hall.opened ≡ 0 → hall.waiting.items ≡ [] → hall.served.items ≡ [] → IsAtRest rules hall []
+at_rest_none rules hall time opened waits serves =
+    let start : Holds rules (Served rules.idle hall.time) NoPeer 0 0 [] [] [] = record {
+      keeps = keeps_as rules 0 (λ (id : ℕ). 0) (times_among [] []) 0 (0 + 0) [] (λ id. omega arith) (omega arith) (keeps_start rules);
+      clock = refl;
+      all_waiting = tt;
+      all_served = tt;
+    } in
+    holds_as rules (Served rules.idle hall.time) NoPeer 0 0 [] [] [] hall time opened waits serves start
+
+-- waiting failed
+unwaited_calm : AllByRecursion IsCalm (Happens Unwaited ∷ [])
+unwaited_calm = (record { turn = λ turn. refl; clock = λ now. refl }, tt)
+
+unwaited_elsewhere : (id : ℕ) → Elsewhere id (Happens Unwaited)
+unwaited_elsewhere id = record { reads = refl; writes = refl; handles = refl; times = λ times. refl }
+
+pub rest_unwaited : (rules : Rules) (hall : Hall) (steps : List Step) → IsAtRest rules hall steps → IsAtRest rules hall (steps ++ Happens Unwaited ∷ [])
+rest_unwaited rules hall steps rest = record {
+  keeps = keeps_unwaited rules hall.opened (times_among hall.waiting.items hall.served.items) (length hall.waiting.items + length hall.served.items) steps rest.keeps;
+  clock = clock_more steps (Happens Unwaited ∷ []) unwaited_calm ∙ rest.clock;
+  all_waiting = all_as (Served rules.idle hall.time steps) (Served rules.idle hall.time (steps ++ Happens Unwaited ∷ [])) hall.waiting.items
+      (λ peer it. served_elsewhere rules.idle hall.time steps (Happens Unwaited ∷ []) peer (unwaited_elsewhere peer.id, tt) unwaited_calm it) rest.all_waiting;
+  all_served = rest.all_served;
+}
+
+waits_more : (steps more : List Step) → count_by is_wait steps ≤ count_by is_wait (steps ++ more)
+waits_more steps more = omega (arith, sum_by-append (λ (s : Step). cond (is_wait s) 1 0) steps more)
+
+pub one_wait : (steps more : List Step) (limit count : ℕ) → count ≤ count_by is_wait steps → count + 1 ≤ count_by is_wait (steps ++ Happens (Waited limit) ∷ more)
+one_wait steps more limit count many =
+    let step : List Step = Happens (Waited limit) ∷ [] in
+    let one : count_by is_wait step ≡ 1 = refl in
+    let with_one : count_by is_wait (steps ++ step) ≡ count_by is_wait steps + 1 = omega (arith, sum_by-append (λ (s : Step). cond (is_wait s) 1 0) steps step, one) in
+    let all : count_by is_wait (steps ++ step) ≤ count_by is_wait ((steps ++ step) ++ more) = waits_more (steps ++ step) more in
+    subst (λ (l : List Step). count + 1 ≤ count_by is_wait l) (append_assoc steps step more) (omega (arith, many, with_one, all))
+
+-- all that is promised, where none is open any more
+pub serves_all : (rules : Rules) (count : ℕ) (result : Ending) (steps : List Step) → Keeps rules count (λ (id : ℕ). 0) 0 steps → EndsBy rules.total result steps → ServesAll rules result steps
+serves_all rules count result steps keeps ended = record { each = keeps.each; seated = keeps.seated; fair = keeps.fair; left = have_left rules count steps keeps; ended = ended }
+
+pub ended_all : (rules : Rules) (hall : Hall) (steps : List Step) → IsAtRest rules hall steps → hall.waiting.items ≡ [] → ((wanted : ℕ) → rules.total ≡ Some wanted → wanted ≤ hall.opened) → ServesAll rules ways.All steps
+ended_all rules hall steps rest none enough =
+    let keeps = none_open rules hall.time hall.opened hall.waiting.items hall.served.items steps rest none in
+    serves_all rules hall.opened ways.All steps keeps (hall.opened, are_all rules hall.opened steps keeps, λ wanted is. omega (arith, enough wanted is, keeps.wanted wanted is))
+
+pub ended_stopped : (rules : Rules) (count : ℕ) (steps : List Step) → IsStopped steps → Keeps rules count (λ (id : ℕ). 0) 0 steps → ServesAll rules ways.Stopped steps
+ended_stopped rules count steps stopped keeps = serves_all rules count ways.Stopped steps keeps stopped
+
+pub ended_at_once : (rules : Rules) → ServesAll rules ways.Memory []
+ended_at_once rules = serves_all rules 0 ways.Memory [] (keeps_start rules) refl
+
+-- the loop waited, and then every connection had its turn
+pub record WaitsAndGoes (rules : Rules) (old new : Hall) (limit : ℕ) (steps : List Step) : Type 0 where
+  pub more : List Step
+  pub parts : steps ≡ Happens (Waited limit) ∷ more
+  pub leads : LeadsOn rules (Unheard old.time) NoPeer (Served rules.idle new.time) NoPeer old new more
+
+pub turned : (rules : Rules) (old new : Hall) (limit count : ℕ) (first later : List Step) → IsAtRest rules old first → count ≤ count_by is_wait first → AllByRecursion (IsPatient rules.idle old.time limit) old.waiting.items → WaitsAndGoes rules old new limit later
+    → IsAtRest rules new (first ++ later) × (count + 1 ≤ count_by is_wait (first ++ later))
+turned rules old new limit count first later rest many patient turn =
+    let waited = wait_over rules old.time old.opened limit old.waiting.items old.served.items first rest patient in
+    let there = turn.leads (first ++ Happens (Waited limit) ∷ []) waited in
+    let same : (first ++ Happens (Waited limit) ∷ []) ++ turn.more ≡ first ++ later =
+        append_assoc first (Happens (Waited limit) ∷ []) turn.more ∙ ap (λ (l : List Step). first ++ l) (sym turn.parts) in (
+      subst (Holds rules (Served rules.idle new.time) NoPeer new.time new.opened new.waiting.items new.served.items) same there,
+      subst (λ (l : List Step). count + 1 ≤ count_by is_wait (first ++ l)) (sym turn.parts) (one_wait first turn.more limit count many),
+    )
+
+-- waiting failed, and then every connection was closed
+pub record FailsAndStops (rules : Rules) (old new : Hall) (steps : List Step) : Type 0 where
+  pub more : List Step
+  pub parts : steps ≡ Happens Unwaited ∷ more
+  pub stops : (before : List Step) → IsStopped before → IsAtRest rules old before → IsStopped (before ++ more) × Keeps rules new.opened (λ (id : ℕ). 0) 0 (before ++ more)
+
+pub failed : (rules : Rules) (old new : Hall) (first later : List Step) → IsAtRest rules old first → FailsAndStops rules old new later → ServesAll rules ways.Stopped (first ++ later)
+failed rules old new first later rest stops =
+    let step : List Step = Happens Unwaited ∷ [] in
+    let both = stops.stops (first ++ step) (inl (happened_here Unwaited first)) (rest_unwaited rules old first rest) in
+    let same : (first ++ step) ++ stops.more ≡ first ++ later = append_assoc first step stops.more ∙ ap (λ (l : List Step). first ++ l) (sym stops.parts) in
+    subst (ServesAll rules ways.Stopped) same (ended_stopped rules new.opened ((first ++ step) ++ stops.more) both.0 both.1)

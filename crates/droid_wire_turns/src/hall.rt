@@ -36,6 +36,7 @@ impl Hall {
     /// Makes room for so many open connections.
     pub(crate) fn new(alloc: Global, seats: usize) -> Result<Hall, AllocError>
         ensures rooms { IfOk result (HasRooms seats) }
+        ensures first { IfOk result (λ hall. hall.served.items ≡ []) }
         ensures empty { IfOk result (λ hall. (rules : RulesValue) → IsAtRest rules hall []) }
     {
         Ok(Hall {
@@ -88,7 +89,9 @@ impl Hall {
         rules: Rules,
     )
         requires rooms { HasRooms rules.seats self.old }
+        requires first { self.old.served.items ≡ [] }
         ensures rooms { HasRooms rules.seats self.new }
+        ensures first { self.new.served.items ≡ [] }
         ensures goes { Goes C.does H.handles connections.old handler.old connections.new handler.new
             (LeadsOn rules (Unheard self.old.time) NoPeer (HadTurn rules.idle self.new.time) NoPeer self.old self.new) }
     {

@@ -2,7 +2,7 @@
 //!
 //! [`serve_in_turns`] is generic in the connections and in the handler: what it promises holds for every order in which
 //! connections become ready, and for every length of their reads and writes.
-#![tactic(none)]
+#![tactic(auto)]
 
 mod connections;
 mod departure;

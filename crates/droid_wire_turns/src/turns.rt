@@ -36,8 +36,12 @@ pub fn serve_in_turns<C: Connections, H: Handler>(
             return Served::All;
         }
         let limit = hall.patience(rules.idle);
-        if connections.wait(limit, hall.frames).is_err() {
-            break;
+        match connections.wait(limit, hall.frames) {
+            Ok(()) => {}
+            Err(_) => {
+                hall.stop(connections);
+                return Served::Stopped;
+            }
         }
         hall.turn(alloc, connections, handler, rules);
     }

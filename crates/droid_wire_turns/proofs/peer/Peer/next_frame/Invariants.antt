@@ -4,8 +4,8 @@ use Rattle.droid_wire_turns.specs.Steps.{Moves}
 use Rattle.droid_wire_turns.proofs.Hearing.{ReadsSo}
 use Rattle.droid_wire_turns.proofs.peer.Peer.next_frame.Given as goal
 
-abbrev pub invariant-loop : goal.invariant-loop
-invariant-loop g l = record {
+abbrev pub invariant-loop-frame : goal.invariant-loop-frame
+invariant-loop-frame g l = record {
   whole : IsWhole l.self;
   id : l.self.id ≡ l.fn.self.id;
   stays : l.self.leaving ≡ None;
@@ -14,5 +14,5 @@ invariant-loop g l = record {
   moves : Moves g.C.Connections.does l.fn.connections l.connections (ReadsSo l.now l.fn.self l.self);
 }
 
-abbrev pub decreases-loop : goal.decreases-loop
-decreases-loop g l = l.self.room
+abbrev pub decreases-loop-frame : goal.decreases-loop-frame
+decreases-loop-frame g l = l.self.room

@@ -29,8 +29,8 @@ pub returns-then-count-eq0-clause-rests : goal.returns-then-count-eq0-clause-res
 returns-then-count-eq0-clause-rests g c = λ is count. ByDrought refl
 
 -- some bytes came
-pub returns-in-Bytes-clause-whole : goal.returns-in-Bytes-clause-whole
-returns-in-Bytes-clause-whole g c = record {
+pub returns-else-count-eq0-clause-whole : goal.returns-else-count-eq0-clause-whole
+returns-else-count-eq0-clause-whole g c = record {
   ordered = omega arith;
   within = c.in-Bytes.ensures.bound;
   sized = c.read_into.ensures.size ∙ c.requires.whole.sized;
@@ -38,17 +38,17 @@ returns-in-Bytes-clause-whole g c = record {
   no_frame = c.requires.whole.no_frame;
 }
 
-pub returns-in-Bytes-clause-moves : goal.returns-in-Bytes-clause-moves
-returns-in-Bytes-clause-moves g c =
+pub returns-else-count-eq0-clause-moves : goal.returns-else-count-eq0-clause-moves
+returns-else-count-eq0-clause-moves g c =
     let old = c.args.self.now in
     let buffer = c.read_into.new.buffer in
     let count = c.in-Bytes.count in
     let bytes = take count buffer.items in
     let size : length bytes ≡ count = omega (arith, length-take count buffer.items, c.in-Bytes.ensures.bound) in
-    let new = record old { buffer = buffer; start = 0; end = count; active = c.args.now; room = c.saturating_sub.result } in
+    let new = record old { buffer = buffer; start = 0; end = count; active = c.args.now; room = c.saturating_sub-self.result } in
     let whole = c.requires.whole in
     let small : length bytes ≤ 65536 = omega (arith, size, c.in-Bytes.ensures.bound, c.read_into.ensures.size, whole.sized) in
-    let left : old.room - length bytes ≡ c.saturating_sub.result = omega (arith, c.saturating_sub.ensures, size) in
+    let left : old.room - length bytes ≡ c.saturating_sub-self.result = omega (arith, c.saturating_sub-self.ensures, size) in
     let unread_is : take (count - 0) buffer.items ≡ bytes = let same : count - 0 ≡ count = omega arith in ap (λ (n : ℕ). take n buffer.items) same in
     moves_one g.C.Connections.does c.args.connections.now c.read_into.new.connections (Read old.id bytes) _ c.in-Bytes.ensures.came (
       reads_some old buffer c.args.now count whole c.requires.stays c.requires.none (omega (arith, c.if-count-eq0.false)) c.in-Bytes.ensures.bound c.read_into.ensures.size new refl unread_is refl c.requires.stays refl,
@@ -56,11 +56,11 @@ returns-in-Bytes-clause-moves g c =
       λ is. absurd (false≢true (sym c.requires.awake ∙ is)),
     )
 
-pub returns-in-Bytes-clause-goes_on : goal.returns-in-Bytes-clause-goes_on
-returns-in-Bytes-clause-goes_on g c = λ is. (c.requires.stays, c.requires.awake, omega (arith, c.saturating_sub.ensures, c.requires.room, c.if-count-eq0.false))
+pub returns-else-count-eq0-clause-goes_on : goal.returns-else-count-eq0-clause-goes_on
+returns-else-count-eq0-clause-goes_on g c = λ is. (c.requires.stays, c.requires.awake, omega (arith, c.saturating_sub-self.ensures, c.requires.room, c.if-count-eq0.false))
 
-pub returns-in-Bytes-clause-rests : goal.returns-in-Bytes-clause-rests
-returns-in-Bytes-clause-rests g c = λ is. absurd (false≢true (sym is))
+pub returns-else-count-eq0-clause-rests : goal.returns-else-count-eq0-clause-rests
+returns-else-count-eq0-clause-rests g c = λ is. absurd (false≢true (sym is))
 
 -- nothing is there yet
 pub returns-in-Nothing-clause-whole : goal.returns-in-Nothing-clause-whole

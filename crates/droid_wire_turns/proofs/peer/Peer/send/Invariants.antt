@@ -4,8 +4,8 @@ use Rattle.droid_wire_turns.specs.Steps.{Moves}
 use Rattle.droid_wire_turns.proofs.Telling.{SendsSo}
 use Rattle.droid_wire_turns.proofs.peer.Peer.send.Given as goal
 
-abbrev pub invariant-loop-self : goal.invariant-loop-self
-invariant-loop-self g l = record {
+abbrev pub invariant-loop-connections : goal.invariant-loop-connections
+invariant-loop-connections g l = record {
   whole : IsWhole l.self;
   id : l.self.id ≡ l.fn.self.id;
   drained : l.self.drained ≡ l.fn.self.drained;
@@ -15,5 +15,5 @@ invariant-loop-self g l = record {
   moves : Moves g.C.Connections.does l.fn.connections l.connections (SendsSo l.now l.fn.self l.self);
 }
 
-abbrev pub decreases-loop-self : goal.decreases-loop-self
-decreases-loop-self g l = length l.self.queue.bytes
+abbrev pub decreases-loop-connections : goal.decreases-loop-connections
+decreases-loop-connections g l = length l.self.queue.bytes

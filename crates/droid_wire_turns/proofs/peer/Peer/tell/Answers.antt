@@ -14,8 +14,8 @@ returns-then-is_over-clause-tells g c =
     moves_as g.C.Connections.does c.args.connections.now c.send.new.connections _ _
     (λ steps sent. (tells_leaving c.args.idle c.args.now c.args.self.now c.send.new.self steps sent.0 (sym c.is_over.ensures ∙ c.if-is_over.true), sent.1)) c.send.ensures.moves
 
-pub returns-then-saturating_sub-ge-idle-clause-tells : goal.returns-then-saturating_sub-ge-idle-clause-tells
-returns-then-saturating_sub-ge-idle-clause-tells g c =
+pub returns-then-saturating_sub-idle-clause-tells : goal.returns-then-saturating_sub-idle-clause-tells
+returns-then-saturating_sub-idle-clause-tells g c =
     moves_as g.C.Connections.does c.args.connections.now c.send.new.connections _ _
     (λ steps sent. (departs_idle c.args.idle c.args.now c.args.self.now c.send.new.self steps sent.0 (omega arith), sent.1)) c.send.ensures.moves
 
