@@ -7,3 +7,4 @@ pub mod RowLists
 pub mod Runs
 pub mod ScanBegun
 pub mod ScanSteps
+pub mod StepsMade

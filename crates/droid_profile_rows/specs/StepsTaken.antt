@@ -1,5 +1,5 @@
 -- What one step takes: a file, a folder, or the entries of a folder.
-use Rattle.std.specs.Prelude.{◌≡◌, ◌⊎◌, ℕ, ◌+◌, false, List, [], ◌∷◌, ◌++◌, length, map, Option, Some, None}
+use Rattle.std.specs.Prelude.{◌≡◌, ◌⊎◌, ℕ, ◌+◌, ◌*◌, ◌≤◌, false, List, [], ◌∷◌, ◌++◌, length, map, Option, Some, None}
 use Rattle.droid_frame.specs.types.hash_value.HashValue.TheVariants as hashes
 use Rattle.droid_frame.specs.types.method.Method.TheVariants.{Unidentified}
 use Rattle.droid_frame.specs.types.node_kind.NodeKind.TheVariants as kinds
@@ -24,10 +24,15 @@ use Rattle.droid_profile_rows.specs.declared.row.Row.{Row}
 use Rattle.droid_profile_rows.specs.declared.row.Row.TheVariants as rows
 use Rattle.droid_profile_rows.specs.declared.scan.Scan.{Scan}
 
--- the entry was the next one of the folder that was listed last, and is the next one no more
+-- this entry was the next one of the folder that was listed last, and was taken off
 pub record IsNext (before scan : Scan) (entry : FolderEntry) : Type 0 where
   pub same : scan ≡ record before { entries = scan.entries }
   pub entries : before.entries.items ≡ scan.entries.items ++ entry ∷ []
+
+-- At least this many steps were made. Each makes a row of an entry, or lists a folder that waits; an entry that is a
+-- folder waits from then on.
+abbrev pub MakesSteps : ℕ → Scan → Scan → List Row → List Row → Type 0
+MakesSteps count scan scan_after before after = count + (2 * length before + length scan_after.waiting.items) ≤ 2 * length after + length scan.waiting.items
 
 -- the entry is neither a folder nor a file, or one that no profile can have
 abbrev pub IsSkipped : List ℕ → FolderEntry → Skipped → Type 0

@@ -6,7 +6,7 @@ ghost use Rattle.droid_profile_spec.specs.EarlyEnds.{TreeStands};
 ghost use Rattle.droid_profile_spec.specs.declared.fault.ProfileFault.TheVariants.{Numbers};
 ghost use Rattle.droid_profile_rows.specs.RowsPushed.{left_row};
 ghost use Rattle.droid_profile_rows.specs.ScanFits.{EndsTaking, IsExplained, Takes};
-ghost use Rattle.droid_profile_rows.specs.StepsTaken.{IsNext, TakesFile, TakesFolder};
+ghost use Rattle.droid_profile_rows.specs.StepsTaken.{IsNext, MakesSteps, TakesFile, TakesFolder};
 ghost use Rattle.droid_profile_rows.specs.declared.row.Row.TheVariants as row_forms;
 ghost use Rattle.droid_profile_rows.specs.declared.scan.Scan.{Scan};
 
@@ -32,6 +32,7 @@ pub(crate) fn take_entry<T: Tree>(
     entry: FolderEntry,
 ) -> Result<(), ProfileFault>
     ensures taken { OnOk result ((before : Scan) → IsNext before scan.old entry → Takes T.observes before scan.new rows.old.items rows.new.items files.old.items files.new.items tree.old tree.new) }
+    ensures step { OnOk result (MakesSteps 1 scan.old scan.new rows.old.items rows.new.items) }
     ensures ended { IfErr result (λ fault. (before : Scan) → IsNext before scan.old entry → EndsTaking T.observes fault before rows.old.items files.old.items tree.old tree.new) }
 {
     let kind = entry.kind;
@@ -60,7 +61,7 @@ pub(crate) fn take_entry<T: Tree>(
     }
 }
 
-/// Takes a file.
+/// Takes a file: gives it the next number and a place in the batch.
 fn take_file(
     alloc: Global,
     scan: &mut Scan,
@@ -102,7 +103,7 @@ fn take_file(
     Ok(())
 }
 
-/// Takes a folder, if it can be listed.
+/// Takes a folder, if it can be listed: gives it the next number, and lets it wait.
 fn take_folder<T: Tree>(
     alloc: Global,
     tree: &mut T,
@@ -146,7 +147,7 @@ fn take_folder<T: Tree>(
     Ok(())
 }
 
-/// Takes a file.
+/// Appends a file to the batch, and its row.
 fn push_file(rows: &mut Vec<Row>, files: &mut Vec<FileRow>, file: FileRow) -> Result<(), AllocError>
     ensures rows { OnOk result (rows.new.items ≡ rows.old.items ++ row_forms.File (length files.old.items) ∷ []) }
     ensures files { OnOk result (files.new.items ≡ files.old.items ++ file ∷ []) }
@@ -157,7 +158,7 @@ fn push_file(rows: &mut Vec<Row>, files: &mut Vec<FileRow>, file: FileRow) -> Re
     Ok(())
 }
 
-/// Takes a folder.
+/// Appends the row of a folder.
 fn push_folder(rows: &mut Vec<Row>, shown: Record) -> Result<(), AllocError>
     ensures { OnOk result (rows.new.items ≡ rows.old.items ++ row_forms.Folder shown ∷ []) }
 {
@@ -176,7 +177,7 @@ fn next_number(number: u32) -> Result<u32, ProfileFault>
     }
 }
 
-/// Takes something that is skipped.
+/// Appends the row of something that is skipped.
 pub(crate) fn push_left(
     alloc: Global,
     rows: &mut Vec<Row>,
@@ -190,7 +191,7 @@ pub(crate) fn push_left(
     Ok(())
 }
 
-/// Takes an entry that is skipped. Its name may be invalid UTF-8.
+/// Appends the row of an entry that is skipped. Its name may be invalid UTF-8.
 pub(crate) fn push_left_below(
     alloc: Global,
     rows: &mut Vec<Row>,

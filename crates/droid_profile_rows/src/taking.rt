@@ -1,7 +1,8 @@
 //! Takes entries of a tree in order, folder by folder.
 
-ghost use Rattle.std.specs.Prelude.{◌≡◌, [], false, IfErr, IfOk, OnOk};
+ghost use Rattle.std.specs.Prelude.{◌≡◌, ◌⊎◌, ◌<◌, [], false, true, IfErr, IfOk, OnOk, length};
 ghost use Rattle.droid_profile_rows.specs.ScanFits.{EndsTaking, Takes};
+ghost use Rattle.droid_profile_rows.specs.StepsTaken.{MakesSteps};
 
 use crate::entries::take_entry;
 use crate::folders::list_next;
@@ -25,6 +26,8 @@ pub fn take_rows<T: Tree>(
 ) -> Result<bool, ProfileFault>
     ensures taken { OnOk result (Takes T.observes scan.old scan.new rows.old.items rows.new.items files.old.items files.new.items tree.old tree.new) }
     ensures all { IfOk result (λ more. more ≡ false → (scan.new.entries.items ≡ []) × (scan.new.waiting.items ≡ [])) }
+    // If something is left, something was taken.
+    ensures progress { IfOk result (λ more. more ≡ true → (length rows.old.items < length rows.new.items) ⊎ (length scan.new.waiting.items < length scan.old.waiting.items)) }
     ensures ended { IfErr result (λ fault. EndsTaking T.observes fault scan.old rows.old.items files.old.items tree.old tree.new) }
 {
     for _ in 0..TAKEN {
@@ -46,6 +49,7 @@ fn take_next<T: Tree>(
 ) -> Result<bool, ProfileFault>
     ensures taken { OnOk result (Takes T.observes scan.old scan.new rows.old.items rows.new.items files.old.items files.new.items tree.old tree.new) }
     ensures all { IfOk result (λ more. more ≡ false → (scan.new.entries.items ≡ []) × (scan.new.waiting.items ≡ [])) }
+    ensures step { IfOk result (λ more. more ≡ true → MakesSteps 1 scan.old scan.new rows.old.items rows.new.items) }
     ensures ended { IfErr result (λ fault. EndsTaking T.observes fault scan.old rows.old.items files.old.items tree.old tree.new) }
 {
     match scan.entries.pop() {

@@ -4,6 +4,7 @@ use Rattle.droid_profile_spec.specs.Kids.{entry_refusal}
 use Rattle.droid_profile_spec.specs.declared.fault.ProfileFault.TheVariants.{Memory}
 use Rattle.droid_profile_rows.specs.StepsTaken.{IsSkipped}
 use Rattle.droid_profile_rows.proofs.ScanSteps.{is_folder, not_taken, takes_file, takes_folder, takes_no_text, takes_skipped}
+use Rattle.droid_profile_rows.proofs.StepsMade.{folder_step}
 use Rattle.droid_profile_rows.proofs.entries.take_entry.Goals as goal
 
 -- ---- something that is skipped
@@ -32,6 +33,7 @@ returns-in_ok-take_folder-in_default-kind g c = record {
       takes_folder g.T.Tree.observes c.args.entry before c.take_folder.new.scan c.args.rows.now.items c.args.scan.now next c.in-Some.ensures.1
       (subst (λ (path : List ℕ). entry_refusal path c.args.entry ≡ None) c.as_str.ensures.value c.in-None.ensures.1)
       c.take_folder.new.rows.items c.args.files.now.items c.args.tree.now c.take_folder.new.tree (is_folder c.args.entry c.in-None.ensures.0 c.in_default-kind.not-File) c.in_ok-take_folder-in_default-kind.ensures.taken;
+  step = folder_step g.T.Tree.observes c.args.entry c.args.scan.now c.take_folder.new.scan c.args.rows.now.items c.take_folder.new.rows.items c.args.tree.now c.take_folder.new.tree c.in_ok-take_folder-in_default-kind.ensures.taken;
   ended = tt;
 }
 
@@ -64,6 +66,7 @@ returns-in_err-take_file-in-File-clause-ended g c =
 pub returns-in_err-take_folder-in_default-kind : goal.returns-in_err-take_folder-in_default-kind
 returns-in_err-take_folder-in_default-kind g c = record {
   taken = IfOk-from_err c.from_residual-in_err-take_folder-in_default-kind.result _ c.from_residual-in_err-take_folder-in_default-kind.ensures.0;
+  step = IfOk-from_err c.from_residual-in_err-take_folder-in_default-kind.result _ c.from_residual-in_err-take_folder-in_default-kind.ensures.0;
   ended = not_taken g.T.Tree.observes c.args.entry c.args.scan.now c.args.rows.now.items c.args.files.now.items c.args.tree.now c.take_folder.new.tree
       c.from_residual-in_err-take_folder-in_default-kind.result _ c.from_residual-in_err-take_folder-in_default-kind.ensures.1 c.in_err-take_folder-in_default-kind.ensures.ended c.in_err-take_folder-in_default-kind.ensures.stands;
 }
