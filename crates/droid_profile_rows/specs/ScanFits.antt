@@ -61,13 +61,13 @@ pub record ScanFits (registry : Contents) (options : Options) (calls : List Call
   pub moments : AllByRecursion HasMoment files
   pub ready : AllByRecursion (IsReady (length files)) rows
 
--- more calls for folders, after which what was taken fits
+-- the calls for folders that were made since then, and with them all that was taken fits
 pub record TakesMore {T : Type 0} (observes : T → Observation → T → Type 0) (registry : Contents) (options : Options) (calls : List Call) (heard : List Heard) (given : List Record) (scan : Scan) (rows : List Row) (files : List FileRow) (tree tree_after : T) : Type 0 where
   pub more : List Observation
   pub fits : ScanFits registry options (calls ++ map OfFolder more) heard given scan rows files
   pub observed : GoesOver observes tree more tree_after
 
--- memory ran out, or the last number was given before
+-- memory ran out, or the last number is given
 abbrev pub IsExplained : ProfileFault → ℕ → Type 0
 IsExplained fault number = (fault ≡ faults.Memory) ⊎ ((fault ≡ faults.Numbers) × (number ≡ 4294967295))
 
@@ -81,12 +81,12 @@ pub record TakesFront {T : Type 0} (observes : T → Observation → T → Type 
   pub stands : TreeStands fault reached tree_after
   pub explained : IsExplained fault scan.number
 
--- what fitted before fits after more calls
+-- if what was taken before fits, so does what was taken after, with the calls that were made in between
 abbrev pub Takes : {T : Type 0} → (T → Observation → T → Type 0) → Scan → Scan → List Row → List Row → List FileRow → List FileRow → T → T → Type 0
 Takes observes scan scan_after rows rows_after files files_after tree tree_after = (registry : Contents) (options : Options) (calls : List Call) (heard : List Heard) (given : List Record)
     → ScanFits registry options calls heard given scan rows files → TakesMore observes registry options calls heard given scan_after rows_after files_after tree tree_after
 
--- what fitted before was taken further up to some entry
+-- if what was taken before fits, some more was taken as it should, and then it ended with this fault
 abbrev pub EndsTaking : {T : Type 0} → (T → Observation → T → Type 0) → ProfileFault → Scan → List Row → List FileRow → T → T → Type 0
 EndsTaking observes fault scan rows files tree tree_after = (registry : Contents) (options : Options) (calls : List Call) (heard : List Heard) (given : List Record)
     → ScanFits registry options calls heard given scan rows files → TakesFront observes registry options calls heard given fault tree tree_after

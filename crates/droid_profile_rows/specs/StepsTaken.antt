@@ -24,7 +24,7 @@ use Rattle.droid_profile_rows.specs.declared.row.Row.{Row}
 use Rattle.droid_profile_rows.specs.declared.row.Row.TheVariants as rows
 use Rattle.droid_profile_rows.specs.declared.scan.Scan.{Scan}
 
--- the entry was the next one of the folder that was listed last, and is the next one no more
+-- this entry was the next one of the folder that was listed last, and was taken off
 pub record IsNext (before scan : Scan) (entry : FolderEntry) : Type 0 where
   pub same : scan ≡ record before { entries = scan.entries }
   pub entries : before.entries.items ≡ scan.entries.items ++ entry ∷ []

@@ -30,8 +30,9 @@ pub fn whole_tree(alloc: Global) -> Result<Scan, AllocError>
     ensures begun { IfOk result (λ scan. (scan.entries.items ≡ []) × (scan.number ≡ 0)) }
     ensures fits { IfOk result (λ scan. (registry : Contents) (options : Options) → ScanFits registry options [] [] [] scan [] []) }
 {
+    let waiting = only_the_top(alloc)?;
     Ok(Scan {
-        waiting: only_the_top(alloc)?,
+        waiting,
         folder: PendingFolder {
             path: Text::from(String::new(alloc)),
             number: 0,
