@@ -1,15 +1,14 @@
 -- What the file for what is skipped has after many calls.
-use Rattle.std.proofs.Common.{◌≡◌, ◌∙◌, ◌+◌, ◌-◌, ◌<◌, ◌≤◌, ℕ, List, [], ◌∷◌, ◌++◌, Option, Some, None, length, take, drop, refl, sym, ap, subst, append_assoc, arith}
+use Rattle.std.proofs.Common.{◌≡◌, ◌∙◌, ◌-◌, ℕ, List, [], ◌∷◌, ◌++◌, Option, Some, None, take, drop, refl, sym, ap, subst, append_assoc, arith}
 use Rattle.std.specs.List.{flat_map}
 use Rattle.std.specs.Io.KnownBytes.{Appends}
 use Rattle.std.proofs.KnownBytes.{Appends-nil, Appends-trans}
 use Rattle.std.proofs.lemmas.List.{length-append, length-drop, take-append-drop}
-use Rattle.droid_frame.specs.Seen.{IsSound}
 use Rattle.droid_frame.specs.stream_types.seen.Seen.{Seen}
 use Rattle.droid_tree.specs.Heard.{Heard, Left, Held, TookBytes, TookFolder, TookFile}
 use Rattle.droid_tree.specs.Observation.{GoesOver}
 use Rattle.droid_desk_outputs.specs.SkippedTexts.{entry_text, header, skipped_csv, skipped_in}
-use Rattle.droid_profile_csv.specs.Writers.{AppendsNotAll, AppendsSome, LastsOn, Stops}
+use Rattle.droid_profile_csv.specs.Writers.{AppendsSome}
 use Rattle.droid_desk_profile.specs.SkippedFiles.{GoesOn, GoesOnBy, HasLines, HasText, HasTextBy, LineEnds, Notes, NotesIn, NotesInSome, TextEnds, lines_of}
 use Rattle.droid_desk_profile.specs.declared.skipped_file.SkippedFault.{SkippedFault}
 use Rattle.droid_desk_profile.specs.declared.skipped_file.SkippedFault.TheVariants as faults

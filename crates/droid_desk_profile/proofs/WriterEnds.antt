@@ -1,5 +1,5 @@
 -- A writer that takes a line, or stops.
-use Rattle.std.proofs.Common.{ℕ, ◌≤◌, Option, Result, Ok, Err, arith}
+use Rattle.std.proofs.Common.{ℕ, Option, Result, Ok, Err, arith}
 use Rattle.std.specs.Prelude.{OnErr, OnOk}
 use Rattle.droid_frame.specs.stream_types.seen.Seen.{Seen}
 use Rattle.droid_frame.specs.Writes.{WritesOn}

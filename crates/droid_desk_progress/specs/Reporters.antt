@@ -1,5 +1,5 @@
 -- What a reporter does with what it learns (this project's own).
-use Rattle.std.specs.Prelude.{◌≡◌, ℕ, Some}
+use Rattle.std.specs.Prelude.{◌≡◌, Some}
 use Rattle.droid_tree.specs.Heard.{Heard}
 use Rattle.droid_tree.specs.declared.tree_size.Counted.{Counted}
 use Rattle.droid_desk_progress.specs.Estimates.{amount_of}
