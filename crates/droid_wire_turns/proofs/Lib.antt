@@ -1,0 +1,10 @@
+pub mod Advancing
+pub mod Gathered
+pub mod Hearing
+pub mod Keeping
+pub mod Moments
+pub mod Seating
+pub mod Standing
+pub mod Stepping
+pub mod Telling
+pub mod Turning

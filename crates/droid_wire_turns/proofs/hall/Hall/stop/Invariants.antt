@@ -1,0 +1,16 @@
+use Rattle.std.specs.Prelude.{◌≡◌, ◌+◌, ◌++◌, [], List, length}
+use Rattle.droid_wire_turns.specs.Departures.{IsStopped}
+use Rattle.droid_wire_turns.specs.Halls.{Keeps, times_among}
+use Rattle.droid_wire_turns.specs.Steps.{Moves, Step}
+use Rattle.droid_wire_turns.specs.declared.rules.Rules.{Rules}
+use Rattle.droid_wire_turns.proofs.Seating.{Stopping}
+use Rattle.droid_wire_turns.proofs.hall.Hall.stop.Given as goal
+
+abbrev pub invariant-loop-peer : goal.invariant-loop-peer
+invariant-loop-peer g l = record {
+  first : l.self.served.items ≡ [];
+  moves : (rules : Rules) → Moves g.C.Connections.does l.fn.connections l.connections (Stopping rules l.fn.self l.self);
+}
+
+abbrev pub decreases-loop-peer : goal.decreases-loop-peer
+decreases-loop-peer g l = length l.self.waiting.items

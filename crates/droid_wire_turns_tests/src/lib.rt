@@ -1,0 +1,9 @@
+//! Tests of many connections in turns, over connections in memory.
+#![tactic(auto)]
+
+#[cfg(test)]
+mod counting_handler;
+#[cfg(test)]
+mod paper_hall;
+#[cfg(test)]
+mod serving;
