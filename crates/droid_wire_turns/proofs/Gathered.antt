@@ -7,6 +7,7 @@ use Rattle.std.proofs.lemmas.List.Sums.{fold-append}
 use Rattle.droid_frame.specs.types.frame.Frame.{Frame}
 use Rattle.droid_frame.specs.types.reply.Reply.{Reply}
 use Rattle.droid_wire_turns.specs.Events.{Event, Opened, NoneOpened, Read, Ended, Unread, Wrote, Unwritten, Closed, Told, Waited, Unwaited}
+use Rattle.droid_wire_turns.specs.Halls.{IsCalm}
 use Rattle.droid_wire_turns.specs.Steps.{Handles, Happens, IsTraffic, Step, Times, bytes_read, bytes_written, came, clock_behind, clock_of, handled, handled_in, moves, times_behind, times_of, turn_behind, turn_of, went}
 use Rattle.droid_wire_turns.specs.declared.departure.Departure.{Departure}
 
@@ -124,11 +125,6 @@ pub none_gathered : {A : Type 0} (f : Step → List A) (steps more : List Step) 
 none_gathered {A} f steps more none = gathered f steps more ∙ (ap (λ (l : List A). flat_map f steps ++ l) none ∙ append-nil (flat_map f steps))
 
 -- ---- turns and the clock
-
--- no wait, and no word of the clock
-pub record IsCalm (step : Step) : Type 0 where
-  pub turn : (turn : List Step) → turn_behind turn step ≡ turn ++ step ∷ []
-  pub clock : (now : ℕ) → clock_behind now step ≡ now
 
 turn_go : (turn more : List Step) → AllByRecursion IsCalm more → fold turn_behind turn more ≡ turn ++ more
 turn_go turn [] all = sym (append-nil turn)

@@ -7,12 +7,12 @@ use Rattle.std.proofs.lemmas.List.{length-append}
 use Rattle.std.proofs.lemmas.List.Sums.{fold-append}
 use Rattle.droid_wire_turns.specs.Departures.{Explains, IsServed, Serves}
 use Rattle.droid_wire_turns.specs.Events.{Event, Opened, NoneOpened, Read, Ended, Unread, Wrote, Unwritten, Closed, Told, Waited, Unwaited}
-use Rattle.droid_wire_turns.specs.Halls.{IsWithin, Keeps, one_at}
-use Rattle.droid_wire_turns.specs.Serving.{HasLeft, IsFair, IsSeated}
-use Rattle.droid_wire_turns.specs.Steps.{Always, AreOfOthers, AtEach, Happened, Handles, Happens, IsOf, IsOfOther, IsTraffic, Step, bytes_read, bytes_written, came, closed, closed_by, handled, handled_in, opened, opened_by, turn_behind, turn_of}
+use Rattle.droid_wire_turns.specs.Halls.{IsCalm, IsWithin, Keeps, one_at}
+use Rattle.droid_wire_turns.specs.Serving.{HasLeft, IsFair, IsOpenAfter, IsSeated}
+use Rattle.droid_wire_turns.specs.Steps.{Always, AreOfOthers, AtEach, Happened, Handles, Happens, IsOf, IsOfOther, IsTraffic, Step, bytes_read, bytes_written, came, closed, closed_by, handled, handled_in, numbers, opened, opened_by, turn_behind, turn_of}
 use Rattle.droid_wire_turns.specs.declared.departure.Departure.{Departure}
 use Rattle.droid_wire_turns.specs.declared.rules.Rules.{Rules}
-use Rattle.droid_wire_turns.proofs.Gathered.{Elsewhere, IsCalm, all_elsewhere, calm, came_elsewhere, handled_elsewhere, none_gathered, none_more, one_more, turn_more, turn_waited}
+use Rattle.droid_wire_turns.proofs.Gathered.{Elsewhere, all_elsewhere, calm, came_elsewhere, handled_elsewhere, none_gathered, none_more, one_more, turn_more, turn_waited}
 use Rattle.droid_wire_turns.proofs.Moments.{all_both, always_both, always_end, always_kept, always_one, each_both, each_free}
 use Rattle.droid_wire_turns.proofs.Standing.{happened_here, happened_then, serves_elsewhere}
 use Rattle.droid_wire_turns.proofs.Stepping.{serves_still}
@@ -51,12 +51,52 @@ left_more idle id steps more left others = record {
   before = left.before;
   later = left.later ++ more;
   parts = ap (λ (l : List Step). l ++ more) left.parts ∙ append_assoc left.before (Happens (Closed id left.why) ∷ left.later) more;
+  was_open = left.was_open;
   nothing_later = all_both (IsOfOther id) left.later more left.nothing_later others;
   held = left.held;
   queued = left.queued;
   serves = left.serves;
   explained = left.explained;
 }
+
+-- ---- numbers
+
+numbers_more : (count : ℕ) → numbers (count + 1) ≡ numbers count ++ count ∷ []
+numbers_more count = let same : count + 1 ≡ suc count = omega arith in ap numbers same
+
+pub numbers_size : (count : ℕ) → length (numbers count) ≡ count
+numbers_size zero = refl
+numbers_size (suc count) = length-append (numbers count) (count ∷ []) ∙ (let same : length (numbers count) + 1 ≡ suc count = omega (arith, numbers_size count) in same)
+
+-- ---- it was not closed
+
+happened_either : (event : Event) (steps more : List Step) → Happened event (steps ++ more) → Happened event steps ⊎ Happened event more
+happened_either event [] more there = inr there
+happened_either event (step ∷ steps) more (inl here) = inl (inl here)
+happened_either event (step ∷ steps) more (inr later) = elim (happened_either event steps more later) [ inl old ↦ inl (inr old) | inr new ↦ inr new ]
+
+own_closing : (id : ℕ) (why : Departure) → IsOf id (Happens (Closed id why))
+own_closing id why = refl
+
+-- its traffic closes nothing
+traffic_open : (who id : ℕ) (why : Departure) (more : List Step) → AllByRecursion (IsTraffic who) more → Happened (Closed id why) more → ⊥
+traffic_open who id why [] own there = there
+traffic_open who id why (step ∷ more) own (inl here) = subst (IsTraffic who) here own.0
+traffic_open who id why (step ∷ more) own (inr later) = traffic_open who id why more own.1 later
+
+-- nor do steps of others
+others_open : (id : ℕ) (why : Departure) (steps : List Step) → AreOfOthers id steps → Happened (Closed id why) steps → ⊥
+others_open id why [] others there = there
+others_open id why (step ∷ steps) others (inl here) = others.0 (subst (IsOf id) (sym here) (own_closing id why))
+others_open id why (step ∷ steps) others (inr later) = others_open id why steps others.1 later
+
+abbrev not_opening : Step → Type 0
+not_opening (Happens (Opened who)) = ⊥
+not_opening _ = Unit {0}
+
+opening_open : (who id : ℕ) (why : Departure) → Happened (Closed id why) (Happens (Opened who) ∷ []) → ⊥
+opening_open who id why (inl here) = subst not_opening (sym here) tt
+opening_open who id why (inr none) = none
 
 -- steps in which nothing of it was read, written or handled
 pub served_elsewhere : (id : ℕ) (steps more : List Step) → AllByRecursion (Elsewhere id) more → IsServed id steps → IsServed id (steps ++ more)
@@ -100,21 +140,21 @@ others_traffic who id (step ∷ more) all other = (other_traffic who id step all
 record IsPlain (step : Step) : Type 0 where
   opens : opened_by step ≡ []
   closes : closed_by step ≡ []
-  free : (idle : ℕ) (before : List Step) → IsFair idle before step
+  free : (rules : Rules) (before : List Step) → IsFair rules before step
 
 none_traffic : (who : ℕ) (step : Step) → IsTraffic who step → IsPlain step
-none_traffic who (Happens (Read one bytes)) is = record { opens = refl; closes = refl; free = λ idle before. tt }
-none_traffic who (Happens (Wrote one bytes)) is = record { opens = refl; closes = refl; free = λ idle before. tt }
-none_traffic who (Happens (Ended one)) is = record { opens = refl; closes = refl; free = λ idle before. tt }
-none_traffic who (Happens (Unread one)) is = record { opens = refl; closes = refl; free = λ idle before. tt }
-none_traffic who (Happens (Unwritten one)) is = record { opens = refl; closes = refl; free = λ idle before. tt }
+none_traffic who (Happens (Read one bytes)) is = record { opens = refl; closes = refl; free = λ rules before. tt }
+none_traffic who (Happens (Wrote one bytes)) is = record { opens = refl; closes = refl; free = λ rules before. tt }
+none_traffic who (Happens (Ended one)) is = record { opens = refl; closes = refl; free = λ rules before. tt }
+none_traffic who (Happens (Unread one)) is = record { opens = refl; closes = refl; free = λ rules before. tt }
+none_traffic who (Happens (Unwritten one)) is = record { opens = refl; closes = refl; free = λ rules before. tt }
 none_traffic who (Happens (Waited limit)) is = absurd is
 none_traffic who (Happens Unwaited) is = absurd is
 none_traffic who (Happens (Told time)) is = absurd is
 none_traffic who (Happens (Opened one)) is = absurd is
 none_traffic who (Happens NoneOpened) is = absurd is
 none_traffic who (Happens (Closed one why)) is = absurd is
-none_traffic who (Handles one frame reply) is = record { opens = refl; closes = refl; free = λ idle before. tt }
+none_traffic who (Handles one frame reply) is = record { opens = refl; closes = refl; free = λ rules before. tt }
 
 all_none : (who : ℕ) (more : List Step) → AllByRecursion (IsTraffic who) more → AllByRecursion IsPlain more
 all_none who [] all = tt
@@ -156,12 +196,14 @@ keeps_traffic rules count open_as places who steps more keeps there own served w
       gone = λ id is_below no. left_more rules.idle id steps more (keeps.gone id is_below no)
           (others_traffic who id more own (λ e. let same : open_as who ≡ open_as id = ap open_as e in absurd (omega (arith, there, no, same))));
       all = λ id is_below. happened_then (Opened id) steps more (keeps.all id is_below);
+      stays = λ id why some there. elim (happened_either (Closed id why) steps more there) [ inl old ↦ keeps.stays id why some old | inr new ↦ traffic_open who id why more own new ];
       others = λ id above. let less : who < count = keeps.below who there in
           all_both (IsOfOther id) steps more (keeps.others id above) (others_traffic who id more own (λ e. absurd (omega (arith, less, above, e))));
       each = λ id. each_by who id steps more keeps.each own served;
       seated = always_both (IsSeated rules.seats) [] steps more keeps.seated (always_kept (IsSeated rules.seats) IsPlain (seated_still rules.seats) steps more none (always_end (IsSeated rules.seats) [] steps keeps.seated));
       taken = omega (arith, keeps.taken, ap length (none_gathered opened_by steps more (none_opened more none)), ap length (none_gathered closed_by steps more (none_closed more none)));
-      fair = each_both (IsFair rules.idle) [] steps more keeps.fair (each_free (IsFair rules.idle) IsPlain (λ before step no. no.free rules.idle before) steps more none);
+      numbered = none_gathered opened_by steps more (none_opened more none) ∙ keeps.numbered;
+      fair = each_both (IsFair rules) [] steps more keeps.fair (each_free (IsFair rules) IsPlain (λ before step no. no.free rules before) steps more none);
       within = λ id. within_by who id steps more (keeps.within id) own within;
       wanted = keeps.wanted;
     }
@@ -173,10 +215,12 @@ keeps_as rules count open_as also places other steps same is keeps = record {
   below = λ id some. keeps.below id (omega (arith, same id, some));
   gone = λ id is_below none. keeps.gone id is_below (omega (arith, same id, none));
   all = keeps.all;
+  stays = λ id why some. keeps.stays id why (omega (arith, same id, some));
   others = keeps.others;
   each = keeps.each;
   seated = keeps.seated;
   taken = omega (arith, keeps.taken, is);
+  numbered = keeps.numbered;
   fair = keeps.fair;
   within = keeps.within;
   wanted = keeps.wanted;
@@ -190,7 +234,7 @@ pub record IsNobody (step : Step) : Type 0 where
   pub opens : opened_by step ≡ []
   pub closes : closed_by step ≡ []
 
-pub keeps_nobody : (rules : Rules) (count : ℕ) (open_as : ℕ → ℕ) (places : ℕ) (steps : List Step) (step : Step) → Keeps rules count open_as places steps → IsNobody step → IsFair rules.idle steps step
+pub keeps_nobody : (rules : Rules) (count : ℕ) (open_as : ℕ → ℕ) (places : ℕ) (steps : List Step) (step : Step) → Keeps rules count open_as places steps → IsNobody step → IsFair rules steps step
     → ((id : ℕ) → IsWithin id (turn_of (steps ++ step ∷ []))) → Keeps rules count open_as places (steps ++ step ∷ [])
 keeps_nobody rules count open_as places steps step keeps nobody fair within =
     let seated : IsSeated rules.seats (steps ++ step ∷ []) =
@@ -201,12 +245,14 @@ keeps_nobody rules count open_as places steps step keeps nobody fair within =
       below = keeps.below;
       gone = λ id is_below no. left_more rules.idle id steps (step ∷ []) (keeps.gone id is_below no) (nobody.of_none id, tt);
       all = λ id is_below. happened_then (Opened id) steps (step ∷ []) (keeps.all id is_below);
+      stays = λ id why some there. elim (happened_either (Closed id why) steps (step ∷ []) there) [ inl old ↦ keeps.stays id why some old | inr new ↦ others_open id why (step ∷ []) (nobody.of_none id, tt) new ];
       others = λ id above. all_both (IsOfOther id) steps (step ∷ []) (keeps.others id above) (nobody.of_none id, tt);
       each = λ id. always_both (IsServed id) [] steps (step ∷ []) (keeps.each id)
           (always_one (IsServed id) steps step (always_end (IsServed id) [] steps (keeps.each id)) (served_quiet id steps step (nobody.away id).0 (nobody.away id).1 (nobody.away id).2 (always_end (IsServed id) [] steps (keeps.each id))));
       seated = always_both (IsSeated rules.seats) [] steps (step ∷ []) keeps.seated (always_one (IsSeated rules.seats) steps step (always_end (IsSeated rules.seats) [] steps keeps.seated) seated);
       taken = omega (arith, keeps.taken, ap length (none_more opened_by steps step nobody.opens), ap length (none_more closed_by steps step nobody.closes));
-      fair = each_both (IsFair rules.idle) [] steps (step ∷ []) keeps.fair (fair, tt);
+      numbered = none_more opened_by steps step nobody.opens ∙ keeps.numbered;
+      fair = each_both (IsFair rules) [] steps (step ∷ []) keeps.fair (fair, tt);
       within = within;
       wanted = keeps.wanted;
     }
@@ -248,7 +294,7 @@ pub keeps_unwaited : (rules : Rules) (count : ℕ) (open_as : ℕ → ℕ) (plac
 keeps_unwaited rules count open_as places steps keeps =
     keeps_nobody rules count open_as places steps (Happens Unwaited) keeps nobody_unwaited tt (λ id. within_quiet id steps (Happens Unwaited) (goes_on_turn steps (Happens Unwaited) (λ turn. refl)) refl refl (keeps.within id))
 
-pub keeps_waited : (rules : Rules) (count : ℕ) (open_as : ℕ → ℕ) (places limit : ℕ) (steps : List Step) → Keeps rules count open_as places steps → IsFair rules.idle steps (Happens (Waited limit)) → Keeps rules count open_as places (steps ++ Happens (Waited limit) ∷ [])
+pub keeps_waited : (rules : Rules) (count : ℕ) (open_as : ℕ → ℕ) (places limit : ℕ) (steps : List Step) → Keeps rules count open_as places steps → IsFair rules steps (Happens (Waited limit)) → Keeps rules count open_as places (steps ++ Happens (Waited limit) ∷ [])
 keeps_waited rules count open_as places limit steps keeps fair =
     keeps_nobody rules count open_as places steps (Happens (Waited limit)) keeps (nobody_waited limit) fair (λ id. subst (IsWithin id) (sym (turn_waited steps limit)) (within_none id))
 
@@ -279,12 +325,20 @@ keeps_opened rules count open_as open_now places steps keeps seats wanted is =
         | inl same ↦ subst (λ (i : ℕ). Happened (Opened i) (steps ++ step ∷ [])) same.1 (happened_here (Opened count) steps)
         | inr other ↦ happened_then (Opened id) steps (step ∷ []) (keeps.all id (strictly_below count id is_below other.1))
       ];
+      stays = λ id why some there. elim (happened_either (Closed id why) steps (step ∷ []) there) [
+        | inl old ↦ elim (eqb_tells count id) [
+          | inl same ↦ others_open id why steps (keeps.others id (omega (arith, same.1))) old
+          | inr other ↦ keeps.stays id why (omega (arith, is id, some, one_other count id other.1)) old
+        ]
+        | inr new ↦ opening_open count id why new
+      ];
       others = λ id above. all_both (IsOfOther id) steps (step ∷ []) (keeps.others id (omega (arith, above))) ((λ e. absurd (omega (arith, above, e))), tt);
       each = λ id. always_both (IsServed id) [] steps (step ∷ []) (keeps.each id)
           (always_one (IsServed id) steps step (always_end (IsServed id) [] steps (keeps.each id)) (served_quiet id steps step refl refl refl (always_end (IsServed id) [] steps (keeps.each id))));
       seated = always_both (IsSeated rules.seats) [] steps (step ∷ []) keeps.seated (always_one (IsSeated rules.seats) steps step (always_end (IsSeated rules.seats) [] steps keeps.seated) seated);
       taken = omega (arith, opened_is, closed_is, keeps.taken);
-      fair = each_both (IsFair rules.idle) [] steps (step ∷ []) keeps.fair (tt, tt);
+      numbered = one_more opened_by steps step ∙ (ap (λ (l : List ℕ). l ++ count ∷ []) keeps.numbered ∙ sym (numbers_more count));
+      fair = each_both (IsFair rules) [] steps (step ∷ []) keeps.fair (tt, tt);
       within = λ id. within_quiet id steps step (goes_on_turn steps step (λ turn. refl)) refl refl (keeps.within id);
       wanted = λ total told. let less : count < total = wanted total told in omega (arith, less);
     }
@@ -296,11 +350,16 @@ pub record Leaves (idle who : ℕ) (why : Departure) (steps : List Step) : Type 
   pub serves : Serves who steps held queued
   pub explained : Explains idle who steps held queued why
 
+-- none is open twice
+still_open : (who id one now : ℕ) → who ≡ id → one ≡ now + one_at who id → one ≤ 1 → 0 < now → ⊥
+still_open who id one now e is apart some = let here : one_at who id ≡ 1 = subst (λ (i : ℕ). one_at who i ≡ 1) e (one_here who) in absurd (omega (arith, is, apart, some, here))
+
 pub keeps_closed : (rules : Rules) (count : ℕ) (open_as open_now : ℕ → ℕ) (places places_now who : ℕ) (why : Departure) (steps : List Step) → Keeps rules count open_as places steps → Leaves rules.idle who why steps
     → ((id : ℕ) → open_as id ≡ open_now id + one_at who id) → places ≡ places_now + 1 → Keeps rules count open_now places_now (steps ++ Happens (Closed who why) ∷ [])
 keeps_closed rules count open_as open_now places places_now who why steps keeps leaves is size =
     let step : Step = Happens (Closed who why) in
     let less : who < count = keeps.below who (omega (arith, is who, one_here who)) in
+    let was_open : IsOpenAfter who steps = record { was_opened = keeps.all who less; stays = λ reason there. keeps.stays who reason (omega (arith, is who, one_here who)) there } in
     let opened_is : length (opened (steps ++ step ∷ [])) ≡ length (opened steps) = ap length (none_more opened_by steps step refl) in
     let closed_is : length (closed (steps ++ step ∷ [])) ≡ length (closed steps) + 1 = omega (arith, ap length (one_more closed_by steps step), length-append (closed steps) (who ∷ [])) in
     let seated : IsSeated rules.seats (steps ++ step ∷ []) =
@@ -311,16 +370,21 @@ keeps_closed rules count open_as open_now places places_now who why steps keeps 
       below = λ id some. keeps.below id (omega (arith, is id, some));
       gone = λ id is_below none. elim (eqb_tells who id) [
         | inl same ↦ subst (λ (i : ℕ). HasLeft rules.idle i (steps ++ step ∷ [])) same.1
-            (record { why = why; before = steps; later = []; parts = refl; nothing_later = tt; held = leaves.held; queued = leaves.queued; serves = leaves.serves; explained = leaves.explained })
+            (record { why = why; before = steps; later = []; parts = refl; was_open = was_open; nothing_later = tt; held = leaves.held; queued = leaves.queued; serves = leaves.serves; explained = leaves.explained })
         | inr other ↦ left_more rules.idle id steps (step ∷ []) (keeps.gone id is_below (omega (arith, is id, none, one_other who id other.1))) (other.1, tt)
       ];
       all = λ id is_below. happened_then (Opened id) steps (step ∷ []) (keeps.all id is_below);
+      stays = λ id reason some there. elim (happened_either (Closed id reason) steps (step ∷ []) there) [
+        | inl old ↦ keeps.stays id reason (omega (arith, is id, some)) old
+        | inr new ↦ others_open id reason (step ∷ []) ((λ e. still_open who id (open_as id) (open_now id) e (is id) (keeps.apart id) some), tt) new
+      ];
       others = λ id above. all_both (IsOfOther id) steps (step ∷ []) (keeps.others id above) ((λ e. absurd (omega (arith, less, above, e))), tt);
       each = λ id. always_both (IsServed id) [] steps (step ∷ []) (keeps.each id)
           (always_one (IsServed id) steps step (always_end (IsServed id) [] steps (keeps.each id)) (served_quiet id steps step refl refl refl (always_end (IsServed id) [] steps (keeps.each id))));
       seated = always_both (IsSeated rules.seats) [] steps (step ∷ []) keeps.seated (always_one (IsSeated rules.seats) steps step (always_end (IsSeated rules.seats) [] steps keeps.seated) seated);
       taken = omega (arith, opened_is, closed_is, keeps.taken, size);
-      fair = each_both (IsFair rules.idle) [] steps (step ∷ []) keeps.fair (tt, tt);
+      numbered = none_more opened_by steps step refl ∙ keeps.numbered;
+      fair = each_both (IsFair rules) [] steps (step ∷ []) keeps.fair (tt, tt);
       within = λ id. within_quiet id steps step (goes_on_turn steps step (λ turn. refl)) refl refl (keeps.within id);
       wanted = keeps.wanted;
     }
@@ -332,10 +396,12 @@ keeps_start rules = record {
   below = λ id some. absurd (omega (arith, some));
   gone = λ id is_below none. absurd (omega (arith, is_below));
   all = λ id is_below. absurd (omega (arith, is_below));
+  stays = λ id why some there. there;
   others = λ id above. tt;
   each = λ id. record { held = []; queued = []; serves = record { readable = tt; spelled = tt; read = refl; written = refl; few = omega arith; short = omega arith } };
   seated = omega arith;
   taken = refl;
+  numbered = refl;
   fair = tt;
   within = λ id. within_none id;
   wanted = λ total told. omega arith;

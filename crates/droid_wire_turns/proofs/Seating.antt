@@ -1,5 +1,5 @@
 -- All open connections, after one of them had its part of a turn, after one came, and after one left.
-use Rattle.std.proofs.Common.{◌≡◌, ◌≢◌, ℕ, ◌+◌, ◌-◌, ◌<◌, ◌≤◌, Bool, true, cond, count_by, get_or, take, List, [], ◌∷◌, ◌++◌, length, Some, None, fold, refl, sym, ap, subst, ◌∙◌, append_assoc, arith, inl, inr, ◌⊎◌}
+use Rattle.std.proofs.Common.{◌≡◌, ◌≢◌, ℕ, ◌+◌, ◌-◌, ◌<◌, ◌≤◌, Bool, true, cond, count_by, get_or, take, List, [], ◌∷◌, ◌++◌, length, Option, Some, None, fold, refl, sym, ap, subst, ◌∙◌, append_assoc, arith, inl, inr, ◌⊎◌}
 use Rattle.std.specs.List.{AllByRecursion}
 use Rattle.std.proofs.lemmas.List.{append-nil, length-append, take_more}
 use Rattle.std.proofs.lemmas.List.Sums.{fold-append, sum_by-append}
@@ -11,10 +11,10 @@ use Rattle.droid_frame.specs.types.reply.Reply.{Reply}
 use Rattle.std.proofs.lemmas.Bool.Decides.{eqb_tells}
 use Rattle.droid_wire_turns.specs.Departures.{IsServed, IsStopped, Serves, is_wait}
 use Rattle.droid_wire_turns.specs.Events.{Event, Opened, NoneOpened, Read, Ended, Unread, Wrote, Unwritten, Closed, Told, Waited, Unwaited}
-use Rattle.droid_wire_turns.specs.Halls.{Heard, Holds, IsAtRest, IsPatient, IsWithin, Keeps, LeadsOn, NoPeer, Served, Unheard, one_at, times_among, times_in}
+use Rattle.droid_wire_turns.specs.Halls.{Admits, Heard, Holds, IsAtRest, IsCalm, IsPatient, IsWithin, Keeps, LeadsInTurn, LeadsOn, NoPeer, Served, TakesTurn, Unheard, one_at, times_among, times_in}
 use Rattle.droid_wire_turns.specs.Peers.{Departs, Hears, IsNew, IsQuiet, Kept, Stands, Stays, is_hungry, keep, kept_of}
-use Rattle.droid_wire_turns.specs.Serving.{AreAll, EndsBy, HadShare, HasLeft, IsFair, IsOpenAfter, IsReady, IsSettled, ServesAll}
-use Rattle.droid_wire_turns.specs.Steps.{AreOfOthers, Goes, Happened, Handles, Happens, IsOf, IsOfOther, IsTraffic, Moves, Step, Times, bytes_read, bytes_written, came, clock_behind, clock_of, handled, handled_in, spelled_frames, spelled_replies, times_of, turn_behind, turn_of, went}
+use Rattle.droid_wire_turns.specs.Serving.{AreAll, EndsBy, HasAdmitted, HasBegun, HasEnough, HasLeft, IsAll, IsFair, IsOpenAfter, IsReady, IsSettled, ServesAll, WereTaken}
+use Rattle.droid_wire_turns.specs.Steps.{AreOfOthers, Goes, Happened, Handles, Happens, IsOf, IsOfOther, IsTraffic, Moves, Step, Times, bytes_read, bytes_written, came, clock_behind, clock_of, closed, handled, handled_in, numbers, opened, opened_by, spelled_frames, spelled_replies, times_of, turn_behind, turn_of, went}
 use Rattle.droid_wire_turns.specs.declared.departure.Departure.{Departure}
 use Rattle.droid_wire_turns.specs.declared.departure.Departure.TheVariants as departures
 use Rattle.droid_wire_turns.specs.declared.hall.Hall.{Hall}
@@ -22,12 +22,12 @@ use Rattle.droid_wire_turns.specs.declared.peer.Peer.{Peer}
 use Rattle.droid_wire_turns.specs.declared.rules.Rules.{Rules}
 use Rattle.droid_wire_turns.specs.declared.served.Served.{Served as Ending}
 use Rattle.droid_wire_turns.specs.declared.served.Served.TheVariants as ways
-use Rattle.droid_wire_turns.proofs.Gathered.{Elsewhere, IsCalm, all_elsewhere, at_once, calm, clock_more, clock_told, closed_elsewhere, none_elsewhere, none_gathered, none_more, opened_elsewhere, times_now, times_one, times_opened, turn_more}
-use Rattle.droid_wire_turns.proofs.Keeping.{Leaves, cases_zero, keeps_as, keeps_closed, keeps_none, keeps_opened, keeps_start, keeps_told, keeps_traffic, keeps_unwaited, keeps_waited, lt_self, one_here, one_other}
-use Rattle.droid_wire_turns.proofs.Moments.{all_as, all_both, all_first, all_last, always_end, goes_both, goes_moving, moves_both, moves_event}
+use Rattle.droid_wire_turns.proofs.Gathered.{Elsewhere, all_elsewhere, at_once, calm, clock_more, clock_told, closed_elsewhere, gathered, none_elsewhere, none_gathered, none_more, opened_elsewhere, times_now, times_one, times_opened, turn_more}
+use Rattle.droid_wire_turns.proofs.Keeping.{Leaves, cases_zero, keeps_as, keeps_closed, keeps_none, keeps_opened, keeps_start, keeps_told, keeps_traffic, keeps_unwaited, keeps_waited, lt_self, numbers_size, one_here, one_other}
+use Rattle.droid_wire_turns.proofs.Moments.{all_as, all_both, all_first, all_last, always_end, goes_as, goes_both, goes_moving, moves_both, moves_event}
 use Rattle.droid_wire_turns.proofs.Standing.{happened_here, happened_then, stands_told}
 use Rattle.droid_wire_turns.proofs.Stepping.{serves_as}
-use Rattle.droid_wire_turns.proofs.Turning.{IsAsBefore, heard_by, heard_elsewhere, served_by, served_elsewhere, unheard_elsewhere, unheard_waited}
+use Rattle.droid_wire_turns.proofs.Turning.{IsAsBefore, heard_by, heard_elsewhere, served_by, served_elsewhere, settled_as, unheard_elsewhere, unheard_waited}
 
 -- ---- which are open
 
@@ -356,10 +356,7 @@ ready_by rules now count limit peer id steps its served patient =
     let times : times_of id steps ≡ record { now = now; active = peer.active } = subst (λ (i : ℕ). times_of i steps ≡ record { now = now; active = peer.active }) its served.stands.times in
     record {
       prompt = subst (λ (t : Times). (t.now - t.active) + limit ≤ rules.idle) (sym times) (omega (arith, served.active, patient.prompt));
-      served = elim served.settled [
-        | inl settled ↦ inl (subst (λ (i : ℕ). IsSettled i steps (turn_of steps)) its settled)
-        | inr share ↦ inr (patient.hungry share.0, subst (λ (i : ℕ). HadShare i steps (turn_of steps)) its share.1)
-      ];
+      settled = subst (λ (i : ℕ). IsSettled (limit ≡ 0) i steps (turn_of steps)) its (settled_as (is_hungry peer ≡ true) (limit ≡ 0) peer.id steps (turn_of steps) patient.hungry served.settled);
     }
 
 open_is_there : (rules : Rules) (count places id : ℕ) (open_as : ℕ → ℕ) (steps : List Step) → Keeps rules count open_as places steps → IsOpenAfter id steps → 0 < open_as id
@@ -371,8 +368,8 @@ open_is_there rules count places id open_as steps keeps is_open = elim (cases_ze
   ]
 ]
 
-pub fair_by : (rules : Rules) (now count limit : ℕ) (waiting served : List Peer) (steps : List Step) → Holds rules (Served rules.idle now) NoPeer now count waiting served steps → AllByRecursion (IsPatient rules.idle now limit) waiting → IsFair rules.idle steps (Happens (Waited limit))
-fair_by rules now count limit waiting served steps holds patient = λ id. record {
+pub fair_by : (rules : Rules) (now count limit : ℕ) (waiting served : List Peer) (steps : List Step) → Holds rules (Served rules.idle now) NoPeer now count waiting served steps → AllByRecursion (IsPatient rules.idle now limit) waiting → (steps ≡ []) ⊎ HasBegun rules steps (turn_of steps) → IsFair rules steps (Happens (Waited limit))
+fair_by rules now count limit waiting served steps holds patient begun = record { begun = begun; each = λ id. record {
   frames = (holds.keeps.within id).frames;
   bytes = (holds.keeps.within id).bytes;
   ready = λ is_open.
@@ -381,12 +378,12 @@ fair_by rules now count limit waiting served steps holds patient = λ id. record
       let here : 0 < times_in id waiting = omega (arith, some, ap (times_in id) none) in
       let found = find_one (λ peer. Served rules.idle now steps peer × IsPatient rules.idle now limit peer) id waiting here (all_pairs (Served rules.idle now steps) (IsPatient rules.idle now limit) waiting holds.all_waiting patient) in
       ready_by rules now count limit found.peer id steps found.its found.holds.0 found.holds.1;
-}
+} }
 
 pub wait_over : (rules : Rules) (now count limit : ℕ) (waiting served : List Peer) (steps : List Step) → Holds rules (Served rules.idle now) NoPeer now count waiting served steps → AllByRecursion (IsPatient rules.idle now limit) waiting
-    → Holds rules (Unheard now) NoPeer now count waiting served (steps ++ Happens (Waited limit) ∷ [])
-wait_over rules now count limit waiting served steps holds patient = record {
-  keeps = keeps_waited rules count (times_among waiting served) (length waiting + length served) limit steps holds.keeps (fair_by rules now count limit waiting served steps holds patient);
+    → (steps ≡ []) ⊎ HasBegun rules steps (turn_of steps) → Holds rules (Unheard now) NoPeer now count waiting served (steps ++ Happens (Waited limit) ∷ [])
+wait_over rules now count limit waiting served steps holds patient begun = record {
+  keeps = keeps_waited rules count (times_among waiting served) (length waiting + length served) limit steps holds.keeps (fair_by rules now count limit waiting served steps holds patient begun);
   clock = clock_waited steps limit ∙ holds.clock;
   all_waiting = all_as (Served rules.idle now steps) (Unheard now (steps ++ Happens (Waited limit) ∷ [])) waiting (λ peer it. unheard_waited rules.idle now limit steps peer it) holds.all_waiting;
   all_served = holds.all_served;
@@ -561,6 +558,77 @@ leads_telling_time rules now old new same waits serves opened before holds =
     holds_as rules (Unheard new.time) NoPeer new.time old.opened old.waiting.items old.served.items (before ++ Happens (Told new.time) ∷ []) new refl opened waits serves
     (tell_clock rules now new.time old.opened old.waiting.items old.served.items before start)
 
+-- ---- those that waited were accepted
+
+enough_more : (wanted : Option ℕ) (one other : ℕ) → one ≤ other → HasEnough wanted one → HasEnough wanted other
+enough_more None one other few is = omega (arith, few, is)
+enough_more (Some total) one other few is = omega (arith, few, is)
+
+opened_grow : (steps more : List Step) → length (opened steps) ≤ length (opened (steps ++ more))
+opened_grow steps more = omega (arith, ap length (gathered opened_by steps more), length-append (opened steps) (opened more))
+
+taken_more : (seats : ℕ) (steps turn more : List Step) → WereTaken seats steps turn → WereTaken seats (steps ++ more) (turn ++ more)
+taken_more seats steps turn more were = record {
+  early = were.early;
+  first = were.first;
+  late = were.late ++ more;
+  parts = ap (λ (l : List Step). l ++ more) were.parts ∙ append_assoc were.early were.late more;
+  within = ap (λ (l : List Step). l ++ more) were.within ∙ append_assoc were.first were.late more;
+  taken = were.taken;
+}
+
+admitted_more : (rules : Rules) (steps turn more : List Step) → HasAdmitted rules steps turn → HasAdmitted rules (steps ++ more) (turn ++ more)
+admitted_more rules steps turn more (inl nobody) = inl (happened_then NoneOpened turn more nobody)
+admitted_more rules steps turn more (inr (inl were)) = inr (inl (taken_more rules.seats steps turn more were))
+admitted_more rules steps turn more (inr (inr enough)) = inr (inr (enough_more rules.total (length (opened steps)) (length (opened (steps ++ more))) (opened_grow steps more) enough))
+
+begun_more : (rules : Rules) (steps more : List Step) → AllByRecursion IsCalm more → HasBegun rules steps (turn_of steps) → HasBegun rules (steps ++ more) (turn_of (steps ++ more))
+begun_more rules steps more still begun =
+    subst (HasBegun rules (steps ++ more)) (sym (turn_more steps more still))
+    (record { time = begun.time; told = happened_then (Told begun.time) (turn_of steps) more begun.told; admitted = admitted_more rules steps (turn_of steps) more begun.admitted })
+
+pub leads_in_turn : (rules : Rules) (P Q R S T U : List Step → Peer → Type 0) (old middle new : Hall) (first later : List Step) → LeadsInTurn rules P Q R S old middle first → LeadsInTurn rules R S T U middle new later → LeadsInTurn rules P Q T U old new (first ++ later)
+leads_in_turn rules P Q R S T U old middle new first later one other = (leads_both rules P Q R S T U old middle new first later one.0 other.0, all_both IsCalm first later one.1 other.1)
+
+pub calm_nobody : AllByRecursion IsCalm (Happens NoneOpened ∷ [])
+calm_nobody = none_calm
+
+pub calm_opened : (id : ℕ) → AllByRecursion IsCalm (Happens (Opened id) ∷ [])
+calm_opened id = (opened_calm id, tt)
+
+pub calm_failed : (id : ℕ) → AllByRecursion IsCalm (Happens (Opened id) ∷ Happens (Closed id departures.Memory) ∷ [])
+calm_failed id = (opened_calm id, (closed_calm id departures.Memory, tt))
+
+-- nobody waits any more
+pub admits_nobody : (rules : Rules) (old new : Hall) (first : List Step) → new.time ≡ old.time → LeadsInTurn rules (Unheard old.time) NoPeer (Unheard old.time) NoPeer old new first → Admits rules old new (first ++ Happens NoneOpened ∷ [])
+admits_nobody rules old new first same so =
+    let step : List Step = Happens NoneOpened ∷ [] in
+    let all = leads_in_turn rules (Unheard old.time) NoPeer (Unheard old.time) NoPeer (Unheard old.time) NoPeer old new new first step so (leads_nobody rules old.time new (sym same), none_calm) in
+    record {
+      leads = all.0;
+      calm = all.1;
+      admitted = λ before holds. inl (subst (λ (l : List Step). Happened NoneOpened (turn_of l)) (append_assoc before first step)
+          (subst (Happened NoneOpened) (sym (turn_more (before ++ first) step none_calm)) (happened_here NoneOpened (turn_of (before ++ first)))));
+    }
+
+-- or there is no seat, or enough came
+pub admits_enough : (rules : Rules) (old new : Hall) (steps : List Step) → LeadsInTurn rules (Unheard old.time) NoPeer (Unheard old.time) NoPeer old new steps → (rules.seats ≤ length new.waiting.items) ⊎ HasEnough rules.total new.opened → Admits rules old new steps
+admits_enough rules old new steps so why = record {
+  leads = so.0;
+  calm = so.1;
+  admitted = λ before holds. elim why [
+    | inl full ↦ inr (inl (record {
+        early = before ++ steps;
+        first = turn_of (before ++ steps);
+        late = [];
+        parts = sym (append-nil (before ++ steps));
+        within = sym (append-nil (turn_of (before ++ steps)));
+        taken = omega (arith, holds.keeps.taken, full);
+      }))
+    | inr enough ↦ inr (inr (subst (HasEnough rules.total) (sym (ap length holds.keeps.numbered ∙ numbers_size new.opened)) enough))
+  ];
+}
+
 -- ---- all are closed
 
 pub stopping_none : (rules : Rules) (hall : Hall) → Stopping rules hall hall []
@@ -613,46 +681,74 @@ patient_more idle now limit less one peers index peer below is all few too hungr
 no_peer : {P : Type 0} (steps : List Step) (peer : Peer) → NoPeer steps peer → P
 no_peer steps peer none = absurd none
 
+-- what a turn led to so far
+record Began (rules : Rules) (R S : List Step → Peer → Type 0) (old new : Hall) (steps : List Step) : Type 0 where
+  leads : LeadsOn rules (Unheard old.time) NoPeer R S old new steps
+  begins : (before : List Step) → Holds rules (Unheard old.time) NoPeer old.time old.opened old.waiting.items old.served.items before → HasBegun rules (before ++ steps) (turn_of (before ++ steps))
+
+began_on : (rules : Rules) (R S T U : List Step → Peer → Type 0) (old middle new : Hall) (first later : List Step) → Began rules R S old middle first → LeadsInTurn rules R S T U middle new later → Began rules T U old new (first ++ later)
+began_on rules R S T U old middle new first later began more = record {
+  leads = leads_both rules (Unheard old.time) NoPeer R S T U old middle new first later began.leads more.0;
+  begins = λ before holds. subst (λ (l : List Step). HasBegun rules l (turn_of l)) (append_assoc before first later) (begun_more rules (before ++ first) later more.1 (began.begins before holds));
+}
+
+-- the clock was read, and those that waited were accepted
+began_by : (rules : Rules) (old one two : Hall) (later : List Step) → LeadsOn rules (Unheard old.time) NoPeer (Unheard one.time) NoPeer old one (Happens (Told one.time) ∷ []) → Admits rules one two later
+    → Began rules (Unheard one.time) NoPeer old two (Happens (Told one.time) ∷ later)
+began_by rules old one two later told admits =
+    let step : List Step = Happens (Told one.time) ∷ [] in
+    record {
+      leads = leads_both rules (Unheard old.time) NoPeer (Unheard one.time) NoPeer (Unheard one.time) NoPeer old one two step later told admits.leads;
+      begins = λ before holds.
+          let there = admits.leads (before ++ step) (told before holds) in
+          let so_far : Happened (Told one.time) (turn_of (before ++ step)) = subst (Happened (Told one.time)) (sym (turn_told before one.time)) (happened_here (Told one.time) (turn_of before)) in
+          let now : Happened (Told one.time) (turn_of ((before ++ step) ++ later)) =
+              subst (Happened (Told one.time)) (sym (turn_more (before ++ step) later admits.calm)) (happened_then (Told one.time) (turn_of (before ++ step)) later so_far) in
+          subst (λ (l : List Step). HasBegun rules l (turn_of l)) (append_assoc before step later)
+          (record { time = one.time; told = now; admitted = admits.admitted (before ++ step) there });
+    }
+
 pub whole_turn : {C H : Type 0} (does : C → Event → C → Type 0) (handles : H → Frame → Reply → H → Type 0) (rules : Rules) (old one two three four : Hall) (c c1 c2 c3 c4 : C) (h h1 : H)
-    → Moves does c c1 (LeadsOn rules (Unheard old.time) NoPeer (Unheard one.time) NoPeer old one)
-    → Moves does c1 c2 (LeadsOn rules (Unheard one.time) NoPeer (Unheard one.time) NoPeer one two)
-    → Goes does handles c2 h c3 h1 (LeadsOn rules (Unheard two.time) (Heard two.time) NoPeer (Heard two.time) two three)
-    → Moves does c3 c4 (LeadsOn rules (Served rules.idle three.time) (Heard three.time) (Served rules.idle three.time) NoPeer three four)
+    → Moves does c c1 (λ (steps : List Step). steps ≡ Happens (Told one.time) ∷ []) → LeadsOn rules (Unheard old.time) NoPeer (Unheard one.time) NoPeer old one (Happens (Told one.time) ∷ [])
+    → Moves does c1 c2 (Admits rules one two)
+    → Goes does handles c2 h c3 h1 (LeadsInTurn rules (Unheard two.time) (Heard two.time) NoPeer (Heard two.time) two three)
+    → Moves does c3 c4 (LeadsInTurn rules (Served rules.idle three.time) (Heard three.time) (Served rules.idle three.time) NoPeer three four)
     → two.time ≡ one.time → three.time ≡ two.time → four.time ≡ three.time
-    → Goes does handles c h c4 h1 (LeadsOn rules (Unheard old.time) NoPeer (Served rules.idle four.time) NoPeer old four)
-whole_turn does handles rules old one two three four c c1 c2 c3 c4 h h1 told admitted heard written second third fourth =
+    → Goes does handles c h c4 h1 (TakesTurn rules old four)
+whole_turn does handles rules old one two three four c c1 c2 c3 c4 h h1 read told admitted heard written second third fourth =
     let now : ℕ = one.time in
     let last : three.time ≡ now = third ∙ second in
-    let hearing : Goes does handles c2 h c3 h1 (LeadsOn rules (Unheard now) (Heard now) NoPeer (Heard now) two three) =
-        subst (λ (n : ℕ). Goes does handles c2 h c3 h1 (LeadsOn rules (Unheard n) (Heard n) NoPeer (Heard n) two three)) second heard in
-    let telling : Moves does c3 c4 (LeadsOn rules (Served rules.idle now) (Heard now) (Served rules.idle now) NoPeer three four) =
-        subst (λ (n : ℕ). Moves does c3 c4 (LeadsOn rules (Served rules.idle n) (Heard n) (Served rules.idle n) NoPeer three four)) last written in
-    let begins : Moves does c c2 (LeadsOn rules (Unheard old.time) NoPeer (Unheard now) NoPeer old two) =
-        moves_both does c c1 c2 (LeadsOn rules (Unheard old.time) NoPeer (Unheard now) NoPeer old one) (LeadsOn rules (Unheard now) NoPeer (Unheard now) NoPeer one two) (LeadsOn rules (Unheard old.time) NoPeer (Unheard now) NoPeer old two)
-        (λ first later so more. leads_both rules (Unheard old.time) NoPeer (Unheard now) NoPeer (Unheard now) NoPeer old one two first later so more) told admitted in
-    let middle : Goes does handles c h c3 h1 (LeadsOn rules (Unheard old.time) NoPeer NoPeer (Heard now) old three) =
-        goes_both does handles c c2 c3 h h h1 (LeadsOn rules (Unheard old.time) NoPeer (Unheard now) NoPeer old two) (LeadsOn rules (Unheard now) (Heard now) NoPeer (Heard now) two three) (LeadsOn rules (Unheard old.time) NoPeer NoPeer (Heard now) old three)
-        (λ first later so more. leads_both rules (Unheard old.time) NoPeer (Unheard now) NoPeer NoPeer (Heard now) old two three first later so
-        (leads_as rules (Unheard now) (Heard now) NoPeer (Heard now) (Unheard now) NoPeer NoPeer (Heard now) two three later (λ before peer it. it) (λ before peer it. no_peer before peer it) (λ before peer it. it) (λ before peer it. it) more))
-        (goes_moving does handles c c2 h (LeadsOn rules (Unheard old.time) NoPeer (Unheard now) NoPeer old two) begins) hearing in
-    subst (λ (n : ℕ). Goes does handles c h c4 h1 (LeadsOn rules (Unheard old.time) NoPeer (Served rules.idle n) NoPeer old four)) (sym (fourth ∙ last))
-    (goes_both does handles c c3 c4 h h1 h1 (LeadsOn rules (Unheard old.time) NoPeer NoPeer (Heard now) old three) (LeadsOn rules (Served rules.idle now) (Heard now) (Served rules.idle now) NoPeer three four)
-    (LeadsOn rules (Unheard old.time) NoPeer (Served rules.idle now) NoPeer old four)
-    (λ first later so more. leads_both rules (Unheard old.time) NoPeer NoPeer (Heard now) (Served rules.idle now) NoPeer old three four first later so
-    (leads_as rules (Served rules.idle now) (Heard now) (Served rules.idle now) NoPeer NoPeer (Heard now) (Served rules.idle now) NoPeer three four later (λ before peer it. no_peer before peer it) (λ before peer it. it) (λ before peer it. it) (λ before peer it. it) more))
-    middle (goes_moving does handles c3 c4 h1 (LeadsOn rules (Served rules.idle now) (Heard now) (Served rules.idle now) NoPeer three four) telling))
+    let hearing : Goes does handles c2 h c3 h1 (LeadsInTurn rules (Unheard now) (Heard now) NoPeer (Heard now) two three) =
+        subst (λ (n : ℕ). Goes does handles c2 h c3 h1 (LeadsInTurn rules (Unheard n) (Heard n) NoPeer (Heard n) two three)) second heard in
+    let telling : Moves does c3 c4 (LeadsInTurn rules (Served rules.idle now) (Heard now) (Served rules.idle now) NoPeer three four) =
+        subst (λ (n : ℕ). Moves does c3 c4 (LeadsInTurn rules (Served rules.idle n) (Heard n) (Served rules.idle n) NoPeer three four)) last written in
+    let begins : Moves does c c2 (Began rules (Unheard now) NoPeer old two) =
+        moves_both does c c1 c2 (λ (steps : List Step). steps ≡ Happens (Told now) ∷ []) (Admits rules one two) (Began rules (Unheard now) NoPeer old two)
+        (λ first later is admits. subst (λ (l : List Step). Began rules (Unheard now) NoPeer old two (l ++ later)) (sym is) (began_by rules old one two later told admits)) read admitted in
+    let middle : Goes does handles c h c3 h1 (Began rules NoPeer (Heard now) old three) =
+        goes_both does handles c c2 c3 h h h1 (Began rules (Unheard now) NoPeer old two) (LeadsInTurn rules (Unheard now) (Heard now) NoPeer (Heard now) two three) (Began rules NoPeer (Heard now) old three)
+        (λ first later so more. began_on rules (Unheard now) NoPeer NoPeer (Heard now) old two three first later so
+        (leads_as rules (Unheard now) (Heard now) NoPeer (Heard now) (Unheard now) NoPeer NoPeer (Heard now) two three later (λ before peer it. it) (λ before peer it. no_peer before peer it) (λ before peer it. it) (λ before peer it. it) more.0, more.1))
+        (goes_moving does handles c c2 h (Began rules (Unheard now) NoPeer old two) begins) hearing in
+    let whole : Goes does handles c h c4 h1 (Began rules (Served rules.idle now) NoPeer old four) =
+        goes_both does handles c c3 c4 h h1 h1 (Began rules NoPeer (Heard now) old three) (LeadsInTurn rules (Served rules.idle now) (Heard now) (Served rules.idle now) NoPeer three four) (Began rules (Served rules.idle now) NoPeer old four)
+        (λ first later so more. began_on rules NoPeer (Heard now) (Served rules.idle now) NoPeer old three four first later so
+        (leads_as rules (Served rules.idle now) (Heard now) (Served rules.idle now) NoPeer NoPeer (Heard now) (Served rules.idle now) NoPeer three four later (λ before peer it. no_peer before peer it) (λ before peer it. it) (λ before peer it. it) (λ before peer it. it) more.0, more.1))
+        middle (goes_moving does handles c3 c4 h1 (LeadsInTurn rules (Served rules.idle now) (Heard now) (Served rules.idle now) NoPeer three four) telling) in
+    goes_as does handles c c4 h h1 (Began rules (Served rules.idle now) NoPeer old four) (TakesTurn rules old four)
+    (λ steps so. record { leads = subst (λ (n : ℕ). LeadsOn rules (Unheard old.time) NoPeer (Served rules.idle n) NoPeer old four steps) (sym (fourth ∙ last)) so.leads; begins = so.begins }) whole
 
 -- one connection is told, and then closed
 pub closing_moves : {C : Type 0} (does : C → Event → C → Type 0) (rules : Rules) (now : ℕ) (start old new : Hall) (before_it it : Peer) (why : Departure) (rest : List Peer) (c c1 c2 c3 : C)
-    → Moves does c c1 (LeadsOn rules (Served rules.idle now) (Heard now) (Served rules.idle now) (Heard now) start old) → Moves does c1 c2 (λ (steps : List Step). Departs rules.idle old.time before_it it why steps × IsQuiet before_it.id steps)
+    → Moves does c c1 (LeadsInTurn rules (Served rules.idle now) (Heard now) (Served rules.idle now) (Heard now) start old) → Moves does c1 c2 (λ (steps : List Step). Departs rules.idle old.time before_it it why steps × IsQuiet before_it.id steps)
     → does c2 (Closed before_it.id why) c3 → now ≡ old.time → old.served.items ≡ rest ++ before_it ∷ [] → new.served.items ≡ rest → new.waiting.items ≡ old.waiting.items → new.time ≡ old.time → new.opened ≡ old.opened
-    → Moves does c c3 (LeadsOn rules (Served rules.idle now) (Heard now) (Served rules.idle now) (Heard now) start new)
+    → Moves does c c3 (LeadsInTurn rules (Served rules.idle now) (Heard now) (Served rules.idle now) (Heard now) start new)
 closing_moves does rules now start old new before_it it why rest c c1 c2 c3 so_far tells done same was serves waits time opened =
     let P : List Step → Peer → Type 0 = Served rules.idle now in
-    moves_both does c c1 c3 (LeadsOn rules P (Heard now) P (Heard now) start old) (LeadsOn rules P (Heard now) P (Heard now) old new) (LeadsOn rules P (Heard now) P (Heard now) start new)
-    (λ first later one other. leads_both rules P (Heard now) P (Heard now) P (Heard now) start old new first later one other) so_far
-    (moves_event does c1 c2 c3 (Closed before_it.id why) (λ (steps : List Step). Departs rules.idle old.time before_it it why steps × IsQuiet before_it.id steps) (LeadsOn rules P (Heard now) P (Heard now) old new)
-    (λ later both. leads_closing rules now old new before_it it why rest later same was serves waits time opened both.0 both.1) tells done)
+    moves_both does c c1 c3 (LeadsInTurn rules P (Heard now) P (Heard now) start old) (LeadsInTurn rules P (Heard now) P (Heard now) old new) (LeadsInTurn rules P (Heard now) P (Heard now) start new)
+    (λ first later one other. leads_in_turn rules P (Heard now) P (Heard now) P (Heard now) start old new first later one other) so_far
+    (moves_event does c1 c2 c3 (Closed before_it.id why) (λ (steps : List Step). Departs rules.idle old.time before_it it why steps × IsQuiet before_it.id steps) (LeadsInTurn rules P (Heard now) P (Heard now) old new)
+    (λ later both. (leads_closing rules now old new before_it it why rest later same was serves waits time opened both.0 both.1, all_both IsCalm later (Happens (Closed before_it.id why) ∷ []) (calm before_it.id later both.0.own) (closed_calm before_it.id why, tt))) tells done)
 
 -- ---- the loop
 
@@ -696,12 +792,16 @@ one_wait steps more limit count many =
 
 -- all that is promised, where none is open any more
 pub serves_all : (rules : Rules) (count : ℕ) (result : Ending) (steps : List Step) → Keeps rules count (λ (id : ℕ). 0) 0 steps → EndsBy rules.total result steps → ServesAll rules result steps
-serves_all rules count result steps keeps ended = record { each = keeps.each; seated = keeps.seated; fair = keeps.fair; left = have_left rules count steps keeps; ended = ended }
+serves_all rules count result steps keeps ended = record { each = keeps.each; seated = keeps.seated; numbered = keeps.numbered ∙ ap numbers (sym (ap length keeps.numbered ∙ numbers_size count)); fair = keeps.fair; left = have_left rules count steps keeps; ended = ended }
 
-pub ended_all : (rules : Rules) (hall : Hall) (steps : List Step) → IsAtRest rules hall steps → hall.waiting.items ≡ [] → ((wanted : ℕ) → rules.total ≡ Some wanted → wanted ≤ hall.opened) → ServesAll rules ways.All steps
+all_of : (wanted : Option ℕ) (count : ℕ) → ((total : ℕ) → wanted ≡ Some total → count ≤ total) → HasEnough wanted count → IsAll wanted count
+all_of None count few enough = enough
+all_of (Some total) count few enough = omega (arith, few total refl, enough)
+
+pub ended_all : (rules : Rules) (hall : Hall) (steps : List Step) → IsAtRest rules hall steps → hall.waiting.items ≡ [] → HasEnough rules.total hall.opened → ServesAll rules ways.All steps
 ended_all rules hall steps rest none enough =
     let keeps = none_open rules hall.time hall.opened hall.waiting.items hall.served.items steps rest none in
-    serves_all rules hall.opened ways.All steps keeps (hall.opened, are_all rules hall.opened steps keeps, λ wanted is. omega (arith, enough wanted is, keeps.wanted wanted is))
+    serves_all rules hall.opened ways.All steps keeps (hall.opened, are_all rules hall.opened steps keeps, all_of rules.total hall.opened keeps.wanted enough)
 
 pub ended_stopped : (rules : Rules) (count : ℕ) (steps : List Step) → IsStopped steps → Keeps rules count (λ (id : ℕ). 0) 0 steps → ServesAll rules ways.Stopped steps
 ended_stopped rules count steps stopped keeps = serves_all rules count ways.Stopped steps keeps stopped
@@ -713,18 +813,24 @@ ended_at_once rules = serves_all rules 0 ways.Memory [] (keeps_start rules) refl
 pub record WaitsAndGoes (rules : Rules) (old new : Hall) (limit : ℕ) (steps : List Step) : Type 0 where
   pub more : List Step
   pub parts : steps ≡ Happens (Waited limit) ∷ more
-  pub leads : LeadsOn rules (Unheard old.time) NoPeer (Served rules.idle new.time) NoPeer old new more
+  pub turn : TakesTurn rules old new more
 
-pub turned : (rules : Rules) (old new : Hall) (limit count : ℕ) (first later : List Step) → IsAtRest rules old first → count ≤ count_by is_wait first → AllByRecursion (IsPatient rules.idle old.time limit) old.waiting.items → WaitsAndGoes rules old new limit later
-    → IsAtRest rules new (first ++ later) × (count + 1 ≤ count_by is_wait (first ++ later))
-turned rules old new limit count first later rest many patient turn =
-    let waited = wait_over rules old.time old.opened limit old.waiting.items old.served.items first rest patient in
-    let there = turn.leads (first ++ Happens (Waited limit) ∷ []) waited in
-    let same : (first ++ Happens (Waited limit) ∷ []) ++ turn.more ≡ first ++ later =
-        append_assoc first (Happens (Waited limit) ∷ []) turn.more ∙ ap (λ (l : List Step). first ++ l) (sym turn.parts) in (
-      subst (Holds rules (Served rules.idle new.time) NoPeer new.time new.opened new.waiting.items new.served.items) same there,
-      subst (λ (l : List Step). count + 1 ≤ count_by is_wait (first ++ l)) (sym turn.parts) (one_wait first turn.more limit count many),
-    )
+-- between two turns, after at least so many waits
+pub record IsBetween (rules : Rules) (hall : Hall) (count : ℕ) (steps : List Step) : Type 0 where
+  pub rest : IsAtRest rules hall steps
+  pub begun : (steps ≡ []) ⊎ HasBegun rules steps (turn_of steps)
+  pub many : count ≤ count_by is_wait steps
+
+pub turned : (rules : Rules) (old new : Hall) (limit count : ℕ) (first later : List Step) → IsBetween rules old count first → AllByRecursion (IsPatient rules.idle old.time limit) old.waiting.items → WaitsAndGoes rules old new limit later → IsBetween rules new (count + 1) (first ++ later)
+turned rules old new limit count first later so patient waits =
+    let step : List Step = Happens (Waited limit) ∷ [] in
+    let waited = wait_over rules old.time old.opened limit old.waiting.items old.served.items first so.rest patient so.begun in
+    let same : (first ++ step) ++ waits.more ≡ first ++ later = append_assoc first step waits.more ∙ ap (λ (l : List Step). first ++ l) (sym waits.parts) in
+    record {
+      rest = subst (Holds rules (Served rules.idle new.time) NoPeer new.time new.opened new.waiting.items new.served.items) same (waits.turn.leads (first ++ step) waited);
+      begun = inr (subst (λ (l : List Step). HasBegun rules l (turn_of l)) same (waits.turn.begins (first ++ step) waited));
+      many = subst (λ (l : List Step). count + 1 ≤ count_by is_wait (first ++ l)) (sym waits.parts) (one_wait first waits.more limit count so.many);
+    }
 
 -- waiting failed, and then every connection was closed
 pub record FailsAndStops (rules : Rules) (old new : Hall) (steps : List Step) : Type 0 where

@@ -7,14 +7,14 @@ use Rattle.droid_frame.specs.Streams.{BeginsNoFrame}
 use Rattle.droid_frame.specs.declared.stream.fault.FrameFault.{FrameFault}
 use Rattle.droid_wire_turns.specs.Departures.{Serves, StopsBy}
 use Rattle.droid_wire_turns.specs.Events.{Ended, Read, Told, Waited, Wrote}
-use Rattle.droid_wire_turns.specs.Halls.{Heard, Rested, Served, SinceBytes, SinceDry, SinceFrames, SinceFull, SinceLeaving, Unheard}
+use Rattle.droid_wire_turns.specs.Halls.{Heard, IsCalm, Rested, Served, SinceBytes, SinceDry, SinceFrames, SinceFull, SinceLeaving, Unheard}
 use Rattle.droid_wire_turns.specs.Peers.{Advances, ByBytes, ByDrought, ByFrames, ByLeaving, ByQueue, Hears, InTurn, IsLeft, IsQuiet, IsRoom, Kept, RanDry, Rests, Sends, Stands, Stays, is_hungry, is_over, is_over_for, keep, kept_of, unread}
 use Rattle.droid_wire_turns.specs.Serving.{HadShare, IsDrained, IsLeaving, IsSettled, WasFull}
 use Rattle.droid_wire_turns.specs.Steps.{Happened, Happens, IsTraffic, Step, bytes_read, came, handled, handled_in, turn_of}
 use Rattle.droid_wire_turns.specs.declared.departure.Departure.{Departure}
 use Rattle.droid_wire_turns.specs.declared.departure.Departure.TheVariants as departures
 use Rattle.droid_wire_turns.specs.declared.peer.Peer.{Peer}
-use Rattle.droid_wire_turns.proofs.Gathered.{Elsewhere, IsCalm, calm, came_elsewhere, handled_elsewhere, none_gathered, turn_more, turn_waited}
+use Rattle.droid_wire_turns.proofs.Gathered.{Elsewhere, calm, came_elsewhere, handled_elsewhere, none_gathered, turn_more, turn_waited}
 use Rattle.droid_wire_turns.proofs.Standing.{happened_last, happened_then, serves_elsewhere, stands_elsewhere, stands_told, stands_waited, stops_then}
 
 -- ---- steps of others
@@ -76,22 +76,41 @@ leaving_more : (id : ℕ) (steps more : List Step) (held : List ℕ) → IsLeavi
 leaving_more id steps more held (inl ended) = inl (happened_then (Ended id) steps more ended.0, ended.1)
 leaving_more id steps more held (inr stops) = inr (stops.0, stops_then id steps more held stops.0 stops.1)
 
-settled_more : (id : ℕ) (steps turn more : List Step) → AllByRecursion (Elsewhere id) more → IsSettled id steps turn → IsSettled id (steps ++ more) (turn ++ more)
-settled_more id steps turn more all settled = record {
+share_more : (id : ℕ) (steps turn more : List Step) → came id more ≡ [] → handled id more ≡ [] → HadShare id steps turn → HadShare id (steps ++ more) (turn ++ more)
+share_more id steps turn more no_bytes no_frame (inl frames) = inl (ap length (none_gathered (handled_in id) turn more no_frame) ∙ frames)
+share_more id steps turn more no_bytes no_frame (inr (inl bytes)) = inr (inl (omega (arith, bytes, ap length (none_gathered (bytes_read id) turn more no_bytes))))
+share_more id steps turn more no_bytes no_frame (inr (inr full)) = inr (inr (full_more id steps turn more full))
+
+settled_more : (goes_on : Type 0) (id : ℕ) (steps turn more : List Step) → AllByRecursion (Elsewhere id) more → IsSettled goes_on id steps turn → IsSettled goes_on id (steps ++ more) (turn ++ more)
+settled_more goes_on id steps turn more all settled = record {
   held = settled.held;
   queued = settled.queued;
   serves = serves_elsewhere id steps more settled.held settled.queued all settled.serves;
   written = elim settled.written [ inl none ↦ inl none | inr took ↦ inr (happened_then (Wrote id []) turn more took) ];
   read = elim settled.read [
     | inl dry ↦ inl (record { nothing = happened_then (Read id []) turn more dry.nothing; no_frame = dry.no_frame })
-    | inr other ↦ elim other [ inl full ↦ inr (inl full) | inr leaving ↦ inr (inr (leaving_more id steps more settled.held leaving)) ]
+    | inr other ↦ elim other [
+      | inl full ↦ inr (inl full)
+      | inr rest ↦ elim rest [
+        | inl leaving ↦ inr (inr (inl (leaving_more id steps more settled.held leaving)))
+        | inr share ↦ inr (inr (inr (share.0, share_more id steps turn more (came_elsewhere id more all) (handled_elsewhere id more all) share.1)))
+      ]
+    ]
   ];
 }
 
-share_more : (id : ℕ) (steps turn more : List Step) → came id more ≡ [] → handled id more ≡ [] → HadShare id steps turn → HadShare id (steps ++ more) (turn ++ more)
-share_more id steps turn more no_bytes no_frame (inl frames) = inl (ap length (none_gathered (handled_in id) turn more no_frame) ∙ frames)
-share_more id steps turn more no_bytes no_frame (inr (inl bytes)) = inr (inl (omega (arith, bytes, ap length (none_gathered (bytes_read id) turn more no_bytes))))
-share_more id steps turn more no_bytes no_frame (inr (inr full)) = inr (inr (full_more id steps turn more full))
+-- told by another reason to go on
+pub settled_as : (goes_on also : Type 0) (id : ℕ) (steps turn : List Step) → (goes_on → also) → IsSettled goes_on id steps turn → IsSettled also id steps turn
+settled_as goes_on also id steps turn f settled = record {
+  held = settled.held;
+  queued = settled.queued;
+  serves = settled.serves;
+  written = settled.written;
+  read = elim settled.read [
+    | inl dry ↦ inl dry
+    | inr other ↦ elim other [ inl full ↦ inr (inl full) | inr rest ↦ elim rest [ inl leaving ↦ inr (inr (inl leaving)) | inr share ↦ inr (inr (inr (f share.0, share.1))) ] ]
+  ];
+}
 
 pub served_elsewhere : (idle now : ℕ) (steps more : List Step) (peer : Peer) → AllByRecursion (Elsewhere peer.id) more → AllByRecursion IsCalm more → Served idle now steps peer → Served idle now (steps ++ more) peer
 served_elsewhere idle now steps more peer all still served =
@@ -99,10 +118,7 @@ served_elsewhere idle now steps more peer all still served =
     record {
       stands = stands_elsewhere peer.id (kept_of peer) now steps more all served.stands;
       active = served.active;
-      settled = elim served.settled [
-        | inl settled ↦ inl (subst (IsSettled peer.id (steps ++ more)) (sym turn) (settled_more peer.id steps (turn_of steps) more all settled))
-        | inr share ↦ inr (share.0, subst (HadShare peer.id (steps ++ more)) (sym turn) (share_more peer.id steps (turn_of steps) more (came_elsewhere peer.id more all) (handled_elsewhere peer.id more all) share.1))
-      ];
+      settled = subst (IsSettled (is_hungry peer ≡ true) peer.id (steps ++ more)) (sym turn) (settled_more (is_hungry peer ≡ true) peer.id steps (turn_of steps) more all served.settled);
     }
 
 -- ---- a turn begins
@@ -173,16 +189,16 @@ written_by id steps turn kept queued is (inl none) = inl (is ∙ none)
 written_by id steps turn kept queued is (inr took) = inr took
 
 -- it leaves, and something waits
-settled_leaving : (id waiting : ℕ) (steps turn : List Step) (kept : Kept) (held queued : List ℕ) (why : Departure) → Serves id steps held queued → is_over_for waiting (Some why) ≡ false
-    → (kept.queued ≡ []) ⊎ Happened (Wrote id []) turn → IsLeft id steps kept held queued (Some why) → IsSettled id steps turn
-settled_leaving id waiting steps turn kept held queued departures.Closed serves over written left =
-    record { held = held; queued = queued; serves = serves; written = written_by id steps turn kept queued left.2 written; read = inr (inr (inl (left.0, left.1))) }
-settled_leaving id waiting steps turn kept held queued (departures.Frame fault) serves over written left =
-    record { held = held; queued = queued; serves = serves; written = written_by id steps turn kept queued left.1 written; read = inr (inr (inr (fault, left.0))) }
-settled_leaving id waiting steps turn kept held queued departures.Memory serves over written left = absurd (false≢true (sym over))
-settled_leaving id waiting steps turn kept held queued departures.Write serves over written left = absurd left
-settled_leaving id waiting steps turn kept held queued departures.Idle serves over written left = absurd left
-settled_leaving id waiting steps turn kept held queued departures.Stopped serves over written left = absurd left
+settled_leaving : (goes_on : Type 0) (id waiting : ℕ) (steps turn : List Step) (kept : Kept) (held queued : List ℕ) (why : Departure) → Serves id steps held queued → is_over_for waiting (Some why) ≡ false
+    → (kept.queued ≡ []) ⊎ Happened (Wrote id []) turn → IsLeft id steps kept held queued (Some why) → IsSettled goes_on id steps turn
+settled_leaving goes_on id waiting steps turn kept held queued departures.Closed serves over written left =
+    record { held = held; queued = queued; serves = serves; written = written_by id steps turn kept queued left.2 written; read = inr (inr (inl (inl (left.0, left.1)))) }
+settled_leaving goes_on id waiting steps turn kept held queued (departures.Frame fault) serves over written left =
+    record { held = held; queued = queued; serves = serves; written = written_by id steps turn kept queued left.1 written; read = inr (inr (inl (inr (fault, left.0)))) }
+settled_leaving goes_on id waiting steps turn kept held queued departures.Memory serves over written left = absurd (false≢true (sym over))
+settled_leaving goes_on id waiting steps turn kept held queued departures.Write serves over written left = absurd left
+settled_leaving goes_on id waiting steps turn kept held queued departures.Idle serves over written left = absurd left
+settled_leaving goes_on id waiting steps turn kept held queued departures.Stopped serves over written left = absurd left
 
 hungry_by : (peer : Peer) → peer.leaving ≡ None → peer.drained ≡ false → leb (length peer.queue.bytes) 8388608 ≡ true → is_hungry peer ≡ true
 hungry_by peer stays dry fits = rw (stays, dry, fits) refl
@@ -202,33 +218,36 @@ share_by peer count steps stays dry in_turn (SinceFull is) = inr (inr is)
 settled_staying : (peer : Peer) (count : ℕ) (steps : List Step) (held queued : List ℕ) (dry fits : Bool) → Serves peer.id steps held queued → peer.leaving ≡ None → peer.drained ≡ dry → leb (length peer.queue.bytes) 8388608 ≡ fits
     → (peer.queue.bytes ≡ []) ⊎ Happened (Wrote peer.id []) (turn_of steps) → held ≡ peer.feed.bytes ++ unread peer → queued ≡ peer.queue.bytes
     → InTurn peer.id peer.room count (turn_of steps) → (peer.drained ≡ true → RanDry peer (turn_of steps)) → Rested peer count steps
-    → IsSettled peer.id steps (turn_of steps) ⊎ ((is_hungry peer ≡ true) × HadShare peer.id steps (turn_of steps))
-settled_staying peer count steps held queued true fits serves stays dry_is fits_is written held_is queued_is in_turn dry rested =
-    inl (record {
-      held = held;
-      queued = queued;
-      serves = serves;
-      written = written_by peer.id steps (turn_of steps) (kept_of peer) queued queued_is written;
-      read = inl (record { nothing = (dry dry_is).nothing; no_frame = subst BeginsNoFrame (sym held_is) (dry dry_is).no_frame });
-    })
-settled_staying peer count steps held queued false false serves stays dry_is fits_is written held_is queued_is in_turn dry rested =
-    inl (record {
-      held = held;
-      queued = queued;
-      serves = serves;
-      written = written_by peer.id steps (turn_of steps) (kept_of peer) queued queued_is written;
-      read = inr (inl (omega (arith, leb-false (length peer.queue.bytes) 8388608 fits_is, ap length queued_is)));
-    })
-settled_staying peer count steps held queued false true serves stays dry_is fits_is written held_is queued_is in_turn dry rested =
-    inr (hungry_by peer stays dry_is fits_is, share_by peer count steps stays dry_is in_turn rested)
+    → IsSettled (is_hungry peer ≡ true) peer.id steps (turn_of steps)
+settled_staying peer count steps held queued true fits serves stays dry_is fits_is written held_is queued_is in_turn dry rested = record {
+  held = held;
+  queued = queued;
+  serves = serves;
+  written = written_by peer.id steps (turn_of steps) (kept_of peer) queued queued_is written;
+  read = inl (record { nothing = (dry dry_is).nothing; no_frame = subst BeginsNoFrame (sym held_is) (dry dry_is).no_frame });
+}
+settled_staying peer count steps held queued false false serves stays dry_is fits_is written held_is queued_is in_turn dry rested = record {
+  held = held;
+  queued = queued;
+  serves = serves;
+  written = written_by peer.id steps (turn_of steps) (kept_of peer) queued queued_is written;
+  read = inr (inl (omega (arith, leb-false (length peer.queue.bytes) 8388608 fits_is, ap length queued_is)));
+}
+settled_staying peer count steps held queued false true serves stays dry_is fits_is written held_is queued_is in_turn dry rested = record {
+  held = held;
+  queued = queued;
+  serves = serves;
+  written = written_by peer.id steps (turn_of steps) (kept_of peer) queued queued_is written;
+  read = inr (inr (inr (hungry_by peer stays dry_is fits_is, share_by peer count steps stays dry_is in_turn rested)));
+}
 
 settled_by : (peer : Peer) (now count : ℕ) (steps : List Step) (leaving : Option Departure) → peer.leaving ≡ leaving → (stands : Stands peer.id (kept_of peer) now steps) → IsLeft peer.id steps (kept_of peer) stands.held stands.queued leaving
     → is_over_for (length peer.queue.bytes) leaving ≡ false → (peer.queue.bytes ≡ []) ⊎ Happened (Wrote peer.id []) (turn_of steps) → InTurn peer.id peer.room count (turn_of steps) → (peer.drained ≡ true → RanDry peer (turn_of steps)) → Rested peer count steps
-    → IsSettled peer.id steps (turn_of steps) ⊎ ((is_hungry peer ≡ true) × HadShare peer.id steps (turn_of steps))
+    → IsSettled (is_hungry peer ≡ true) peer.id steps (turn_of steps)
 settled_by peer now count steps None is stands left over written in_turn dry rested =
     settled_staying peer count steps stands.held stands.queued peer.drained (leb (length peer.queue.bytes) 8388608) stands.serves is refl refl written left.0 left.1 in_turn dry rested
 settled_by peer now count steps (Some why) is stands left over written in_turn dry rested =
-    inl (settled_leaving peer.id (length peer.queue.bytes) steps (turn_of steps) (kept_of peer) stands.held stands.queued why stands.serves over written left)
+    settled_leaving (is_hungry peer ≡ true) peer.id (length peer.queue.bytes) steps (turn_of steps) (kept_of peer) stands.held stands.queued why stands.serves over written left
 
 -- what writing leaves as it was
 pub record IsAsBefore (old new : Peer) : Type 0 where

@@ -2,10 +2,11 @@
 use Rattle.std.specs.Prelude.{◌≡◌, ℕ, ◌+◌, ◌-◌, ◌<◌, ◌≤◌, ◌⊎◌, ◌==◌, if◌then◌else◌, true, List, [], ◌∷◌, ◌++◌, Option, Some, IsSome, length, vec_capacity}
 use Rattle.std.specs.List.{AllByRecursion}
 use Rattle.droid_wire_turns.specs.Departures.{IsServed}
-use Rattle.droid_wire_turns.specs.Events.{Opened}
+use Rattle.droid_wire_turns.specs.Events.{Closed, Opened}
 use Rattle.droid_wire_turns.specs.Peers.{InTurn, IsQuiet, IsWhole, RanDry, Stands, is_hungry, kept_of}
-use Rattle.droid_wire_turns.specs.Serving.{HadShare, HasLeft, IsFair, IsSeated, IsSettled, WasFull}
-use Rattle.droid_wire_turns.specs.Steps.{Always, AreOfOthers, AtEach, Happened, Step, came, clock_of, closed, handled, opened, turn_of}
+use Rattle.droid_wire_turns.specs.Serving.{HasAdmitted, HasBegun, HasLeft, IsFair, IsSeated, IsSettled, WasFull}
+use Rattle.droid_wire_turns.specs.Steps.{Always, AreOfOthers, AtEach, Happened, Step, came, clock_behind, clock_of, closed, handled, numbers, opened, turn_behind, turn_of}
+use Rattle.droid_wire_turns.specs.declared.departure.Departure.{Departure}
 use Rattle.droid_wire_turns.specs.declared.hall.Hall.{Hall}
 use Rattle.droid_wire_turns.specs.declared.peer.Peer.{Peer}
 use Rattle.droid_wire_turns.specs.declared.rules.Rules.{Rules}
@@ -26,6 +27,11 @@ times_among waiting served id = times_in id waiting + times_in id served
 
 -- ---- what the steps were
 
+-- no wait, and no word of the clock
+pub record IsCalm (step : Step) : Type 0 where
+  pub turn : (turn : List Step) → turn_behind turn step ≡ turn ++ step ∷ []
+  pub clock : (now : ℕ) → clock_behind now step ≡ now
+
 -- no more than a share
 pub record IsWithin (id : ℕ) (turn : List Step) : Type 0 where
   pub frames : length (handled id turn) ≤ 16
@@ -38,11 +44,13 @@ pub record Keeps (rules : Rules) (count : ℕ) (open_as : ℕ → ℕ) (places :
   pub below : (id : ℕ) → 0 < open_as id → id < count
   pub gone : (id : ℕ) → id < count → open_as id ≡ 0 → HasLeft rules.idle id steps
   pub all : (id : ℕ) → id < count → Happened (Opened id) steps
+  pub stays : (id : ℕ) (why : Departure) → 0 < open_as id → Happened (Closed id why) steps → ⊥
   pub others : (id : ℕ) → count ≤ id → AreOfOthers id steps
   pub each : (id : ℕ) → Always (IsServed id) [] steps
   pub seated : Always (IsSeated rules.seats) [] steps
   pub taken : length (opened steps) ≡ length (closed steps) + places
-  pub fair : AtEach (IsFair rules.idle) [] steps
+  pub numbered : opened steps ≡ numbers count
+  pub fair : AtEach (IsFair rules) [] steps
   pub within : (id : ℕ) → IsWithin id (turn_of steps)
   pub wanted : (total : ℕ) → rules.total ≡ Some total → count ≤ total
 
@@ -74,7 +82,7 @@ pub record Heard (now : ℕ) (steps : List Step) (peer : Peer) : Type 0 where
 pub record Served (idle now : ℕ) (steps : List Step) (peer : Peer) : Type 0 where
   pub stands : Stands peer.id (kept_of peer) now steps
   pub active : now - peer.active < idle
-  pub settled : IsSettled peer.id steps (turn_of steps) ⊎ ((is_hungry peer ≡ true) × HadShare peer.id steps (turn_of steps))
+  pub settled : IsSettled (is_hungry peer ≡ true) peer.id steps (turn_of steps)
 
 -- ---- the hall
 
@@ -97,6 +105,21 @@ IsAtRest rules hall steps = Holds rules (Served rules.idle hall.time) NoPeer hal
 -- these steps lead from one to the other, after whatever steps
 abbrev pub LeadsOn : Rules → (List Step → Peer → Type 0) → (List Step → Peer → Type 0) → (List Step → Peer → Type 0) → (List Step → Peer → Type 0) → Hall → Hall → List Step → Type 0
 LeadsOn rules P Q R S old new steps = (before : List Step) → Holds rules P Q old.time old.opened old.waiting.items old.served.items before → Holds rules R S new.time new.opened new.waiting.items new.served.items (before ++ steps)
+
+-- and they end no turn
+abbrev pub LeadsInTurn : Rules → (List Step → Peer → Type 0) → (List Step → Peer → Type 0) → (List Step → Peer → Type 0) → (List Step → Peer → Type 0) → Hall → Hall → List Step → Type 0
+LeadsInTurn rules P Q R S old new steps = LeadsOn rules P Q R S old new steps × AllByRecursion IsCalm steps
+
+-- those that waited were accepted
+pub record Admits (rules : Rules) (old new : Hall) (steps : List Step) : Type 0 where
+  pub leads : LeadsOn rules (Unheard old.time) NoPeer (Unheard old.time) NoPeer old new steps
+  pub calm : AllByRecursion IsCalm steps
+  pub admitted : (before : List Step) → Holds rules (Unheard old.time) NoPeer new.time new.opened new.waiting.items new.served.items (before ++ steps) → HasAdmitted rules (before ++ steps) (turn_of (before ++ steps))
+
+-- a turn
+pub record TakesTurn (rules : Rules) (old new : Hall) (steps : List Step) : Type 0 where
+  pub leads : LeadsOn rules (Unheard old.time) NoPeer (Served rules.idle new.time) NoPeer old new steps
+  pub begins : (before : List Step) → Holds rules (Unheard old.time) NoPeer old.time old.opened old.waiting.items old.served.items before → HasBegun rules (before ++ steps) (turn_of (before ++ steps))
 
 -- there is room for so many connections, wherever each stands, and what is kept of each is whole
 pub record HasRooms (seats : ℕ) (hall : Hall) : Type 0 where

@@ -7,7 +7,6 @@ use Rattle.droid_frame_feed.specs.Feeding.{IsOfBytes}
 use Rattle.droid_frame.specs.types.frame.Frame.{Frame}
 use Rattle.droid_wire_turns.specs.Departures.{Explains, IsServed, Serves, StopsBy}
 use Rattle.droid_wire_turns.specs.Events.{Ended, Read, Unwritten, Wrote}
-use Rattle.droid_wire_turns.specs.Serving.{HadShare, IsSettled}
 use Rattle.droid_wire_turns.specs.Steps.{Always, Happened, IsTraffic, Step, came, handled, times_of}
 use Rattle.droid_wire_turns.specs.declared.departure.Departure.{Departure}
 use Rattle.droid_wire_turns.specs.declared.departure.Departure.TheVariants as departures

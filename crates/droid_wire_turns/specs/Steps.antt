@@ -1,5 +1,5 @@
 -- What the loop did: its steps, and what they say of one connection (this project's own).
-use Rattle.std.specs.Prelude.{◌≡◌, ℕ, ◌==◌, if◌then◌else◌, List, [], ◌∷◌, ◌++◌, fold, map, ◌⊎◌}
+use Rattle.std.specs.Prelude.{◌≡◌, ℕ, zero, suc, ◌==◌, if◌then◌else◌, List, [], ◌∷◌, ◌++◌, fold, map, ◌⊎◌}
 use Rattle.std.specs.List.{AllByRecursion, flat_map}
 use Rattle.droid_frame.specs.Frames.{frame_bytes}
 use Rattle.droid_frame.specs.ReplyFrames.{reply_frame}
@@ -94,6 +94,11 @@ opened steps = flat_map opened_by steps
 
 abbrev pub closed : List Step → List ℕ
 closed steps = flat_map closed_by steps
+
+-- the numbers below this one, in order
+abbrev pub numbers : ℕ → List ℕ
+numbers zero = []
+numbers (suc count) = numbers count ++ count ∷ []
 
 -- ---- whose a step is
 

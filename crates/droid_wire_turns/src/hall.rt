@@ -1,9 +1,10 @@
 //! The open connections, and their turns.
 
-ghost use Rattle.std.specs.Prelude.{◌≡◌, ◌+◌, ◌-◌, ◌<◌, ◌≤◌, ◌++◌, ◌∷◌, ℕ, [], List, true, false, IfOk, Some, vec_capacity};
+ghost use Rattle.std.specs.Prelude.{◌≡◌, ◌+◌, ◌-◌, ◌<◌, ◌≤◌, ◌⊎◌, ◌++◌, ◌∷◌, ℕ, [], List, true, false, IfOk, Some, length, vec_capacity};
 ghost use Rattle.std.specs.List.{AllByRecursion};
 ghost use Rattle.droid_wire_turns.specs.Departures.{IsStopped};
-ghost use Rattle.droid_wire_turns.specs.Halls.{LeadsOn, HasRooms, Heard, Holds, IsAtRest, IsPatient, Keeps, NoPeer, Served as HadTurn, Unheard};
+ghost use Rattle.droid_wire_turns.specs.Halls.{Admits, HasRooms, Heard, IsAtRest, IsPatient, Keeps, LeadsInTurn, NoPeer, Served as HadTurn, TakesTurn, Unheard};
+ghost use Rattle.droid_wire_turns.specs.Serving.{HasEnough};
 ghost use Rattle.droid_wire_turns.specs.Steps.{Goes, Moves, Step};
 ghost use Rattle.droid_wire_turns.specs.declared.rules.Rules.{Rules as RulesValue};
 
@@ -51,7 +52,7 @@ impl Hall {
     /// Whether all connections that are wanted came and left.
     pub(crate) fn is_over(&self, total: Option<u64>) -> bool
         ensures empty { result ≡ true → self.now.waiting.items ≡ [] }
-        ensures all { result ≡ true → (wanted : ℕ) → total ≡ Some wanted → wanted ≤ self.now.opened }
+        ensures all { result ≡ true → HasEnough total self.now.opened }
     {
         self.waiting.is_empty() && !self.wants_more(total)
     }
@@ -59,7 +60,7 @@ impl Hall {
     /// Whether more connections are wanted.
     fn wants_more(&self, total: Option<u64>) -> bool
         ensures more { result ≡ true → (wanted : ℕ) → total ≡ Some wanted → self.now.opened < wanted }
-        ensures enough { result ≡ false → (wanted : ℕ) → total ≡ Some wanted → wanted ≤ self.now.opened }
+        ensures enough { result ≡ false → HasEnough total self.now.opened }
         ensures bound { result ≡ true → self.now.opened < 18446744073709551615 }
     {
         match total {
@@ -92,13 +93,25 @@ impl Hall {
         requires first { self.old.served.items ≡ [] }
         ensures rooms { HasRooms rules.seats self.new }
         ensures first { self.new.served.items ≡ [] }
-        ensures goes { Goes C.does H.handles connections.old handler.old connections.new handler.new
-            (LeadsOn rules (Unheard self.old.time) NoPeer (HadTurn rules.idle self.new.time) NoPeer self.old self.new) }
+        ensures goes { Goes C.does H.handles connections.old handler.old connections.new handler.new (TakesTurn rules self.old self.new) }
     {
         self.time = connections.now();
         self.admit(alloc, connections, rules);
         self.hear_all(connections, handler, rules.seats);
         self.tell_all(connections, rules.seats, rules.idle);
+    }
+
+    /// Whether a connection may be accepted: there is a seat, and more are wanted.
+    fn may_accept(&self, rules: Rules) -> bool
+        ensures seat { result ≡ true → length self.now.waiting.items < rules.seats }
+        ensures more { result ≡ true → (wanted : ℕ) → rules.total ≡ Some wanted → self.now.opened < wanted }
+        ensures bound { result ≡ true → self.now.opened < 18446744073709551615 }
+        ensures enough { result ≡ false → (rules.seats ≤ length self.now.waiting.items) ⊎ HasEnough rules.total self.now.opened }
+    {
+        if self.waiting.len() >= rules.seats {
+            return false;
+        }
+        self.wants_more(rules.total)
     }
 
     /// Accepts connections while there are seats.
@@ -108,10 +121,9 @@ impl Hall {
         ensures rooms { HasRooms rules.seats self.new }
         ensures first { self.new.served.items ≡ [] }
         ensures now { self.new.time ≡ self.old.time }
-        ensures moves { Moves C.does connections.old connections.new
-            (LeadsOn rules (Unheard self.old.time) NoPeer (Unheard self.old.time) NoPeer self.old self.new) }
+        ensures moves { Moves C.does connections.old connections.new (Admits rules self.old self.new) }
     {
-        while self.waiting.len() < rules.seats && self.wants_more(rules.total) {
+        while self.may_accept(rules) {
             let id = self.opened;
             if !connections.accept(id) {
                 return;
@@ -136,7 +148,7 @@ impl Hall {
         ensures now { self.new.time ≡ self.old.time }
         ensures all { self.new.waiting.items ≡ [] }
         ensures goes { (rules : RulesValue) → Goes C.does H.handles connections.old handler.old connections.new handler.new
-            (LeadsOn rules (Unheard self.old.time) (Heard self.old.time) NoPeer (Heard self.old.time) self.old self.new) }
+            (LeadsInTurn rules (Unheard self.old.time) (Heard self.old.time) NoPeer (Heard self.old.time) self.old self.new) }
     {
         self.frames = 0;
         while let Some(mut peer) = self.waiting.pop() {
@@ -155,7 +167,7 @@ impl Hall {
         ensures now { self.new.time ≡ self.old.time }
         ensures all { self.new.served.items ≡ [] }
         ensures moves { (rules : RulesValue) → rules.idle ≡ idle → Moves C.does connections.old connections.new
-            (LeadsOn rules (HadTurn rules.idle self.old.time) (Heard self.old.time) (HadTurn rules.idle self.old.time) NoPeer self.old self.new) }
+            (LeadsInTurn rules (HadTurn rules.idle self.old.time) (Heard self.old.time) (HadTurn rules.idle self.old.time) NoPeer self.old self.new) }
     {
         while let Some(mut peer) = self.served.pop() {
             match peer.tell(connections, self.time, idle) {

@@ -4,6 +4,12 @@
 #[cfg(test)]
 mod counting_handler;
 #[cfg(test)]
+mod failures;
+#[cfg(test)]
+mod ordered_hall;
+#[cfg(test)]
+mod orders;
+#[cfg(test)]
 mod paper_hall;
 #[cfg(test)]
 mod serving;

@@ -27,7 +27,7 @@ fn add_frame(
 }
 
 /// The frames of a client: this many, under numbers from 1 on, in both versions in turn.
-fn frames_of(alloc: Global, client: u32, count: u64) -> Result<Vec<u8>, AllocError> {
+pub fn frames_of(alloc: Global, client: u32, count: u64) -> Result<Vec<u8>, AllocError> {
     let mut bytes = Vec::new(alloc);
     for number in 0..count {
         let version = if number % 2 == 0 { 1 } else { 2 };
@@ -57,7 +57,7 @@ fn hall_of(
 
 /// Whether the bytes are replies to the frames of a client, from number 1 to this one, each in its version. Counts up
 /// the numbers that the handler gave them; `None` if they don't grow.
-fn sum_of_replies(alloc: Global, bytes: &[u8], client: u32, count: u64) -> Option<u64> {
+pub fn sum_of_replies(alloc: Global, bytes: &[u8], client: u32, count: u64) -> Option<u64> {
     let mut input = bytes;
     let mut sum = 0u64;
     let mut least = 0u32;
@@ -107,7 +107,7 @@ fn are_served(alloc: Global, hall: &PaperHall, count: u64, why: Departure) -> bo
     sum.wrapping_mul(2) == all.wrapping_mul(all.wrapping_sub(1))
 }
 
-fn rules(seats: usize, total: u64) -> Rules {
+pub fn rules(seats: usize, total: u64) -> Rules {
     Rules {
         seats,
         total: Some(total),

@@ -1,12 +1,10 @@
-use Rattle.std.proofs.Common.{◌≡◌, ◌+◌, ◌≤◌, ◌++◌, ◌∷◌, [], List, count_by, refl, ap, arith, inr}
-use Rattle.droid_wire_turns.specs.Departures.{is_wait}
+use Rattle.std.proofs.Common.{◌≡◌, ◌+◌, ◌++◌, ◌∷◌, [], List, refl, ap, arith, inl, inr}
 use Rattle.droid_wire_turns.specs.Events.{Unwaited, Waited}
-use Rattle.droid_wire_turns.specs.Halls.{IsAtRest}
 use Rattle.droid_wire_turns.specs.Serving.{ServesAll}
 use Rattle.droid_wire_turns.specs.Steps.{Happens, Step}
 use Rattle.droid_wire_turns.specs.declared.served.Served.TheVariants as ways
 use Rattle.droid_wire_turns.proofs.Moments.{goes_as, goes_both, goes_moving, goes_none, moves_both, moves_one}
-use Rattle.droid_wire_turns.proofs.Seating.{FailsAndStops, WaitsAndGoes, ended_all, ended_at_once, ended_stopped, failed, turned}
+use Rattle.droid_wire_turns.proofs.Seating.{FailsAndStops, IsBetween, WaitsAndGoes, ended_all, ended_at_once, ended_stopped, failed, turned}
 use Rattle.droid_wire_turns.proofs.turns.serve_in_turns.Goals as goal
 
 -- no memory for the list of connections
@@ -17,7 +15,7 @@ pub loop-init : goal.loop-init
 loop-init g c = record {
   rooms = c.in-Ok.ensures.rooms;
   first = c.in-Ok.ensures.first;
-  goes = goes_none g.C.Connections.does g.H.Handler.handles c.args.connections.now c.args.handler.now (λ (steps : List Step). IsAtRest c.args.rules c.in-Ok.hall steps × (0 ≤ count_by is_wait steps)) (c.in-Ok.ensures.empty c.args.rules, omega arith);
+  goes = goes_none g.C.Connections.does g.H.Handler.handles c.args.connections.now c.args.handler.now (IsBetween c.args.rules c.in-Ok.hall 0) (record { rest = c.in-Ok.ensures.empty c.args.rules; begun = inl refl; many = omega arith });
 }
 
 -- all came and left
@@ -25,8 +23,8 @@ pub returns-then-is_over : goal.returns-then-is_over
 returns-then-is_over g c =
     let rules = c.args.rules in
     let hall = c.loop.hall in
-    goes_as g.C.Connections.does g.H.Handler.handles c.args.connections.now c.loop.connections c.args.handler.now c.loop.handler (λ (steps : List Step). IsAtRest rules hall steps × (c.loop.counter ≤ count_by is_wait steps)) (ServesAll rules ways.All)
-    (λ steps so. ended_all rules hall steps so.0 (c.is_over.ensures.empty c.if-is_over.true) (c.is_over.ensures.all c.if-is_over.true)) c.loop.invariant.goes
+    goes_as g.C.Connections.does g.H.Handler.handles c.args.connections.now c.loop.connections c.args.handler.now c.loop.handler (IsBetween rules hall c.loop.counter) (ServesAll rules ways.All)
+    (λ steps so. ended_all rules hall steps so.rest (c.is_over.ensures.empty c.if-is_over.true) (c.is_over.ensures.all c.if-is_over.true)) c.loop.invariant.goes
 
 pub loop-preserved : goal.loop-preserved
 loop-preserved g c =
@@ -38,10 +36,10 @@ loop-preserved g c =
       rooms = c.turn.ensures.rooms;
       first = c.turn.ensures.first;
       goes = goes_both g.C.Connections.does g.H.Handler.handles c.args.connections.now c.loop.connections c.turn.new.connections c.args.handler.now c.loop.handler c.turn.new.handler
-          (λ (steps : List Step). IsAtRest rules old steps × (c.loop.counter ≤ count_by is_wait steps)) (WaitsAndGoes rules old new limit) (λ (steps : List Step). IsAtRest rules new steps × (c.loop.counter + 1 ≤ count_by is_wait steps))
-          (λ first later so turn. turned rules old new limit c.loop.counter first later so.0 so.1 c.patience-limit.ensures turn) c.loop.invariant.goes
+          (IsBetween rules old c.loop.counter) (WaitsAndGoes rules old new limit) (IsBetween rules new (c.loop.counter + 1))
+          (λ first later so turn. turned rules old new limit c.loop.counter first later so c.patience-limit.ensures turn) c.loop.invariant.goes
           (goes_both g.C.Connections.does g.H.Handler.handles c.loop.connections c.wait.new.self c.turn.new.connections c.loop.handler c.loop.handler c.turn.new.handler
-          (λ (steps : List Step). steps ≡ Happens (Waited limit) ∷ []) _ (WaitsAndGoes rules old new limit) (λ first later is leads. record { more = later; parts = ap (λ (l : List Step). l ++ later) is; leads = leads })
+          (λ (steps : List Step). steps ≡ Happens (Waited limit) ∷ []) _ (WaitsAndGoes rules old new limit) (λ first later is leads. record { more = later; parts = ap (λ (l : List Step). l ++ later) is; turn = leads })
           (goes_moving g.C.Connections.does g.H.Handler.handles c.loop.connections c.wait.new.self c.loop.handler (λ (steps : List Step). steps ≡ Happens (Waited limit) ∷ []) (moves_one g.C.Connections.does c.loop.connections c.wait.new.self (Waited limit) _ c.in-Ok-wait.ensures.waited refl))
           c.turn.ensures.goes);
     }
@@ -52,8 +50,8 @@ returns-in-Err g c =
     let rules = c.args.rules in
     let old = c.loop.hall in
     goes_both g.C.Connections.does g.H.Handler.handles c.args.connections.now c.loop.connections c.stop.new.connections c.args.handler.now c.loop.handler c.loop.handler
-    (λ (steps : List Step). IsAtRest rules old steps × (c.loop.counter ≤ count_by is_wait steps)) (FailsAndStops rules old c.stop.new.self) (ServesAll rules ways.Stopped)
-    (λ first later so stops. failed rules old c.stop.new.self first later so.0 stops) c.loop.invariant.goes
+    (IsBetween rules old c.loop.counter) (FailsAndStops rules old c.stop.new.self) (ServesAll rules ways.Stopped)
+    (λ first later so stops. failed rules old c.stop.new.self first later so.rest stops) c.loop.invariant.goes
     (goes_moving g.C.Connections.does g.H.Handler.handles c.loop.connections c.stop.new.connections c.loop.handler (FailsAndStops rules old c.stop.new.self)
     (moves_both g.C.Connections.does c.loop.connections c.wait.new.self c.stop.new.connections (λ (steps : List Step). steps ≡ Happens Unwaited ∷ []) _ (FailsAndStops rules old c.stop.new.self)
     (λ first later is stops. record { more = later; parts = ap (λ (l : List Step). l ++ later) is; stops = stops })
@@ -65,6 +63,6 @@ returns g c =
     let rules = c.args.rules in
     let old = c.loop.hall in
     goes_both g.C.Connections.does g.H.Handler.handles c.args.connections.now c.loop.connections c.stop.new.connections c.args.handler.now c.loop.handler c.loop.handler
-    (λ (steps : List Step). IsAtRest rules old steps × (c.loop.counter ≤ count_by is_wait steps)) _ (ServesAll rules ways.Stopped)
-    (λ first later so stops. let both = stops first (inr (omega (arith, so.1, c.loop-test.false))) so.0 in ended_stopped rules c.stop.new.self.opened (first ++ later) both.0 both.1) c.loop.invariant.goes
+    (IsBetween rules old c.loop.counter) _ (ServesAll rules ways.Stopped)
+    (λ first later so stops. let both = stops first (inr (omega (arith, so.many, c.loop-test.false))) so.rest in ended_stopped rules c.stop.new.self.opened (first ++ later) both.0 both.1) c.loop.invariant.goes
     (goes_moving g.C.Connections.does g.H.Handler.handles c.loop.connections c.stop.new.connections c.loop.handler _ (c.stop.ensures.moves rules))

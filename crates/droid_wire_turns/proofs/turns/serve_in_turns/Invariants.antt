@@ -1,12 +1,12 @@
-use Rattle.std.specs.Prelude.{◌≡◌, ◌≤◌, [], count_by}
-use Rattle.droid_wire_turns.specs.Departures.{is_wait}
-use Rattle.droid_wire_turns.specs.Halls.{HasRooms, IsAtRest}
+use Rattle.std.specs.Prelude.{◌≡◌, []}
+use Rattle.droid_wire_turns.specs.Halls.{HasRooms}
 use Rattle.droid_wire_turns.specs.Steps.{Goes}
+use Rattle.droid_wire_turns.proofs.Seating.{IsBetween}
 use Rattle.droid_wire_turns.proofs.turns.serve_in_turns.Given as goal
 
 abbrev pub invariant-loop : goal.invariant-loop
 invariant-loop g l = record {
   rooms : HasRooms l.rules.seats l.hall;
   first : l.hall.served.items ≡ [];
-  goes : Goes g.C.Connections.does g.H.Handler.handles l.fn.connections l.fn.handler l.connections l.handler (λ steps. IsAtRest l.rules l.hall steps × (l.counter ≤ count_by is_wait steps));
+  goes : Goes g.C.Connections.does g.H.Handler.handles l.fn.connections l.fn.handler l.connections l.handler (IsBetween l.rules l.hall l.counter);
 }

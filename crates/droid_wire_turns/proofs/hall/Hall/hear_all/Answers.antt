@@ -1,11 +1,14 @@
 use Rattle.std.proofs.Common.{◌≡◌, ◌+◌, ◌++◌, ◌∷◌, [], List, length, length-append, ap, refl, sym, subst, arith}
 use Rattle.std.specs.List.{AllByRecursion}
 use Rattle.std.proofs.lemmas.List.{nil_from_length}
-use Rattle.droid_wire_turns.specs.Halls.{Heard, LeadsOn, NoPeer, Unheard}
+use Rattle.droid_wire_turns.specs.Halls.{Heard, LeadsInTurn, NoPeer, Unheard}
 use Rattle.droid_wire_turns.specs.Peers.{Hears, IsWhole}
+use Rattle.droid_wire_turns.specs.Halls.{IsCalm}
+use Rattle.droid_wire_turns.specs.Steps.{Step}
 use Rattle.droid_wire_turns.specs.declared.peer.Peer.{Peer}
 use Rattle.droid_wire_turns.proofs.Moments.{all_both, all_first, all_last, goes_as, goes_both, goes_none}
-use Rattle.droid_wire_turns.proofs.Seating.{emptied_waiting, leads_both, leads_hearing, leads_none}
+use Rattle.droid_wire_turns.proofs.Seating.{emptied_waiting, leads_hearing, leads_in_turn, leads_none}
+use Rattle.droid_wire_turns.proofs.Gathered.{calm}
 use Rattle.droid_wire_turns.proofs.hall.Hall.hear_all.Goals as goal
 
 pub loop-peer-init : goal.loop-peer-init
@@ -16,7 +19,7 @@ loop-peer-init g c =
       rooms = record { waiting = rooms.waiting; served = rooms.served; places = rooms.places; whole_waiting = rooms.whole_waiting; whole_served = rooms.whole_served };
       time = refl;
       opened = refl;
-      goes = λ rules. goes_none g.C.Connections.does g.H.Handler.handles c.args.connections.now c.args.handler.now (LeadsOn rules (Unheard hall.time) (Heard hall.time) (Unheard hall.time) (Heard hall.time) hall hall) (leads_none rules (Unheard hall.time) (Heard hall.time) hall);
+      goes = λ rules. goes_none g.C.Connections.does g.H.Handler.handles c.args.connections.now c.args.handler.now (LeadsInTurn rules (Unheard hall.time) (Heard hall.time) (Unheard hall.time) (Heard hall.time) hall hall) (leads_none rules (Unheard hall.time) (Heard hall.time) hall, tt);
     }
 
 pub hear-requires : goal.hear-requires
@@ -55,9 +58,9 @@ loop-peer-preserved g c =
       time = c.loop-peer.invariant.time;
       opened = c.loop-peer.invariant.opened;
       goes = λ rules. goes_both g.C.Connections.does g.H.Handler.handles c.args.connections.now c.loop-peer.connections c.hear.new.connections c.args.handler.now c.loop-peer.handler c.hear.new.handler
-          (LeadsOn rules (Unheard now) (Heard now) (Unheard now) (Heard now) start old) (Hears old.time peer it) (LeadsOn rules (Unheard now) (Heard now) (Unheard now) (Heard now) start new)
-          (λ first later so hears. leads_both rules (Unheard now) (Heard now) (Unheard now) (Heard now) (Unheard now) (Heard now) start old new first later so
-          (leads_hearing rules now old new peer it rest later (sym c.loop-peer.invariant.time) c.in-Some.ensures.items refl c.push_reserved.ensures.items refl refl c.hear.ensures.id hears))
+          (LeadsInTurn rules (Unheard now) (Heard now) (Unheard now) (Heard now) start old) (Hears old.time peer it) (LeadsInTurn rules (Unheard now) (Heard now) (Unheard now) (Heard now) start new)
+          (λ first later so hears. leads_in_turn rules (Unheard now) (Heard now) (Unheard now) (Heard now) (Unheard now) (Heard now) start old new first later so
+          (leads_hearing rules now old new peer it rest later (sym c.loop-peer.invariant.time) c.in-Some.ensures.items refl c.push_reserved.ensures.items refl refl c.hear.ensures.id hears, calm peer.id later hears.goes.own))
           (c.loop-peer.invariant.goes rules) c.hear.ensures.hears;
     }
 
@@ -69,5 +72,5 @@ returns-clause-goes g c = λ rules.
     let new = record old { waiting = c.pop.new.self } in
     let was = nil_from_length old.waiting.items (omega (arith, c.in_default.ensures.cases.0, old.waiting.ok.0)) in
     let is = nil_from_length c.pop.new.self.items (omega (arith, c.in_default.ensures.cases.1, c.pop.new.self.ok.0)) in
-    goes_as g.C.Connections.does g.H.Handler.handles c.args.connections.now c.loop-peer.connections c.args.handler.now c.loop-peer.handler (LeadsOn rules (Unheard now) (Heard now) (Unheard now) (Heard now) start old) (LeadsOn rules (Unheard now) (Heard now) NoPeer (Heard now) start new)
-    (λ steps leads. emptied_waiting rules (Unheard now) (Heard now) (Unheard now) (Heard now) start old new steps was is refl refl refl leads) (c.loop-peer.invariant.goes rules)
+    goes_as g.C.Connections.does g.H.Handler.handles c.args.connections.now c.loop-peer.connections c.args.handler.now c.loop-peer.handler (LeadsInTurn rules (Unheard now) (Heard now) (Unheard now) (Heard now) start old) (LeadsInTurn rules (Unheard now) (Heard now) NoPeer (Heard now) start new)
+    (λ steps leads. (emptied_waiting rules (Unheard now) (Heard now) (Unheard now) (Heard now) start old new steps was is refl refl refl leads.0, leads.1)) (c.loop-peer.invariant.goes rules)

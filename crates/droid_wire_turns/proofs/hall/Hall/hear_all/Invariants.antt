@@ -1,5 +1,5 @@
 use Rattle.std.specs.Prelude.{◌≡◌, length}
-use Rattle.droid_wire_turns.specs.Halls.{HasRooms, Heard, LeadsOn, Unheard}
+use Rattle.droid_wire_turns.specs.Halls.{HasRooms, Heard, LeadsInTurn, Unheard}
 use Rattle.droid_wire_turns.specs.Steps.{Goes}
 use Rattle.droid_wire_turns.specs.declared.rules.Rules.{Rules}
 use Rattle.droid_wire_turns.proofs.hall.Hall.hear_all.Given as goal
@@ -10,7 +10,7 @@ invariant-loop-peer g l = record {
   time : l.self.time ≡ l.fn.self.time;
   opened : l.self.opened ≡ l.fn.self.opened;
   goes : (rules : Rules) → Goes g.C.Connections.does g.H.Handler.handles l.fn.connections l.fn.handler l.connections l.handler
-      (LeadsOn rules (Unheard l.fn.self.time) (Heard l.fn.self.time) (Unheard l.fn.self.time) (Heard l.fn.self.time) l.fn.self l.self);
+      (LeadsInTurn rules (Unheard l.fn.self.time) (Heard l.fn.self.time) (Unheard l.fn.self.time) (Heard l.fn.self.time) l.fn.self l.self);
 }
 
 abbrev pub decreases-loop-peer : goal.decreases-loop-peer

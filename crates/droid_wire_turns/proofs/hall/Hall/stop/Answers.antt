@@ -22,8 +22,8 @@ loop-peer-preserved g c =
           (λ first so. stopping_more rules start old new peer c.pop.new.self.items first so c.in-Some.ensures.items refl refl refl) (c.loop-peer.invariant.moves rules) c.close.ensures;
     }
 
-pub returns-clause-moves : goal.returns-clause-moves
-returns-clause-moves g c = λ rules.
+pub returns : goal.returns
+returns g c = λ rules.
     let old = c.loop-peer.self in
     moves_as g.C.Connections.does c.args.connections.now c.loop-peer.connections (Stopping rules c.args.self.now old) _
     (λ steps so. stopping_all rules c.args.self.now old old.opened steps so (nil_from_length old.waiting.items (omega (arith, c.in_default.ensures.cases.0, old.waiting.ok.0))) c.loop-peer.invariant.first refl)
