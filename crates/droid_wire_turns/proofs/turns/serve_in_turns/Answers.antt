@@ -62,7 +62,7 @@ pub returns : goal.returns
 returns g c =
     let rules = c.args.rules in
     let old = c.loop.hall in
-    goes_both g.C.Connections.does g.H.Handler.handles c.args.connections.now c.loop.connections c.stop.new.connections c.args.handler.now c.loop.handler c.loop.handler
+    goes_both g.C.Connections.does g.H.Handler.handles c.args.connections.now c.loop.connections c.stop-2.new.connections c.args.handler.now c.loop.handler c.loop.handler
     (IsBetween rules old c.loop.counter) _ (ServesAll rules ways.Stopped)
-    (λ first later so stops. let both = stops first (inr (omega (arith, so.many, c.loop-test.false))) so.rest in ended_stopped rules c.stop.new.self.opened (first ++ later) both.0 both.1) c.loop.invariant.goes
-    (goes_moving g.C.Connections.does g.H.Handler.handles c.loop.connections c.stop.new.connections c.loop.handler _ (c.stop.ensures.moves rules))
+    (λ first later so stops. let both = stops first (inr (omega (arith, so.many, c.loop-test.false))) so.rest in ended_stopped rules c.stop-2.new.self.opened (first ++ later) both.0 both.1) c.loop.invariant.goes
+    (goes_moving g.C.Connections.does g.H.Handler.handles c.loop.connections c.stop-2.new.connections c.loop.handler _ (c.stop-2.ensures.moves rules))

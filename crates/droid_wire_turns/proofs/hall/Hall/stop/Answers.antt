@@ -23,8 +23,10 @@ loop-peer-preserved g c =
     }
 
 pub returns : goal.returns
-returns g c = λ rules.
+returns g c =
     let old = c.loop-peer.self in
-    moves_as g.C.Connections.does c.args.connections.now c.loop-peer.connections (Stopping rules c.args.self.now old) _
-    (λ steps so. stopping_all rules c.args.self.now old old.opened steps so (nil_from_length old.waiting.items (omega (arith, c.in_default.ensures.cases.0, old.waiting.ok.0))) c.loop-peer.invariant.first refl)
-    (c.loop-peer.invariant.moves rules)
+    record {
+      moves = λ rules. moves_as g.C.Connections.does c.args.connections.now c.loop-peer.connections (Stopping rules c.args.self.now old) _
+          (λ steps so. stopping_all rules c.args.self.now old old.opened steps so (nil_from_length old.waiting.items (omega (arith, c.in_default.ensures.cases.0, old.waiting.ok.0))) c.loop-peer.invariant.first refl)
+          (c.loop-peer.invariant.moves rules);
+    }
