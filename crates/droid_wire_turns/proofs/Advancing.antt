@@ -56,9 +56,10 @@ advances_handled id now old middle new frame reply first one goes =
       stands = λ before stands.
           let so_far = one.stands before stands in
           let further : Stands id new now ((before ++ first) ++ step ∷ []) = goes (before ++ first) so_far.1 in
-          let lent : IsServed id (before ++ first) = record { held = frame_bytes frame ++ middle.held; queued = middle.queued; serves = so_far.1.serves } in
-          (always_both (IsServed id) before first (step ∷ []) so_far.0 (always_one (IsServed id) (before ++ first) step lent (served id new now ((before ++ first) ++ step ∷ []) further)),
-            subst (Stands id new now) (append_assoc before first (step ∷ [])) further);
+          let lent : IsServed id (before ++ first) = record { held = frame_bytes frame ++ middle.held; queued = middle.queued; serves = so_far.1.serves } in (
+            always_both (IsServed id) before first (step ∷ []) so_far.0 (always_one (IsServed id) (before ++ first) step lent (served id new now ((before ++ first) ++ step ∷ []) further)),
+            subst (Stands id new now) (append_assoc before first (step ∷ [])) further,
+          );
     }
 
 -- ---- what happened in a turn goes on

@@ -81,17 +81,17 @@ takes_on old feed now taken (Some frame) whole stays within is =
     let rest : List ℕ = feed.bytes ++ unread new in
     let left : unread new ≡ drop taken (unread old) = unread_fed old feed taken whole within in
     let held : old.feed.bytes ++ unread old ≡ frame_bytes frame ++ rest =
-        ap (λ (l : List ℕ). old.feed.bytes ++ l) (sym (take-append-drop taken (unread old))) ∙ (sym (append_assoc old.feed.bytes (take taken (unread old)) (drop taken (unread old)))
-        ∙ (ap (λ (l : List ℕ). l ++ drop taken (unread old)) is.spelled ∙ ap (λ (l : List ℕ). frame_bytes frame ++ l) (sym left ∙ ap (λ (l : List ℕ). l ++ unread new) (sym is.empty)))) in
+    ap (λ (l : List ℕ). old.feed.bytes ++ l) (sym (take-append-drop taken (unread old))) ∙ (sym (append_assoc old.feed.bytes (take taken (unread old)) (drop taken (unread old)))
+    ∙ (ap (λ (l : List ℕ). l ++ drop taken (unread old)) is.spelled ∙ ap (λ (l : List ℕ). frame_bytes frame ++ l) (sym left ∙ ap (λ (l : List ℕ). l ++ unread new) (sym is.empty)))) in
     record {
       own = tt;
       stands = λ before stands.
           let staying : Stands old.id (keep (old.feed.bytes ++ unread old) old.queue.bytes None old.active) now before =
-              subst (λ (l : Option Departure). Stands old.id (keep (old.feed.bytes ++ unread old) old.queue.bytes l old.active) now before) stays stands in
+          subst (λ (l : Option Departure). Stands old.id (keep (old.feed.bytes ++ unread old) old.queue.bytes l old.active) now before) stays stands in
           let lent : Lends old.id (keep rest old.queue.bytes None old.active) now before frame =
-              lends old.id (old.feed.bytes ++ unread old) rest old.queue.bytes old.active now before frame staying is.readable held in
+          lends old.id (old.feed.bytes ++ unread old) rest old.queue.bytes old.active now before frame staying is.readable held in
           let again : Lends old.id (kept_of new) now before frame =
-              subst (λ (l : Option Departure). Lends old.id (keep rest old.queue.bytes l old.active) now before frame) (sym stays) lent in
+          subst (λ (l : Option Departure). Lends old.id (keep rest old.queue.bytes l old.active) now before frame) (sym stays) lent in
           (served old.id (kept_of old) now before stands, subst (λ (l : List Step). Lends old.id (kept_of new) now l frame) (sym (append-nil before)) again);
     }
 
@@ -113,10 +113,11 @@ stops_on old feed now fault stays fails = record {
   own = tt;
   stands = λ before stands.
       let staying : Stands old.id (keep (old.feed.bytes ++ unread old) old.queue.bytes None old.active) now before =
-          subst (λ (l : Option Departure). Stands old.id (keep (old.feed.bytes ++ unread old) old.queue.bytes l old.active) now before) stays stands in
-      let new : Kept = kept_of (record old { feed = feed; leaving = Some (departures.Frame fault) }) in
-      (served old.id (kept_of old) now before stands,
-        subst (Stands old.id new now) (sym (append-nil before)) (stops old.id old.feed.bytes (unread old) feed.bytes old.queue.bytes (feed.bytes ++ unread old) old.active now before fault staying fails));
+      subst (λ (l : Option Departure). Stands old.id (keep (old.feed.bytes ++ unread old) old.queue.bytes l old.active) now before) stays stands in
+      let new : Kept = kept_of (record old { feed = feed; leaving = Some (departures.Frame fault) }) in (
+        served old.id (kept_of old) now before stands,
+        subst (Stands old.id new now) (sym (append-nil before)) (stops old.id old.feed.bytes (unread old) feed.bytes old.queue.bytes (feed.bytes ++ unread old) old.active now before fault staying fails),
+      );
 }
 
 -- ---- a read
@@ -160,10 +161,10 @@ reads_some old buffer now count whole stays none some within same new feed_is un
     let size : length bytes ≡ count = omega (arith, length-take count buffer.items, within) in
     let few : length (old.feed.bytes ++ bytes) ≤ held_bound = omega (arith, length-append old.feed.bytes bytes, whole.fed, size, whole.sized, within, same) in
     let is : keep (old.feed.bytes ++ bytes) old.queue.bytes None now ≡ kept_of new =
-        ap (λ (h : List ℕ). keep h old.queue.bytes None now) (sym (ap (λ (l : List ℕ). l ++ unread new) feed_is ∙ ap (λ (l : List ℕ). old.feed.bytes ++ l) unread_is))
-        ∙ (ap (λ (q : List ℕ). keep (new.feed.bytes ++ unread new) q None now) (sym queue_is)
-        ∙ (ap (λ (l : Option Departure). keep (new.feed.bytes ++ unread new) new.queue.bytes l now) (sym leaving_is)
-        ∙ ap (λ (a : ℕ). keep (new.feed.bytes ++ unread new) new.queue.bytes new.leaving a) (sym active_is))) in
+    ap (λ (h : List ℕ). keep h old.queue.bytes None now) (sym (ap (λ (l : List ℕ). l ++ unread new) feed_is ∙ ap (λ (l : List ℕ). old.feed.bytes ++ l) unread_is))
+    ∙ (ap (λ (q : List ℕ). keep (new.feed.bytes ++ unread new) q None now) (sym queue_is)
+    ∙ (ap (λ (l : Option Departure). keep (new.feed.bytes ++ unread new) new.queue.bytes l now) (sym leaving_is)
+    ∙ ap (λ (a : ℕ). keep (new.feed.bytes ++ unread new) new.queue.bytes new.leaving a) (sym active_is))) in
     advances_one old.id now (kept_of old) (kept_of new) (Happens (Read old.id bytes)) refl (λ before stands.
     subst (λ (k : Kept). Stands old.id k now (before ++ Happens (Read old.id bytes) ∷ [])) is
     (stands_read old.id old.feed.bytes old.queue.bytes old.active now before bytes (staying_alone old now before stays none stands) (omega (arith, size, some)) few))
@@ -204,13 +205,13 @@ pub answers_one : (old new : Peer) (now : ℕ) (steps : List Step) (frame : Fram
     → Stands old.id (kept_of new) now (steps ++ Handles old.id frame reply ∷ [])
 answers_one old new now steps frame reply lent spelled few small held_is queue_is leaving_is active_is =
     let staying : Lends old.id (keep (old.feed.bytes ++ unread old) old.queue.bytes None old.active) now steps frame =
-        subst (λ (l : Option Departure). Lends old.id (keep (old.feed.bytes ++ unread old) old.queue.bytes l old.active) now steps frame) lent.stays lent in
+    subst (λ (l : Option Departure). Lends old.id (keep (old.feed.bytes ++ unread old) old.queue.bytes l old.active) now steps frame) lent.stays lent in
     let stands = stands_handled old.id (old.feed.bytes ++ unread old) old.queue.bytes old.active now steps frame reply staying spelled few small in
     let is : keep (old.feed.bytes ++ unread old) (old.queue.bytes ++ answer_bytes frame reply) None old.active ≡ kept_of new =
-        ap (λ (h : List ℕ). keep h (old.queue.bytes ++ answer_bytes frame reply) None old.active) (sym held_is)
-        ∙ (ap (λ (q : List ℕ). keep (new.feed.bytes ++ unread new) q None old.active) (sym queue_is)
-        ∙ (ap (λ (l : Option Departure). keep (new.feed.bytes ++ unread new) new.queue.bytes l old.active) (sym (leaving_is ∙ lent.stays))
-        ∙ ap (λ (a : ℕ). keep (new.feed.bytes ++ unread new) new.queue.bytes new.leaving a) (sym active_is))) in
+    ap (λ (h : List ℕ). keep h (old.queue.bytes ++ answer_bytes frame reply) None old.active) (sym held_is)
+    ∙ (ap (λ (q : List ℕ). keep (new.feed.bytes ++ unread new) q None old.active) (sym queue_is)
+    ∙ (ap (λ (l : Option Departure). keep (new.feed.bytes ++ unread new) new.queue.bytes l old.active) (sym (leaving_is ∙ lent.stays))
+    ∙ ap (λ (a : ℕ). keep (new.feed.bytes ++ unread new) new.queue.bytes new.leaving a) (sym active_is))) in
     subst (λ (k : Kept). Stands old.id k now (steps ++ Handles old.id frame reply ∷ [])) is stands
 
 -- or there was no memory for it
@@ -218,7 +219,7 @@ pub answers_lost : (old new : Peer) (now : ℕ) (steps : List Step) (frame : Fra
     → new.queue.bytes ≡ old.queue.bytes → new.leaving ≡ Some departures.Memory → new.active ≡ old.active → Stands old.id (kept_of new) now (steps ++ Handles old.id frame reply ∷ [])
 answers_lost old new now steps frame reply lent spelled few small queue_is leaving_is active_is =
     let staying : Lends old.id (keep (old.feed.bytes ++ unread old) old.queue.bytes None old.active) now steps frame =
-        subst (λ (l : Option Departure). Lends old.id (keep (old.feed.bytes ++ unread old) old.queue.bytes l old.active) now steps frame) lent.stays lent in
+    subst (λ (l : Option Departure). Lends old.id (keep (old.feed.bytes ++ unread old) old.queue.bytes l old.active) now steps frame) lent.stays lent in
     subst (λ (k : Kept). Stands old.id k now (steps ++ Handles old.id frame reply ∷ [])) (left_as old new departures.Memory queue_is leaving_is active_is)
     (stands_lost old.id (old.feed.bytes ++ unread old) old.queue.bytes (new.feed.bytes ++ unread new) old.active now steps frame reply staying spelled few small)
 
@@ -252,7 +253,7 @@ hears_more now start old middle new count frame reply first later same also so l
     let ours : middle.id ≡ id = also ∙ same in
     let lent : Lending id now (kept_of old) (kept_of middle) frame later = subst (λ (i : ℕ). Lending i now (kept_of old) (kept_of middle) frame later) same lending in
     let answers : (steps : List Step) → Lends id (kept_of middle) now steps frame → Stands id (kept_of new) now (steps ++ step ∷ []) =
-        subst (λ (i : ℕ). (steps : List Step) → Lends i (kept_of middle) now steps frame → Stands i (kept_of new) now (steps ++ Handles i frame reply ∷ [])) ours handles in
+    subst (λ (i : ℕ). (steps : List Step) → Lends i (kept_of middle) now steps frame → Stands i (kept_of new) now (steps ++ Handles i frame reply ∷ [])) ours handles in
     let goes : Advances id now (kept_of old) (kept_of new) (later ++ step ∷ []) = advances_handled id now (kept_of old) (kept_of middle) (kept_of new) frame reply later lent answers in
     let came : Turns id old.room middle.room 0 later = subst (λ (i : ℕ). Turns i old.room middle.room 0 later) same turns in
     let both : Turns id old.room middle.room (0 + 1) (later ++ step ∷ []) = turns_both id old.room middle.room middle.room 0 1 later (step ∷ []) came (turns_handled id middle.room frame reply) in
@@ -314,8 +315,8 @@ reads_so_more now start old new first later same so goes turns =
 -- a read that gave nothing, in a turn
 pub nothing_read : (old : Peer) (buffer : Vec ℕ Global) (now : ℕ) → IsWhole old → unread old ≡ []
     → Advances old.id now (kept_of old) (kept_of (record old { buffer = buffer; drained = true })) (Happens (Read old.id []) ∷ [])
-        × Turns old.id old.room old.room 0 (Happens (Read old.id []) ∷ [])
-        × (true ≡ true → RanDry (record old { buffer = buffer; drained = true }) (Happens (Read old.id []) ∷ []))
+    × Turns old.id old.room old.room 0 (Happens (Read old.id []) ∷ [])
+    × (true ≡ true → RanDry (record old { buffer = buffer; drained = true }) (Happens (Read old.id []) ∷ []))
 nothing_read old buffer now whole none = (
   reads_none old buffer now whole none,
   turns_still old.id old.room (Happens (Read old.id [])) (read_here old.id []) refl,
@@ -330,7 +331,7 @@ begins_none frame rest readable is = absurd cc
 pub new_peer : (peer : Peer) (now : ℕ) → peer.start ≡ 0 → peer.end ≡ 0 → length peer.buffer.items ≡ 65536 → peer.feed.bytes ≡ [] → peer.queue.bytes ≡ [] → peer.leaving ≡ None → peer.active ≡ now → IsNew peer.id now peer
 new_peer peer now start end sized fed queue stays active =
     let none : unread peer ≡ [] =
-        let size : peer.end - peer.start ≡ 0 = omega (arith, start, end) in ap (λ (n : ℕ). take n (drop peer.start peer.buffer.items)) size in
+    let size : peer.end - peer.start ≡ 0 = omega (arith, start, end) in ap (λ (n : ℕ). take n (drop peer.start peer.buffer.items)) size in
     record {
       id_is = refl;
       whole = record { ordered = omega (arith, start, end); within = omega (arith, end); sized = sized; fed = omega (arith, ap length fed); no_frame = subst BeginsNoFrame (sym fed) begins_none };

@@ -238,8 +238,8 @@ pub keeps_nobody : (rules : Rules) (count : ℕ) (open_as : ℕ → ℕ) (places
     → ((id : ℕ) → IsWithin id (turn_of (steps ++ step ∷ []))) → Keeps rules count open_as places (steps ++ step ∷ [])
 keeps_nobody rules count open_as places steps step keeps nobody fair within =
     let seated : IsSeated rules.seats (steps ++ step ∷ []) =
-        let now : IsSeated rules.seats steps = always_end (IsSeated rules.seats) [] steps keeps.seated in
-        omega (arith, now, ap length (none_more opened_by steps step nobody.opens), ap length (none_more closed_by steps step nobody.closes)) in
+    let now : IsSeated rules.seats steps = always_end (IsSeated rules.seats) [] steps keeps.seated in
+    omega (arith, now, ap length (none_more opened_by steps step nobody.opens), ap length (none_more closed_by steps step nobody.closes)) in
     record {
       apart = keeps.apart;
       below = keeps.below;
@@ -363,8 +363,8 @@ keeps_closed rules count open_as open_now places places_now who why steps keeps 
     let opened_is : length (opened (steps ++ step ∷ [])) ≡ length (opened steps) = ap length (none_more opened_by steps step refl) in
     let closed_is : length (closed (steps ++ step ∷ [])) ≡ length (closed steps) + 1 = omega (arith, ap length (one_more closed_by steps step), length-append (closed steps) (who ∷ [])) in
     let seated : IsSeated rules.seats (steps ++ step ∷ []) =
-        let now : IsSeated rules.seats steps = always_end (IsSeated rules.seats) [] steps keeps.seated in
-        omega (arith, opened_is, closed_is, now) in
+    let now : IsSeated rules.seats steps = always_end (IsSeated rules.seats) [] steps keeps.seated in
+    omega (arith, opened_is, closed_is, now) in
     record {
       apart = λ id. omega (arith, is id, keeps.apart id);
       below = λ id some. keeps.below id (omega (arith, is id, some));

@@ -85,8 +85,8 @@ hear_one rules now count rest served old new steps more holds same hears =
     let alone = alone_in rules count (length (rest ++ old ∷ []) + length served) rest served old steps holds.keeps in
     let within : IsWithin new.id (turn_of (steps ++ more)) = record { frames = omega (arith, heard.in_turn.frames, heard.few); bytes = heard.in_turn.bytes.within } in
     let moved : Keeps rules count (times_among rest (served ++ new ∷ [])) (length rest + length (served ++ new ∷ [])) steps =
-        keeps_as rules count (times_among (rest ++ old ∷ []) served) (times_among rest (served ++ new ∷ [])) (length (rest ++ old ∷ []) + length served) (length rest + length (served ++ new ∷ [])) steps
-        (λ id. moved_over id rest served old new same) (sized_over rest served old new) holds.keeps in
+    keeps_as rules count (times_among (rest ++ old ∷ []) served) (times_among rest (served ++ new ∷ [])) (length (rest ++ old ∷ []) + length served) (length rest + length (served ++ new ∷ [])) steps
+    (λ id. moved_over id rest served old new same) (sized_over rest served old new) holds.keeps in
     let there : 0 < times_among rest (served ++ new ∷ []) old.id = omega (arith, times_push old.id served new, ap (λ (i : ℕ). one_at i old.id) same, one_here old.id) in
     record {
       keeps = keeps_traffic rules count (times_among rest (served ++ new ∷ [])) (length rest + length (served ++ new ∷ [])) old.id steps more moved there own
@@ -121,8 +121,8 @@ tell_one rules now count waiting rest old new steps more holds same stays quiet 
     let none_waits : times_in old.id waiting ≡ 0 = omega (arith, once, pushed, here) in
     let none_rests : times_in old.id rest ≡ 0 = omega (arith, once, pushed, here) in
     let moved : Keeps rules count (times_among (waiting ++ new ∷ []) rest) (length (waiting ++ new ∷ []) + length rest) steps =
-        keeps_as rules count (times_among waiting (rest ++ old ∷ [])) (times_among (waiting ++ new ∷ []) rest) (length waiting + length (rest ++ old ∷ [])) (length (waiting ++ new ∷ []) + length rest) steps
-        (λ id. omega (arith, times_push id rest old, times_push id waiting new, ap (λ (i : ℕ). one_at i id) same.id)) (omega (arith, size_push rest old, size_push waiting new)) holds.keeps in
+    keeps_as rules count (times_among waiting (rest ++ old ∷ [])) (times_among (waiting ++ new ∷ []) rest) (length waiting + length (rest ++ old ∷ [])) (length (waiting ++ new ∷ []) + length rest) steps
+    (λ id. omega (arith, times_push id rest old, times_push id waiting new, ap (λ (i : ℕ). one_at i id) same.id)) (omega (arith, size_push rest old, size_push waiting new)) holds.keeps in
     let there : 0 < times_among (waiting ++ new ∷ []) rest old.id = omega (arith, times_push old.id waiting new, ap (λ (i : ℕ). one_at i old.id) same.id, here) in
     record {
       keeps = keeps_traffic rules count (times_among (waiting ++ new ∷ []) rest) (length (waiting ++ new ∷ []) + length rest) old.id steps more moved there own
@@ -154,11 +154,11 @@ close_one rules now count waiting rest old new why steps more holds departs quie
     let still : AllByRecursion IsCalm (more ++ step ∷ []) = all_both IsCalm more (step ∷ []) (calm old.id more own) (closed_calm old.id why, tt) in
     let away : (id : ℕ) → (old.id ≡ id → ⊥) → AllByRecursion (Elsewhere id) (more ++ step ∷ []) = λ (id : ℕ) (other : old.id ≡ id → ⊥). all_both (Elsewhere id) more (step ∷ []) (all_elsewhere old.id id more own other) (closed_elsewhere old.id why id, tt) in
     let went_on : Keeps rules count (times_among waiting (rest ++ old ∷ [])) (length waiting + length (rest ++ old ∷ [])) (steps ++ more) =
-        keeps_traffic rules count (times_among waiting (rest ++ old ∷ [])) (length waiting + length (rest ++ old ∷ [])) old.id steps more holds.keeps there own left.0 (within_told old.id steps more own quiet (holds.keeps.within old.id)) in
+    keeps_traffic rules count (times_among waiting (rest ++ old ∷ [])) (length waiting + length (rest ++ old ∷ [])) old.id steps more holds.keeps there own left.0 (within_told old.id steps more own quiet (holds.keeps.within old.id)) in
     let gone : Keeps rules count (times_among waiting rest) (length waiting + length rest) ((steps ++ more) ++ step ∷ []) =
-        keeps_closed rules count (times_among waiting (rest ++ old ∷ [])) (times_among waiting rest) (length waiting + length (rest ++ old ∷ [])) (length waiting + length rest) old.id why (steps ++ more) went_on
-        (record { held = left.1.0; queued = left.1.1; serves = left.1.2; explained = left.1.3 })
-        (λ id. omega (arith, times_push id rest old)) (omega (arith, size_push rest old)) in
+    keeps_closed rules count (times_among waiting (rest ++ old ∷ [])) (times_among waiting rest) (length waiting + length (rest ++ old ∷ [])) (length waiting + length rest) old.id why (steps ++ more) went_on
+    (record { held = left.1.0; queued = left.1.1; serves = left.1.2; explained = left.1.3 })
+    (λ id. omega (arith, times_push id rest old)) (omega (arith, size_push rest old)) in
     record {
       keeps = subst (Keeps rules count (times_among waiting rest) (length waiting + length rest)) (append_assoc steps more (step ∷ [])) gone;
       clock = clock_more steps (more ++ step ∷ []) still ∙ holds.clock;
@@ -293,7 +293,7 @@ untouched_kept id now steps others clock =
     let step : Step = Happens (Opened id) in
     let away = others_elsewhere id steps others in
     let times : times_of id (steps ++ step ∷ []) ≡ record { now = now; active = now } =
-        times_one id steps step (times_of id steps) refl ∙ (times_opened id (times_of id steps) ∙ ap at_once (times_now id steps ∙ clock)) in
+    times_one id steps step (times_of id steps) refl ∙ (times_opened id (times_of id steps) ∙ ap at_once (times_now id steps ∙ clock)) in
     record {
       held = [];
       queued = [];
@@ -309,7 +309,7 @@ one_comes rules now count waiting served peer steps holds seats wanted new =
     let more : List Step = step ∷ [] in
     let still : AllByRecursion IsCalm more = (opened_calm count, tt) in
     let stands : Stands peer.id (kept_of peer) now (steps ++ more) =
-        subst (λ (i : ℕ). Stands i (kept_of peer) now (steps ++ more)) (sym new.id_is) (subst (λ (k : Kept). Stands count k now (steps ++ more)) (sym new.kept) (untouched_kept count now steps (holds.keeps.others count (omega arith)) holds.clock)) in
+    subst (λ (i : ℕ). Stands i (kept_of peer) now (steps ++ more)) (sym new.id_is) (subst (λ (k : Kept). Stands count k now (steps ++ more)) (sym new.kept) (untouched_kept count now steps (holds.keeps.others count (omega arith)) holds.clock)) in
     let others : AreOfOthers count (turn_of steps) = others_in_turn count [] steps tt (holds.keeps.others count (omega arith)) in
     let away = others_elsewhere count (turn_of steps) others in
     let quiet : IsQuiet count (turn_of steps) = record { nothing_came = away.0; nothing_handled = away.2 } in
@@ -369,16 +369,19 @@ open_is_there rules count places id open_as steps keeps is_open = elim (cases_ze
 ]
 
 pub fair_by : (rules : Rules) (now count limit : ℕ) (waiting served : List Peer) (steps : List Step) → Holds rules (Served rules.idle now) NoPeer now count waiting served steps → AllByRecursion (IsPatient rules.idle now limit) waiting → (steps ≡ []) ⊎ HasBegun rules steps (turn_of steps) → IsFair rules steps (Happens (Waited limit))
-fair_by rules now count limit waiting served steps holds patient begun = record { begun = begun; each = λ id. record {
-  frames = (holds.keeps.within id).frames;
-  bytes = (holds.keeps.within id).bytes;
-  ready = λ is_open.
-      let none = no_peers steps served holds.all_served in
-      let some : 0 < times_among waiting served id = open_is_there rules count (length waiting + length served) id (times_among waiting served) steps holds.keeps is_open in
-      let here : 0 < times_in id waiting = omega (arith, some, ap (times_in id) none) in
-      let found = find_one (λ peer. Served rules.idle now steps peer × IsPatient rules.idle now limit peer) id waiting here (all_pairs (Served rules.idle now steps) (IsPatient rules.idle now limit) waiting holds.all_waiting patient) in
-      ready_by rules now count limit found.peer id steps found.its found.holds.0 found.holds.1;
-} }
+fair_by rules now count limit waiting served steps holds patient begun = record {
+  begun = begun;
+  each = λ id. record {
+    frames = (holds.keeps.within id).frames;
+    bytes = (holds.keeps.within id).bytes;
+    ready = λ is_open.
+        let none = no_peers steps served holds.all_served in
+        let some : 0 < times_among waiting served id = open_is_there rules count (length waiting + length served) id (times_among waiting served) steps holds.keeps is_open in
+        let here : 0 < times_in id waiting = omega (arith, some, ap (times_in id) none) in
+        let found = find_one (λ peer. Served rules.idle now steps peer × IsPatient rules.idle now limit peer) id waiting here (all_pairs (Served rules.idle now steps) (IsPatient rules.idle now limit) waiting holds.all_waiting patient) in
+        ready_by rules now count limit found.peer id steps found.its found.holds.0 found.holds.1;
+  };
+}
 
 pub wait_over : (rules : Rules) (now count limit : ℕ) (waiting served : List Peer) (steps : List Step) → Holds rules (Served rules.idle now) NoPeer now count waiting served steps → AllByRecursion (IsPatient rules.idle now limit) waiting
     → (steps ≡ []) ⊎ HasBegun rules steps (turn_of steps) → Holds rules (Unheard now) NoPeer now count waiting served (steps ++ Happens (Waited limit) ∷ [])
@@ -413,10 +416,11 @@ stopped_more steps more (inr many) = inr (omega (arith, many, sum_by-append (λ 
 pub stop_one : (rules : Rules) (count : ℕ) (rest served : List Peer) (peer : Peer) (steps : List Step) → Keeps rules count (times_among (rest ++ peer ∷ []) served) (length (rest ++ peer ∷ []) + length served) steps → IsStopped steps
     → IsStopped (steps ++ Happens (Closed peer.id departures.Stopped) ∷ []) × Keeps rules count (times_among rest served) (length rest + length served) (steps ++ Happens (Closed peer.id departures.Stopped) ∷ [])
 stop_one rules count rest served peer steps keeps stopped =
-    let now : IsServed peer.id steps = always_end (IsServed peer.id) [] steps (keeps.each peer.id) in
-    (stopped_more steps (Happens (Closed peer.id departures.Stopped) ∷ []) stopped,
+    let now : IsServed peer.id steps = always_end (IsServed peer.id) [] steps (keeps.each peer.id) in (
+      stopped_more steps (Happens (Closed peer.id departures.Stopped) ∷ []) stopped,
       keeps_closed rules count (times_among (rest ++ peer ∷ []) served) (times_among rest served) (length (rest ++ peer ∷ []) + length served) (length rest + length served) peer.id departures.Stopped steps keeps
-      (record { held = now.held; queued = now.queued; serves = now.serves; explained = stopped }) (λ id. omega (arith, times_push id rest peer)) (omega (arith, size_push rest peer)))
+          (record { held = now.held; queued = now.queued; serves = now.serves; explained = stopped }) (λ id. omega (arith, times_push id rest peer)) (omega (arith, size_push rest peer)),
+    )
 
 -- all are closed, one after the other
 abbrev pub Stopping : Rules → Hall → Hall → List Step → Type 0
@@ -464,10 +468,10 @@ pub leads_hearing : (rules : Rules) (now : ℕ) (old new : Hall) (before_it it :
     → new.time ≡ old.time → new.opened ≡ old.opened → it.id ≡ before_it.id → Hears old.time before_it it more → LeadsOn rules (Unheard now) (Heard now) (Unheard now) (Heard now) old new more
 leads_hearing rules now old new before_it it rest more same was waits serves time opened id hears before holds =
     let start : Holds rules (Unheard now) (Heard now) now old.opened (rest ++ before_it ∷ []) old.served.items before =
-        subst (λ (n : ℕ). Holds rules (Unheard now) (Heard now) n old.opened (rest ++ before_it ∷ []) old.served.items before) (sym same)
-        (subst (λ (l : List Peer). Holds rules (Unheard now) (Heard now) old.time old.opened l old.served.items before) was holds) in
+    subst (λ (n : ℕ). Holds rules (Unheard now) (Heard now) n old.opened (rest ++ before_it ∷ []) old.served.items before) (sym same)
+    (subst (λ (l : List Peer). Holds rules (Unheard now) (Heard now) old.time old.opened l old.served.items before) was holds) in
     let heard : Holds rules (Unheard now) (Heard now) now old.opened rest (old.served.items ++ it ∷ []) (before ++ more) =
-        hear_one rules now old.opened rest old.served.items before_it it before more start id (subst (λ (n : ℕ). Hears n before_it it more) (sym same) hears) in
+    hear_one rules now old.opened rest old.served.items before_it it before more start id (subst (λ (n : ℕ). Hears n before_it it more) (sym same) hears) in
     holds_as rules (Unheard now) (Heard now) now old.opened rest (old.served.items ++ it ∷ []) (before ++ more) new (time ∙ sym same) opened waits serves heard
 
 -- one connection is told, and stays
@@ -475,10 +479,10 @@ pub leads_telling : (rules : Rules) (now : ℕ) (old new : Hall) (before_it it :
     → new.time ≡ old.time → new.opened ≡ old.opened → IsAsBefore before_it it → Stays rules.idle old.time before_it it more → IsQuiet before_it.id more → LeadsOn rules (Served rules.idle now) (Heard now) (Served rules.idle now) (Heard now) old new more
 leads_telling rules now old new before_it it rest more same was serves waits time opened as_before stays quiet before holds =
     let start : Holds rules (Served rules.idle now) (Heard now) now old.opened old.waiting.items (rest ++ before_it ∷ []) before =
-        subst (λ (n : ℕ). Holds rules (Served rules.idle now) (Heard now) n old.opened old.waiting.items (rest ++ before_it ∷ []) before) (sym same)
-        (subst (λ (l : List Peer). Holds rules (Served rules.idle now) (Heard now) old.time old.opened old.waiting.items l before) was holds) in
+    subst (λ (n : ℕ). Holds rules (Served rules.idle now) (Heard now) n old.opened old.waiting.items (rest ++ before_it ∷ []) before) (sym same)
+    (subst (λ (l : List Peer). Holds rules (Served rules.idle now) (Heard now) old.time old.opened old.waiting.items l before) was holds) in
     let told : Holds rules (Served rules.idle now) (Heard now) now old.opened (old.waiting.items ++ it ∷ []) rest (before ++ more) =
-        tell_one rules now old.opened old.waiting.items rest before_it it before more start as_before (subst (λ (n : ℕ). Stays rules.idle n before_it it more) (sym same) stays) quiet in
+    tell_one rules now old.opened old.waiting.items rest before_it it before more start as_before (subst (λ (n : ℕ). Stays rules.idle n before_it it more) (sym same) stays) quiet in
     holds_as rules (Served rules.idle now) (Heard now) now old.opened (old.waiting.items ++ it ∷ []) rest (before ++ more) new (time ∙ sym same) opened waits serves told
 
 -- one connection is over
@@ -486,10 +490,10 @@ pub leads_closing : (rules : Rules) (now : ℕ) (old new : Hall) (before_it it :
     → new.time ≡ old.time → new.opened ≡ old.opened → Departs rules.idle old.time before_it it why more → IsQuiet before_it.id more → LeadsOn rules (Served rules.idle now) (Heard now) (Served rules.idle now) (Heard now) old new (more ++ Happens (Closed before_it.id why) ∷ [])
 leads_closing rules now old new before_it it why rest more same was serves waits time opened departs quiet before holds =
     let start : Holds rules (Served rules.idle now) (Heard now) now old.opened old.waiting.items (rest ++ before_it ∷ []) before =
-        subst (λ (n : ℕ). Holds rules (Served rules.idle now) (Heard now) n old.opened old.waiting.items (rest ++ before_it ∷ []) before) (sym same)
-        (subst (λ (l : List Peer). Holds rules (Served rules.idle now) (Heard now) old.time old.opened old.waiting.items l before) was holds) in
+    subst (λ (n : ℕ). Holds rules (Served rules.idle now) (Heard now) n old.opened old.waiting.items (rest ++ before_it ∷ []) before) (sym same)
+    (subst (λ (l : List Peer). Holds rules (Served rules.idle now) (Heard now) old.time old.opened old.waiting.items l before) was holds) in
     let closed : Holds rules (Served rules.idle now) (Heard now) now old.opened old.waiting.items rest (before ++ (more ++ Happens (Closed before_it.id why) ∷ [])) =
-        close_one rules now old.opened old.waiting.items rest before_it it why before more start (subst (λ (n : ℕ). Departs rules.idle n before_it it why more) (sym same) departs) quiet in
+    close_one rules now old.opened old.waiting.items rest before_it it why before more start (subst (λ (n : ℕ). Departs rules.idle n before_it it why more) (sym same) departs) quiet in
     holds_as rules (Served rules.idle now) (Heard now) now old.opened old.waiting.items rest (before ++ (more ++ Happens (Closed before_it.id why) ∷ [])) new (time ∙ sym same) opened waits serves closed
 
 -- the last that waited was taken: whatever was said of those that wait
@@ -524,7 +528,7 @@ emptied_served rules P Q R S old middle new steps was is waits time opened leads
 pub leads_nobody : (rules : Rules) (now : ℕ) (hall : Hall) → now ≡ hall.time → LeadsOn rules (Unheard now) NoPeer (Unheard now) NoPeer hall hall (Happens NoneOpened ∷ [])
 leads_nobody rules now hall same before holds =
     let start : Holds rules (Unheard now) NoPeer now hall.opened hall.waiting.items hall.served.items before =
-        subst (λ (n : ℕ). Holds rules (Unheard now) NoPeer n hall.opened hall.waiting.items hall.served.items before) (sym same) holds in
+    subst (λ (n : ℕ). Holds rules (Unheard now) NoPeer n hall.opened hall.waiting.items hall.served.items before) (sym same) holds in
     subst (λ (n : ℕ). Holds rules (Unheard now) NoPeer n hall.opened hall.waiting.items hall.served.items (before ++ Happens NoneOpened ∷ [])) same (none_comes rules now hall.opened hall.waiting.items hall.served.items before start)
 
 -- a connection came
@@ -532,9 +536,9 @@ pub leads_coming : (rules : Rules) (now : ℕ) (old new : Hall) (peer : Peer) �
     → new.waiting.items ≡ old.waiting.items ++ peer ∷ [] → new.served.items ≡ old.served.items → new.time ≡ old.time → new.opened ≡ old.opened + 1 → LeadsOn rules (Unheard now) NoPeer (Unheard now) NoPeer old new (Happens (Opened old.opened) ∷ [])
 leads_coming rules now old new peer same seats wanted is_new waits serves time opened before holds =
     let start : Holds rules (Unheard now) NoPeer now old.opened old.waiting.items old.served.items before =
-        subst (λ (n : ℕ). Holds rules (Unheard now) NoPeer n old.opened old.waiting.items old.served.items before) (sym same) holds in
+    subst (λ (n : ℕ). Holds rules (Unheard now) NoPeer n old.opened old.waiting.items old.served.items before) (sym same) holds in
     let came : Holds rules (Unheard now) NoPeer now (old.opened + 1) (old.waiting.items ++ peer ∷ []) old.served.items (before ++ Happens (Opened old.opened) ∷ []) =
-        one_comes rules now old.opened old.waiting.items old.served.items peer before start seats wanted (subst (λ (n : ℕ). IsNew old.opened n peer) (sym same) is_new) in
+    one_comes rules now old.opened old.waiting.items old.served.items peer before start seats wanted (subst (λ (n : ℕ). IsNew old.opened n peer) (sym same) is_new) in
     holds_as rules (Unheard now) NoPeer now (old.opened + 1) (old.waiting.items ++ peer ∷ []) old.served.items (before ++ Happens (Opened old.opened) ∷ []) new (time ∙ sym same) opened waits serves came
 
 -- or there was no memory for it
@@ -543,10 +547,10 @@ pub leads_failing : (rules : Rules) (now : ℕ) (old new : Hall) → now ≡ old
     → LeadsOn rules (Unheard now) NoPeer (Unheard now) NoPeer old new (Happens (Opened old.opened) ∷ Happens (Closed old.opened departures.Memory) ∷ [])
 leads_failing rules now old new same seats wanted waits serves time opened before holds =
     let start : Holds rules (Unheard now) NoPeer now old.opened old.waiting.items old.served.items before =
-        subst (λ (n : ℕ). Holds rules (Unheard now) NoPeer n old.opened old.waiting.items old.served.items before) (sym same) holds in
+    subst (λ (n : ℕ). Holds rules (Unheard now) NoPeer n old.opened old.waiting.items old.served.items before) (sym same) holds in
     let more : List Step = Happens (Opened old.opened) ∷ Happens (Closed old.opened departures.Memory) ∷ [] in
     let left : Holds rules (Unheard now) NoPeer now (old.opened + 1) old.waiting.items old.served.items (before ++ more) =
-        one_fails rules now old.opened old.waiting.items old.served.items before start seats wanted in
+    one_fails rules now old.opened old.waiting.items old.served.items before start seats wanted in
     holds_as rules (Unheard now) NoPeer now (old.opened + 1) old.waiting.items old.served.items (before ++ more) new (time ∙ sym same) opened waits serves left
 
 -- the clock was read
@@ -554,7 +558,7 @@ pub leads_telling_time : (rules : Rules) (now : ℕ) (old new : Hall) → now �
     → LeadsOn rules (Unheard now) NoPeer (Unheard new.time) NoPeer old new (Happens (Told new.time) ∷ [])
 leads_telling_time rules now old new same waits serves opened before holds =
     let start : Holds rules (Unheard now) NoPeer now old.opened old.waiting.items old.served.items before =
-        subst (λ (n : ℕ). Holds rules (Unheard now) NoPeer n old.opened old.waiting.items old.served.items before) (sym same) holds in
+    subst (λ (n : ℕ). Holds rules (Unheard now) NoPeer n old.opened old.waiting.items old.served.items before) (sym same) holds in
     holds_as rules (Unheard new.time) NoPeer new.time old.opened old.waiting.items old.served.items (before ++ Happens (Told new.time) ∷ []) new refl opened waits serves
     (tell_clock rules now new.time old.opened old.waiting.items old.served.items before start)
 
@@ -618,13 +622,13 @@ admits_enough rules old new steps so why = record {
   calm = so.1;
   admitted = λ before holds. elim why [
     | inl full ↦ inr (inl (record {
-        early = before ++ steps;
-        first = turn_of (before ++ steps);
-        late = [];
-        parts = sym (append-nil (before ++ steps));
-        within = sym (append-nil (turn_of (before ++ steps)));
-        taken = omega (arith, holds.keeps.taken, full);
-      }))
+      early = before ++ steps;
+      first = turn_of (before ++ steps);
+      late = [];
+      parts = sym (append-nil (before ++ steps));
+      within = sym (append-nil (turn_of (before ++ steps)));
+      taken = omega (arith, holds.keeps.taken, full);
+    }))
     | inr enough ↦ inr (inr (subst (HasEnough rules.total) (sym (ap length holds.keeps.numbered ∙ numbers_size new.opened)) enough))
   ];
 }
@@ -643,13 +647,13 @@ stopping_more rules start old new peer rest first stopping was waits serves open
     let step : Step = Happens (Closed peer.id departures.Stopped) in
     let so_far = stopping before stopped keeps in
     let here : Keeps rules old.opened (times_among (rest ++ peer ∷ []) old.served.items) (length (rest ++ peer ∷ []) + length old.served.items) (before ++ first) =
-        subst (λ (l : List Peer). Keeps rules old.opened (times_among l old.served.items) (length l + length old.served.items) (before ++ first)) was so_far.1 in
+    subst (λ (l : List Peer). Keeps rules old.opened (times_among l old.served.items) (length l + length old.served.items) (before ++ first)) was so_far.1 in
     let closed = stop_one rules old.opened rest old.served.items peer (before ++ first) here so_far.0 in
     let same : (before ++ first) ++ step ∷ [] ≡ before ++ (first ++ step ∷ []) = append_assoc before first (step ∷ []) in
     let lists : Keeps rules new.opened (times_among new.waiting.items new.served.items) (length new.waiting.items + length new.served.items) ((before ++ first) ++ step ∷ []) =
-        subst (λ (n : ℕ). Keeps rules n (times_among new.waiting.items new.served.items) (length new.waiting.items + length new.served.items) ((before ++ first) ++ step ∷ [])) (sym opened)
-        (subst (λ (l : List Peer). Keeps rules old.opened (times_among l new.served.items) (length l + length new.served.items) ((before ++ first) ++ step ∷ [])) (sym waits)
-        (subst (λ (l : List Peer). Keeps rules old.opened (times_among rest l) (length rest + length l) ((before ++ first) ++ step ∷ [])) (sym serves) closed.1)) in
+    subst (λ (n : ℕ). Keeps rules n (times_among new.waiting.items new.served.items) (length new.waiting.items + length new.served.items) ((before ++ first) ++ step ∷ [])) (sym opened)
+    (subst (λ (l : List Peer). Keeps rules old.opened (times_among l new.served.items) (length l + length new.served.items) ((before ++ first) ++ step ∷ [])) (sym waits)
+    (subst (λ (l : List Peer). Keeps rules old.opened (times_among rest l) (length rest + length l) ((before ++ first) ++ step ∷ [])) (sym serves) closed.1)) in
     (subst IsStopped same closed.0, subst (Keeps rules new.opened (times_among new.waiting.items new.served.items) (length new.waiting.items + length new.served.items)) same lists)
 
 -- none is open any more
@@ -658,10 +662,12 @@ pub stopping_all : (rules : Rules) (start old : Hall) (opened : ℕ) (first : Li
 stopping_all rules start old opened first stopping waits serves same before stopped rest =
     let so_far = stopping before stopped rest.keeps in
     let here : Keeps rules old.opened (times_among [] []) (0 + 0) (before ++ first) =
-        subst (λ (l : List Peer). Keeps rules old.opened (times_among l []) (length l + 0) (before ++ first)) waits
-        (subst (λ (l : List Peer). Keeps rules old.opened (times_among old.waiting.items l) (length old.waiting.items + length l) (before ++ first)) serves so_far.1) in
-    (so_far.0, keeps_as rules opened (times_among [] []) (λ (id : ℕ). 0) (0 + 0) 0 (before ++ first) (λ id. omega arith) (omega arith)
-        (subst (λ (n : ℕ). Keeps rules n (times_among [] []) (0 + 0) (before ++ first)) (sym same) here))
+    subst (λ (l : List Peer). Keeps rules old.opened (times_among l []) (length l + 0) (before ++ first)) waits
+    (subst (λ (l : List Peer). Keeps rules old.opened (times_among old.waiting.items l) (length old.waiting.items + length l) (before ++ first)) serves so_far.1) in (
+      so_far.0,
+      keeps_as rules opened (times_among [] []) (λ (id : ℕ). 0) (0 + 0) 0 (before ++ first) (λ id. omega arith) (omega arith)
+          (subst (λ (n : ℕ). Keeps rules n (times_among [] []) (0 + 0) (before ++ first)) (sym same) here),
+    )
 
 -- ---- how long may be waited
 
@@ -703,7 +709,7 @@ began_by rules old one two later told admits =
           let there = admits.leads (before ++ step) (told before holds) in
           let so_far : Happened (Told one.time) (turn_of (before ++ step)) = subst (Happened (Told one.time)) (sym (turn_told before one.time)) (happened_here (Told one.time) (turn_of before)) in
           let now : Happened (Told one.time) (turn_of ((before ++ step) ++ later)) =
-              subst (Happened (Told one.time)) (sym (turn_more (before ++ step) later admits.calm)) (happened_then (Told one.time) (turn_of (before ++ step)) later so_far) in
+          subst (Happened (Told one.time)) (sym (turn_more (before ++ step) later admits.calm)) (happened_then (Told one.time) (turn_of (before ++ step)) later so_far) in
           subst (λ (l : List Step). HasBegun rules l (turn_of l)) (append_assoc before step later)
           (record { time = one.time; told = now; admitted = admits.admitted (before ++ step) there });
     }
@@ -719,22 +725,22 @@ whole_turn does handles rules old one two three four c c1 c2 c3 c4 h h1 read tol
     let now : ℕ = one.time in
     let last : three.time ≡ now = third ∙ second in
     let hearing : Goes does handles c2 h c3 h1 (LeadsInTurn rules (Unheard now) (Heard now) NoPeer (Heard now) two three) =
-        subst (λ (n : ℕ). Goes does handles c2 h c3 h1 (LeadsInTurn rules (Unheard n) (Heard n) NoPeer (Heard n) two three)) second heard in
+    subst (λ (n : ℕ). Goes does handles c2 h c3 h1 (LeadsInTurn rules (Unheard n) (Heard n) NoPeer (Heard n) two three)) second heard in
     let telling : Moves does c3 c4 (LeadsInTurn rules (Served rules.idle now) (Heard now) (Served rules.idle now) NoPeer three four) =
-        subst (λ (n : ℕ). Moves does c3 c4 (LeadsInTurn rules (Served rules.idle n) (Heard n) (Served rules.idle n) NoPeer three four)) last written in
+    subst (λ (n : ℕ). Moves does c3 c4 (LeadsInTurn rules (Served rules.idle n) (Heard n) (Served rules.idle n) NoPeer three four)) last written in
     let begins : Moves does c c2 (Began rules (Unheard now) NoPeer old two) =
-        moves_both does c c1 c2 (λ (steps : List Step). steps ≡ Happens (Told now) ∷ []) (Admits rules one two) (Began rules (Unheard now) NoPeer old two)
-        (λ first later is admits. subst (λ (l : List Step). Began rules (Unheard now) NoPeer old two (l ++ later)) (sym is) (began_by rules old one two later told admits)) read admitted in
+    moves_both does c c1 c2 (λ (steps : List Step). steps ≡ Happens (Told now) ∷ []) (Admits rules one two) (Began rules (Unheard now) NoPeer old two)
+    (λ first later is admits. subst (λ (l : List Step). Began rules (Unheard now) NoPeer old two (l ++ later)) (sym is) (began_by rules old one two later told admits)) read admitted in
     let middle : Goes does handles c h c3 h1 (Began rules NoPeer (Heard now) old three) =
-        goes_both does handles c c2 c3 h h h1 (Began rules (Unheard now) NoPeer old two) (LeadsInTurn rules (Unheard now) (Heard now) NoPeer (Heard now) two three) (Began rules NoPeer (Heard now) old three)
-        (λ first later so more. began_on rules (Unheard now) NoPeer NoPeer (Heard now) old two three first later so
-        (leads_as rules (Unheard now) (Heard now) NoPeer (Heard now) (Unheard now) NoPeer NoPeer (Heard now) two three later (λ before peer it. it) (λ before peer it. no_peer before peer it) (λ before peer it. it) (λ before peer it. it) more.0, more.1))
-        (goes_moving does handles c c2 h (Began rules (Unheard now) NoPeer old two) begins) hearing in
+    goes_both does handles c c2 c3 h h h1 (Began rules (Unheard now) NoPeer old two) (LeadsInTurn rules (Unheard now) (Heard now) NoPeer (Heard now) two three) (Began rules NoPeer (Heard now) old three)
+    (λ first later so more. began_on rules (Unheard now) NoPeer NoPeer (Heard now) old two three first later so
+    (leads_as rules (Unheard now) (Heard now) NoPeer (Heard now) (Unheard now) NoPeer NoPeer (Heard now) two three later (λ before peer it. it) (λ before peer it. no_peer before peer it) (λ before peer it. it) (λ before peer it. it) more.0, more.1))
+    (goes_moving does handles c c2 h (Began rules (Unheard now) NoPeer old two) begins) hearing in
     let whole : Goes does handles c h c4 h1 (Began rules (Served rules.idle now) NoPeer old four) =
-        goes_both does handles c c3 c4 h h1 h1 (Began rules NoPeer (Heard now) old three) (LeadsInTurn rules (Served rules.idle now) (Heard now) (Served rules.idle now) NoPeer three four) (Began rules (Served rules.idle now) NoPeer old four)
-        (λ first later so more. began_on rules NoPeer (Heard now) (Served rules.idle now) NoPeer old three four first later so
-        (leads_as rules (Served rules.idle now) (Heard now) (Served rules.idle now) NoPeer NoPeer (Heard now) (Served rules.idle now) NoPeer three four later (λ before peer it. no_peer before peer it) (λ before peer it. it) (λ before peer it. it) (λ before peer it. it) more.0, more.1))
-        middle (goes_moving does handles c3 c4 h1 (LeadsInTurn rules (Served rules.idle now) (Heard now) (Served rules.idle now) NoPeer three four) telling) in
+    goes_both does handles c c3 c4 h h1 h1 (Began rules NoPeer (Heard now) old three) (LeadsInTurn rules (Served rules.idle now) (Heard now) (Served rules.idle now) NoPeer three four) (Began rules (Served rules.idle now) NoPeer old four)
+    (λ first later so more. began_on rules NoPeer (Heard now) (Served rules.idle now) NoPeer old three four first later so
+    (leads_as rules (Served rules.idle now) (Heard now) (Served rules.idle now) NoPeer NoPeer (Heard now) (Served rules.idle now) NoPeer three four later (λ before peer it. no_peer before peer it) (λ before peer it. it) (λ before peer it. it) (λ before peer it. it) more.0, more.1))
+    middle (goes_moving does handles c3 c4 h1 (LeadsInTurn rules (Served rules.idle now) (Heard now) (Served rules.idle now) NoPeer three four) telling) in
     goes_as does handles c c4 h h1 (Began rules (Served rules.idle now) NoPeer old four) (TakesTurn rules old four)
     (λ steps so. record { leads = subst (λ (n : ℕ). LeadsOn rules (Unheard old.time) NoPeer (Served rules.idle n) NoPeer old four steps) (sym (fourth ∙ last)) so.leads; begins = so.begins }) whole
 

@@ -34,9 +34,9 @@ wrote_some old new now count front shown is within inside some queue_is held_is 
     let size : 0 < length out = omega (arith, length-take count shown, inside, some) in
     let parts : old.queue.bytes ≡ out ++ new.queue.bytes = taken_and_left count front old.queue.bytes shown is within ∙ ap (λ (l : List ℕ). out ++ l) (sym queue_is) in
     let same : keep (old.feed.bytes ++ unread old) new.queue.bytes old.leaving now ≡ kept_of new =
-        ap (λ (h : List ℕ). keep h new.queue.bytes old.leaving now) (sym held_is)
-        ∙ (ap (λ (l : Option Departure). keep (new.feed.bytes ++ unread new) new.queue.bytes l now) (sym leaving_is)
-        ∙ ap (λ (a : ℕ). keep (new.feed.bytes ++ unread new) new.queue.bytes new.leaving a) (sym active_is)) in
+    ap (λ (h : List ℕ). keep h new.queue.bytes old.leaving now) (sym held_is)
+    ∙ (ap (λ (l : Option Departure). keep (new.feed.bytes ++ unread new) new.queue.bytes l now) (sym leaving_is)
+    ∙ ap (λ (a : ℕ). keep (new.feed.bytes ++ unread new) new.queue.bytes new.leaving a) (sym active_is)) in
     advances_one old.id now (kept_of old) (kept_of new) (Happens (Wrote old.id out)) refl (λ before stands.
     subst (λ (k : Kept). Stands old.id k now (before ++ Happens (Wrote old.id out) ∷ [])) same
     (stands_wrote old.id (kept_of old) now before out new.queue.bytes stands size parts))

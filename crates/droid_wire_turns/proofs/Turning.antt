@@ -270,16 +270,16 @@ served_by idle now old new steps more heard same stays quiet =
     let turn = turn_more steps more still in
     let stands : Stands new.id (kept_of new) now (steps ++ more) = subst (λ (i : ℕ). Stands i (kept_of new) now (steps ++ more)) (sym same.id) (stays.goes.stands steps heard.stands).1 in
     let in_turn : InTurn new.id new.room heard.count (turn_of (steps ++ more)) =
-        subst (λ (i : ℕ). InTurn i new.room heard.count (turn_of (steps ++ more))) (sym same.id) (subst (λ (r : ℕ). InTurn old.id r heard.count (turn_of (steps ++ more))) (sym same.room)
-        (subst (InTurn old.id old.room heard.count) (sym turn) (in_turn_on old.id old.room heard.count (turn_of steps) more quiet.nothing_came quiet.nothing_handled heard.in_turn))) in
+    subst (λ (i : ℕ). InTurn i new.room heard.count (turn_of (steps ++ more))) (sym same.id) (subst (λ (r : ℕ). InTurn old.id r heard.count (turn_of (steps ++ more))) (sym same.room)
+    (subst (InTurn old.id old.room heard.count) (sym turn) (in_turn_on old.id old.room heard.count (turn_of steps) more quiet.nothing_came quiet.nothing_handled heard.in_turn))) in
     let rested : Rested new heard.count (steps ++ more) = rested_as old new heard.count (steps ++ more) same (rested_more old heard.count steps more still heard.rested) in
     let written : (new.queue.bytes ≡ []) ⊎ Happened (Wrote new.id []) (turn_of (steps ++ more)) =
-        elim stays.sends [ inl none ↦ inl none | inr took ↦ inr (subst (Happened (Wrote new.id [])) (sym turn) (happened_last (Wrote new.id []) (turn_of steps) more took)) ] in
+    elim stays.sends [ inl none ↦ inl none | inr took ↦ inr (subst (Happened (Wrote new.id [])) (sym turn) (happened_last (Wrote new.id []) (turn_of steps) more took)) ] in
     record {
       stands = stands;
       active = stays.active;
       settled = settled_by new now heard.count (steps ++ more) new.leaving refl stands stands.is_left stays.stays written in_turn
           (λ is. let dry = heard.dry (sym same.drained ∙ is) in
-              record { nothing = subst (Happened (Read new.id [])) (sym turn) (happened_then (Read new.id []) (turn_of steps) more (subst (λ (i : ℕ). Happened (Read i []) (turn_of steps)) (sym same.id) dry.nothing)); no_frame = subst BeginsNoFrame (sym same.held) dry.no_frame })
+          record { nothing = subst (Happened (Read new.id [])) (sym turn) (happened_then (Read new.id []) (turn_of steps) more (subst (λ (i : ℕ). Happened (Read i []) (turn_of steps)) (sym same.id) dry.nothing)); no_frame = subst BeginsNoFrame (sym same.held) dry.no_frame })
           rested;
     }

@@ -7,6 +7,6 @@ pub struct Rules {
     pub seats: usize,
     /// How many connections are served in all. `None`: there is no end.
     pub total: Option<u64>,
-    /// A connection of which nothing came and to which nothing went for so many milliseconds is closed.
+    /// A connection is closed after this many milliseconds in which no byte of it came and it took none.
     pub idle: u64,
 }

@@ -23,9 +23,10 @@ pub fn serve_in_turns<C: Connections, H: Handler>(
 ) -> Served
     // Steps were done on the connections and the handler, and at each moment each connection was served well: the bytes
     // that came of it are frames that were handled, in order, and what is held; the bytes that it took are the first of
-    // the frames of their replies, each in its version, in order, and nothing else. Whenever the loop waited, each
-    // connection had had its turn. In the end each connection had left, and its reason explains what was held and what
-    // was not written.
+    // the frames of their replies, each in its version, in order, and nothing else. Connections have numbers from 0 on.
+    // Whenever the loop waited, but for the first time, it had read the clock, accepted those that waited as far as there
+    // were seats, and given each open connection its turn. In the end each connection had left, and its reason explains
+    // what was held and what was not written.
     ensures { Goes C.does H.handles connections.old handler.old connections.new handler.new (ServesAll rules result) }
 {
     let Ok(mut hall) = Hall::new(alloc, rules.seats) else {

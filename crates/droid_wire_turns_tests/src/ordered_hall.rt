@@ -1,4 +1,4 @@
-//! Four connections in memory that send two frames each, one at a time, in a given order.
+//! Three connections in memory that send two frames each, one at a time, in a given order.
 
 ghost use Rattle.std.specs.Prelude.{length};
 ghost use Rattle.droid_wire_turns.specs.Events.{CameWithin};
@@ -12,30 +12,30 @@ const FRAME: [u8; 18] = [1, 3, 0, 0, 0, 0, 0, 0, 0, 0, 0, 0, 0, 1, 0, 0, 0, 0];
 /// The connections.
 #[derive(Drop)]
 pub struct OrderedHall {
-    /// Who sends from now on: a digit to base 4 for each frame, the next one last.
+    /// Who sends from now on: a digit to base 3 for each frame, the next one last.
     pub order: u32,
     /// How many frames are still to come.
     pub left: u32,
-    /// Who sends in this turn, if nobody has read it yet.
-    pub ready: Option<u64>,
+    /// Who sends in this turn, if that was not read yet. 3: all have ended.
+    pub ready: Option<u8>,
     /// How many were accepted.
     pub accepted: u64,
     /// What each took.
     pub outputs: Vec<Vec<u8>>,
-    /// How many left with a frame count of two, for they closed.
+    /// How many closed after two frames.
     pub closed: u32,
 }
 
 impl OrderedHall {
-    /// Makes four connections that send in this order.
+    /// Makes three connections that send in this order.
     pub fn new(alloc: Global, order: u32) -> Result<OrderedHall, AllocError> {
         let mut outputs = Vec::new(alloc);
-        for _ in 0..4u32 {
+        for _ in 0..3u32 {
             outputs.push(Vec::new(alloc))?;
         }
         Ok(OrderedHall {
             order,
-            left: 8,
+            left: 6,
             ready: None,
             accepted: 0,
             outputs,
@@ -50,10 +50,10 @@ impl Connections for OrderedHall {
     fn wait(&mut self, _limit: u64, _frames: u64) -> Result<(), WaitFault> {
         if self.left > 0 {
             self.left -= 1;
-            self.ready = Some(u64::from(self.order % 4));
-            self.order /= 4;
+            self.ready = Some((self.order % 3) as u8);
+            self.order /= 3;
         } else {
-            self.ready = Some(4);
+            self.ready = Some(3);
         }
         Ok(())
     }
@@ -63,7 +63,7 @@ impl Connections for OrderedHall {
     }
 
     fn accept(&mut self, id: u64) -> bool {
-        if self.accepted == 4 || id != self.accepted {
+        if self.accepted == 3 || id != self.accepted {
             return false;
         }
         self.accepted = self.accepted.wrapping_add(1);
@@ -71,14 +71,17 @@ impl Connections for OrderedHall {
     }
 
     fn read(&mut self, id: u64, buffer: &mut [u8]) -> Came {
-        if self.ready == Some(4) {
+        let Some(who) = self.ready else {
+            return Came::Nothing;
+        };
+        if who == 3 {
             return Came::End;
         }
-        if self.ready != Some(id) {
+        if u64::from(who) != id {
             return Came::Nothing;
         }
         self.ready = None;
-        give(id as u8, buffer)
+        give(who, buffer)
     }
 
     fn write(&mut self, id: u64, bytes: &[u8]) -> Took {

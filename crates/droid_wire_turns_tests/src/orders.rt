@@ -1,4 +1,4 @@
-//! Every order in which four connections may send two frames each.
+//! Every order in which three connections may send two frames each.
 
 use crate::counting_handler::CountingHandler;
 use crate::ordered_hall::OrderedHall;
@@ -7,29 +7,28 @@ use droid_wire_turns::{Rules, Served, serve_in_turns};
 use std::alloc::Global;
 use std::test::Fail;
 
-/// Whether each of the four digits to base 4 stands twice among the eight of this number.
+/// Whether each of the three digits to base 3 stands twice among the six of this number.
 fn is_order(number: u32) -> bool {
     let mut rest = number;
     let mut twos = 0u32;
-    for _ in 0..8u32 {
-        twos = twos.wrapping_add(match rest % 4 {
+    for _ in 0..6u32 {
+        twos = twos.wrapping_add(match rest % 3 {
             0 => 1,
             1 => 16,
-            2 => 256,
-            _ => 4_096,
+            _ => 256,
         });
-        rest /= 4;
+        rest /= 3;
     }
-    twos == 8_738
+    twos == 546
 }
 
 /// Returns the digit at this place.
 fn digit(number: u32, place: u32) -> u32 {
     let mut rest = number;
     for _ in 0..place {
-        rest /= 4;
+        rest /= 3;
     }
-    rest % 4
+    rest % 3
 }
 
 /// Whether the bytes are two replies to this client, and the places that they tell are its own in the order.
@@ -54,19 +53,19 @@ fn are_its_own(alloc: Global, bytes: &[u8], client: u32, order: u32) -> bool {
     input.is_empty()
 }
 
-/// Whether all four get their replies in this order, and close.
+/// Whether all three get their replies in this order, and close.
 fn is_served(alloc: Global, order: u32) -> bool {
     let Ok(mut hall) = OrderedHall::new(alloc, order) else {
         return false;
     };
     let mut handler = CountingHandler { handled: 0 };
     let rules = Rules {
-        seats: 4,
-        total: Some(4),
+        seats: 3,
+        total: Some(3),
         idle: 60_000,
     };
     let served = serve_in_turns(alloc, &mut hall, &mut handler, rules);
-    if served != Served::All || handler.handled != 8 || hall.closed != 4 {
+    if served != Served::All || handler.handled != 6 || hall.closed != 3 {
         return false;
     }
     let mut client = 0u32;
@@ -84,7 +83,7 @@ fn is_served(alloc: Global, order: u32) -> bool {
 fn every_order(rt: HostRuntime) {
     let mut orders = 0u32;
     let mut wrong = 0u32;
-    for number in 0..65_536u32 {
+    for number in 0..729u32 {
         if is_order(number) {
             orders = orders.wrapping_add(1);
             if !is_served(rt.alloc(), number) {
@@ -92,6 +91,6 @@ fn every_order(rt: HostRuntime) {
             }
         }
     }
-    assert!(rt; orders == 2_520);
+    assert!(rt; orders == 90);
     assert!(rt; wrong == 0);
 }

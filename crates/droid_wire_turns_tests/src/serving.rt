@@ -83,9 +83,7 @@ pub fn sum_of_replies(alloc: Global, bytes: &[u8], client: u32, count: u64) -> O
 /// Whether a reply's frame is for the request at this place of a client.
 fn is_of(frame: &Frame, client: u32, place: u64) -> bool {
     let version = if place % 2 == 0 { 1 } else { 2 };
-    frame.version == version
-        && frame.client == client
-        && frame.number == place.wrapping_add(1)
+    frame.version == version && frame.client == client && frame.number == place.wrapping_add(1)
 }
 
 /// Whether each connection got its replies and was closed for this reason, and no frame was handled twice.
@@ -125,7 +123,10 @@ fn served_by_chance(rt: HostRuntime) -> Result<(), Fail> {
         let served = serve_in_turns(rt.alloc(), &mut hall, &mut handler, rules(3, 4));
         assert!(rt; served == Served::All, "{seed}");
         assert!(rt; handler.handled == 12, "{seed}");
-        assert!(rt; are_served(rt.alloc(), &hall, 3, Departure::Closed), "{seed}");
+        assert!(rt;
+            are_served(rt.alloc(), &hall, 3, Departure::Closed),
+            "{seed}"
+        );
         assert!(rt; hall.most <= 3, "{seed}");
     }
     Ok(())

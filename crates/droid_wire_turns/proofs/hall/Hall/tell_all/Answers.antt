@@ -57,10 +57,12 @@ loop-peer-preserved-in-None g c =
       moves = λ rules same. moves_both g.C.Connections.does c.args.connections.now c.loop-peer.connections c.tell.new.connections
           (LeadsInTurn rules (Served rules.idle now) (Heard now) (Served rules.idle now) (Heard now) start old) (λ (steps : List Step). Stays c.args.idle old.time peer it steps × IsQuiet peer.id steps)
           (LeadsInTurn rules (Served rules.idle now) (Heard now) (Served rules.idle now) (Heard now) start new)
-          (λ first later so tells. leads_in_turn rules (Served rules.idle now) (Heard now) (Served rules.idle now) (Heard now) (Served rules.idle now) (Heard now) start old new first later so
-          (leads_telling rules now old new peer it rest later (sym c.loop-peer.invariant.time) c.in-Some.ensures.items refl c.push_reserved.ensures.items refl refl
-          (record { id = c.tell.ensures.id; drained = c.tell.ensures.drained; leaving = c.tell.ensures.leaving; room = c.tell.ensures.room; held = c.tell.ensures.held })
-          (subst (λ (n : ℕ). Stays n old.time peer it later) (sym same) tells.0) tells.1, calm peer.id later tells.0.goes.own))
+          (λ first later so tells. leads_in_turn rules (Served rules.idle now) (Heard now) (Served rules.idle now) (Heard now) (Served rules.idle now) (Heard now) start old new first later so (
+            leads_telling rules now old new peer it rest later (sym c.loop-peer.invariant.time) c.in-Some.ensures.items refl c.push_reserved.ensures.items refl refl
+                (record { id = c.tell.ensures.id; drained = c.tell.ensures.drained; leaving = c.tell.ensures.leaving; room = c.tell.ensures.room; held = c.tell.ensures.held })
+                (subst (λ (n : ℕ). Stays n old.time peer it later) (sym same) tells.0) tells.1,
+            calm peer.id later tells.0.goes.own,
+          ))
           (c.loop-peer.invariant.moves rules same) c.in-None.ensures.tells;
     }
 

@@ -55,7 +55,7 @@ returns-then-count-eq0-clause-moves g c =
     moves_both g.C.Connections.does c.args.connections.now c.loop-connections.connections c.write.new.self (SendsSo c.args.now start old) (λ (steps : List Step). steps ≡ Happens (Wrote old.id []) ∷ []) _
     (λ first later so is.
     let all : SendsSo c.args.now start old (first ++ Happens (Wrote old.id []) ∷ []) =
-        sends_more c.args.now start old old first (Happens (Wrote old.id [])) c.loop-connections.invariant.id so (wrote_none old c.args.now) (quiet_wrote old.id []) in
+    sends_more c.args.now start old old first (Happens (Wrote old.id [])) c.loop-connections.invariant.id so (wrote_none old c.args.now) (quiet_wrote old.id []) in
     let same : first ++ later ≡ first ++ Happens (Wrote old.id []) ∷ [] = ap (λ (l : List Step). first ++ l) is in
     let sent : SendsSo c.args.now start old (first ++ later) = subst (SendsSo c.args.now start old) (sym same) all in
     (sent.goes, sent.quiet, inr (subst (Happened (Wrote old.id [])) (sym same) (happened_here (Wrote old.id []) first))))
@@ -69,7 +69,7 @@ returns-in-Nothing-clause-moves g c =
     moves_both g.C.Connections.does c.args.connections.now c.loop-connections.connections c.write.new.self (SendsSo c.args.now start old) (λ (steps : List Step). steps ≡ Happens (Wrote old.id []) ∷ []) _
     (λ first later so is.
     let all : SendsSo c.args.now start old (first ++ Happens (Wrote old.id []) ∷ []) =
-        sends_more c.args.now start old old first (Happens (Wrote old.id [])) c.loop-connections.invariant.id so (wrote_none old c.args.now) (quiet_wrote old.id []) in
+    sends_more c.args.now start old old first (Happens (Wrote old.id [])) c.loop-connections.invariant.id so (wrote_none old c.args.now) (quiet_wrote old.id []) in
     let same : first ++ later ≡ first ++ Happens (Wrote old.id []) ∷ [] = ap (λ (l : List Step). first ++ l) is in
     let sent : SendsSo c.args.now start old (first ++ later) = subst (SendsSo c.args.now start old) (sym same) all in
     (sent.goes, sent.quiet, inr (subst (Happened (Wrote old.id [])) (sym same) (happened_here (Wrote old.id []) first))))
@@ -84,7 +84,7 @@ returns-in-Broken-clause-moves g c =
     moves_both g.C.Connections.does c.args.connections.now c.loop-connections.connections c.write.new.self (SendsSo c.args.now start old) (λ (steps : List Step). steps ≡ Happens (Unwritten old.id) ∷ []) _
     (λ first later so is.
     let all : SendsSo c.args.now start old (first ++ Happens (Unwritten old.id) ∷ []) =
-        sends_more c.args.now start old old first (Happens (Unwritten old.id)) c.loop-connections.invariant.id so (unwritten old c.args.now) (quiet_unwritten old.id) in
+    sends_more c.args.now start old old first (Happens (Unwritten old.id)) c.loop-connections.invariant.id so (unwritten old c.args.now) (quiet_unwritten old.id) in
     let same : first ++ later ≡ first ++ Happens (Unwritten old.id) ∷ [] = ap (λ (l : List Step). first ++ l) is in
     let sent : SendsSo c.args.now start old (first ++ later) = subst (SendsSo c.args.now start old) (sym same) all in
     (sent.goes, sent.quiet, subst (Happened (Unwritten old.id)) (sym same) (happened_here (Unwritten old.id) first)))
