@@ -148,7 +148,7 @@ impl<R: Clock + Eprint + Net> Connections for Sockets<'_, R> {
         if !self.is_knocking {
             return false;
         }
-        match accepted(&self.listener) {
+        match accept_one(&self.listener) {
             Accepted::One(stream, address) => {
                 if !take_in(&self.poll, &mut self.guests, id, stream, address) {
                     return false;
@@ -166,16 +166,21 @@ impl<R: Clock + Eprint + Net> Connections for Sockets<'_, R> {
 
     fn read(&mut self, id: u64, buffer: &mut [u8]) -> Came {
         let came = read_from(&mut self.guests, id, buffer);
-        if let Came::Bytes(size) = came {
-            self.tally.came = count(self.tally.came, size);
+        match came {
+            Came::Bytes(size) => self.tally.came = count(self.tally.came, size),
+            Came::Nothing => self.tally.came = count(self.tally.came, 0),
+            Came::End => {}
+            Came::Broken => {}
         }
         came
     }
 
     fn write(&mut self, id: u64, bytes: &[u8]) -> Took {
         let took = write_to(&mut self.guests, id, bytes);
-        if let Took::Bytes(size) = took {
-            self.tally.went = count(self.tally.went, size);
+        match took {
+            Took::Bytes(size) => self.tally.went = count(self.tally.went, size),
+            Took::Nothing => self.tally.went = count(self.tally.went, 0),
+            Took::Broken => {}
         }
         took
     }
@@ -204,7 +209,7 @@ enum Accepted {
 }
 
 /// Accepts the next connection. A failure may be that of one connection: then the next one is tried.
-fn accepted(listener: &TcpListener) -> Accepted {
+fn accept_one(listener: &TcpListener) -> Accepted {
     for _ in 0..TRIES {
         match listener.accept() {
             Ok((stream, address)) => return Accepted::One(stream, address),
