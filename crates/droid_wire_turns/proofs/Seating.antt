@@ -1,5 +1,5 @@
 -- All open connections, after one of them had its part of a turn, after one came, and after one left.
-use Rattle.std.proofs.Common.{◌≡◌, ◌≢◌, ℕ, ◌+◌, ◌-◌, ◌<◌, ◌≤◌, Bool, true, cond, count_by, get_or, take, List, [], ◌∷◌, ◌++◌, length, Option, Some, None, fold, refl, sym, ap, subst, ◌∙◌, append_assoc, arith, inl, inr, ◌⊎◌}
+use Rattle.std.proofs.Common.{◌≡◌, ℕ, ◌+◌, ◌-◌, ◌<◌, ◌≤◌, Bool, true, cond, count_by, get_or, take, List, [], ◌∷◌, ◌++◌, length, Option, Some, None, fold, refl, sym, ap, subst, ◌∙◌, append_assoc, arith, inl, inr, ◌⊎◌}
 use Rattle.std.specs.List.{AllByRecursion}
 use Rattle.std.proofs.lemmas.List.{append-nil, length-append, take_more}
 use Rattle.std.proofs.lemmas.List.Sums.{fold-append, sum_by-append}
@@ -14,7 +14,7 @@ use Rattle.droid_wire_turns.specs.Events.{Event, Opened, NoneOpened, Read, Ended
 use Rattle.droid_wire_turns.specs.Halls.{Admits, Heard, Holds, IsAtRest, IsCalm, IsPatient, IsWithin, Keeps, LeadsInTurn, LeadsOn, NoPeer, Served, TakesTurn, Unheard, one_at, times_among, times_in}
 use Rattle.droid_wire_turns.specs.Peers.{Departs, Hears, IsNew, IsQuiet, Kept, Stands, Stays, is_hungry, keep, kept_of}
 use Rattle.droid_wire_turns.specs.Serving.{AreAll, EndsBy, HasAdmitted, HasBegun, HasEnough, HasLeft, IsAll, IsFair, IsOpenAfter, IsReady, IsSettled, ServesAll, WereTaken}
-use Rattle.droid_wire_turns.specs.Steps.{AreOfOthers, Goes, Happened, Handles, Happens, IsOf, IsOfOther, IsTraffic, Moves, Step, Times, bytes_read, bytes_written, came, clock_behind, clock_of, closed, handled, handled_in, numbers, opened, opened_by, spelled_frames, spelled_replies, times_of, turn_behind, turn_of, went}
+use Rattle.droid_wire_turns.specs.Steps.{AreOfOthers, Goes, Happened, Handles, Happens, IsOf, IsOfOther, IsTraffic, Moves, Step, Times, bytes_read, bytes_written, came, clock_behind, clock_of, handled, handled_in, numbers, opened, opened_by, spelled_frames, spelled_replies, times_of, turn_behind, turn_of, went}
 use Rattle.droid_wire_turns.specs.declared.departure.Departure.{Departure}
 use Rattle.droid_wire_turns.specs.declared.departure.Departure.TheVariants as departures
 use Rattle.droid_wire_turns.specs.declared.hall.Hall.{Hall}

@@ -1,21 +1,20 @@
 -- What is kept of a connection through a turn.
-use Rattle.std.proofs.Common.{◌≡◌, ℕ, zero, suc, ◌+◌, ◌-◌, ◌<◌, ◌≤◌, Bool, true, false, not, ◌&&◌, leb, List, [], ◌∷◌, ◌++◌, length, Option, Some, None, IsSome, is_none, refl, sym, ap, subst, ◌∙◌, append_assoc, arith, inl, inr, ◌⊎◌}
+use Rattle.std.proofs.Common.{◌≡◌, ℕ, ◌+◌, ◌≤◌, Bool, true, false, leb, List, [], ◌∷◌, ◌++◌, length, Option, Some, None, IsSome, refl, sym, ap, subst, ◌∙◌, append_assoc, arith, inl, inr, ◌⊎◌}
 use Rattle.std.specs.List.{AllByRecursion}
 use Rattle.std.proofs.lemmas.Bool.{false≢true, leb-false}
 use Rattle.std.proofs.lemmas.List.{append-nil, length-append}
 use Rattle.droid_frame.specs.Streams.{BeginsNoFrame}
-use Rattle.droid_frame.specs.declared.stream.fault.FrameFault.{FrameFault}
-use Rattle.droid_wire_turns.specs.Departures.{Serves, StopsBy}
-use Rattle.droid_wire_turns.specs.Events.{Ended, Read, Told, Waited, Wrote}
+use Rattle.droid_wire_turns.specs.Departures.{Serves}
+use Rattle.droid_wire_turns.specs.Events.{Ended, Read, Waited, Wrote}
 use Rattle.droid_wire_turns.specs.Halls.{Heard, IsCalm, Rested, Served, SinceBytes, SinceDry, SinceFrames, SinceFull, SinceLeaving, Unheard}
-use Rattle.droid_wire_turns.specs.Peers.{Advances, ByBytes, ByDrought, ByFrames, ByLeaving, ByQueue, Hears, InTurn, IsLeft, IsQuiet, IsRoom, Kept, RanDry, Rests, Sends, Stands, Stays, is_hungry, is_over, is_over_for, keep, kept_of, unread}
-use Rattle.droid_wire_turns.specs.Serving.{HadShare, IsDrained, IsLeaving, IsSettled, WasFull}
-use Rattle.droid_wire_turns.specs.Steps.{Happened, Happens, IsTraffic, Step, bytes_read, came, handled, handled_in, turn_of}
+use Rattle.droid_wire_turns.specs.Peers.{ByBytes, ByDrought, ByFrames, ByLeaving, ByQueue, Hears, InTurn, IsLeft, IsQuiet, IsRoom, Kept, RanDry, Rests, Stands, Stays, is_hungry, is_over_for, kept_of, unread}
+use Rattle.droid_wire_turns.specs.Serving.{HadShare, IsLeaving, IsSettled, WasFull}
+use Rattle.droid_wire_turns.specs.Steps.{Happened, Happens, Step, bytes_read, came, handled, handled_in, turn_of}
 use Rattle.droid_wire_turns.specs.declared.departure.Departure.{Departure}
 use Rattle.droid_wire_turns.specs.declared.departure.Departure.TheVariants as departures
 use Rattle.droid_wire_turns.specs.declared.peer.Peer.{Peer}
 use Rattle.droid_wire_turns.proofs.Gathered.{Elsewhere, calm, came_elsewhere, handled_elsewhere, none_gathered, turn_more, turn_waited}
-use Rattle.droid_wire_turns.proofs.Standing.{happened_last, happened_then, serves_elsewhere, stands_elsewhere, stands_told, stands_waited, stops_then}
+use Rattle.droid_wire_turns.proofs.Standing.{happened_last, happened_then, serves_elsewhere, stands_elsewhere, stands_waited, stops_then}
 
 -- ---- steps of others
 

@@ -1,5 +1,5 @@
 -- For proofs only: what the loop keeps of all connections, after the steps so far.
-use Rattle.std.specs.Prelude.{◌≡◌, ℕ, ◌+◌, ◌-◌, ◌<◌, ◌≤◌, ◌⊎◌, ◌==◌, if◌then◌else◌, true, List, [], ◌∷◌, ◌++◌, Option, Some, IsSome, length, vec_capacity}
+use Rattle.std.specs.Prelude.{◌≡◌, ℕ, ◌+◌, ◌-◌, ◌<◌, ◌≤◌, ◌==◌, if◌then◌else◌, true, List, [], ◌∷◌, ◌++◌, Some, IsSome, length, vec_capacity}
 use Rattle.std.specs.List.{AllByRecursion}
 use Rattle.droid_wire_turns.specs.Departures.{IsServed}
 use Rattle.droid_wire_turns.specs.Events.{Closed, Opened}

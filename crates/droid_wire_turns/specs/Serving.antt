@@ -1,11 +1,10 @@
 -- What serving many connections in turns comes to (this project's own).
 use Rattle.std.specs.Prelude.{◌≡◌, ℕ, ◌+◌, ◌-◌, ◌<◌, ◌≤◌, ◌⊎◌, List, [], ◌∷◌, ◌++◌, Option, None, Some, length}
-use Rattle.std.specs.List.{AllByRecursion}
 use Rattle.droid_frame.specs.Streams.{BeginsNoFrame}
 use Rattle.droid_frame.specs.declared.stream.fault.FrameFault.{FrameFault}
 use Rattle.droid_wire_turns.specs.Departures.{Explains, IsServed, IsStopped, Serves, StopsBy}
 use Rattle.droid_wire_turns.specs.Events.{Opened, NoneOpened, Closed, Ended, Read, Told, Waited, Wrote}
-use Rattle.droid_wire_turns.specs.Steps.{Always, AreOfOthers, AtEach, Happened, Happens, Step, Times, came, closed, handled, numbers, opened, times_of, turn_of}
+use Rattle.droid_wire_turns.specs.Steps.{Always, AreOfOthers, AtEach, Happened, Happens, Step, came, closed, handled, numbers, opened, times_of, turn_of}
 use Rattle.droid_wire_turns.specs.declared.departure.Departure.{Departure}
 use Rattle.droid_wire_turns.specs.declared.rules.Rules.{Rules}
 use Rattle.droid_wire_turns.specs.declared.served.Served.{Served}

@@ -1,4 +1,4 @@
-use Rattle.std.proofs.Common.{◌≡◌, ◌+◌, ◌<◌, ◌++◌, ◌∷◌, [], Bool, cond, length, length-append, ap, refl, sym, subst, ◌∙◌, arith}
+use Rattle.std.proofs.Common.{◌≡◌, ◌+◌, ◌<◌, ◌∷◌, [], Bool, cond, length, length-append, ap, refl, sym, subst, arith}
 use Rattle.std.specs.List.{AllByRecursion}
 use Rattle.droid_wire_turns.specs.Events.{Closed, NoneOpened, Opened}
 use Rattle.droid_wire_turns.specs.Halls.{Admits, LeadsInTurn, NoPeer, Unheard}

@@ -1,4 +1,4 @@
-use Rattle.std.proofs.Common.{◌≡◌, ◌+◌, ◌++◌, ◌∷◌, [], ℕ, List, length, length-append, ap, refl, sym, subst, arith}
+use Rattle.std.proofs.Common.{◌∷◌, [], ℕ, List, length, length-append, ap, refl, sym, subst, arith}
 use Rattle.std.specs.List.{AllByRecursion}
 use Rattle.std.proofs.lemmas.List.{nil_from_length}
 use Rattle.droid_wire_turns.specs.Events.{Closed}

@@ -1,4 +1,4 @@
-use Rattle.std.proofs.Common.{◌≡◌, ◌++◌, [], None, Some, sym, ◌∙◌, refl, subst, arith}
+use Rattle.std.proofs.Common.{◌++◌, [], None, Some, sym, ◌∙◌, refl}
 use Rattle.std.proofs.lemmas.Bool.{false≢true}
 use Rattle.droid_wire_turns.specs.Events.{Read}
 use Rattle.droid_wire_turns.specs.Peers.{ByBytes, ByLeaving}

@@ -1,4 +1,4 @@
-use Rattle.std.proofs.Common.{◌≡◌, ◌++◌, ◌∷◌, [], List, length, take, sym, ap, ◌∙◌, refl, subst, arith, inl, inr, length-drop}
+use Rattle.std.proofs.Common.{◌≡◌, ◌++◌, ◌∷◌, [], List, length, take, sym, ap, refl, subst, arith, inl, inr, length-drop}
 use Rattle.std.proofs.lemmas.List.{nil_from_length}
 use Rattle.droid_wire_turns.specs.Events.{Unwritten, Wrote}
 use Rattle.droid_wire_turns.specs.Steps.{Happened, Happens, Step}
