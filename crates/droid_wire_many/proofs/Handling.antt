@@ -7,7 +7,6 @@ use Rattle.droid_core.specs.Histories.{History, history_from}
 use Rattle.droid_core.specs.Running.{Runs, without_memory_faults}
 use Rattle.droid_core.specs.Setting.{Setting}
 use Rattle.droid_core.specs.Standing.{StandsFor, limits_of, registry_of}
-use Rattle.droid_core.specs.declared.service.Service.{Service}
 use Rattle.droid_core.proofs.Running.{Runs-none, Runs-push}
 use Rattle.droid_wire_turns.specs.Chains.{GoesOver}
 use Rattle.droid_wire_turns.specs.Events.{Event}
