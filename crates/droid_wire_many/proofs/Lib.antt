@@ -1,1 +1,1 @@
-pub mod Handling
+pub mod ServiceSteps

@@ -1,7 +1,7 @@
 use Rattle.std.specs.Prelude.{◌≡◌, [], length}
 use Rattle.droid_wire_turns.specs.Steps.{Moves}
 use Rattle.droid_wire_turns.specs.declared.rules.Rules.{Rules}
-use Rattle.droid_wire_turns.proofs.Seating.{Stopping}
+use Rattle.droid_wire_turns.proofs.HallSteps.{Stopping}
 use Rattle.droid_wire_turns.proofs.hall.Hall.stop.Given as goal
 
 abbrev pub invariant-loop-peer : goal.invariant-loop-peer

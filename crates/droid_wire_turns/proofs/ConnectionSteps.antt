@@ -8,9 +8,9 @@ use Rattle.droid_wire_turns.specs.Departures.{IsServed}
 use Rattle.droid_wire_turns.specs.Events.{Read}
 use Rattle.droid_wire_turns.specs.Peers.{Advances, InTurn, IsQuiet, IsRoom, Kept, Lends, Lending, Stands, Taking, Turns}
 use Rattle.droid_wire_turns.specs.Steps.{Handles, Happens, IsTraffic, Step, bytes_read, came, handled, handled_in}
-use Rattle.droid_wire_turns.proofs.Gathered.{gathered, handled_here, none_more, one_more, read_here}
+use Rattle.droid_wire_turns.proofs.OwnSteps.{gathered, handled_here, none_more, one_more, read_here}
 use Rattle.droid_wire_turns.proofs.Moments.{all_both, always_both, always_one}
-use Rattle.droid_wire_turns.proofs.Standing.{served}
+use Rattle.droid_wire_turns.proofs.PeerSteps.{served}
 
 -- ---- what is kept goes on
 

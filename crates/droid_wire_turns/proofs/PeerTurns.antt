@@ -8,13 +8,13 @@ use Rattle.droid_wire_turns.specs.Departures.{Serves}
 use Rattle.droid_wire_turns.specs.Events.{Ended, Read, Waited, Wrote}
 use Rattle.droid_wire_turns.specs.Halls.{Heard, IsCalm, Rested, Served, SinceBytes, SinceDry, SinceFrames, SinceFull, SinceLeaving, Unheard}
 use Rattle.droid_wire_turns.specs.Peers.{ByBytes, ByDrought, ByFrames, ByLeaving, ByQueue, Hears, InTurn, IsLeft, IsQuiet, IsRoom, Kept, RanDry, Rests, Stands, Stays, is_hungry, is_over_for, kept_of, unread}
-use Rattle.droid_wire_turns.specs.Serving.{HadShare, IsLeaving, IsSettled, WasFull}
+use Rattle.droid_wire_turns.specs.Turns.{HadShare, IsLeaving, IsSettled, WasFull}
 use Rattle.droid_wire_turns.specs.Steps.{Happened, Happens, Step, bytes_read, came, handled, handled_in, turn_of}
 use Rattle.droid_wire_turns.specs.declared.departure.Departure.{Departure}
 use Rattle.droid_wire_turns.specs.declared.departure.Departure.TheVariants as departures
 use Rattle.droid_wire_turns.specs.declared.peer.Peer.{Peer}
-use Rattle.droid_wire_turns.proofs.Gathered.{Elsewhere, calm, came_elsewhere, handled_elsewhere, none_gathered, turn_more, turn_waited}
-use Rattle.droid_wire_turns.proofs.Standing.{happened_last, happened_then, serves_elsewhere, stands_elsewhere, stands_waited, stops_then}
+use Rattle.droid_wire_turns.proofs.OwnSteps.{Elsewhere, calm, came_elsewhere, handled_elsewhere, none_gathered, turn_more, turn_waited}
+use Rattle.droid_wire_turns.proofs.PeerSteps.{happened_last, happened_then, serves_elsewhere, stands_elsewhere, stands_waited, stops_then}
 
 -- ---- steps of others
 

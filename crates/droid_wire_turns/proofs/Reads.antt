@@ -19,11 +19,11 @@ use Rattle.droid_wire_turns.specs.Steps.{Goes, Handles, Happened, Happens, Moves
 use Rattle.droid_wire_turns.specs.declared.departure.Departure.{Departure}
 use Rattle.droid_wire_turns.specs.declared.departure.Departure.TheVariants as departures
 use Rattle.droid_wire_turns.specs.declared.peer.Peer.{Peer}
-use Rattle.droid_wire_turns.proofs.Advancing.{advances_both, advances_handled, advances_none, advances_one, taking_both, turns_both, turns_handled, turns_none, turns_still}
-use Rattle.droid_wire_turns.proofs.Gathered.{read_here}
+use Rattle.droid_wire_turns.proofs.ConnectionSteps.{advances_both, advances_handled, advances_none, advances_one, taking_both, turns_both, turns_handled, turns_none, turns_still}
+use Rattle.droid_wire_turns.proofs.OwnSteps.{read_here}
 use Rattle.droid_wire_turns.proofs.Moments.{goes_both, goes_handling, goes_moving}
-use Rattle.droid_wire_turns.proofs.Standing.{lends, served, stands_dry, stands_ended, stands_handled, stands_lost, stands_read, stands_unread, stops}
-use Rattle.droid_wire_turns.proofs.Stepping.{answer_bytes}
+use Rattle.droid_wire_turns.proofs.PeerSteps.{lends, served, stands_dry, stands_ended, stands_handled, stands_lost, stands_read, stands_unread, stops}
+use Rattle.droid_wire_turns.proofs.ServesMore.{answer_bytes}
 
 -- ---- lists
 

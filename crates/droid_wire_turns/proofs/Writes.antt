@@ -9,8 +9,8 @@ use Rattle.droid_wire_turns.specs.Steps.{Happened, Happens, Step, Times}
 use Rattle.droid_wire_turns.specs.declared.departure.Departure.{Departure}
 use Rattle.droid_wire_turns.specs.declared.departure.Departure.TheVariants as departures
 use Rattle.droid_wire_turns.specs.declared.peer.Peer.{Peer}
-use Rattle.droid_wire_turns.proofs.Advancing.{advances_both, advances_none, advances_one, quiet_both, quiet_none, quiet_one}
-use Rattle.droid_wire_turns.proofs.Standing.{happened_last, stands_full, stands_unwritten, stands_wrote}
+use Rattle.droid_wire_turns.proofs.ConnectionSteps.{advances_both, advances_none, advances_one, quiet_both, quiet_none, quiet_one}
+use Rattle.droid_wire_turns.proofs.PeerSteps.{happened_last, stands_full, stands_unwritten, stands_wrote}
 
 -- ---- writes
 

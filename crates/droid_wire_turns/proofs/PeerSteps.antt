@@ -16,8 +16,8 @@ use Rattle.droid_wire_turns.specs.Peers.{EndsAs, IsLeft, Kept, Lends, Stands, ke
 use Rattle.droid_wire_turns.specs.Steps.{Handles, Happened, Happens, Step, Times, bytes_read, bytes_written, handled_in, moves, times_behind}
 use Rattle.droid_wire_turns.specs.declared.departure.Departure.{Departure}
 use Rattle.droid_wire_turns.specs.declared.departure.Departure.TheVariants as departures
-use Rattle.droid_wire_turns.proofs.Gathered.{Elsewhere, came_elsewhere, handled_elsewhere, read_here, times_elsewhere, times_one, none_gathered, times_read, times_wrote, went_elsewhere, written_here}
-use Rattle.droid_wire_turns.proofs.Stepping.{answer_bytes, serves_as, serves_handled, serves_more, serves_same, serves_still}
+use Rattle.droid_wire_turns.proofs.OwnSteps.{Elsewhere, came_elsewhere, handled_elsewhere, read_here, times_elsewhere, times_one, none_gathered, times_read, times_wrote, went_elsewhere, written_here}
+use Rattle.droid_wire_turns.proofs.ServesMore.{answer_bytes, serves_as, serves_handled, serves_more, serves_same, serves_still}
 
 -- ---- events
 

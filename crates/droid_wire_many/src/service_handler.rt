@@ -6,12 +6,12 @@ use droid_wire_turns::Handler;
 
 /// A service that handles the frames of all connections, one after another.
 #[derive(Drop)]
-pub struct Answering {
+pub struct ServiceHandler {
     /// The service.
     pub service: Service,
 }
 
-impl Handler for Answering {
+impl Handler for ServiceHandler {
     ghost use Rattle.droid_wire_many.specs.Answers.{IsAnswered};
 
     ghost handles = { λ old frame reply new. IsAnswered old.service frame reply new.service };
