@@ -5,6 +5,6 @@ pub mod Moments
 pub mod OwnSteps
 pub mod PeerSteps
 pub mod PeerTurns
-pub mod Reads
+pub mod ReadSteps
 pub mod ServesMore
-pub mod Writes
+pub mod WriteSteps

@@ -4,7 +4,7 @@ use Rattle.droid_wire_turns.specs.Events.{Unwritten, Wrote}
 use Rattle.droid_wire_turns.specs.Steps.{Happened, Happens, Step}
 use Rattle.droid_wire_turns.proofs.Moments.{moves_as, moves_both, moves_none, moves_one}
 use Rattle.droid_wire_turns.proofs.PeerSteps.{happened_here}
-use Rattle.droid_wire_turns.proofs.Writes.{SendsSo, quiet_unwritten, quiet_wrote, sends_more, sends_none, unwritten, wrote_none, wrote_some}
+use Rattle.droid_wire_turns.proofs.WriteSteps.{SendsSo, quiet_unwritten, quiet_wrote, sends_more, sends_none, unwritten, wrote_none, wrote_some}
 use Rattle.droid_wire_turns.proofs.peer.Peer.send.Goals as goal
 
 pub loop-connections-init : goal.loop-connections-init
