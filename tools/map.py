@@ -19,9 +19,11 @@ PROGRAM = "droid_desk"
 FAMILIES = ["droid_frame", "droid_lanes", "droid_hash", "droid_scan", "droid_pronom", "droid_xml", "droid_assembly", "droid_store", "droid_export", "droid_fixity", "droid_core", "droid_wire", "droid_tree", "droid_profile", "droid_lines", "droid_desk"]
 # a program that is no part of the family whose first words it has
 ALONE = ["droid_desk_bench"]
-# what a crate may name in the place of a head: a sender needs no service, and isn't proved only after one
+# what a crate may name in the place of a head: a sender needs no service, and isn't proved only after one; and only the
+# service for many connections is fed
 BELOW_HEADS = {
     "droid_lines_send": ["droid_wire_client"],
+    "droid_wire_turns": ["droid_frame_feed"],
     "droid_core_tests": ["droid_lines_script"],
     "droid_profile_rows": ["droid_core_spec"],
     "droid_profile_spec": ["droid_core_spec"],

@@ -1,0 +1,38 @@
+-- What serving many connections by one service comes to (this project's own).
+use Rattle.std.specs.Prelude.{List, [], ◌∷◌, map}
+use Rattle.std.specs.List.{flat_map}
+use Rattle.droid_frame.specs.types.frame.Frame.{Frame}
+use Rattle.droid_frame.specs.types.reply.Reply.{Reply}
+use Rattle.droid_core.specs.Histories.{History}
+use Rattle.droid_core.specs.Running.{Runs}
+use Rattle.droid_core.specs.Setting.{Setting}
+use Rattle.droid_core.specs.declared.service.Service.{Service}
+use Rattle.droid_wire_turns.specs.Chains.{GoesOver}
+use Rattle.droid_wire_turns.specs.Events.{Event}
+use Rattle.droid_wire_turns.specs.Turns.{ServesAll}
+use Rattle.droid_wire_turns.specs.Steps.{Handles, Happens, Step, all_handled}
+use Rattle.droid_wire_turns.specs.declared.rules.Rules.{Rules}
+use Rattle.droid_wire_turns.specs.declared.served.Served.{Served}
+
+-- the frames of all connections that were handled, in order, and their replies
+abbrev pub frames_of : List Step → List Frame
+frames_of steps = map (λ (one : Frame × Reply). one.0) (all_handled steps)
+
+abbrev pub replies_of : List Step → List Reply
+replies_of steps = map (λ (one : Frame × Reply). one.1) (all_handled steps)
+
+-- the events among the steps, in order
+abbrev pub event_of : Step → List Event
+event_of (Happens event) = event ∷ []
+event_of (Handles id frame reply) = []
+
+abbrev pub events_of : List Step → List Event
+events_of steps = flat_map event_of steps
+
+-- Steps were done. They are those of a loop that serves each connection well; the service handled all frames among them,
+-- one after another, and stands for the history after them.
+pub record ServesMany {C : Type 0} (does : C → Event → C → Type 0) (rules : Rules) (setting : Setting) (history : History) (connections later : C) (after : Service) (result : Served) : Type 0 where
+  pub steps : List Step
+  pub done : GoesOver does connections (events_of steps) later
+  pub serves : ServesAll rules result steps
+  pub runs : Runs setting history (frames_of steps) (replies_of steps) after

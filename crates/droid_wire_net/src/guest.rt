@@ -1,0 +1,86 @@
+//! One connection.
+
+ghost use Rattle.std.specs.Prelude.{◌≡◌, length};
+ghost use Rattle.droid_wire_turns.specs.Events.{CameWithin, TookWithin};
+
+use crate::tally::count;
+use droid_wire_turns::{Came, Took};
+use mio::net::TcpStream;
+use std::io::{ErrorKind, Read, Write};
+use std::net::SocketAddr;
+
+/// How often a read or a write is tried again that was interrupted.
+const TRIES: u32 = 64;
+
+/// A connection.
+#[derive(Drop)]
+pub(crate) struct Guest {
+    /// Its number.
+    pub(crate) id: u64,
+    pub(crate) stream: TcpStream,
+    pub(crate) address: SocketAddr,
+    /// Whether a read may give something: since the last read that gave nothing, the system said so.
+    pub(crate) readable: bool,
+    /// The same for a write.
+    pub(crate) writable: bool,
+    /// How many bytes came.
+    pub(crate) came: u64,
+    /// How many bytes it took.
+    pub(crate) went: u64,
+}
+
+impl Guest {
+    /// Reads what has come, if the system said that something did.
+    pub(crate) fn read(&mut self, buffer: &mut [u8]) -> Came
+        ensures { CameWithin result (length buffer.new) }
+    {
+        if !self.readable {
+            return Came::Nothing;
+        }
+        for _ in 0..TRIES {
+            match self.stream.read(buffer) {
+                Ok(0) => return Came::End,
+                Ok(size) => {
+                    self.came = count(self.came, size);
+                    return Came::Bytes(size);
+                }
+                Err(error) => match error.kind() {
+                    ErrorKind::WouldBlock => {
+                        self.readable = false;
+                        return Came::Nothing;
+                    }
+                    ErrorKind::Interrupted => {}
+                    _ => return Came::Broken,
+                },
+            }
+        }
+        Came::Broken
+    }
+
+    /// Writes some of these bytes, if the system said that it takes some.
+    pub(crate) fn write(&mut self, bytes: &[u8]) -> Took
+        ensures { TookWithin result (length bytes.now) }
+    {
+        if !self.writable {
+            return Took::Nothing;
+        }
+        for _ in 0..TRIES {
+            match self.stream.write(bytes) {
+                Ok(0) => return Took::Broken,
+                Ok(size) => {
+                    self.went = count(self.went, size);
+                    return Took::Bytes(size);
+                }
+                Err(error) => match error.kind() {
+                    ErrorKind::WouldBlock => {
+                        self.writable = false;
+                        return Took::Nothing;
+                    }
+                    ErrorKind::Interrupted => {}
+                    _ => return Took::Broken,
+                },
+            }
+        }
+        Took::Broken
+    }
+}

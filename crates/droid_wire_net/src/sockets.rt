@@ -1,0 +1,312 @@
+//! The sockets of many connections.
+
+ghost use Rattle.std.specs.Prelude.{◌≡◌, ◌<◌, IfOk, IfSome, length};
+ghost use Rattle.droid_wire_turns.specs.Events.{CameWithin, TookWithin};
+
+use crate::guest::Guest;
+use crate::report::{MINUTE, Verbosity, print_ended, print_minute};
+use crate::tally::{Tally, count};
+use droid_wire_turns::{Came, Connections, Departure, Took, WaitFault};
+use mio::net::{TcpListener, TcpStream};
+use mio::{Events, Interest, Poll, Token};
+use std::alloc::Global;
+use std::io::{self, ErrorKind};
+use std::net::{Ipv4Addr, Net, SocketAddr};
+use std::time::{Clock, Duration, Instant};
+
+/// The token of the listener. No connection has this number.
+const DOOR: usize = usize::MAX;
+
+/// How often accepting is tried again that failed.
+const TRIES: u32 = 16;
+
+/// The connections to a port of this machine.
+#[derive(Drop)]
+pub struct Sockets<'a, R> {
+    runtime: &'a R,
+    poll: Poll,
+    events: Events,
+    listener: TcpListener,
+    guests: Vec<Guest>,
+    /// Whether a connection may wait to be accepted.
+    is_knocking: bool,
+    /// Whether a connection was closed since the last wait.
+    has_left: bool,
+    /// When the clock was read first. `None` if it could not be read.
+    begun: Option<Instant>,
+    /// What the clock said last, in milliseconds since then.
+    time: u64,
+    tally: Tally,
+    verbosity: Verbosity,
+    /// What was counted when the last line on all connections was printed, and when that was.
+    printed: Tally,
+    printed_at: u64,
+    /// How many frames were handled since then.
+    frames: u64,
+}
+
+impl<'a, R: Clock + Eprint + Net> Sockets<'a, R> {
+    /// Listens on a port of this machine, with room for what the system reports of so many connections.
+    pub fn bind(
+        runtime: &'a R,
+        alloc: Global,
+        port: u16,
+        seats: usize,
+        verbosity: Verbosity,
+    ) -> io::Result<Sockets<'a, R>>
+        ensures { IfOk result (λ sockets. sockets.tally ≡ record { opened = 0; closed = 0; came = 0; went = 0 }) }
+    {
+        let poll = Poll::new(runtime)?;
+        let address = SocketAddr::from((Ipv4Addr::LOCALHOST, port));
+        let mut listener = TcpListener::bind(runtime, address)?;
+        let registry = poll.registry();
+        registry.register(&mut listener, Token(DOOR), Interest::READABLE)?;
+        let events = Events::with_capacity(alloc, seats.saturating_add(1))?;
+        Ok(Sockets {
+            runtime,
+            poll,
+            events,
+            listener,
+            guests: Vec::with_capacity(alloc, seats)?,
+            is_knocking: true,
+            has_left: false,
+            begun: Instant::now(runtime).ok(),
+            time: 0,
+            tally: Tally::new(),
+            verbosity,
+            printed: Tally::new(),
+            printed_at: 0,
+            frames: 0,
+        })
+    }
+
+    /// Prints a line on all connections, if a minute is over since the last one.
+    fn print_minutely(&mut self, frames: u64)
+        ensures { self.new.tally ≡ self.old.tally }
+    {
+        self.frames = self.frames.saturating_add(frames);
+        if self.verbosity == Verbosity::Quiet {
+            return;
+        }
+        if self.time.saturating_sub(self.printed_at) < MINUTE {
+            return;
+        }
+        print_minute(
+            self.runtime,
+            self.guests.len(),
+            self.frames,
+            self.printed,
+            self.tally,
+        );
+        self.printed = self.tally;
+        self.printed_at = self.time;
+        self.frames = 0;
+    }
+
+    /// Returns the time since the clock was first read, in milliseconds.
+    fn milliseconds(&self) -> Option<u64> {
+        let begun = self.begun?;
+        let now = Instant::now(self.runtime).ok()?;
+        u64::try_from(now.saturating_duration_since(begun).as_millis()).ok()
+    }
+}
+
+impl<R: Clock + Eprint + Net> Connections for Sockets<'_, R> {
+    ghost use Rattle.std.specs.Prelude.{◌≡◌};
+    ghost use Rattle.droid_wire_net.specs.Tallies.{after};
+
+    ghost does = { λ old event new. new.tally ≡ after old.tally event };
+
+    fn wait(&mut self, limit: u64, frames: u64) -> Result<(), WaitFault> {
+        self.print_minutely(frames);
+        // A connection that waits to be accepted is told of once alone.
+        let limit = if self.is_knocking && self.has_left {
+            0
+        } else {
+            limit
+        };
+        self.has_left = false;
+        let timeout = Duration::from_millis(limit);
+        match self.poll.poll(&mut self.events, Some(timeout)) {
+            Ok(()) => {
+                let knocks = note_ready(&self.events, &mut self.guests);
+                self.is_knocking = self.is_knocking || knocks;
+                Ok(())
+            }
+            Err(_) => Err(WaitFault),
+        }
+    }
+
+    fn now(&mut self) -> u64 {
+        if let Some(time) = self.milliseconds() {
+            self.time = time;
+        }
+        self.time
+    }
+
+    fn accept(&mut self, id: u64) -> bool {
+        if !self.is_knocking {
+            return false;
+        }
+        match accept_one(&self.listener) {
+            Accepted::One(stream, address) => {
+                if !take_in(&self.poll, &mut self.guests, id, stream, address) {
+                    return false;
+                }
+                self.tally.opened = count(self.tally.opened, 1);
+                true
+            }
+            Accepted::Nobody => {
+                self.is_knocking = false;
+                false
+            }
+            Accepted::Failed => false,
+        }
+    }
+
+    fn read(&mut self, id: u64, buffer: &mut [u8]) -> Came {
+        let came = read_from(&mut self.guests, id, buffer);
+        match came {
+            Came::Bytes(size) => self.tally.came = count(self.tally.came, size),
+            Came::Nothing => self.tally.came = count(self.tally.came, 0),
+            Came::End => {}
+            Came::Broken => {}
+        }
+        came
+    }
+
+    fn write(&mut self, id: u64, bytes: &[u8]) -> Took {
+        let took = write_to(&mut self.guests, id, bytes);
+        match took {
+            Took::Bytes(size) => self.tally.went = count(self.tally.went, size),
+            Took::Nothing => self.tally.went = count(self.tally.went, 0),
+            Took::Broken => {}
+        }
+        took
+    }
+
+    fn close(&mut self, id: u64, why: Departure, frames: u64) {
+        self.has_left = true;
+        self.tally.closed = count(self.tally.closed, 1);
+        let Some(place) = place_of(&self.guests, id) else {
+            return;
+        };
+        let guest = self.guests.swap_remove(place);
+        if self.verbosity == Verbosity::Verbose {
+            print_ended(self.runtime, &guest, why, frames);
+        }
+    }
+}
+
+/// What accepting a connection came to.
+enum Accepted {
+    /// A connection, and its address.
+    One(TcpStream, SocketAddr),
+    /// No connection waits.
+    Nobody,
+    /// It failed: for example, too many files are open.
+    Failed,
+}
+
+/// Accepts the next connection. A failure may be that of one connection: then the next one is tried.
+fn accept_one(listener: &TcpListener) -> Accepted {
+    for _ in 0..TRIES {
+        match listener.accept() {
+            Ok((stream, address)) => return Accepted::One(stream, address),
+            Err(error) => {
+                if error.kind() == ErrorKind::WouldBlock {
+                    return Accepted::Nobody;
+                }
+            }
+        }
+    }
+    Accepted::Failed
+}
+
+/// Has the system report on a connection, and keeps it. Returns false if that fails; then it is closed.
+fn take_in(
+    poll: &Poll,
+    guests: &mut Vec<Guest>,
+    id: u64,
+    mut stream: TcpStream,
+    address: SocketAddr,
+) -> bool {
+    // A reply is one write: don't delay it.
+    let _ = stream.set_nodelay(true);
+    let both = Interest::READABLE | Interest::WRITABLE;
+    let registry = poll.registry();
+    if registry
+        .register(&mut stream, Token(id as usize), both)
+        .is_err()
+    {
+        return false;
+    }
+    guests
+        .push(Guest {
+            id,
+            stream,
+            address,
+            readable: true,
+            writable: true,
+            came: 0,
+            went: 0,
+        })
+        .is_ok()
+}
+
+/// Notes what the system reported, and returns whether a connection waits to be accepted.
+fn note_ready(events: &Events, guests: &mut Vec<Guest>) -> bool {
+    let mut knocks = false;
+    for event in events.iter() {
+        let Token(token) = event.token();
+        if token == DOOR {
+            knocks = true;
+        } else {
+            let readable = event.is_readable() || event.is_read_closed() || event.is_error();
+            let writable = event.is_writable() || event.is_write_closed() || event.is_error();
+            note_one(guests, token as u64, readable, writable);
+        }
+    }
+    knocks
+}
+
+/// Notes that a connection can be read or written.
+fn note_one(guests: &mut Vec<Guest>, id: u64, readable: bool, writable: bool) {
+    if let Some(place) = place_of(guests, id) {
+        let guest = &mut guests[place];
+        guest.readable = guest.readable || readable;
+        guest.writable = guest.writable || writable;
+    }
+}
+
+/// Returns the place of the connection with this number.
+fn place_of(guests: &[Guest], id: u64) -> Option<usize>
+    ensures { IfSome result (λ place. place < length guests.now) }
+{
+    for (place, guest) in guests.iter().enumerate() {
+        if guest.id == id {
+            return Some(place);
+        }
+    }
+    None
+}
+
+/// Reads what has come of a connection. One that is not there is broken.
+fn read_from(guests: &mut Vec<Guest>, id: u64, buffer: &mut [u8]) -> Came
+    ensures { CameWithin result (length buffer.new) }
+{
+    match place_of(guests, id) {
+        Some(place) => guests[place].read(buffer),
+        None => Came::Broken,
+    }
+}
+
+/// Writes some of these bytes to a connection. One that is not there is broken.
+fn write_to(guests: &mut Vec<Guest>, id: u64, bytes: &[u8]) -> Took
+    ensures { TookWithin result (length bytes.now) }
+{
+    match place_of(guests, id) {
+        Some(place) => guests[place].write(bytes),
+        None => Took::Broken,
+    }
+}

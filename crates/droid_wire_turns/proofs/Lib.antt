@@ -1,0 +1,10 @@
+pub mod AllConnections
+pub mod ConnectionSteps
+pub mod HallSteps
+pub mod Moments
+pub mod OwnSteps
+pub mod PeerSteps
+pub mod PeerTurns
+pub mod ReadSteps
+pub mod ServesMore
+pub mod WriteSteps

@@ -1,0 +1,12 @@
+//! How serving many connections ended.
+
+/// How serving many connections ended. Each connection has left.
+#[derive(Clone, Copy, Debug, PartialEq, Eq)]
+pub enum Served {
+    /// All connections that were wanted came.
+    All,
+    /// Waiting failed, or there were 2^64 - 1 turns.
+    Stopped,
+    /// Out of memory for the list of connections. None was accepted.
+    Memory,
+}
