@@ -1,0 +1,98 @@
+//! A tree in memory.
+
+ghost use Rattle.std.specs.Prelude.{◌≡◌, ◌≤◌, IfErr, OnOk, length};
+ghost use Rattle.droid_tree.specs.Observation.{BytesCame};
+ghost use Rattle.droid_tree.specs.declared.fault.TreeFault.TheVariants as faults;
+
+use crate::trees::{Row, Shape, rows_of};
+use droid_frame::Blob;
+use droid_tree::{EntryKind, FolderEntry, Tree, TreeFault};
+use std::alloc::{AllocError, Global};
+
+/// A tree in memory. A folder lists its entries in the order of the rows. The inode of an entry is the index of its row.
+#[derive(Drop)]
+pub struct MemoryTree {
+    pub shape: Shape,
+    /// How many bytes were read.
+    pub read: u64,
+}
+
+impl MemoryTree {
+    pub fn of(shape: Shape) -> MemoryTree {
+        MemoryTree { shape, read: 0 }
+    }
+}
+
+impl Tree for MemoryTree {
+    ghost observes = { λ old observed new. Unit {0} };
+
+    fn entries(&mut self, alloc: Global, path: &str) -> Result<Vec<FolderEntry>, TreeFault> {
+        match entries_below(alloc, rows_of(self.shape), path) {
+            Ok(entries) => Ok(entries),
+            Err(_) => Err(TreeFault::Memory),
+        }
+    }
+
+    fn see_folder(&mut self, _alloc: Global, _path: &str) -> Result<(), TreeFault> {
+        Ok(())
+    }
+
+    fn read(
+        &mut self,
+        _path: &str,
+        entry: &FolderEntry,
+        from: u64,
+        wanted: u32,
+        bytes: &mut Vec<u8>,
+    ) -> Result<(), TreeFault>
+        ensures came { OnOk result (BytesCame (λ old observed new. Unit {0}) self.old _path.now entry.now from wanted bytes.old.items bytes.new.items self.new) }
+        ensures unread { IfErr result (λ fault. fault ≡ faults.Unreadable → Unit {0}) }
+        ensures exchanged { IfErr result (λ fault. fault ≡ faults.Changed → Unit {0}) }
+    {
+        let Some(all) = bytes_of(rows_of(self.shape), entry.inode) else {
+            return Err(TreeFault::Unreadable);
+        };
+        let part = cut(all, from, wanted);
+        self.read = self.read.wrapping_add(part.len() as u64);
+        match bytes.extend_from_slice(part) {
+            Ok(()) => Ok(()),
+            Err(_) => Err(TreeFault::Memory),
+        }
+    }
+}
+
+fn cut(all: &[u8], from: u64, wanted: u32) -> &[u8]
+    ensures { length result.now ≤ wanted }
+{
+    let from = (from as usize).min(all.len());
+    let rest = &all[from..];
+    &rest[..rest.len().min(wanted as usize)]
+}
+
+fn bytes_of(rows: &'static [Row], inode: u64) -> Option<&'static [u8]> {
+    match rows.get(inode as usize) {
+        Some(row) => row.4,
+        None => None,
+    }
+}
+
+fn entries_below(
+    alloc: Global,
+    rows: &'static [Row],
+    path: &str,
+) -> Result<Vec<FolderEntry>, AllocError> {
+    let mut entries = Vec::new(alloc);
+    for (index, row) in rows.iter().enumerate() {
+        if row.0 == path {
+            entries.push(FolderEntry {
+                name: Blob::copy_of(alloc, row.1)?,
+                kind: row.2,
+                modified: 0,
+                len: row.3,
+                device: 1,
+                inode: index as u64,
+            })?;
+        }
+    }
+    Ok(entries)
+}
