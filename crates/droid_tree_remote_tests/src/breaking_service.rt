@@ -1,5 +1,6 @@
 //! A service behind a connection that breaks.
 
+use crate::services::{empty_service, leave_place, service_of_another};
 use droid_core::Service;
 use droid_frame::{Frame, reply_body};
 use droid_tree_remote::{Broken, Connection};
@@ -20,6 +21,19 @@ pub enum Way {
     Gone,
 }
 
+/// What happens to the service.
+#[derive(Clone, Copy, PartialEq, Eq)]
+pub enum Change {
+    /// Nothing.
+    Nothing,
+    /// When the connection breaks, it forgets everything.
+    Forgets,
+    /// The same, and then another client makes a profile.
+    ForgetsForAnother,
+    /// In a pause, another client leaves its place for an unfinished file. The service serves one connection at a time.
+    Freed,
+}
+
 /// How connections break. Each connecting, writing and reading is a step.
 #[derive(Clone, Copy)]
 pub struct Trouble {
@@ -28,6 +42,7 @@ pub struct Trouble {
     pub way: Way,
     /// After how many steps each connection breaks, connecting included, or 0.
     pub lives: u32,
+    pub change: Change,
 }
 
 /// What happened on the connections.
@@ -50,10 +65,6 @@ pub struct Counts {
 pub struct BreakingService {
     pub alloc: Global,
     pub service: Option<Service>,
-    /// The service that stands there after the break, in the place of this one.
-    pub successor: Option<Service>,
-    /// What another client asks for at the first pause. The service serves one connection at a time.
-    pub other: Option<Frame>,
     pub trouble: Trouble,
     pub counts: Counts,
     replies: VecDeque<Frame>,
@@ -69,8 +80,6 @@ impl BreakingService {
         BreakingService {
             alloc,
             service,
-            successor: None,
-            other: None,
             trouble,
             counts: Counts {
                 steps: 0,
@@ -90,29 +99,20 @@ impl BreakingService {
     fn breaks(&mut self) -> bool {
         self.counts.steps = self.counts.steps.wrapping_add(1);
         self.lived = self.lived.wrapping_add(1);
-        let is_first = self.counts.steps == self.trouble.breaks_at;
-        if is_first {
-            self.change_service();
-        }
-        let breaks = is_first
-            | self.trouble.lasts(self.counts.steps)
-            | self.trouble.kills(self.lived);
+        let breaks = self.trouble.breaks(self.counts.steps, self.lived);
         if breaks {
             self.lose();
         }
         breaks
     }
 
-    fn change_service(&mut self) {
-        if let Some(successor) = self.successor.take() {
-            self.service = Some(successor);
-        }
-    }
-
     /// Gives up the connection, and the replies on it.
     fn lose(&mut self) {
         self.joined = false;
         self.replies.clear();
+        if self.counts.steps == self.trouble.breaks_at {
+            change_service(self.alloc, &mut self.service, self.trouble.change);
+        }
     }
 
     /// Lets the service handle a frame, and keeps its reply. Returns false if there is no memory.
@@ -131,14 +131,20 @@ impl BreakingService {
 }
 
 impl Trouble {
-    /// Returns whether no connection can be made any more.
-    fn lasts(self, step: u32) -> bool {
-        (self.way == Way::Gone) & (self.breaks_at != 0) & (step > self.breaks_at)
+    /// Returns whether a connection breaks at this step of all, which is this step of its own.
+    fn breaks(self, step: u32, lived: u32) -> bool {
+        let lasts = (self.way == Way::Gone) & (self.breaks_at != 0) & (step > self.breaks_at);
+        let dies = (self.lives != 0) & (lived > self.lives);
+        (step == self.breaks_at) | lasts | dies
     }
+}
 
-    /// Returns whether a connection of so many steps breaks.
-    fn kills(self, lived: u32) -> bool {
-        (self.lives != 0) & (lived > self.lives)
+/// Puts the service that comes after a break in the place of this one.
+fn change_service(alloc: Global, service: &mut Option<Service>, change: Change) {
+    match change {
+        Change::Forgets => *service = empty_service(alloc),
+        Change::ForgetsForAnother => *service = service_of_another(alloc),
+        Change::Nothing | Change::Freed => {}
     }
 }
 
@@ -171,7 +177,7 @@ impl Connection for BreakingService {
         if self.breaks() {
             return Err(Broken);
         }
-        self.lose();
+        self.replies.clear();
         self.joined = true;
         self.counts.joins = self.counts.joins.wrapping_add(1);
         Ok(())
@@ -185,7 +191,7 @@ impl Connection for BreakingService {
             return Err(Broken);
         }
         if breaks {
-            self.lose();
+            self.replies.clear();
             return Err(Broken);
         }
         Ok(())
@@ -202,9 +208,10 @@ impl Connection for BreakingService {
     }
 
     fn pause(&mut self) -> bool {
-        self.lose();
-        if let Some(frame) = self.other.take() {
-            let _ = replied(self.alloc, &mut self.service, &frame);
+        self.joined = false;
+        self.replies.clear();
+        if self.trouble.change == Change::Freed {
+            leave_place(self.alloc, &mut self.service);
         }
         match self.pauses.checked_sub(1) {
             Some(left) => {

@@ -1,12 +1,11 @@
 //! At each step of a submission the connection breaks, or the submission ends and is resumed, or the service forgets
 //! everything.
 
-use crate::breaking_service::{BreakingService, Trouble, Way};
+use crate::breaking_service::{Change, Trouble, Way};
 use crate::export_texts::{EIGHTEEN_TEXT, SMALL_TEXT};
-use crate::services::{empty_service, exports, service_of_another};
-use crate::submission::{UNBROKEN, outcome, submitted_over};
-use crate::trees::Shape;
-use droid_core::Service;
+use crate::services::{empty_service, exports};
+use crate::submission::{UNBROKEN, submitted};
+use crate::trees::{EIGHTEEN, SMALL};
 use std::alloc::Global;
 use std::process::Abort;
 
@@ -65,6 +64,7 @@ fn at(step: u32, way: Way) -> Trouble {
         breaks_at: step,
         way,
         lives: 0,
+        change: Change::Nothing,
     }
 }
 
@@ -74,46 +74,44 @@ fn lives(steps: u32) -> Trouble {
         breaks_at: 0,
         way: Way::Unsent,
         lives: steps,
+        change: Change::Nothing,
+    }
+}
+
+/// Breaks the connection at this step, where another service takes the place of this one. The frame arrives there.
+fn forgets(step: u32, change: Change) -> Trouble {
+    Trouble {
+        breaks_at: step,
+        way: Way::Arrived,
+        lives: 0,
+        change,
     }
 }
 
 /// Returns whether the submission goes on over new connections, at most so many with the first, and ends whole.
 fn is_sent_again(alloc: Global, trouble: Trouble, most: u32) -> bool {
     let mut service = empty_service(alloc);
-    let run = submitted_over(alloc, &mut service, Shape::Small, trouble);
+    let run = submitted(alloc, &mut service, SMALL, trouble);
     (run.ended == "whole") & (run.counts.joins <= most) & exports(alloc, &mut service, SMALL_TEXT)
 }
 
 /// Returns whether a submission that ends at this step is resumed, and no piece that arrived is sent again.
 fn is_resumed(alloc: Global, step: u32) -> bool {
     let mut service = empty_service(alloc);
-    let early = submitted_over(alloc, &mut service, Shape::Small, at(step, Way::Gone));
-    let run = submitted_over(alloc, &mut service, Shape::Small, UNBROKEN);
+    let early = submitted(alloc, &mut service, SMALL, at(step, Way::Gone));
+    let run = submitted(alloc, &mut service, SMALL, UNBROKEN);
     (early.ended == "broken")
         & (run.ended == "whole")
         & (early.counts.pieces.wrapping_add(run.counts.pieces) == PIECES)
         & exports(alloc, &mut service, SMALL_TEXT)
 }
 
-/// Makes a connection to a service. At this step another service takes its place.
-fn forgetful(
-    alloc: Global,
-    service: Option<Service>,
-    successor: Option<Service>,
-    step: u32,
-) -> BreakingService {
-    let mut connection = BreakingService::over(alloc, service, at(step, Way::Arrived));
-    connection.successor = successor;
-    connection
-}
-
 /// Returns whether a service that forgot everything is noticed exactly if this run has done more in it than it does again.
 /// Steps 1 to 3 are those of the profile, 4 and 5 those of the first folder, which has number 1 again; at step 6 the
 /// second node is added.
 fn is_noticed(alloc: Global, step: u32) -> bool {
-    let connection = forgetful(alloc, empty_service(alloc), empty_service(alloc), step);
-    let mut service = None;
-    let run = outcome(Shape::Small, connection, &mut service);
+    let mut service = empty_service(alloc);
+    let run = submitted(alloc, &mut service, SMALL, forgets(step, Change::Forgets));
     let noticed = run.ended == "restarted";
     (noticed == (7 < step)) & (noticed | exports(alloc, &mut service, SMALL_TEXT))
 }
@@ -122,11 +120,15 @@ fn is_noticed(alloc: Global, step: u32) -> bool {
 /// the profile and the file the same numbers. If it is noticed, then since a piece is too far ahead, or at Finish. The
 /// next run sends the pieces.
 fn is_lacked(alloc: Global, step: u32) -> bool {
-    let connection = forgetful(alloc, empty_service(alloc), empty_service(alloc), step);
-    let mut service = None;
-    let early = outcome(Shape::Eighteen, connection, &mut service);
+    let mut service = empty_service(alloc);
+    let early = submitted(
+        alloc,
+        &mut service,
+        EIGHTEEN,
+        forgets(step, Change::Forgets),
+    );
     let noticed = (early.ended == "restarted") | (early.ended == "lacks pieces");
-    let run = submitted_over(alloc, &mut service, Shape::Eighteen, UNBROKEN);
+    let run = submitted(alloc, &mut service, EIGHTEEN, UNBROKEN);
     (noticed | (early.ended == "whole"))
         & (run.ended == "whole")
         & (noticed | (run.counts.pieces == 0))
@@ -135,9 +137,9 @@ fn is_lacked(alloc: Global, step: u32) -> bool {
 
 /// Returns whether a new service is noticed in which another client made a profile.
 fn is_strange(alloc: Global, step: u32) -> bool {
-    let connection = forgetful(alloc, empty_service(alloc), service_of_another(alloc), step);
-    let mut service = None;
-    outcome(Shape::Small, connection, &mut service).ended == "restarted"
+    let mut service = empty_service(alloc);
+    let change = forgets(step, Change::ForgetsForAnother);
+    submitted(alloc, &mut service, SMALL, change).ended == "restarted"
 }
 
 fn check(rt: &impl Abort, alloc: Global, event: Event, from: u32, to: u32) {

@@ -9,13 +9,9 @@ mod each_step;
 #[cfg(test)]
 mod export_texts;
 #[cfg(test)]
-mod exports;
-#[cfg(test)]
 mod memory_tree;
 #[cfg(test)]
 mod noting_watcher;
-#[cfg(test)]
-mod options;
 #[cfg(test)]
 mod outcome;
 #[cfg(test)]

@@ -4,7 +4,7 @@ ghost use Rattle.std.specs.Prelude.{◌≡◌, ◌≤◌, IfErr, OnOk, length};
 ghost use Rattle.droid_tree.specs.Observation.{BytesCame};
 ghost use Rattle.droid_tree.specs.declared.fault.TreeFault.TheVariants as faults;
 
-use crate::trees::{Row, Shape, rows_of};
+use crate::trees::{ROWS, Row, SEALED};
 use droid_frame::Blob;
 use droid_tree::{EntryKind, FolderEntry, Tree, TreeFault};
 use std::alloc::{AllocError, Global};
@@ -12,14 +12,15 @@ use std::alloc::{AllocError, Global};
 /// A tree in memory. A folder lists its entries in the order of the rows. The inode of an entry is the index of its row.
 #[derive(Drop)]
 pub struct MemoryTree {
-    pub shape: Shape,
+    /// Which tree.
+    pub which: u8,
     /// How many bytes were read.
     pub read: u64,
 }
 
 impl MemoryTree {
-    pub fn of(shape: Shape) -> MemoryTree {
-        MemoryTree { shape, read: 0 }
+    pub fn of(which: u8) -> MemoryTree {
+        MemoryTree { which, read: 0 }
     }
 }
 
@@ -27,7 +28,7 @@ impl Tree for MemoryTree {
     ghost observes = { λ old observed new. Unit {0} };
 
     fn entries(&mut self, alloc: Global, path: &str) -> Result<Vec<FolderEntry>, TreeFault> {
-        match entries_below(alloc, rows_of(self.shape), path) {
+        match entries_below(alloc, ROWS, self.which, path) {
             Ok(entries) => Ok(entries),
             Err(_) => Err(TreeFault::Memory),
         }
@@ -49,7 +50,7 @@ impl Tree for MemoryTree {
         ensures unread { IfErr result (λ fault. fault ≡ faults.Unreadable → Unit {0}) }
         ensures exchanged { IfErr result (λ fault. fault ≡ faults.Changed → Unit {0}) }
     {
-        let Some(all) = bytes_of(rows_of(self.shape), entry.inode) else {
+        let Some(all) = bytes_of(ROWS, entry.inode) else {
             return Err(TreeFault::Unreadable);
         };
         let part = cut(all, from, wanted);
@@ -71,7 +72,13 @@ fn cut(all: &[u8], from: u64, wanted: u32) -> &[u8]
 
 fn bytes_of(rows: &'static [Row], inode: u64) -> Option<&'static [u8]> {
     match rows.get(inode as usize) {
-        Some(row) => row.4,
+        Some(row) => {
+            if row.0 == SEALED {
+                None
+            } else {
+                Some(row.3.as_bytes())
+            }
+        }
         None => None,
     }
 }
@@ -79,20 +86,30 @@ fn bytes_of(rows: &'static [Row], inode: u64) -> Option<&'static [u8]> {
 fn entries_below(
     alloc: Global,
     rows: &'static [Row],
+    which: u8,
     path: &str,
 ) -> Result<Vec<FolderEntry>, AllocError> {
     let mut entries = Vec::new(alloc);
     for (index, row) in rows.iter().enumerate() {
-        if row.0 == path {
-            entries.push(FolderEntry {
-                name: Blob::copy_of(alloc, row.1)?,
-                kind: row.2,
-                modified: 0,
-                len: row.3,
-                device: 1,
-                inode: index as u64,
-            })?;
+        if row.0 & which != 0 && row.1 == path {
+            entries.push(entry_of(alloc, row, index as u64)?)?;
         }
     }
     Ok(entries)
+}
+
+fn entry_of(alloc: Global, row: &Row, inode: u64) -> Result<FolderEntry, AllocError> {
+    let kind = if row.2 == "d" {
+        EntryKind::Folder
+    } else {
+        EntryKind::File
+    };
+    Ok(FolderEntry {
+        name: Blob::copy_of(alloc, row.2.as_bytes())?,
+        kind,
+        modified: 0,
+        len: row.3.len() as u64,
+        device: 1,
+        inode,
+    })
 }

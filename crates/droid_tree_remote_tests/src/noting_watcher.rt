@@ -2,19 +2,19 @@
 
 use droid_frame::{Refusal, Reply};
 use droid_tree::{Skipped, Watcher};
-use std::alloc::Global;
 
-/// Notes skipped entries and why they were skipped, and counts the files that were taken.
+/// Notes what was skipped, and counts the files that were taken.
 #[derive(Drop)]
 pub struct NotingWatcher {
-    pub skipped: Vec<u8>,
+    /// Nothing, or why `/d/more` was skipped, if nothing else was.
+    pub skipped: &'static str,
     pub files: u32,
 }
 
 impl NotingWatcher {
-    pub fn new(alloc: Global) -> NotingWatcher {
+    pub fn new() -> NotingWatcher {
         NotingWatcher {
-            skipped: Vec::new(alloc),
+            skipped: "",
             files: 0,
         }
     }
@@ -22,9 +22,13 @@ impl NotingWatcher {
 
 impl Watcher for NotingWatcher {
     fn skipped(&mut self, path: &[u8], why: Skipped) {
-        let _ = self.skipped.extend_from_slice(b", ");
-        let _ = self.skipped.extend_from_slice(path);
-        let _ = self.skipped.extend_from_slice(word_of(why));
+        let more: &[u8] = b"/d/more";
+        let is_more = (path == more) & self.skipped.is_empty();
+        self.skipped = if is_more {
+            word_of(why)
+        } else {
+            ", another was skipped"
+        };
     }
 
     fn held(&mut self, _path: &str, _count: u64) {}
@@ -40,17 +44,11 @@ impl Watcher for NotingWatcher {
     }
 }
 
-fn word_of(why: Skipped) -> &'static [u8] {
+fn word_of(why: Skipped) -> &'static str {
     match why {
-        Skipped::Link => b" is a link",
-        Skipped::Kind => b" is of another kind",
-        Skipped::Name => b" has no name in UTF-8",
-        Skipped::SameName => b" is there twice",
-        Skipped::Refused(Refusal::NumberReused) => b" was there before",
-        Skipped::Refused(Refusal::NameTaken) => b" was there before",
-        Skipped::Refused(_) => b" is refused",
-        Skipped::Unreadable => b" is unreadable",
-        Skipped::Changed => b" has changed",
-        Skipped::OtherHash => b" has another hash",
+        Skipped::Refused(Refusal::NumberReused) => ", /d/more was there before",
+        Skipped::Refused(Refusal::NameTaken) => ", /d/more was there before",
+        Skipped::Unreadable => ", /d/more is unreadable",
+        _ => ", /d/more was skipped",
     }
 }

@@ -6,7 +6,7 @@ use droid_tree_remote::{RemoteFault, SubmissionFault, Submitted, TransferFault};
 use std::alloc::Global;
 
 /// What a run of `submit` left.
-#[derive(Drop)]
+#[derive(Clone, Copy)]
 pub struct Outcome {
     /// How it ended: `whole` or `part`, or a word for the fault.
     pub ended: &'static str,
@@ -15,13 +15,13 @@ pub struct Outcome {
     pub files: u32,
     /// How many bytes were read from the tree.
     pub read: u64,
-    /// What was skipped, each with `, ` in front.
-    pub skipped: Vec<u8>,
+    /// What was skipped, with `, ` in front, or nothing.
+    pub skipped: &'static str,
 }
 
 impl Outcome {
-    /// Says all of it in words, or returns `None` if there is no memory.
-    pub fn text(&self, alloc: Global) -> Option<String> {
+    /// Returns whether these words say all of it.
+    pub fn says(self, alloc: Global, words: &str) -> bool {
         let Counts {
             steps,
             joins,
@@ -29,11 +29,14 @@ impl Outcome {
             pieces,
             most,
         } = self.counts;
-        let (ended, files, read) = (self.ended, self.files, self.read);
-        let skipped = std::str::from_utf8(self.skipped.as_slice()).ok()?;
-        format!(in alloc;
+        let (ended, files, read, skipped) = (self.ended, self.files, self.read, self.skipped);
+        let said = format!(in alloc;
             "{ended}: {frames} frames, {pieces} pieces, {joins} connections, {steps} steps, {most} in flight, {files} files, {read} bytes{skipped}"
-        ).ok()
+        );
+        match said {
+            Ok(said) => said.as_str() == words,
+            Err(_) => false,
+        }
     }
 }
 
@@ -48,17 +51,9 @@ pub fn word_of(ended: &Result<Submitted, RemoteFault>) -> &'static str {
 
 fn word_of_walk(fault: SubmissionFault) -> &'static str {
     match fault {
-        SubmissionFault::Refused(refusal) => word_of_refusal(refusal),
+        SubmissionFault::Refused(Refusal::Incomplete { .. }) => "lacks pieces",
+        SubmissionFault::Refused(Refusal::TooFarAhead { .. }) => "lacks pieces",
         _ => "another fault",
-    }
-}
-
-fn word_of_refusal(refusal: Refusal) -> &'static str {
-    match refusal {
-        Refusal::NumberReused => "other options",
-        Refusal::Incomplete { .. } => "lacks pieces",
-        Refusal::TooFarAhead { .. } => "lacks pieces",
-        _ => "another refusal",
     }
 }
 

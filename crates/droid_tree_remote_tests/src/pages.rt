@@ -1,12 +1,12 @@
 //! The examples of the pages of `droid_hash`, `droid_tree`, `droid_tree_upload`, `droid_tree_submission` and
 //! `droid_tree_remote`, word for word.
 
-use crate::breaking_service::{BreakingService, Trouble, Way};
+use crate::breaking_service::{BreakingService, Change, Trouble, Way};
 use crate::memory_tree::MemoryTree;
 use crate::noting_watcher::NotingWatcher;
 use crate::services::empty_service;
 use crate::submission::{CLIENT, OPTIONS, UNBROKEN};
-use crate::trees::Shape;
+use crate::trees::PAGE;
 use droid_frame::{Blob, HashKind, HashValue, Noted, Text};
 use droid_hash::RunningHash;
 use droid_tree::{EntryKind, FolderEntry, count, read_folder};
@@ -26,6 +26,7 @@ const AT_STEP_4: Trouble = Trouble {
     breaks_at: 4,
     way: Way::Unsent,
     lives: 0,
+    change: Change::Nothing,
 };
 
 #[test]
@@ -40,7 +41,7 @@ fn hash(rt: HostRuntime) {
 #[test]
 fn tree(rt: HostRuntime) -> Result<(), Fail> {
     let alloc = rt.alloc();
-    let mut tree = MemoryTree::of(Shape::Page);
+    let mut tree = MemoryTree::of(PAGE);
     let counted = count(alloc, &mut tree, 100_000)?;
     let entries = match read_folder(alloc, &mut tree, "")? {
         Ok(listing) => listing.entries.len(),
@@ -71,9 +72,9 @@ fn entry_of(alloc: Global, name: &str) -> Result<FolderEntry, AllocError> {
 #[test]
 fn upload(rt: HostRuntime) -> Result<(), Fail> {
     let alloc = rt.alloc();
-    let tree = MemoryTree::of(Shape::Page);
+    let tree = MemoryTree::of(PAGE);
     let client = client(alloc)?;
-    let watcher = NotingWatcher::new(alloc);
+    let watcher = NotingWatcher::new();
     let entry = entry_of(alloc, "a.txt")?;
     let name = std::str::from_utf8(entry.name.as_slice())?;
     let mut upload = Upload {
@@ -97,9 +98,9 @@ fn upload(rt: HostRuntime) -> Result<(), Fail> {
 #[test]
 fn submission(rt: HostRuntime) -> Result<(), Fail> {
     let alloc = rt.alloc();
-    let tree = MemoryTree::of(Shape::Page);
+    let tree = MemoryTree::of(PAGE);
     let client = client(alloc)?;
-    let watcher = NotingWatcher::new(alloc);
+    let watcher = NotingWatcher::new();
     let mut upload = Upload {
         alloc,
         tree,
@@ -114,8 +115,8 @@ fn submission(rt: HostRuntime) -> Result<(), Fail> {
 #[test]
 fn remote(rt: HostRuntime) -> Result<(), Fail> {
     let alloc = rt.alloc();
-    let tree = MemoryTree::of(Shape::Page);
-    let watcher = NotingWatcher::new(alloc);
+    let tree = MemoryTree::of(PAGE);
+    let watcher = NotingWatcher::new();
     let mut csv = Noted::new(Vec::new(alloc));
     let connection = BreakingService::over(alloc, empty_service(alloc), AT_STEP_4);
 

@@ -76,9 +76,9 @@ pub fn full_service(alloc: Global) -> Option<Service> {
     service
 }
 
-/// Makes the frame by which the other client leaves its place.
-pub fn leaving_frame(alloc: Global) -> Option<Frame> {
-    frame_of_another(alloc, 6, 6, LEFT)
+/// Lets the other client leave its place.
+pub fn leave_place(alloc: Global, service: &mut Option<Service>) {
+    let _ = asked_by_another(alloc, service, 6, LEFT);
 }
 
 /// Returns whether the whole export of the first profile is this text.

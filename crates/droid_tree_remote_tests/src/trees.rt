@@ -1,101 +1,56 @@
 //! The trees that are submitted.
 
-use droid_tree::EntryKind;
+/// Files of 0 bytes, 1 byte, one piece, and one byte more, and a file of many pieces in a folder.
+pub const SMALL: u8 = 1;
 
-/// An entry: its folder's path, its name, its type, the length that the folder lists, and its bytes, or `None` if it is
-/// unreadable.
-pub type Row = (
-    &'static str,
-    &'static [u8],
-    EntryKind,
-    u64,
-    Option<&'static [u8]>,
-);
+/// A file of eighteen pieces: more than are in flight at once.
+pub const EIGHTEEN: u8 = 2;
 
-/// A tree in memory.
-#[derive(Clone, Copy)]
-pub enum Shape {
-    /// Files of 0 bytes, 1 byte, one piece, and one byte more, and a file of many pieces in a folder.
-    Small,
-    /// A file of eighteen pieces: more than are in flight at once.
-    Eighteen,
-    /// A file, and a file in a folder.
-    First,
-    /// The first tree with a longer file.
-    Longer,
-    /// The first tree with two more files, before and behind the others.
-    Wider,
-    /// The first tree, of which a file can't be read.
-    Sealed,
-    /// The tree of the pages' examples.
-    Page,
-}
+/// A file, and a file in a folder.
+pub const FIRST: u8 = 4;
 
-/// Returns the entries of a tree.
-pub fn rows_of(shape: Shape) -> &'static [Row] {
-    match shape {
-        Shape::Small => SMALL,
-        Shape::Eighteen => EIGHTEEN,
-        Shape::First => FIRST,
-        Shape::Longer => LONGER,
-        Shape::Wider => WIDER,
-        Shape::Sealed => SEALED,
-        Shape::Page => PAGE,
-    }
-}
+/// The first tree with a longer file.
+pub const LONGER: u8 = 8;
 
-const SMALL: &[Row] = &[
-    ("", b"empty", EntryKind::File, 0, Some(b"")),
-    ("", b"one", EntryKind::File, 1, Some(b"a")),
-    ("", b"d", EntryKind::Folder, 0, Some(b"")),
-    ("/d", b"piece", EntryKind::File, 4, Some(b"abcd")),
-    ("/d", b"more", EntryKind::File, 5, Some(b"abcde")),
+/// The first tree with two more files, before and behind the others.
+pub const WIDER: u8 = 16;
+
+/// The first tree, of which a file can't be read.
+pub const SEALED: u8 = 32;
+
+/// The tree of the pages' examples.
+pub const PAGE: u8 = 64;
+
+/// An entry: the sum of the trees that it is in, its folder's path, its name, and its bytes. `d` is a folder.
+pub type Row = (u8, &'static str, &'static str, &'static str);
+
+/// The entries of all trees. That of the sealed tree alone can't be read.
+pub const ROWS: &[Row] = &[
+    // SMALL, FIRST, LONGER, WIDER and SEALED
+    (61, "", "d", ""),
+    // SMALL, FIRST and WIDER
+    (21, "/d", "more", "abcde"),
+    (LONGER, "/d", "more", "abcdefg"),
+    (SEALED, "/d", "more", "abcde"),
+    // FIRST, LONGER, WIDER and SEALED
+    (60, "", "z", "z"),
+    (WIDER, "", "a", "a"),
+    (WIDER, "/d", "new", "n"),
+    (SMALL, "", "empty", ""),
+    (SMALL, "", "one", "a"),
+    (SMALL, "/d", "piece", "abcd"),
     (
+        SMALL,
         "/d",
-        b"many",
-        EntryKind::File,
-        95,
-        Some(
-            b"message digest of many a piece, each of four bytes, and more of them than are under way at once",
-        ),
+        "many",
+        "message digest of many a piece, each of four bytes, and more of them than are under way at once",
     ),
-];
-
-const EIGHTEEN: &[Row] = &[(
-    "",
-    b"a",
-    EntryKind::File,
-    71,
-    Some(b"message digest, of more pieces than are under way at once, by four byte"),
-)];
-
-const FIRST: &[Row] = &[
-    ("", b"d", EntryKind::Folder, 0, Some(b"")),
-    ("/d", b"more", EntryKind::File, 5, Some(b"abcde")),
-    ("", b"z", EntryKind::File, 1, Some(b"z")),
-];
-
-const LONGER: &[Row] = &[
-    ("", b"d", EntryKind::Folder, 0, Some(b"")),
-    ("/d", b"more", EntryKind::File, 7, Some(b"abcdefg")),
-    ("", b"z", EntryKind::File, 1, Some(b"z")),
-];
-
-const WIDER: &[Row] = &[
-    ("", b"a", EntryKind::File, 1, Some(b"a")),
-    ("", b"d", EntryKind::Folder, 0, Some(b"")),
-    ("/d", b"more", EntryKind::File, 5, Some(b"abcde")),
-    ("/d", b"new", EntryKind::File, 1, Some(b"n")),
-    ("", b"z", EntryKind::File, 1, Some(b"z")),
-];
-
-const SEALED: &[Row] = &[
-    ("", b"d", EntryKind::Folder, 0, Some(b"")),
-    ("/d", b"more", EntryKind::File, 5, None),
-    ("", b"z", EntryKind::File, 1, Some(b"z")),
-];
-
-const PAGE: &[Row] = &[
-    ("", b"a.txt", EntryKind::File, 5, Some(b"Hello")),
-    ("", b"b.txt", EntryKind::File, 3, Some(b"abc")),
+    (
+        EIGHTEEN,
+        "",
+        "a",
+        "message digest, of more pieces than are under way at once, by four byte",
+    ),
+    (PAGE, "", "a.txt", "Hello"),
+    (PAGE, "", "b.txt", "abc"),
 ];
