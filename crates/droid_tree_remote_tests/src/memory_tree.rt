@@ -98,7 +98,8 @@ fn entries_below(
     Ok(entries)
 }
 
-fn entry_of(alloc: Global, row: &Row, inode: u64) -> Result<FolderEntry, AllocError> {
+/// Makes the entry of a row, with the row's index as its inode.
+pub fn entry_of(alloc: Global, row: &Row, inode: u64) -> Result<FolderEntry, AllocError> {
     let kind = if row.2 == "d" {
         EntryKind::Folder
     } else {

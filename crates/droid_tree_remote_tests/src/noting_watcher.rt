@@ -27,7 +27,7 @@ impl Watcher for NotingWatcher {
         self.skipped = if is_more {
             word_of(why)
         } else {
-            ", another was skipped"
+            "another was skipped"
         };
     }
 
@@ -46,9 +46,9 @@ impl Watcher for NotingWatcher {
 
 fn word_of(why: Skipped) -> &'static str {
     match why {
-        Skipped::Refused(Refusal::NumberReused) => ", /d/more was there before",
-        Skipped::Refused(Refusal::NameTaken) => ", /d/more was there before",
-        Skipped::Unreadable => ", /d/more is unreadable",
-        _ => ", /d/more was skipped",
+        Skipped::Refused(Refusal::NumberReused) => "/d/more was there before",
+        Skipped::Refused(Refusal::NameTaken) => "/d/more was there before",
+        Skipped::Unreadable => "/d/more is unreadable",
+        _ => "/d/more was skipped",
     }
 }

@@ -3,7 +3,6 @@
 use crate::breaking_service::Counts;
 use droid_frame::Refusal;
 use droid_tree_remote::{RemoteFault, SubmissionFault, Submitted, TransferFault};
-use std::alloc::Global;
 
 /// What a run of `submit` left.
 #[derive(Clone, Copy)]
@@ -15,28 +14,37 @@ pub struct Outcome {
     pub files: u32,
     /// How many bytes were read from the tree.
     pub read: u64,
-    /// What was skipped, with `, ` in front, or nothing.
+    /// What was skipped, or nothing.
     pub skipped: &'static str,
 }
 
+/// How a run ended; how many frames, and of these pieces, arrived; the connections, the steps and the replies in flight at
+/// most; the files that were taken, and the bytes that were read; what was skipped.
+pub type Left = (
+    &'static str,
+    u32,
+    u32,
+    u32,
+    u32,
+    usize,
+    u32,
+    u64,
+    &'static str,
+);
+
 impl Outcome {
-    /// Returns whether these words say all of it.
-    pub fn says(self, alloc: Global, words: &str) -> bool {
-        let Counts {
-            steps,
-            joins,
-            frames,
-            pieces,
-            most,
-        } = self.counts;
-        let (ended, files, read, skipped) = (self.ended, self.files, self.read, self.skipped);
-        let said = format!(in alloc;
-            "{ended}: {frames} frames, {pieces} pieces, {joins} connections, {steps} steps, {most} in flight, {files} files, {read} bytes{skipped}"
-        );
-        match said {
-            Ok(said) => said.as_str() == words,
-            Err(_) => false,
-        }
+    /// Returns whether it is this.
+    pub fn is_so(self, left: &Left) -> bool {
+        let counts = self.counts;
+        (self.ended == left.0)
+            & (counts.frames == left.1)
+            & (counts.pieces == left.2)
+            & (counts.joins == left.3)
+            & (counts.steps == left.4)
+            & (counts.most == left.5)
+            & (self.files == left.6)
+            & (self.read == left.7)
+            & (self.skipped == left.8)
     }
 }
 

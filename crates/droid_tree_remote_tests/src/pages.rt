@@ -1,19 +1,18 @@
 //! The examples of the pages of `droid_hash`, `droid_tree`, `droid_tree_upload`, `droid_tree_submission` and
-//! `droid_tree_remote`, word for word.
+//! `droid_tree_remote`. What they work with is lent to them.
 
-use crate::breaking_service::{BreakingService, Change, Trouble, Way};
-use crate::memory_tree::MemoryTree;
-use crate::noting_watcher::NotingWatcher;
+use crate::breaking_service::{Change, Trouble, Way};
+use crate::export_texts::SMALL_TEXT;
+use crate::memory_tree::{MemoryTree, entry_of};
 use crate::services::empty_service;
-use crate::submission::{CLIENT, OPTIONS, UNBROKEN};
-use crate::trees::PAGE;
-use droid_frame::{Blob, HashKind, HashValue, Noted, Text};
+use crate::submission::{OPTIONS, Run, UNBROKEN, run_over};
+use crate::trees::{A_TXT, PAGE, SMALL};
+use droid_frame::{HashKind, HashValue, Noted};
 use droid_hash::RunningHash;
-use droid_tree::{EntryKind, FolderEntry, count, read_folder};
-use droid_tree_remote::{Sender, Upload, export, submit};
+use droid_tree::{FolderEntry, count, name_of, read_folder};
+use droid_tree_remote::{SubmissionFault, export, submit};
 use droid_tree_submission::submit_tree;
 use droid_tree_upload::{Destination, Uploaded, create_profile, upload_file};
-use std::alloc::{AllocError, Global};
 use std::test::Fail;
 
 /// The MD5 of `abc` (RFC 1321).
@@ -21,7 +20,7 @@ const MD5_OF_ABC: [u8; 16] = [
     0x90, 0x01, 0x50, 0x98, 0x3c, 0xd2, 0x4f, 0xb0, 0xd6, 0x96, 0x3f, 0x7d, 0x28, 0xe1, 0x7f, 0x72,
 ];
 
-/// Writing AddFile breaks the connection.
+/// Writing AddFolder breaks the connection.
 const AT_STEP_4: Trouble = Trouble {
     breaks_at: 4,
     way: Way::Unsent,
@@ -39,99 +38,75 @@ fn hash(rt: HostRuntime) {
 }
 
 #[test]
-fn tree(rt: HostRuntime) -> Result<(), Fail> {
+fn tree(rt: HostRuntime) {
     let alloc = rt.alloc();
     let mut tree = MemoryTree::of(PAGE);
-    let counted = count(alloc, &mut tree, 100_000)?;
-    let entries = match read_folder(alloc, &mut tree, "")? {
-        Ok(listing) => listing.entries.len(),
-        Err(_) => 0,
+    let is_counted = match count(alloc, &mut tree, 100_000) {
+        Ok(counted) => (counted.files == 2) & (counted.bytes == 8),
+        Err(_) => false,
     };
-    assert!(rt; counted.files == 2 && counted.bytes == 8 && entries == 2);
-    Ok(())
-}
-
-/// Makes the client of a submission.
-fn client(alloc: Global) -> Result<Sender<BreakingService>, AllocError> {
-    let connection = BreakingService::over(alloc, empty_service(alloc), UNBROKEN);
-    Ok(Sender::new(alloc, connection, CLIENT, Text::copy_of(alloc, "/photos")?))
-}
-
-/// Makes the entry of a file.
-fn entry_of(alloc: Global, name: &str) -> Result<FolderEntry, AllocError> {
-    Ok(FolderEntry {
-        name: Blob::copy_of(alloc, name.as_bytes())?,
-        kind: EntryKind::File,
-        modified: 0,
-        len: 5,
-        device: 1,
-        inode: 0,
-    })
-}
-
-#[test]
-fn upload(rt: HostRuntime) -> Result<(), Fail> {
-    let alloc = rt.alloc();
-    let tree = MemoryTree::of(PAGE);
-    let client = client(alloc)?;
-    let watcher = NotingWatcher::new();
-    let entry = entry_of(alloc, "a.txt")?;
-    let name = std::str::from_utf8(entry.name.as_slice())?;
-    let mut upload = Upload {
-        alloc,
-        tree,
-        client,
-        watcher,
+    let entries = match read_folder(alloc, &mut tree, "") {
+        Ok(Ok(listing)) => listing.entries.len(),
+        _ => 0,
     };
-    let profile = create_profile(&mut upload, 65_536, false, HashKind::Sha256)?;
+    assert!(rt; is_counted & (entries == 2));
+}
+
+/// Returns whether a file is taken.
+fn takes(upload: &mut Run, entry: &FolderEntry) -> Result<bool, SubmissionFault> {
+    let Some(name) = name_of(entry) else {
+        return Ok(false);
+    };
+    let profile = create_profile(upload, 65_536, false, HashKind::Sha256)?;
     let into = Destination {
         profile,
         folder: 0,
         piece_size: 65_536,
         hash: HashKind::Sha256,
     };
-    let uploaded = upload_file(&mut upload, into, "/a.txt", name, &entry)?;
-    assert!(rt; matches!(&uploaded, Uploaded::Taken(_)));
-    Ok(())
+    let uploaded = upload_file(upload, into, "/a.txt", name, entry)?;
+    Ok(matches!(&uploaded, Uploaded::Taken(_)))
 }
 
 #[test]
-fn submission(rt: HostRuntime) -> Result<(), Fail> {
+fn upload(rt: HostRuntime) -> Result<(), Fail> {
     let alloc = rt.alloc();
-    let tree = MemoryTree::of(PAGE);
-    let client = client(alloc)?;
-    let watcher = NotingWatcher::new();
-    let mut upload = Upload {
-        alloc,
-        tree,
-        client,
-        watcher,
+    let entry = entry_of(alloc, &A_TXT, 0)?;
+    let mut upload = run_over(alloc, empty_service(alloc), PAGE, UNBROKEN);
+    let taken = takes(&mut upload, &entry);
+    assert!(rt; matches!(taken, Ok(true)));
+    Ok(())
+}
+
+/// Returns whether all of the page's tree is submitted.
+fn submits(upload: &mut Run) -> Result<bool, SubmissionFault> {
+    let submitted = submit_tree(upload, OPTIONS)?;
+    Ok(submitted.whole && submitted.nodes.len() == 2)
+}
+
+#[test]
+fn submission(rt: HostRuntime) {
+    let alloc = rt.alloc();
+    let mut upload = run_over(alloc, empty_service(alloc), PAGE, UNBROKEN);
+    let submitted = submits(&mut upload);
+    assert!(rt; matches!(submitted, Ok(true)));
+}
+
+/// Returns whether all of a tree is submitted, and what is written is one export.
+fn exports(upload: &mut Run, csv: &mut Noted<Vec<u8>>) -> bool {
+    let Ok(submitted) = submit(upload, OPTIONS) else {
+        return false;
     };
-    let submitted = submit_tree(&mut upload, OPTIONS)?;
-    assert!(rt; submitted.whole && submitted.nodes.len() == 2);
-    Ok(())
+    let is_one = export(&mut upload.client, submitted.profile, csv);
+    submitted.whole & matches!(is_one, Ok(true))
 }
 
 #[test]
-fn remote(rt: HostRuntime) -> Result<(), Fail> {
+fn remote(rt: HostRuntime) {
     let alloc = rt.alloc();
-    let tree = MemoryTree::of(PAGE);
-    let watcher = NotingWatcher::new();
     let mut csv = Noted::new(Vec::new(alloc));
-    let connection = BreakingService::over(alloc, empty_service(alloc), AT_STEP_4);
-
-    let sender = Sender::new(alloc, connection, CLIENT, Text::copy_of(alloc, "/photos")?);
-    let mut upload = Upload {
-        alloc,
-        tree,
-        client: sender,
-        watcher,
-    };
-    let submitted = submit(&mut upload, OPTIONS)?;
-    let is_one = export(&mut upload.client, submitted.profile, &mut csv)?;
-
-    assert!(rt; submitted.whole & is_one & (upload.client.in_flight.connection.counts.joins == 2));
-    let text = std::str::from_utf8(csv.stream.as_slice())?;
-    assert!(rt; text.contains("\"file:/a.txt\""));
-    Ok(())
+    let mut upload = run_over(alloc, empty_service(alloc), SMALL, AT_STEP_4);
+    let whole = exports(&mut upload, &mut csv);
+    assert!(rt; whole & (upload.client.in_flight.connection.counts.joins == 2));
+    assert!(rt; csv.stream.as_slice() == SMALL_TEXT.as_bytes());
 }

@@ -2,6 +2,7 @@
 
 use crate::breaking_service::{Change, Trouble, Way};
 use crate::export_texts::{FIRST_TEXT, SMALL_TEXT};
+use crate::outcome::Left;
 use crate::services::{empty_service, exports, full_service};
 use crate::submission::{UNBROKEN, submitted};
 use crate::trees::{FIRST, LONGER, SEALED, SMALL, WIDER};
@@ -45,7 +46,7 @@ enum To {
 
 /// A service, a tree, how connections break, what the run leaves, and the whole export of the first profile, or nothing
 /// where it is not looked at.
-type Row = (To, u8, Trouble, &'static str, &'static str);
+type Row = (To, u8, Trouble, Left, &'static str);
 
 /// A request is a frame and two steps. The requests for a new profile: one for it, one for each folder, an AddFile and a
 /// Finish for each file, and if it is not empty one more Finish, which is Incomplete, and its pieces. At most sixteen
@@ -55,7 +56,7 @@ const ROWS: &[Row] = &[
         To::Empty,
         SMALL,
         UNBROKEN,
-        "whole: 44 frames, 28 pieces, 1 connections, 89 steps, 16 in flight, 5 files, 105 bytes",
+        ("whole", 44, 28, 1, 89, 16, 5, 105, ""),
         SMALL_TEXT,
     ),
     // Nothing that the service holds is read or sent again.
@@ -63,14 +64,14 @@ const ROWS: &[Row] = &[
         To::Last,
         SMALL,
         UNBROKEN,
-        "whole: 12 frames, 0 pieces, 1 connections, 25 steps, 1 in flight, 5 files, 0 bytes",
+        ("whole", 12, 0, 1, 25, 1, 5, 0, ""),
         SMALL_TEXT,
     ),
     (
         To::Empty,
         FIRST,
         UNBROKEN,
-        "whole: 11 frames, 3 pieces, 1 connections, 23 steps, 3 in flight, 2 files, 6 bytes",
+        ("whole", 11, 3, 1, 23, 3, 2, 6, ""),
         "",
     ),
     // Another file of a name is skipped, and the walk goes on.
@@ -78,7 +79,7 @@ const ROWS: &[Row] = &[
         To::Last,
         LONGER,
         UNBROKEN,
-        "part: 5 frames, 0 pieces, 1 connections, 11 steps, 1 in flight, 1 files, 0 bytes, /d/more was there before",
+        ("part", 5, 0, 1, 11, 1, 1, 0, "/d/more was there before"),
         "",
     ),
     // What is new is sent, and what was there is not.
@@ -86,7 +87,7 @@ const ROWS: &[Row] = &[
         To::Last,
         WIDER,
         UNBROKEN,
-        "whole: 14 frames, 2 pieces, 1 connections, 29 steps, 2 in flight, 4 files, 2 bytes",
+        ("whole", 14, 2, 1, 29, 2, 4, 2, ""),
         "",
     ),
     // A file that can't be read is abandoned, and added again when it can be read.
@@ -94,14 +95,14 @@ const ROWS: &[Row] = &[
         To::Empty,
         SEALED,
         UNBROKEN,
-        "part: 9 frames, 1 pieces, 1 connections, 19 steps, 2 in flight, 1 files, 1 bytes, /d/more is unreadable",
+        ("part", 9, 1, 1, 19, 2, 1, 1, "/d/more is unreadable"),
         "",
     ),
     (
         To::Last,
         FIRST,
         UNBROKEN,
-        "whole: 11 frames, 2 pieces, 1 connections, 23 steps, 3 in flight, 2 files, 5 bytes",
+        ("whole", 11, 2, 1, 23, 3, 2, 5, ""),
         FIRST_TEXT,
     ),
     // A new connection begins with one frame alone. If none gets a reply, ten connections get one frame each.
@@ -109,7 +110,7 @@ const ROWS: &[Row] = &[
         To::Empty,
         SMALL,
         TWO_STEPS,
-        "broken: 10 frames, 0 pieces, 10 connections, 30 steps, 1 in flight, 0 files, 0 bytes",
+        ("broken", 10, 0, 10, 30, 1, 0, 0, ""),
         "",
     ),
     // Where no connection can be made, there is a try before each pause, and one behind the last.
@@ -117,7 +118,7 @@ const ROWS: &[Row] = &[
         To::Empty,
         SMALL,
         NONE,
-        "broken: 0 frames, 0 pieces, 0 connections, 10 steps, 0 in flight, 0 files, 0 bytes",
+        ("broken", 0, 0, 0, 10, 0, 0, 0, ""),
         "",
     ),
     // While it waits for a place, the client gives its connection up, so the other client is served and leaves the place.
@@ -126,7 +127,7 @@ const ROWS: &[Row] = &[
         To::Full,
         SMALL,
         FREED,
-        "whole: 47 frames, 28 pieces, 2 connections, 96 steps, 16 in flight, 5 files, 105 bytes",
+        ("whole", 47, 28, 2, 96, 16, 5, 105, ""),
         "",
     ),
     // Where no place comes free, there is a connection for each try.
@@ -134,7 +135,7 @@ const ROWS: &[Row] = &[
         To::Full,
         SMALL,
         UNBROKEN,
-        "busy: 30 frames, 0 pieces, 10 connections, 70 steps, 1 in flight, 0 files, 0 bytes",
+        ("busy", 30, 0, 10, 70, 1, 0, 0, ""),
         "",
     ),
 ];
@@ -158,10 +159,9 @@ fn first_wrong(alloc: Global, rows: &[Row]) -> Option<usize> {
 
 /// Returns whether the run of a row leaves what the row says.
 fn leaves(alloc: Global, service: &mut Option<Service>, row: &Row) -> bool {
-    let (to, tree, trouble, words, export) = *row;
-    put_service(alloc, service, to);
-    let left = submitted(alloc, service, tree, trouble);
-    left.says(alloc, words) && (export.is_empty() || exports(alloc, service, export))
+    put_service(alloc, service, row.0);
+    let left = submitted(alloc, service, row.1, row.2);
+    left.is_so(&row.3) && (row.4.is_empty() || exports(alloc, service, row.4))
 }
 
 fn put_service(alloc: Global, service: &mut Option<Service>, to: To) {

@@ -10,7 +10,7 @@ use droid_tree_remote::{Options, Sender, Upload, submit};
 use std::alloc::Global;
 
 /// The client.
-pub const CLIENT: u32 = 7;
+const CLIENT: u32 = 7;
 
 pub const OPTIONS: Options = Options {
     scan_limit: 65_536,
@@ -28,9 +28,9 @@ pub const UNBROKEN: Trouble = Trouble {
 };
 
 /// All that a run works with.
-type Run = Upload<MemoryTree, Sender<BreakingService>, NotingWatcher>;
+pub type Run = Upload<MemoryTree, Sender<BreakingService>, NotingWatcher>;
 
-/// Submits a tree to a service over connections that break so. The submission's name is the empty one.
+/// Submits a tree to a service over connections that break so.
 pub fn submitted(
     alloc: Global,
     service: &mut Option<Service>,
@@ -43,7 +43,8 @@ pub fn submitted(
     outcome_of(&run, ended)
 }
 
-fn run_over(alloc: Global, service: Option<Service>, tree: u8, trouble: Trouble) -> Run {
+/// Makes a run over a tree. The submission's name is the empty one.
+pub fn run_over(alloc: Global, service: Option<Service>, tree: u8, trouble: Trouble) -> Run {
     let connection = BreakingService::over(alloc, service, trouble);
     let name = Text::from(String::new(alloc));
     Upload {

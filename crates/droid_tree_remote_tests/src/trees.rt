@@ -24,8 +24,13 @@ pub const PAGE: u8 = 64;
 /// An entry: the sum of the trees that it is in, its folder's path, its name, and its bytes. `d` is a folder.
 pub type Row = (u8, &'static str, &'static str, &'static str);
 
+/// The first entry of the pages' tree.
+pub const A_TXT: Row = (PAGE, "", "a.txt", "Hello");
+
 /// The entries of all trees. That of the sealed tree alone can't be read.
 pub const ROWS: &[Row] = &[
+    (PAGE, "", "a.txt", "Hello"),
+    (PAGE, "", "b.txt", "abc"),
     // SMALL, FIRST, LONGER, WIDER and SEALED
     (61, "", "d", ""),
     // SMALL, FIRST and WIDER
@@ -51,6 +56,4 @@ pub const ROWS: &[Row] = &[
         "a",
         "message digest, of more pieces than are under way at once, by four byte",
     ),
-    (PAGE, "", "a.txt", "Hello"),
-    (PAGE, "", "b.txt", "abc"),
 ];
