@@ -1,0 +1,5 @@
+pub mod Every
+pub mod KeptPieces
+pub mod Loops
+pub mod Nodes
+pub mod NumberForms
