@@ -1,7 +1,7 @@
 use Rattle.std.proofs.Common.{◌≡◌, ◌∙◌, ℕ, false, length, sym, subst, arith}
-use Rattle.droid_desk_folders.specs.SkippedEntries.{holds_front, is_held, some_below}
-use Rattle.droid_desk_folders.proofs.SkippedPaths.{held_before, held_nowhere, held_whole}
-use Rattle.droid_desk_folders.proofs.skipped_paths.holds_above.Goals as goal
+use Rattle.droid_desk_outputs.specs.SkippedPaths.{holds_front, is_held, some_below}
+use Rattle.droid_desk_outputs.proofs.SkippedPaths.{held_before, held_nowhere, held_whole}
+use Rattle.droid_desk_outputs.proofs.skipped_paths.holds_above.Goals as goal
 
 pub returns-then-is_held : goal.returns-then-is_held
 returns-then-is_held c = sym (held_whole (is_held c.args.paths.now) c.args.path.now (sym c.is_held.ensures ∙ c.if-is_held.true))

@@ -1,9 +1,9 @@
 //! Keeps what a submission skips.
 
 ghost use Rattle.std.specs.Prelude.{◌≡◌, ◌++◌, [], ◌∷◌, true, OnOk};
-ghost use Rattle.droid_desk_folders.specs.SkippedEntries.{Records};
+ghost use Rattle.droid_desk_outputs.specs.SkippedPaths.{Records};
 
-use droid_desk_outputs::SkippedEntry;
+use crate::skipped_entry::SkippedEntry;
 use droid_frame::{Blob, Reply};
 use droid_tree::{Skipped, Watcher};
 use std::alloc::{AllocError, Global};

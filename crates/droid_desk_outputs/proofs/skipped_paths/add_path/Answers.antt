@@ -1,7 +1,7 @@
 use Rattle.std.specs.Str.{bytes_eq}
 use Rattle.std.proofs.lemmas.Map.Text.{btree_map_updates_str}
-use Rattle.droid_desk_folders.proofs.SkippedPaths.{held_more}
-use Rattle.droid_desk_folders.proofs.skipped_paths.add_path.Goals as goal
+use Rattle.droid_desk_outputs.proofs.SkippedPaths.{held_more}
+use Rattle.droid_desk_outputs.proofs.skipped_paths.add_path.Goals as goal
 
 pub returns : goal.returns
 returns c = λ path.

@@ -5,7 +5,7 @@ use Rattle.std.proofs.Math.Bool.{or-true, or-false}
 use Rattle.std.proofs.Math.Seq.{take-length}
 use Rattle.std.proofs.lemmas.Bool.{eqb-true}
 use Rattle.std.proofs.lemmas.List.{get_or_past}
-use Rattle.droid_desk_folders.specs.SkippedEntries.{ends_name, holds_above, holds_front, some_below}
+use Rattle.droid_desk_outputs.specs.SkippedPaths.{ends_name, holds_above, holds_front, some_below}
 
 -- one more path in a map
 pub held_more : (old after : Option Bool) (test : Bool) → after ≡ cond test (Some true) old → is_some after ≡ (is_some old || test)

@@ -1,6 +1,6 @@
 use Rattle.std.proofs.Common.{◌≡◌, false}
-use Rattle.droid_desk_folders.specs.SkippedEntries.{holds_front, is_held, some_below}
-use Rattle.droid_desk_folders.proofs.skipped_paths.holds_above.Given as goal
+use Rattle.droid_desk_outputs.specs.SkippedPaths.{holds_front, is_held, some_below}
+use Rattle.droid_desk_outputs.proofs.skipped_paths.holds_above.Given as goal
 
 abbrev pub invariant-loop-place : goal.invariant-loop-place
 invariant-loop-place l = record {

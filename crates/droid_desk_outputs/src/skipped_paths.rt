@@ -1,17 +1,17 @@
 //! Which paths were skipped, or lie below a skipped folder.
 
 ghost use Rattle.std.specs.Prelude.{◌≡◌, ◌||◌, ◌<◌, ℕ, List, IfOk, OnOk, bytes_eq, length};
-ghost use Rattle.droid_desk_folders.specs.SkippedEntries.{has_path, holds_above, holds_front, is_held};
+ghost use Rattle.droid_desk_outputs.specs.SkippedPaths.{has_path, holds_above, holds_front, is_held};
 
-use droid_desk_outputs::SkippedEntry;
+use crate::skipped_entry::SkippedEntry;
 use std::alloc::{AllocError, Global};
 use std::collections::BTreeMap;
 
 /// The paths of skipped entries.
-pub(crate) type SkippedPaths<'a> = BTreeMap<&'a [u8], bool>;
+pub type SkippedPaths<'a> = BTreeMap<&'a [u8], bool>;
 
 /// Returns the paths of these entries.
-pub(crate) fn paths_of<'a>(
+pub fn paths_of<'a>(
     alloc: Global,
     skipped: &'a [SkippedEntry],
 ) -> Result<SkippedPaths<'a>, AllocError>
@@ -34,7 +34,7 @@ fn add_path<'a>(paths: &mut SkippedPaths<'a>, entry: &'a SkippedEntry) -> Result
 
 /// Returns whether a path is among these, or a folder above it.
 #[tactic(auto, using(crate::proofs::SkippedPaths::none_next))]
-pub(crate) fn holds_above(paths: &SkippedPaths<'_>, path: &[u8]) -> bool
+pub fn holds_above(paths: &SkippedPaths<'_>, path: &[u8]) -> bool
     ensures { result ≡ holds_above (is_held paths.now) path.now }
 {
     if is_held(paths, path) {
