@@ -1,0 +1,4 @@
+pub mod Keeping
+pub mod Listing
+pub mod ReadableItems
+pub mod TreeChecks

@@ -1,9 +1,10 @@
 -- Which form a list of files has (this project's own): it is seen from its first line.
-use Rattle.std.specs.Prelude.{ℕ, ◌==◌, ◌&&◌, ◌||◌, Bool, true, false, List, [], ◌∷◌, take, drop, length, Option, Some, None, Result, Ok, Err, codes, if◌then◌else◌}
+use Rattle.std.specs.Prelude.{ℕ, ◌==◌, ◌||◌, Bool, true, false, not, List, [], ◌∷◌, take, length, Option, Some, None, Result, Ok, Err, codes, if◌then◌else◌}
 use Rattle.std.specs.List.{position}
-use Rattle.std.specs.Str.{bytes_eq}
+use Rattle.std.specs.Option.{is_some}
 use Rattle.droid_fixity.specs.declared.item.Item.{Item}
 use Rattle.droid_fixity_manifest.specs.Lists.{items_of}
+use Rattle.droid_fixity_manifest.specs.Paths.{behind, or_all}
 use Rattle.droid_fixity_manifest.specs.declared.form.ManifestForm.{ManifestForm}
 use Rattle.droid_fixity_manifest.specs.declared.form.ManifestForm.TheVariants.{Checksums, Bag}
 use Rattle.droid_fixity_manifest.specs.declared.list_fault.ManifestFault.{ManifestFault}
@@ -12,11 +13,11 @@ use Rattle.droid_desk_verify.specs.declared.list_form.ListForm.TheVariants.{Prof
 
 -- whether a text begins with these bytes
 abbrev pub begins : List ℕ → List ℕ → Bool
-begins front text = bytes_eq (take (length front) text) front
+begins front text = is_some (behind front text)
 
 -- a text without a byte order mark in front
 abbrev pub without_mark : List ℕ → List ℕ
-without_mark text = if begins (239 ∷ 187 ∷ 191 ∷ []) text then drop 3 text else text
+without_mark text = or_all text (behind (239 ∷ 187 ∷ 191 ∷ []) text)
 
 -- a profile's CSV begins with the name of its first column
 abbrev pub is_profile : List ℕ → Bool
@@ -33,13 +34,18 @@ first_line text = front_by text (position (λ b. b == 10) text)
 
 -- whether there are items
 abbrev pub has_items : Result (List Item) ManifestFault → Bool
-has_items (Ok []) = false
-has_items (Ok (item ∷ items)) = true
+has_items (Ok items) = not (length items == 0)
 has_items (Err fault) = false
+
+-- the form, by whether a list is that of a bag
+abbrev pub form_by : Bool → ManifestForm
+form_by true = Bag
+form_by false = Checksums
 
 -- In a bag, a list whose first line names a file below the folder `data` is the manifest of the bag.
 abbrev pub manifest_form : Bool → List ℕ → ManifestForm
-manifest_form in_bag text = if in_bag && has_items (items_of Bag (first_line text)) then Bag else Checksums
+manifest_form true text = form_by (has_items (items_of Bag (first_line text)))
+manifest_form false text = Checksums
 
 -- the form of a text
 abbrev pub form_of : Bool → List ℕ → ListForm

@@ -1,6 +1,6 @@
 -- The summary of a comparison (this project's own).
-use Rattle.std.specs.Prelude.{ℕ, ◌+◌, ◌-◌, ◌^◌, min, Bool, true, false, List, [], ◌∷◌, ◌++◌, Option, Some, None, codes, decimal, sum_by}
-use Rattle.std.specs.List.{count_by}
+use Rattle.std.specs.Prelude.{ℕ, ◌+◌, ◌-◌, ◌^◌, min, Bool, true, false, List, [], ◌∷◌, ◌++◌, Option, Some, None, codes, decimal}
+use Rattle.std.specs.List.{count_by, fold}
 use Rattle.droid_fixity.specs.Items.{is_file}
 use Rattle.droid_fixity.specs.declared.difference.Difference.TheVariants.{Changed, Missing, New, Moved, Touched}
 use Rattle.droid_fixity.specs.declared.item.Item.{Item}
@@ -47,12 +47,12 @@ abbrev pub known_bytes : Option ℕ → ℕ
 known_bytes None = 0
 known_bytes (Some length) = length
 
--- how many files there are, and how many bytes they have together, below 2^64
+-- how many files there are, and how many bytes they have together; more than 2^64 - 1 are not counted
 abbrev pub files_in : List Item → ℕ
 files_in items = count_by (λ item. is_file item.kind) items
 
 abbrev pub bytes_in : List Item → ℕ
-bytes_in items = min (sum_by (λ item. known_bytes item.length) items) (2 ^ 64 - 1)
+bytes_in items = fold (λ bytes item. min (bytes + known_bytes item.length) (2 ^ 64 - 1)) 0 items
 
 -- a name and a number, in a line
 unfoldable pub count_line : List ℕ → ℕ → List ℕ

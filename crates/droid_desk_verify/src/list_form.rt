@@ -1,7 +1,8 @@
 //! The form of a list of files.
 
-ghost use Rattle.std.specs.Prelude.{◌≡◌, ◌==◌, IfOk};
-ghost use Rattle.std.specs.List.{position};
+ghost use Rattle.std.specs.Prelude.{◌≡◌, IfOk, option_map};
+ghost use Rattle.droid_fixity_manifest.specs.Lists.{items_of};
+ghost use Rattle.droid_fixity_manifest.specs.Paths.{behind};
 ghost use Rattle.droid_desk_verify.specs.ListForms as forms;
 
 use droid_fixity_manifest::{ManifestFault, ManifestForm, read_manifest};
@@ -53,11 +54,9 @@ fn is_profile(text: &[u8]) -> bool
 fn without_mark(text: &[u8]) -> &[u8]
     ensures { result.now ≡ forms.without_mark text.now }
 {
-    let mark: [u8; 3] = [239, 187, 191];
-    if begins(mark.as_slice(), text) {
-        &text[3..]
-    } else {
-        text
+    match behind(b"\xef\xbb\xbf".as_slice(), text) {
+        Some(rest) => rest,
+        None => text,
     }
 }
 
@@ -65,9 +64,19 @@ fn without_mark(text: &[u8]) -> &[u8]
 fn begins(front: &[u8], text: &[u8]) -> bool
     ensures { result ≡ forms.begins front.now text.now }
 {
-    match text.split_at_checked(front.len()) {
-        Some((first, _)) => first == front,
+    match behind(front, text) {
+        Some(_) => true,
         None => false,
+    }
+}
+
+/// Returns what stands behind a text, if that stands in front.
+fn behind<'a>(front: &[u8], text: &'a [u8]) -> Option<&'a [u8]>
+    ensures { option_map (λ rest. rest.now) result ≡ behind front.now text.now }
+{
+    match text.split_at_checked(front.len()) {
+        Some((first, rest)) => { if first == front { Some(rest) } else { None } }
+        None => None,
     }
 }
 
@@ -75,21 +84,33 @@ fn begins(front: &[u8], text: &[u8]) -> bool
 fn manifest_form(alloc: Global, in_bag: bool, text: &[u8]) -> Result<ManifestForm, AllocError>
     ensures { IfOk result (λ form. form ≡ forms.manifest_form in_bag text.now) }
 {
-    if in_bag && is_of_bag(alloc, first_line(text))? {
-        Ok(ManifestForm::Bag)
+    if !in_bag {
+        return Ok(ManifestForm::Checksums);
+    }
+    let is_of_bag = is_of_bag(alloc, first_line(text))?;
+    Ok(form_by(is_of_bag))
+}
+
+fn form_by(is_of_bag: bool) -> ManifestForm
+    ensures { result ≡ forms.form_by is_of_bag }
+{
+    if is_of_bag {
+        ManifestForm::Bag
     } else {
-        Ok(ManifestForm::Checksums)
+        ManifestForm::Checksums
     }
 }
 
 /// Returns whether a line of a bag's manifest names a file below the folder `data`.
 fn is_of_bag(alloc: Global, line: &[u8]) -> Result<bool, AllocError>
-    ensures { IfOk result (λ is. is ≡ forms.has_items (forms.items_of forms.Bag line.now)) }
+    ensures { IfOk result (λ is. is ≡ forms.has_items (items_of ManifestForm.Bag line.now)) }
 {
     match read_manifest(alloc, ManifestForm::Bag, line) {
-        Ok(items) => Ok(!items.is_empty()),
+        Ok(items) => Ok(!items.as_slice().is_empty()),
         Err(ManifestFault::Memory) => Err(AllocError),
-        Err(_) => Ok(false),
+        Err(ManifestFault::Line { .. }) => Ok(false),
+        Err(ManifestFault::Path { .. }) => Ok(false),
+        Err(ManifestFault::Digest { .. }) => Ok(false),
     }
 }
 

@@ -67,14 +67,27 @@ pub fn check_tree<T: Tree, W: Watcher>(
     ensures ended { IfErr result (λ fault. EndsCheck T.observes W.hears registry.now (options_for options listed.hash) (names_files_alone listed.form) fault profiler.old profiler.new) }
 {
     let alloc = profiler.alloc;
-    profiler.recipient = ItemKeeper::new(alloc, listed.form.names_files_alone());
-    match profile(profiler, registry, options_for(options, listed.hash)) {
+    let files_only = listed.form.names_files_alone();
+    let keeper = ItemKeeper::new(alloc, files_only);
+    profiler.recipient = keeper;
+    let options = options_for(options, listed.hash);
+    match profile(profiler, registry, options) {
         Ok(_) => {
-            let items = mem::replace(&mut profiler.recipient.items, Vec::new(alloc));
-            compare_found(alloc, &mut profiler.watcher, listed.items, items)
+            let items = take_items(alloc, &mut profiler.recipient.items);
+            match compare_found(alloc, &mut profiler.watcher, listed.items, items) {
+                Ok(checked) => Ok(checked),
+                Err(fault) => Err(fault),
+            }
         }
         Err(fault) => Err(fault_of(fault)),
     }
+}
+
+/// Takes the items out.
+fn take_items(alloc: Global, items: &mut Vec<Item>) -> Vec<Item>
+    ensures { result.items ≡ items.old.items }
+{
+    mem::replace(items, Vec::new(alloc))
 }
 
 /// Returns the options with this kind of hash.
@@ -115,7 +128,10 @@ fn compare_found<W>(
         return Err(CheckFault::Memory);
     }
     drop_links(&mut recorder.skipped);
-    compare_readable(alloc, recorder.skipped.as_slice(), listed, items)
+    match compare_readable(alloc, recorder.skipped.as_slice(), listed, items) {
+        Ok(checked) => Ok(checked),
+        Err(fault) => Err(fault),
+    }
 }
 
 /// Removes the symbolic links from what was skipped.
