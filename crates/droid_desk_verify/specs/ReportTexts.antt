@@ -1,7 +1,7 @@
 -- The CSV of what is reported (this project's own).
-use Rattle.std.specs.Prelude.{ℕ, List, [], ◌∷◌, ◌++◌, Option, Some, None, codes, decimal, slice_get}
+use Rattle.std.specs.Prelude.{ℕ, List, [], ◌∷◌, ◌++◌, Option, Some, None, codes, slice_get}
+use Rattle.std.specs.Fmt.{decimal}
 use Rattle.std.specs.List.{flat_map}
-use Rattle.std.specs.Option.{option_and_then, option_map_or}
 use Rattle.hex.specs.Hex.{encode_lower}
 use Rattle.droid_desk_progress.specs.Paths.{cause_text}
 use Rattle.droid_export.specs.Csv.{line}

@@ -77,6 +77,7 @@ fn add_item(items: &mut Vec<Item>, item: Item) -> Result<(), AllocError>
 }
 
 /// Returns the item of a record.
+#[tactic(auto, using(crate::proofs::Moments::moment_written))]
 fn item_of(alloc: Global, next: &Record) -> Result<Item, AllocError>
     requires { IsTrue (is_moment next.now.modified) }
     ensures { IfOk result (λ item. item ≡ item_of_record next.now) }

@@ -5,6 +5,7 @@
 mod finding;
 mod folder_check;
 mod item_keeper;
+pub mod laws;
 mod list_form;
 mod listed;
 mod readable_items;

@@ -1,11 +1,8 @@
 //! What a list says.
 
-ghost use Rattle.std.specs.Prelude.{◌≡◌, ℕ, List, IfErr, IfOk};
-ghost use Rattle.csv.specs.Reading.{AreRecords, default_config, strip_bom};
-ghost use Rattle.csv.specs.declared.parser.State.TheVariants as st;
-ghost use Rattle.droid_fixity.specs.Inventories.{IsTwice};
-ghost use Rattle.droid_fixity_profile.specs.Comparisons.{IsInventory};
-ghost use Rattle.droid_desk_verify.specs.Listings.{ListSays, Says, hash_in};
+ghost use Rattle.std.specs.Prelude.{◌≡◌, Ok};
+ghost use Rattle.droid_desk_verify.specs.Listings.{Comes, ListSays, Says, hash_in};
+ghost use Rattle.droid_desk_verify.specs.declared.list_form.ListForm.TheVariants as forms;
 
 use crate::list_form::ListForm;
 use droid_fixity::{Inventory, Item, SamePath};
@@ -73,28 +70,35 @@ fn items_in(alloc: Global, form: ListForm, text: &[u8]) -> Result<Inventory, Unr
 }
 
 /// Reads the items of a profile's CSV.
+#[tactic(auto, using(crate::proofs::Listing::profile_comes))]
 fn items_of_profile(alloc: Global, text: &[u8]) -> Result<Inventory, UnreadList>
-    ensures { Says ListForm.Profile text.now result }
+    ensures { Says forms.Profile text.now result }
 {
     match read_profile(alloc, text) {
         Ok(items) => in_order(items),
         Err(ListFault::Memory) => Err(UnreadList::Memory),
-        Err(fault) => Err(UnreadList::Profile(fault)),
+        Err(ListFault::Header) => Err(UnreadList::Profile(ListFault::Header)),
+        Err(ListFault::Record { record }) => Err(UnreadList::Profile(ListFault::Record { record })),
     }
 }
 
 /// Reads the items of a list of checksums.
+#[tactic(auto, using(crate::proofs::Listing::manifest_comes))]
 fn items_of_manifest(
     alloc: Global,
     form: ManifestForm,
     text: &[u8],
 ) -> Result<Inventory, UnreadList>
-    ensures { Says (ListForm.Checksum form) text.now result }
+    ensures { Says (forms.Checksum form) text.now result }
 {
     match read_manifest(alloc, form, text) {
         Ok(items) => in_order(items),
         Err(ManifestFault::Memory) => Err(UnreadList::Memory),
-        Err(fault) => Err(UnreadList::Manifest(fault)),
+        Err(ManifestFault::Line { line }) => Err(UnreadList::Manifest(ManifestFault::Line { line })),
+        Err(ManifestFault::Path { line }) => Err(UnreadList::Manifest(ManifestFault::Path { line })),
+        Err(ManifestFault::Digest { line }) => {
+            Err(UnreadList::Manifest(ManifestFault::Digest { line }))
+        }
     }
 }
 
@@ -113,6 +117,7 @@ fn in_order(items: Vec<Item>) -> Result<Inventory, UnreadList>
 }
 
 /// Returns the kind of the first hash that items have.
+#[tactic(auto, using(crate::proofs::Listing::no_hash, crate::proofs::Listing::this_hash, crate::proofs::Listing::none_left))]
 fn hash_in(items: &[Item]) -> HashKind
     ensures { result ≡ hash_in items.now }
 {

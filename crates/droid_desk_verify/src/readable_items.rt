@@ -13,6 +13,7 @@ use droid_frame::Blob;
 use std::alloc::{AllocError, Global};
 
 /// Returns the items that are neither unreadable nor below an unreadable folder.
+#[tactic(auto, using(crate::proofs::ReadableItems::some_in_order))]
 pub(crate) fn readable_of(
     alloc: Global,
     unreadable: &[SkippedEntry],
@@ -20,16 +21,17 @@ pub(crate) fn readable_of(
 ) -> Result<Inventory, AllocError>
     ensures { IfOk result (λ readable. IsInventory (readable_in unreadable.now items) readable) }
 {
-    // The prover learns from this call that the paths are in order.
-    let listed = items.as_slice();
     if unreadable.is_empty() {
+        // The prover learns from this call that the paths are in order.
+        let _items = items.as_slice();
         return Ok(items);
     }
-    let readable = readable_in(alloc, unreadable, listed)?;
+    let readable = readable_in(alloc, unreadable, items.as_slice())?;
     Ok(inventory_of(readable))
 }
 
 /// Returns the inventory of items that are in order of path.
+#[tactic(auto, using(crate::proofs::ReadableItems::never_twice))]
 fn inventory_of(items: Vec<Item>) -> Inventory
     requires { AreInOrder (map (λ item. item.path) items.items) }
     ensures { IsInventory items.items result }

@@ -1,7 +1,6 @@
 //! The CSV of what is reported.
 
-ghost use Rattle.std.specs.Prelude.{◌≡◌, ◌++◌, ℕ, List, [], ◌∷◌, IfOk, OnOk, option_map, string_bytes};
-ghost use Rattle.std.specs.Option.{option_copied};
+ghost use Rattle.std.specs.Prelude.{◌≡◌, ◌++◌, ℕ, List, [], ◌∷◌, IfOk, OnOk, option_copied, string_bytes};
 ghost use Rattle.droid_export.specs.Csv.{line};
 ghost use Rattle.droid_export.specs.CsvBuffer.{Holds};
 ghost use Rattle.droid_desk_verify.specs.ReportTexts as texts;

@@ -1,7 +1,6 @@
 //! The summary of a comparison.
 
 ghost use Rattle.std.specs.Prelude.{◌≡◌, Some};
-ghost use Rattle.droid_fixity.specs.Items as items;
 ghost use Rattle.droid_desk_verify.specs.Summaries as summaries;
 
 use crate::finding::{Finding, Kind};
@@ -13,22 +12,22 @@ use std::fmt::{self, Display, Formatter, Write};
 #[derive(Clone, Copy, Debug, PartialEq, Eq)]
 pub struct KindCounts {
     /// Files and folders that differ.
-    pub changed: usize,
+    pub changed: u64,
     /// Those that are missing.
-    pub missing: usize,
+    pub missing: u64,
     /// Those that are new.
-    pub new: usize,
+    pub added: u64,
     /// Files that moved.
-    pub moved: usize,
+    pub moved: u64,
     /// What could not be read.
-    pub unreadable: usize,
+    pub unreadable: u64,
 }
 
 /// The summary of a comparison.
 #[derive(Clone, Copy, Debug, PartialEq, Eq)]
 pub struct Summary {
     /// How many files the folder has.
-    pub files: usize,
+    pub files: u64,
     /// How many bytes they have together.
     pub bytes: u64,
     /// How many findings of each kind there are.
@@ -40,89 +39,60 @@ impl KindCounts {
     pub fn of(findings: &[Finding]) -> KindCounts
         ensures { result ≡ summaries.counts_of findings.now }
     {
-        KindCounts {
-            changed: findings.iter().filter(|finding| is_changed(finding.kind)).count(),
-            missing: findings.iter().filter(|finding| is_missing(finding.kind)).count(),
-            new: findings.iter().filter(|finding| is_new(finding.kind)).count(),
-            moved: findings.iter().filter(|finding| is_moved(finding.kind)).count(),
-            unreadable: findings.iter().filter(|finding| is_unreadable(finding.kind)).count(),
+        let mut counts = KindCounts {
+            changed: 0,
+            missing: 0,
+            added: 0,
+            moved: 0,
+            unreadable: 0,
+        };
+        for finding in findings {
+            counts = counts.with_kind(finding.kind);
         }
+        counts
+    }
+
+    /// Counts one more finding.
+    fn with_kind(self, kind: Kind) -> KindCounts
+        ensures { result ≡ summaries.with_kind self kind }
+    {
+        let mut counts = self;
+        match kind {
+            Kind::Differs(Difference::Changed { .. }) => counts.changed = one_more(counts.changed),
+            Kind::Differs(Difference::Touched { .. }) => counts.changed = one_more(counts.changed),
+            Kind::Differs(Difference::Missing { .. }) => counts.missing = one_more(counts.missing),
+            Kind::Differs(Difference::New { .. }) => counts.added = one_more(counts.added),
+            Kind::Differs(Difference::Moved { .. }) => counts.moved = one_more(counts.moved),
+            Kind::Unreadable(_) => counts.unreadable = one_more(counts.unreadable),
+        }
+        counts
     }
 }
 
-fn is_changed(kind: Kind) -> bool
-    ensures { result ≡ summaries.is_changed kind }
+/// Adds one, up to the greatest number of 64 bits.
+fn one_more(count: u64) -> u64
+    ensures { result ≡ summaries.one_more count }
 {
-    match kind {
-        Kind::Differs(Difference::Changed { .. }) | Kind::Differs(Difference::Touched { .. }) => true,
-        Kind::Differs(Difference::Missing { .. })
-        | Kind::Differs(Difference::New { .. })
-        | Kind::Differs(Difference::Moved { .. })
-        | Kind::Unreadable(_) => false,
-    }
-}
-
-fn is_missing(kind: Kind) -> bool
-    ensures { result ≡ summaries.is_missing kind }
-{
-    match kind {
-        Kind::Differs(Difference::Missing { .. }) => true,
-        Kind::Differs(Difference::Changed { .. })
-        | Kind::Differs(Difference::Touched { .. })
-        | Kind::Differs(Difference::New { .. })
-        | Kind::Differs(Difference::Moved { .. })
-        | Kind::Unreadable(_) => false,
-    }
-}
-
-fn is_new(kind: Kind) -> bool
-    ensures { result ≡ summaries.is_new kind }
-{
-    match kind {
-        Kind::Differs(Difference::New { .. }) => true,
-        Kind::Differs(Difference::Changed { .. })
-        | Kind::Differs(Difference::Touched { .. })
-        | Kind::Differs(Difference::Missing { .. })
-        | Kind::Differs(Difference::Moved { .. })
-        | Kind::Unreadable(_) => false,
-    }
-}
-
-fn is_moved(kind: Kind) -> bool
-    ensures { result ≡ summaries.is_moved kind }
-{
-    match kind {
-        Kind::Differs(Difference::Moved { .. }) => true,
-        Kind::Differs(Difference::Changed { .. })
-        | Kind::Differs(Difference::Touched { .. })
-        | Kind::Differs(Difference::Missing { .. })
-        | Kind::Differs(Difference::New { .. })
-        | Kind::Unreadable(_) => false,
-    }
-}
-
-fn is_unreadable(kind: Kind) -> bool
-    ensures { result ≡ summaries.is_unreadable kind }
-{
-    match kind {
-        Kind::Unreadable(_) => true,
-        Kind::Differs(_) => false,
-    }
+    count.saturating_add(1)
 }
 
 /// Returns how many files there are among items.
-pub(crate) fn files_in(items: &[Item]) -> usize
+pub(crate) fn files_in(items: &[Item]) -> u64
     ensures { result ≡ summaries.files_in items.now }
 {
-    items.iter().filter(|item| is_file(item.kind)).count()
+    let mut files = 0;
+    for item in items {
+        files = with_item(item.kind, files);
+    }
+    files
 }
 
-fn is_file(kind: NodeKind) -> bool
-    ensures { result ≡ items.is_file kind }
+fn with_item(kind: NodeKind, count: u64) -> u64
+    ensures { result ≡ summaries.with_item kind count }
 {
     match kind {
-        NodeKind::File => true,
-        NodeKind::Folder => false,
+        NodeKind::File => one_more(count),
+        NodeKind::Folder => count,
     }
 }
 
@@ -171,13 +141,13 @@ impl Display for Summary {
 
     #[tactic(auto, unfolding(crate::specs::Summaries::summary_text))]
     fn fmt<W: Write>(&self, f: &mut Formatter<W>) -> fmt::Result {
-        let files = line("files compared", self.files as u64);
+        let files = line("files compared", self.files);
         let bytes = line("bytes compared", self.bytes);
-        let changed = line("changed", self.kinds.changed as u64);
-        let missing = line("missing", self.kinds.missing as u64);
-        let new = line("new", self.kinds.new as u64);
-        let moved = line("moved", self.kinds.moved as u64);
-        let unreadable = line("unreadable", self.kinds.unreadable as u64);
-        write!(f, "{files}{bytes}{changed}{missing}{new}{moved}{unreadable}")
+        let changed = line("changed", self.kinds.changed);
+        let missing = line("missing", self.kinds.missing);
+        let added = line("new", self.kinds.added);
+        let moved = line("moved", self.kinds.moved);
+        let unreadable = line("unreadable", self.kinds.unreadable);
+        write!(f, "{files}{bytes}{changed}{missing}{added}{moved}{unreadable}")
     }
 }

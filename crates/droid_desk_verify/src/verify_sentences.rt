@@ -20,7 +20,10 @@ impl VerifyEnding {
         match self {
             VerifyEnding::Same | VerifyEnding::Differing => Ok(()),
             VerifyEnding::NoFolder => print_no_folder(rt, options.folder),
-            VerifyEnding::Unopened(kind) => eprintln!(rt; "{list}: {kind}"),
+            VerifyEnding::Unopened(kind) => {
+                let kind = *kind;
+                eprintln!(rt; "{list}: {kind}")
+            }
             VerifyEnding::NoList(fault) => print_no_list(rt, list, fault),
             VerifyEnding::NoMemory => eprintln!(rt; "{NO_MEMORY}"),
             VerifyEnding::Numbers => {
