@@ -6,8 +6,12 @@ use Rattle.droid_frame.specs.types.hash_kind.HashKind.{HashKind}
 use Rattle.droid_frame.specs.types.hash_kind.HashKind.TheVariants as kinds
 use Rattle.droid_fixity.specs.declared.item.Item.{Item}
 use Rattle.droid_fixity_lists.specs.declared.fault.ListFault.{ListFault}
+use Rattle.droid_fixity_lists.specs.declared.fault.ListFault.TheVariants as list
 use Rattle.droid_fixity_manifest.specs.declared.list_fault.ManifestFault.{ManifestFault}
-use Rattle.droid_desk_verify.specs.Listings.{Comes, hash_in, of_manifest, of_profile, or_later}
+use Rattle.droid_fixity_manifest.specs.declared.list_fault.ManifestFault.TheVariants as manifest
+use Rattle.droid_desk_verify.specs.Listings.{Comes, Says, hash_in, manifest_fault, of_manifest, of_profile, or_later, profile_fault}
+use Rattle.droid_desk_verify.specs.declared.list_form.ListForm.{ListForm}
+use Rattle.droid_desk_verify.specs.declared.list_form.ListForm.TheVariants.{Profile, Checksum}
 use Rattle.droid_desk_verify.specs.declared.listed.UnreadList.{UnreadList}
 use Rattle.droid_desk_verify.specs.declared.listed.UnreadList.TheVariants as faults
 
@@ -18,6 +22,24 @@ profile_comes expected items result is comes = subst (λ (e : Result (List Item)
 
 pub manifest_comes : (expected : Result (List Item) ManifestFault) (items : List Item) (result : Result (List Item) UnreadList) → expected ≡ Ok items → Comes (Ok items) result → Comes (of_manifest expected) result
 manifest_comes expected items result is comes = subst (λ (e : Result (List Item) ManifestFault). Comes (of_manifest e) result) (sym is) comes
+
+-- ---- faults
+
+pub profile_fails : (expected : Result (List Item) ListFault) (fault : ListFault) → (fault ≢ list.Memory → expected ≡ Err fault) → Comes (of_profile expected) (Err (profile_fault fault))
+profile_fails expected list.Memory gives = tt
+profile_fails expected list.Header gives = ap of_profile (gives (λ e. cc e))
+profile_fails expected (list.Record number) gives = ap of_profile (gives (λ e. cc e))
+
+pub manifest_fails : (expected : Result (List Item) ManifestFault) (fault : ManifestFault) → (fault ≢ manifest.Memory → expected ≡ Err fault) → Comes (of_manifest expected) (Err (manifest_fault fault))
+manifest_fails expected manifest.Memory gives = tt
+manifest_fails expected (manifest.Line line) gives = ap of_manifest (gives (λ e. cc e))
+manifest_fails expected (manifest.Path line) gives = ap of_manifest (gives (λ e. cc e))
+manifest_fails expected (manifest.Digest line) gives = ap of_manifest (gives (λ e. cc e))
+
+-- whatever the form, memory may run out
+pub memory_says : (form : ListForm) (text : List ℕ) → Says form text (Err faults.Memory)
+memory_says Profile text = λ records are. tt
+memory_says (Checksum form) text = tt
 
 -- ---- the first hash
 

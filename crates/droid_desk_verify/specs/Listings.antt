@@ -9,8 +9,10 @@ use Rattle.droid_fixity.specs.Inventories.{IsTwice}
 use Rattle.droid_fixity.specs.declared.item.Item.{Item}
 use Rattle.droid_fixity_lists.specs.Profiles.{profile_of}
 use Rattle.droid_fixity_lists.specs.declared.fault.ListFault.{ListFault}
+use Rattle.droid_fixity_lists.specs.declared.fault.ListFault.TheVariants as list
 use Rattle.droid_fixity_manifest.specs.Lists.{items_of}
 use Rattle.droid_fixity_manifest.specs.declared.list_fault.ManifestFault.{ManifestFault}
+use Rattle.droid_fixity_manifest.specs.declared.list_fault.ManifestFault.TheVariants as manifest
 use Rattle.droid_fixity_profile.specs.Comparisons.{IsInventory}
 use Rattle.droid_desk_verify.specs.ListForms.{form_of}
 use Rattle.droid_desk_verify.specs.declared.list_form.ListForm.{ListForm}
@@ -27,6 +29,18 @@ of_profile (Err fault) = Err (faults.Profile fault)
 abbrev pub of_manifest : Result (List Item) ManifestFault → Result (List Item) UnreadList
 of_manifest (Ok items) = Ok items
 of_manifest (Err fault) = Err (faults.Manifest fault)
+
+-- the fault that is returned
+abbrev pub profile_fault : ListFault → UnreadList
+profile_fault list.Memory = faults.Memory
+profile_fault list.Header = faults.Profile list.Header
+profile_fault (list.Record number) = faults.Profile (list.Record number)
+
+abbrev pub manifest_fault : ManifestFault → UnreadList
+manifest_fault manifest.Memory = faults.Memory
+manifest_fault (manifest.Line line) = faults.Manifest (manifest.Line line)
+manifest_fault (manifest.Path line) = faults.Manifest (manifest.Path line)
+manifest_fault (manifest.Digest line) = faults.Manifest (manifest.Digest line)
 
 -- what comes of the items of a list: their inventory, or the first fault
 abbrev pub Comes : Result (List Item) UnreadList → Result (List Item) UnreadList → Type 0
@@ -51,7 +65,11 @@ abbrev pub hash_in : List Item → HashKind
 hash_in [] = kinds.Nothing
 hash_in (item ∷ items) = or_later (hash_value_kind item.hash) (hash_in items)
 
--- the list: its form, its items in order of path, and the kind of their hashes
+-- the list of this form: its items in order of path, and the kind of their hashes
+abbrev pub ListSaysBy : ListForm → List ℕ → Result Listed UnreadList → Type 0
+ListSaysBy form text (Ok listed) = (listed.form ≡ form) × Says form text (Ok listed.items) × (listed.hash ≡ hash_in listed.items)
+ListSaysBy form text (Err fault) = Says form text (Err fault)
+
+-- the same of a text, whose form is seen from its first line
 abbrev pub ListSays : Bool → List ℕ → Result Listed UnreadList → Type 0
-ListSays in_bag text (Ok listed) = (listed.form ≡ form_of in_bag text) × Says (form_of in_bag text) text (Ok listed.items) × (listed.hash ≡ hash_in listed.items)
-ListSays in_bag text (Err fault) = Says (form_of in_bag text) text (Err fault)
+ListSays in_bag text result = ListSaysBy (form_of in_bag text) text result

@@ -15,7 +15,7 @@ use std::alloc::{AllocError, Global};
 use std::cmp::Ordering;
 
 /// What is reported at a path.
-#[derive(Debug, Drop)]
+#[derive(Drop)]
 pub struct Finding {
     /// The path: that of the list, if the list has it.
     pub path: Blob,
@@ -24,7 +24,7 @@ pub struct Finding {
 }
 
 /// What is reported.
-#[derive(Clone, Copy, Debug, PartialEq, Eq)]
+#[derive(Clone, Copy)]
 pub enum Kind {
     /// A difference between the list and the tree.
     Differs(Difference),

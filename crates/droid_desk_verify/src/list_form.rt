@@ -9,7 +9,7 @@ use droid_fixity_manifest::{ManifestFault, ManifestForm, read_manifest};
 use std::alloc::{AllocError, Global};
 
 /// The form of a list of files.
-#[derive(Clone, Copy, Debug, PartialEq, Eq)]
+#[derive(Clone, Copy)]
 pub enum ListForm {
     /// The CSV of a profile or of an export.
     Profile,

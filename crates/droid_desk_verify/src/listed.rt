@@ -1,7 +1,7 @@
 //! What a list says.
 
 ghost use Rattle.std.specs.Prelude.{◌≡◌, Ok};
-ghost use Rattle.droid_desk_verify.specs.Listings.{Comes, ListSays, Says, hash_in};
+ghost use Rattle.droid_desk_verify.specs.Listings.{Comes, ListSays, ListSaysBy, Says, hash_in, manifest_fault, profile_fault};
 ghost use Rattle.droid_desk_verify.specs.declared.list_form.ListForm.TheVariants as forms;
 
 use crate::list_form::ListForm;
@@ -12,7 +12,7 @@ use droid_frame::HashKind;
 use std::alloc::{AllocError, Global};
 
 /// Why a list cannot be read.
-#[derive(Debug, Drop)]
+#[derive(Drop)]
 pub enum UnreadList {
     /// Out of memory.
     Memory,
@@ -35,7 +35,7 @@ impl From<AllocError> for UnreadList {
 }
 
 /// What a list says.
-#[derive(Debug, Drop)]
+#[derive(Drop)]
 pub struct Listed {
     /// Its form.
     pub form: ListForm,
@@ -50,13 +50,23 @@ pub struct Listed {
 pub fn read_list(alloc: Global, in_bag: bool, text: &[u8]) -> Result<Listed, UnreadList>
     ensures { ListSays in_bag text.now result }
 {
-    let form = ListForm::of(alloc, in_bag, text)?;
-    let items = match items_in(alloc, form, text) {
-        Ok(items) => items,
-        Err(fault) => return Err(fault),
-    };
-    let hash = hash_in(items.as_slice());
-    Ok(Listed { form, items, hash })
+    match ListForm::of(alloc, in_bag, text) {
+        Ok(form) => list_by(alloc, form, text),
+        Err(_) => Err(UnreadList::Memory),
+    }
+}
+
+/// Reads a list of this form.
+fn list_by(alloc: Global, form: ListForm, text: &[u8]) -> Result<Listed, UnreadList>
+    ensures { ListSaysBy form text.now result }
+{
+    match items_in(alloc, form, text) {
+        Ok(items) => {
+            let hash = hash_in(items.as_slice());
+            Ok(Listed { form, items, hash })
+        }
+        Err(fault) => Err(fault),
+    }
 }
 
 /// Reads the items of a list of this form.
@@ -70,20 +80,27 @@ fn items_in(alloc: Global, form: ListForm, text: &[u8]) -> Result<Inventory, Unr
 }
 
 /// Reads the items of a profile's CSV.
-#[tactic(auto, using(crate::proofs::Listing::profile_comes))]
 fn items_of_profile(alloc: Global, text: &[u8]) -> Result<Inventory, UnreadList>
     ensures { Says forms.Profile text.now result }
 {
     match read_profile(alloc, text) {
         Ok(items) => in_order(items),
-        Err(ListFault::Memory) => Err(UnreadList::Memory),
-        Err(ListFault::Header) => Err(UnreadList::Profile(ListFault::Header)),
-        Err(ListFault::Record { record }) => Err(UnreadList::Profile(ListFault::Record { record })),
+        Err(fault) => Err(profile_fault(fault)),
+    }
+}
+
+/// Converts a fault of a profile's CSV.
+fn profile_fault(fault: ListFault) -> UnreadList
+    ensures { result ≡ profile_fault fault }
+{
+    match fault {
+        ListFault::Memory => UnreadList::Memory,
+        ListFault::Header => UnreadList::Profile(fault),
+        ListFault::Record { .. } => UnreadList::Profile(fault),
     }
 }
 
 /// Reads the items of a list of checksums.
-#[tactic(auto, using(crate::proofs::Listing::manifest_comes))]
 fn items_of_manifest(
     alloc: Global,
     form: ManifestForm,
@@ -93,12 +110,19 @@ fn items_of_manifest(
 {
     match read_manifest(alloc, form, text) {
         Ok(items) => in_order(items),
-        Err(ManifestFault::Memory) => Err(UnreadList::Memory),
-        Err(ManifestFault::Line { line }) => Err(UnreadList::Manifest(ManifestFault::Line { line })),
-        Err(ManifestFault::Path { line }) => Err(UnreadList::Manifest(ManifestFault::Path { line })),
-        Err(ManifestFault::Digest { line }) => {
-            Err(UnreadList::Manifest(ManifestFault::Digest { line }))
-        }
+        Err(fault) => Err(manifest_fault(fault)),
+    }
+}
+
+/// Converts a fault of a list of checksums.
+fn manifest_fault(fault: ManifestFault) -> UnreadList
+    ensures { result ≡ manifest_fault fault }
+{
+    match fault {
+        ManifestFault::Memory => UnreadList::Memory,
+        ManifestFault::Line { .. } => UnreadList::Manifest(fault),
+        ManifestFault::Path { .. } => UnreadList::Manifest(fault),
+        ManifestFault::Digest { .. } => UnreadList::Manifest(fault),
     }
 }
 

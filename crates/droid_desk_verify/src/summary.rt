@@ -9,7 +9,7 @@ use droid_frame::NodeKind;
 use std::fmt::{self, Display, Formatter, Write};
 
 /// How many findings of each kind there are.
-#[derive(Clone, Copy, Debug, PartialEq, Eq)]
+#[derive(Clone, Copy)]
 pub struct KindCounts {
     /// Files and folders that differ.
     pub changed: u64,
@@ -24,7 +24,7 @@ pub struct KindCounts {
 }
 
 /// The summary of a comparison.
-#[derive(Clone, Copy, Debug, PartialEq, Eq)]
+#[derive(Clone, Copy)]
 pub struct Summary {
     /// How many files the folder has.
     pub files: u64,

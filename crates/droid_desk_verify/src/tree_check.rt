@@ -19,7 +19,7 @@ use std::alloc::{AllocError, Global};
 use std::mem;
 
 /// A tree beside a list.
-#[derive(Debug, Drop)]
+#[derive(Drop)]
 pub struct Checked {
     /// All differences, in order of path. They name items by their places in `listed` and `found`.
     pub differences: Vec<Difference>,
@@ -30,7 +30,7 @@ pub struct Checked {
 }
 
 /// Why a tree could not be compared with a list.
-#[derive(Debug, Drop)]
+#[derive(Drop)]
 pub enum CheckFault {
     /// Out of memory.
     Memory,

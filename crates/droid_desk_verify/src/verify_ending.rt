@@ -9,7 +9,7 @@ use crate::tree_check::CheckFault;
 use std::io::ErrorKind;
 
 /// How the comparison of a folder ends.
-#[derive(Debug, Drop)]
+#[derive(Drop)]
 pub enum VerifyEnding {
     /// Nothing differs.
     Same,
