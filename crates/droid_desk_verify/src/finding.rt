@@ -44,7 +44,13 @@ pub fn findings_of(
     let mut findings = Vec::new(alloc);
     let listed = checked.listed.as_slice();
     let found = checked.found.as_slice();
-    add_differences(alloc, &mut findings, listed, found, checked.differences.as_slice())?;
+    add_differences(
+        alloc,
+        &mut findings,
+        listed,
+        found,
+        checked.differences.as_slice(),
+    )?;
     add_unreadable(alloc, &mut findings, unreadable)?;
     findings.sort_unstable_by(|first, second| order_of(first, second));
     Ok(findings)

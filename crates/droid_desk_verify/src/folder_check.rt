@@ -4,7 +4,7 @@ use crate::finding::{Finding, findings_of};
 use crate::item_keeper::ItemKeeper;
 use crate::list_form::ListForm;
 use crate::listed::{Listed, read_list};
-use crate::report_text::report_text;
+use crate::report::report_text;
 use crate::summary::{KindCounts, Summary, bytes_in, files_in};
 use crate::tree_check::{Checked, check_tree};
 use crate::verify_ending::VerifyEnding;

@@ -148,6 +148,9 @@ impl Display for Summary {
         let added = line("new", self.kinds.added);
         let moved = line("moved", self.kinds.moved);
         let unreadable = line("unreadable", self.kinds.unreadable);
-        write!(f, "{files}{bytes}{changed}{missing}{added}{moved}{unreadable}")
+        write!(
+            f,
+            "{files}{bytes}{changed}{missing}{added}{moved}{unreadable}"
+        )
     }
 }

@@ -33,7 +33,9 @@ impl VerifyEnding {
                 eprintln!(rt; "{folder}: this is a mistake in droid_desk")
             }
             VerifyEnding::Unwritten => {
-                eprintln!(rt; "standard output: could not be written: is the disk full, or its reader gone?")
+                eprintln!(rt;
+                    "standard output: could not be written: is the disk full, or its reader gone?"
+                )
             }
         }
     }

@@ -3,7 +3,7 @@ use Rattle.droid_export.specs.Csv.{line}
 use Rattle.droid_export.specs.CsvBuffer.{Holds}
 use Rattle.droid_desk_outputs.proofs.SkippedTexts.{texts_more}
 use Rattle.droid_desk_verify.specs.ReportTexts.{column_names, findings_text, record_of}
-use Rattle.droid_desk_verify.proofs.report_text.report_text.Goals as goal
+use Rattle.droid_desk_verify.proofs.report.report_text.Goals as goal
 
 pub loop-finding-init : goal.loop-finding-init
 loop-finding-init c =
