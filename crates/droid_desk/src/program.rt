@@ -1,7 +1,8 @@
 //! Reads the command line, runs the command that it asks for, and returns the exit status.
 
 use droid_desk_arguments::{
-    Asked, NoCommand, ProfileOptions, RegistrySource, SubmitOptions, VerifyOptions, unread_words, what_is_asked,
+    Asked, NoCommand, ProfileOptions, RegistrySource, SubmitOptions, VerifyOptions, unread_words,
+    what_is_asked,
 };
 use droid_desk_folders::submit_folder;
 use droid_desk_profile::profile_folder;

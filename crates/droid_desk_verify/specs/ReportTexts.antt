@@ -69,9 +69,13 @@ abbrev pub path_text : Option Item → List ℕ
 path_text None = []
 path_text (Some item) = item.path
 
--- the record of a finding, by the item of the list and that of the tree
+-- the record of a finding, with these fields of both sides
+abbrev pub record_with : Finding → List ℕ → List ℕ → List ℕ → List ℕ → List ℕ → List (List ℕ)
+record_with finding size hash found_path found_size found_hash = name_of finding.kind ∷ finding.path ∷ size ∷ hash ∷ found_path ∷ found_size ∷ found_hash ∷ reason_of finding.kind ∷ []
+
+-- by the item of the list and that of the tree
 abbrev pub record_by : Finding → Option Item → Option Item → List (List ℕ)
-record_by finding a b = name_of finding.kind ∷ finding.path ∷ size_text a ∷ hash_text a ∷ path_text b ∷ size_text b ∷ hash_text b ∷ reason_of finding.kind ∷ []
+record_by finding a b = record_with finding (size_text a) (hash_text a) (path_text b) (size_text b) (hash_text b)
 
 abbrev pub record_of : List Item → List Item → Finding → List (List ℕ)
 record_of listed found finding = record_by finding (listed_of listed finding.kind) (found_of found finding.kind)

@@ -79,15 +79,38 @@ fn write_items(
     let hash = hash_text(before);
     let found_size = size_text(alloc, after)?;
     let found_hash = hash_text(after);
-    let fields: [&[u8]; 8] = [
-        name_of(finding.kind).as_bytes(),
-        finding.path.as_slice(),
+    write_fields(
+        writer,
+        finding,
         size.as_bytes(),
         hash.as_slice(),
         path_text(after),
         found_size.as_bytes(),
         found_hash.as_slice(),
-        reason_of(finding.kind).as_bytes(),
+    )
+}
+
+/// Writes the record of a finding with these sizes and hashes.
+fn write_fields<'a>(
+    writer: &mut Writer<Vec<u8>>,
+    finding: &'a Finding,
+    size: &'a [u8],
+    hash: &'a [u8],
+    found_path: &'a [u8],
+    found_size: &'a [u8],
+    found_hash: &'a [u8],
+) -> Result<(), AllocError>
+    ensures { OnOk result ((text : List ℕ) → Holds writer.old text → Holds writer.new (text ++ line (texts.record_with finding.now size.now hash.now found_path.now found_size.now found_hash.now))) }
+{
+    let fields: [&[u8]; 8] = [
+        name_of(finding),
+        finding.path.as_slice(),
+        size,
+        hash,
+        found_path,
+        found_size,
+        found_hash,
+        reason_of(finding),
     ];
     write_record(writer, &fields)
 }
@@ -121,26 +144,26 @@ fn found_of(found: &[Item], kind: Kind) -> Option<&Item>
 }
 
 /// Returns the name of a finding.
-fn name_of(kind: Kind) -> &'static str
-    ensures { result.now ≡ texts.name_of kind }
+fn name_of(finding: &Finding) -> &[u8]
+    ensures { result.now ≡ texts.name_of finding.now.kind }
 {
-    match kind {
-        Kind::Differs(Difference::Changed { .. }) => "changed",
-        Kind::Differs(Difference::Missing { .. }) => "missing",
-        Kind::Differs(Difference::New { .. }) => "new",
-        Kind::Differs(Difference::Moved { .. }) => "moved",
-        Kind::Differs(Difference::Touched { .. }) => "changed",
-        Kind::Unreadable(_) => "unreadable",
+    match finding.kind {
+        Kind::Differs(Difference::Changed { .. }) => b"changed",
+        Kind::Differs(Difference::Missing { .. }) => b"missing",
+        Kind::Differs(Difference::New { .. }) => b"new",
+        Kind::Differs(Difference::Moved { .. }) => b"moved",
+        Kind::Differs(Difference::Touched { .. }) => b"changed",
+        Kind::Unreadable(_) => b"unreadable",
     }
 }
 
 /// Returns why an entry could not be read.
-fn reason_of(kind: Kind) -> &'static str
-    ensures { result.now ≡ texts.reason_of kind }
+fn reason_of(finding: &Finding) -> &[u8]
+    ensures { result.now ≡ texts.reason_of finding.now.kind }
 {
-    match kind {
-        Kind::Differs(_) => "",
-        Kind::Unreadable(why) => cause(why),
+    match finding.kind {
+        Kind::Differs(_) => b"",
+        Kind::Unreadable(why) => cause(why).as_bytes(),
     }
 }
 
