@@ -2,6 +2,7 @@ pub mod Alone
 pub mod AnswersOnce
 pub mod Ends
 pub mod GoingOn
+pub mod Handling
 pub mod Held
 pub mod Invariant
 pub mod Passing

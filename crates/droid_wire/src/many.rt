@@ -4,7 +4,7 @@ ghost use Rattle.std.specs.Prelude.{◌≡◌};
 ghost use Rattle.droid_core.specs.Histories.{History};
 ghost use Rattle.droid_core.specs.Setting.{Setting};
 ghost use Rattle.droid_core.specs.Standing.{StandsFor, limits_of, registry_of};
-ghost use Rattle.droid_wire_many.specs.ManyServed.{ServesMany};
+ghost use Rattle.droid_wire.specs.ManyServed.{ServesMany};
 
 use crate::answering::Answering;
 use droid_wire_turns::{Connections, Rules, Served, serve_in_turns};

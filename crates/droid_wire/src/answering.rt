@@ -12,7 +12,7 @@ pub struct Answering {
 }
 
 impl Handler for Answering {
-    ghost use Rattle.droid_wire_many.specs.Answers.{IsAnswered};
+    ghost use Rattle.droid_wire.specs.Answering.{IsAnswered};
 
     ghost handles = { λ old frame reply new. IsAnswered old.service frame reply new.service };
 

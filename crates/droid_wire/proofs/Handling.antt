@@ -15,9 +15,9 @@ use Rattle.droid_wire_turns.specs.Serving.{ServesAll}
 use Rattle.droid_wire_turns.specs.Steps.{Does, Goes, Handles, Happens, Step}
 use Rattle.droid_wire_turns.specs.declared.rules.Rules.{Rules}
 use Rattle.droid_wire_turns.specs.declared.served.Served.{Served}
-use Rattle.droid_wire_many.specs.Answers.{IsAnswered}
-use Rattle.droid_wire_many.specs.ManyServed.{ServesMany, events_of, frames_of, replies_of}
-use Rattle.droid_wire_many.specs.declared.answering.Answering.{Answering}
+use Rattle.droid_wire.specs.Answering.{IsAnswered}
+use Rattle.droid_wire.specs.ManyServed.{ServesMany, events_of, frames_of, replies_of}
+use Rattle.droid_wire.specs.declared.answering.Answering.{Answering}
 
 -- how the handler handles
 abbrev pub Answers : Answering → Frame → Reply → Answering → Type 0
