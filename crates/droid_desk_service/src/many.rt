@@ -9,7 +9,7 @@ use crate::registry::service_for;
 use droid_core::Service;
 use droid_desk_arguments::{ManyOptions, RegistrySource};
 use droid_frame::FrameFault;
-use droid_wire::{Answering, Rules, ServeFault, Served, serve_many};
+use droid_wire::{Rules, ServeFault, Served, ServiceHandler, serve_many};
 use droid_wire_net::{Sockets, Verbosity};
 use std::fs::Files;
 use std::net::Net;
@@ -53,8 +53,8 @@ where
     if println!(rt; "listening {port}").is_err() {
         return Ended::at(Ending::Stream(ServeFault::Write { written: 0 }), port);
     }
-    let mut answering = Answering { service };
-    let served = serve_many(rt.alloc(), &mut sockets, &mut answering, rules_of(options));
+    let mut handler = ServiceHandler { service };
+    let served = serve_many(rt.alloc(), &mut sockets, &mut handler, rules_of(options));
     Ended::at(end_of(served), port)
 }
 

@@ -2,13 +2,13 @@ pub mod Alone
 pub mod AnswersOnce
 pub mod Ends
 pub mod GoingOn
-pub mod Handling
 pub mod Held
 pub mod Invariant
 pub mod Passing
 pub mod ReadStreams
 pub mod RequestKinds
 pub mod SentWhole
+pub mod ServiceSteps
 pub mod SoFar
 pub mod Stays
 pub mod Steps

@@ -1,8 +1,8 @@
 -- A client's core: what it keeps, and its steps.
 pub use Rattle.droid_wire_client.specs.Cores
-pub mod Answering
 pub mod Desks
-pub mod ManyServed
+pub mod ManyConnections
+pub mod OneAnswer
 pub mod Schedules
 pub mod Serving
 pub mod Steps

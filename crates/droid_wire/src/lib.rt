@@ -3,18 +3,18 @@
 //! end: it numbers requests and takes their replies.
 #![tactic(auto)]
 
-mod answering;
 mod ended;
 pub mod laws;
 mod many;
 mod reply_frame;
 mod serve_fault;
 mod server;
+mod service_handler;
 
-pub use answering::Answering;
 pub use droid_wire_client::{Client, HearFault, Heard, SubmitFault};
 pub use droid_wire_turns::{Came, Connections, Departure, Rules, Served, Took, WaitFault};
 pub use ended::Ended;
 pub use many::serve_many;
 pub use serve_fault::ServeFault;
 pub use server::serve;
+pub use service_handler::ServiceHandler;

@@ -4,9 +4,9 @@ ghost use Rattle.std.specs.Prelude.{◌≡◌};
 ghost use Rattle.droid_core.specs.Histories.{History};
 ghost use Rattle.droid_core.specs.Setting.{Setting};
 ghost use Rattle.droid_core.specs.Standing.{StandsFor, limits_of, registry_of};
-ghost use Rattle.droid_wire.specs.ManyServed.{ServesMany};
+ghost use Rattle.droid_wire.specs.ManyConnections.{ServesMany};
 
-use crate::answering::Answering;
+use crate::service_handler::ServiceHandler;
 use droid_wire_turns::{Connections, Rules, Served, serve_in_turns};
 use std::alloc::Global;
 
@@ -16,16 +16,16 @@ use std::alloc::Global;
 pub fn serve_many<C: Connections>(
     alloc: Global,
     connections: &mut C,
-    answering: &mut Answering,
+    handler: &mut ServiceHandler,
     rules: Rules,
 ) -> Served
     // The frames that came whole, of all connections, were handled one after another, and the service goes on from its
     // history by them. What came of each connection is its own frames, in order, and what is held; what it took is the
     // first of their replies. So each frame gets the one reply that the service gives it where it came.
-    ensures many { (setting : Setting) (history : History) → StandsFor setting answering.old.service history →
-        ServesMany C.does rules setting history connections.old connections.new answering.new.service result }
-    ensures limits { limits_of answering.new.service ≡ limits_of answering.old.service }
-    ensures registry { registry_of answering.new.service ≡ registry_of answering.old.service }
+    ensures many { (setting : Setting) (history : History) → StandsFor setting handler.old.service history →
+        ServesMany C.does rules setting history connections.old connections.new handler.new.service result }
+    ensures limits { limits_of handler.new.service ≡ limits_of handler.old.service }
+    ensures registry { registry_of handler.new.service ≡ registry_of handler.old.service }
 {
-    serve_in_turns(alloc, connections, answering, rules)
+    serve_in_turns(alloc, connections, handler, rules)
 }

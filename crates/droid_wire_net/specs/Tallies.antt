@@ -1,5 +1,5 @@
 -- What the counts of connections and bytes say (this project's own).
-use Rattle.std.specs.Prelude.{ℕ, ◌+◌, List, length, min}
+use Rattle.std.specs.Prelude.{ℕ, ◌+◌, length, min}
 use Rattle.droid_wire_turns.specs.Events.{Event, Opened, Read, Wrote, Closed}
 use Rattle.droid_wire_net.specs.declared.tally.Tally.{Tally}
 

@@ -1,14 +1,12 @@
 -- Why a connection was closed, and what each reason says of it (this project's own).
-use Rattle.std.specs.Prelude.{◌≡◌, ℕ, ◌-◌, ◌≤◌, ◌⊎◌, Bool, true, false, List, [], ◌∷◌, ◌++◌, count_by, Err, length}
+use Rattle.std.specs.Prelude.{◌≡◌, ℕ, ◌-◌, ◌≤◌, ◌⊎◌, Bool, true, false, List, [], ◌++◌, count_by, Err, length}
 use Rattle.std.specs.List.{AllByRecursion}
 use Rattle.droid_frame.specs.Replies.{HasReplySpelling}
 use Rattle.droid_frame.specs.StreamReads.{NamesSomeBody}
 use Rattle.droid_frame.specs.Streams.{BeginsNoFrame, IsReadable, why}
 use Rattle.droid_frame.specs.declared.stream.fault.FrameFault.{FrameFault}
 use Rattle.droid_frame.specs.declared.stream.fault.FrameFault.TheVariants as faults
-use Rattle.droid_frame.specs.types.frame.Frame.{Frame}
-use Rattle.droid_frame.specs.types.reply.Reply.{Reply}
-use Rattle.droid_wire_turns.specs.Events.{Event, Waited, Unwaited, Ended, Unread, Unwritten}
+use Rattle.droid_wire_turns.specs.Events.{Waited, Unwaited, Ended, Unread, Unwritten}
 use Rattle.droid_wire_turns.specs.Steps.{Step, Happens, Happened, Times, came, handled, spelled_frames, spelled_replies, times_of, went}
 use Rattle.droid_wire_turns.specs.declared.departure.Departure.{Departure}
 use Rattle.droid_wire_turns.specs.declared.departure.Departure.TheVariants as departures

@@ -1,10 +1,10 @@
 -- For proofs only: what the loop keeps of all connections, after the steps so far.
-use Rattle.std.specs.Prelude.{◌≡◌, ℕ, ◌+◌, ◌-◌, ◌<◌, ◌≤◌, ◌⊎◌, ◌==◌, if◌then◌else◌, true, List, [], ◌∷◌, ◌++◌, Option, Some, IsSome, length, vec_capacity}
+use Rattle.std.specs.Prelude.{◌≡◌, ℕ, ◌+◌, ◌-◌, ◌<◌, ◌≤◌, ◌==◌, if◌then◌else◌, true, List, [], ◌∷◌, ◌++◌, Some, IsSome, length, vec_capacity}
 use Rattle.std.specs.List.{AllByRecursion}
 use Rattle.droid_wire_turns.specs.Departures.{IsServed}
 use Rattle.droid_wire_turns.specs.Events.{Closed, Opened}
 use Rattle.droid_wire_turns.specs.Peers.{InTurn, IsQuiet, IsWhole, RanDry, Stands, is_hungry, kept_of}
-use Rattle.droid_wire_turns.specs.Serving.{HasAdmitted, HasBegun, HasLeft, IsFair, IsSeated, IsSettled, WasFull}
+use Rattle.droid_wire_turns.specs.Turns.{HasAdmitted, HasBegun, HasLeft, IsFair, IsSeated, IsSettled, WasFull}
 use Rattle.droid_wire_turns.specs.Steps.{Always, AreOfOthers, AtEach, Happened, Step, came, clock_behind, clock_of, closed, handled, numbers, opened, turn_behind, turn_of}
 use Rattle.droid_wire_turns.specs.declared.departure.Departure.{Departure}
 use Rattle.droid_wire_turns.specs.declared.hall.Hall.{Hall}

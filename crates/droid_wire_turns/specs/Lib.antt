@@ -3,5 +3,5 @@ pub mod Departures
 pub mod Events
 pub mod Halls
 pub mod Peers
-pub mod Serving
 pub mod Steps
+pub mod Turns

@@ -1,5 +1,5 @@
 -- For proofs only: what the loop keeps of an open connection, after the steps so far.
-use Rattle.std.specs.Prelude.{◌≡◌, ℕ, ◌+◌, ◌-◌, ◌<◌, ◌≤◌, ◌&&◌, ◌⊎◌, ◌==◌, not, nat_le, Bool, true, false, List, [], ◌∷◌, ◌++◌, length, take, drop, Option, None, Some, Err, IsSome, MatchOption, is_none}
+use Rattle.std.specs.Prelude.{◌≡◌, ℕ, ◌+◌, ◌-◌, ◌<◌, ◌≤◌, ◌&&◌, ◌⊎◌, ◌==◌, not, nat_le, Bool, true, false, List, [], ◌++◌, length, take, drop, Option, None, Some, Err, IsSome, is_none}
 use Rattle.std.specs.List.{AllByRecursion}
 use Rattle.droid_frame.specs.Frames.{frame_bytes}
 use Rattle.droid_frame.specs.Streams.{BeginsNoFrame, IsReadable, why}

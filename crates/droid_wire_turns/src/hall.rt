@@ -4,7 +4,7 @@ ghost use Rattle.std.specs.Prelude.{◌≡◌, ◌+◌, ◌-◌, ◌<◌, ◌≤
 ghost use Rattle.std.specs.List.{AllByRecursion};
 ghost use Rattle.droid_wire_turns.specs.Departures.{IsStopped};
 ghost use Rattle.droid_wire_turns.specs.Halls.{Admits, HasRooms, Heard, IsAtRest, IsPatient, Keeps, LeadsInTurn, NoPeer, Served as HadTurn, TakesTurn, Unheard};
-ghost use Rattle.droid_wire_turns.specs.Serving.{HasEnough};
+ghost use Rattle.droid_wire_turns.specs.Turns.{HasEnough};
 ghost use Rattle.droid_wire_turns.specs.Steps.{Goes, Moves, Step};
 ghost use Rattle.droid_wire_turns.specs.declared.rules.Rules.{Rules as RulesValue};
 

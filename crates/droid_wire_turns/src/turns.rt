@@ -1,6 +1,6 @@
 //! Many connections, served in turns.
 
-ghost use Rattle.droid_wire_turns.specs.Serving.{ServesAll};
+ghost use Rattle.droid_wire_turns.specs.Turns.{ServesAll};
 ghost use Rattle.droid_wire_turns.specs.Steps.{Goes};
 
 use crate::connections::Connections;

@@ -1,8 +1,8 @@
 //! One connection of three ends or breaks at each of its bytes: the two others are served to their ends.
 
+use crate::clients::{frames_of, rules, sum_of_replies};
 use crate::counting_handler::CountingHandler;
 use crate::paper_hall::{End, PaperHall};
-use crate::serving::{frames_of, rules, sum_of_replies};
 use droid_frame::FrameFault;
 use droid_wire_turns::{Departure, Served, serve_in_turns};
 use std::alloc::{AllocError, Global};

@@ -2,6 +2,8 @@
 #![tactic(auto)]
 
 #[cfg(test)]
+mod clients;
+#[cfg(test)]
 mod counting_handler;
 #[cfg(test)]
 mod failures;
@@ -11,5 +13,3 @@ mod ordered_hall;
 mod orders;
 #[cfg(test)]
 mod paper_hall;
-#[cfg(test)]
-mod serving;

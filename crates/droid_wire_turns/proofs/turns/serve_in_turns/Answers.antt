@@ -1,10 +1,10 @@
 use Rattle.std.proofs.Common.{◌≡◌, ◌+◌, ◌++◌, ◌∷◌, [], List, refl, ap, arith, inl, inr}
 use Rattle.droid_wire_turns.specs.Events.{Unwaited, Waited}
-use Rattle.droid_wire_turns.specs.Serving.{ServesAll}
+use Rattle.droid_wire_turns.specs.Turns.{ServesAll}
 use Rattle.droid_wire_turns.specs.Steps.{Happens, Step}
 use Rattle.droid_wire_turns.specs.declared.served.Served.TheVariants as ways
 use Rattle.droid_wire_turns.proofs.Moments.{goes_as, goes_both, goes_moving, goes_none, moves_both, moves_one}
-use Rattle.droid_wire_turns.proofs.Seating.{FailsAndStops, IsBetween, WaitsAndGoes, ended_all, ended_at_once, ended_stopped, failed, turned}
+use Rattle.droid_wire_turns.proofs.HallSteps.{FailsAndStops, IsBetween, WaitsAndGoes, ended_all, ended_at_once, ended_stopped, failed, turned}
 use Rattle.droid_wire_turns.proofs.turns.serve_in_turns.Goals as goal
 
 -- no memory for the list of connections

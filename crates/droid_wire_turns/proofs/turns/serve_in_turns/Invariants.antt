@@ -1,7 +1,7 @@
 use Rattle.std.specs.Prelude.{◌≡◌, []}
 use Rattle.droid_wire_turns.specs.Halls.{HasRooms}
 use Rattle.droid_wire_turns.specs.Steps.{Goes}
-use Rattle.droid_wire_turns.proofs.Seating.{IsBetween}
+use Rattle.droid_wire_turns.proofs.HallSteps.{IsBetween}
 use Rattle.droid_wire_turns.proofs.turns.serve_in_turns.Given as goal
 
 abbrev pub invariant-loop : goal.invariant-loop

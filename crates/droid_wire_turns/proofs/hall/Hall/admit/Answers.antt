@@ -1,11 +1,11 @@
-use Rattle.std.proofs.Common.{◌≡◌, ◌+◌, ◌<◌, ◌++◌, ◌∷◌, [], Bool, cond, length, length-append, ap, refl, sym, subst, ◌∙◌, arith}
+use Rattle.std.proofs.Common.{◌≡◌, ◌+◌, ◌<◌, ◌∷◌, [], Bool, cond, length, length-append, ap, refl, sym, subst, arith}
 use Rattle.std.specs.List.{AllByRecursion}
 use Rattle.droid_wire_turns.specs.Events.{Closed, NoneOpened, Opened}
 use Rattle.droid_wire_turns.specs.Halls.{Admits, LeadsInTurn, NoPeer, Unheard}
 use Rattle.droid_wire_turns.specs.Peers.{IsWhole}
 use Rattle.droid_wire_turns.specs.declared.departure.Departure.TheVariants as departures
 use Rattle.droid_wire_turns.proofs.Moments.{all_both, moves_as, moves_event, moves_events, moves_none}
-use Rattle.droid_wire_turns.proofs.Seating.{admits_enough, admits_nobody, calm_failed, calm_opened, leads_coming, leads_failing, leads_in_turn, leads_none}
+use Rattle.droid_wire_turns.proofs.HallSteps.{admits_enough, admits_nobody, calm_failed, calm_opened, leads_coming, leads_failing, leads_in_turn, leads_none}
 use Rattle.droid_wire_turns.proofs.hall.Hall.admit.Goals as goal
 
 pub loop-alloc-init : goal.loop-alloc-init

@@ -1,4 +1,4 @@
-use Rattle.std.specs.Prelude.{◌≡◌, ◌-◌, [], length}
+use Rattle.std.specs.Prelude.{◌≡◌, ◌-◌, []}
 use Rattle.droid_wire_turns.specs.Halls.{HasRooms, LeadsInTurn, NoPeer, Unheard}
 use Rattle.droid_wire_turns.specs.Steps.{Moves}
 use Rattle.droid_wire_turns.proofs.hall.Hall.admit.Given as goal

@@ -1,14 +1,12 @@
-use Rattle.std.proofs.Common.{◌≡◌, ◌+◌, ◌++◌, ◌∷◌, [], List, length, length-append, ap, refl, sym, subst, arith}
+use Rattle.std.proofs.Common.{◌∷◌, [], List, length, length-append, ap, refl, sym, subst, arith}
 use Rattle.std.specs.List.{AllByRecursion}
 use Rattle.std.proofs.lemmas.List.{nil_from_length}
 use Rattle.droid_wire_turns.specs.Halls.{Heard, LeadsInTurn, NoPeer, Unheard}
 use Rattle.droid_wire_turns.specs.Peers.{Hears, IsWhole}
-use Rattle.droid_wire_turns.specs.Halls.{IsCalm}
-use Rattle.droid_wire_turns.specs.Steps.{Step}
 use Rattle.droid_wire_turns.specs.declared.peer.Peer.{Peer}
 use Rattle.droid_wire_turns.proofs.Moments.{all_both, all_first, all_last, goes_as, goes_both, goes_none}
-use Rattle.droid_wire_turns.proofs.Seating.{emptied_waiting, leads_hearing, leads_in_turn, leads_none}
-use Rattle.droid_wire_turns.proofs.Gathered.{calm}
+use Rattle.droid_wire_turns.proofs.HallSteps.{emptied_waiting, leads_hearing, leads_in_turn, leads_none}
+use Rattle.droid_wire_turns.proofs.OwnSteps.{calm}
 use Rattle.droid_wire_turns.proofs.hall.Hall.hear_all.Goals as goal
 
 pub loop-peer-init : goal.loop-peer-init

@@ -1,6 +1,6 @@
 use Rattle.std.proofs.Common.{refl}
 use Rattle.droid_wire_turns.specs.declared.hall.Hall.{Hall}
-use Rattle.droid_wire_turns.proofs.Seating.{at_rest_none}
+use Rattle.droid_wire_turns.proofs.HallSteps.{at_rest_none}
 use Rattle.droid_wire_turns.proofs.hall.Hall.new.Goals as goal
 
 pub returns-clause-empty : goal.returns-clause-empty

@@ -1,6 +1,6 @@
-use Rattle.std.proofs.Common.{◌<◌, length, get_or, sym, subst, arith, ◌≡◌, List, ◌∙◌, ap}
+use Rattle.std.proofs.Common.{◌<◌, length, get_or, subst, arith, ◌≡◌, List, ap}
 use Rattle.droid_wire_turns.specs.declared.peer.Peer.{Peer}
-use Rattle.droid_wire_turns.proofs.Seating.{patient_more}
+use Rattle.droid_wire_turns.proofs.HallSteps.{patient_more}
 use Rattle.droid_wire_turns.proofs.hall.Hall.patience.Goals as goal
 
 pub loop-peer-preserved : goal.loop-peer-preserved

@@ -1,10 +1,9 @@
-use Rattle.std.proofs.Common.{◌≡◌, [], List, refl, ap, sym, ◌∙◌, arith}
-use Rattle.std.proofs.lemmas.List.{append-nil, nil_from_length}
+use Rattle.std.proofs.Common.{refl, arith}
+use Rattle.std.proofs.lemmas.List.{nil_from_length}
 use Rattle.droid_wire_turns.specs.Events.{Closed}
-use Rattle.droid_wire_turns.specs.Steps.{Happens, Step}
 use Rattle.droid_wire_turns.specs.declared.departure.Departure.TheVariants as departures
 use Rattle.droid_wire_turns.proofs.Moments.{moves_as, moves_event, moves_none}
-use Rattle.droid_wire_turns.proofs.Seating.{Stopping, stopping_all, stopping_more, stopping_none}
+use Rattle.droid_wire_turns.proofs.HallSteps.{Stopping, stopping_all, stopping_more, stopping_none}
 use Rattle.droid_wire_turns.proofs.hall.Hall.stop.Goals as goal
 
 pub loop-peer-init : goal.loop-peer-init

@@ -1,9 +1,7 @@
-use Rattle.std.specs.Prelude.{◌≡◌, ◌+◌, ◌++◌, [], List, length}
-use Rattle.droid_wire_turns.specs.Departures.{IsStopped}
-use Rattle.droid_wire_turns.specs.Halls.{Keeps, times_among}
-use Rattle.droid_wire_turns.specs.Steps.{Moves, Step}
+use Rattle.std.specs.Prelude.{◌≡◌, [], length}
+use Rattle.droid_wire_turns.specs.Steps.{Moves}
 use Rattle.droid_wire_turns.specs.declared.rules.Rules.{Rules}
-use Rattle.droid_wire_turns.proofs.Seating.{Stopping}
+use Rattle.droid_wire_turns.proofs.HallSteps.{Stopping}
 use Rattle.droid_wire_turns.proofs.hall.Hall.stop.Given as goal
 
 abbrev pub invariant-loop-peer : goal.invariant-loop-peer

@@ -1,4 +1,4 @@
-use Rattle.std.proofs.Common.{◌≡◌, ◌+◌, ◌++◌, ◌∷◌, [], ℕ, List, length, length-append, ap, refl, sym, subst, arith}
+use Rattle.std.proofs.Common.{◌∷◌, [], ℕ, List, length, length-append, ap, refl, sym, subst, arith}
 use Rattle.std.specs.List.{AllByRecursion}
 use Rattle.std.proofs.lemmas.List.{nil_from_length}
 use Rattle.droid_wire_turns.specs.Events.{Closed}
@@ -7,8 +7,8 @@ use Rattle.droid_wire_turns.specs.Peers.{Departs, IsQuiet, IsWhole, Stays}
 use Rattle.droid_wire_turns.specs.Steps.{Moves, Step}
 use Rattle.droid_wire_turns.specs.declared.peer.Peer.{Peer}
 use Rattle.droid_wire_turns.proofs.Moments.{all_both, all_first, all_last, moves_as, moves_both, moves_none}
-use Rattle.droid_wire_turns.proofs.Seating.{closing_moves, emptied_served, leads_in_turn, leads_none, leads_telling}
-use Rattle.droid_wire_turns.proofs.Gathered.{calm}
+use Rattle.droid_wire_turns.proofs.HallSteps.{closing_moves, emptied_served, leads_in_turn, leads_none, leads_telling}
+use Rattle.droid_wire_turns.proofs.OwnSteps.{calm}
 use Rattle.droid_wire_turns.proofs.hall.Hall.tell_all.Goals as goal
 
 pub loop-peer-init : goal.loop-peer-init

@@ -1,7 +1,7 @@
 use Rattle.std.proofs.Common.{refl}
 use Rattle.droid_wire_turns.specs.Events.{Told}
 use Rattle.droid_wire_turns.proofs.Moments.{moves_one}
-use Rattle.droid_wire_turns.proofs.Seating.{leads_telling_time, whole_turn}
+use Rattle.droid_wire_turns.proofs.HallSteps.{leads_telling_time, whole_turn}
 use Rattle.droid_wire_turns.proofs.hall.Hall.turn.Goals as goal
 
 pub returns-clause-goes : goal.returns-clause-goes

@@ -1,6 +1,6 @@
 use Rattle.std.proofs.Common.{Some, refl}
 use Rattle.droid_wire_turns.specs.declared.departure.Departure.TheVariants as departures
-use Rattle.droid_wire_turns.proofs.Hearing.{answers_lost, answers_one}
+use Rattle.droid_wire_turns.proofs.Reads.{answers_lost, answers_one}
 use Rattle.droid_wire_turns.proofs.peer.Peer.answer.Goals as goal
 
 pub returns-in-Ok-clause-answers : goal.returns-in-Ok-clause-answers

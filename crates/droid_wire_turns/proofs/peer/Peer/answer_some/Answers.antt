@@ -3,9 +3,9 @@ use Rattle.std.proofs.lemmas.Bool.{false≢true}
 use Rattle.droid_wire_turns.specs.Events.{Read}
 use Rattle.droid_wire_turns.specs.Peers.{ByFrames, Hears, HearsSo}
 use Rattle.droid_wire_turns.specs.Steps.{Step}
-use Rattle.droid_wire_turns.proofs.Hearing.{AnswersOne, CameOne, answers_after, hears_end, hears_more, hears_none}
+use Rattle.droid_wire_turns.proofs.Reads.{AnswersOne, CameOne, answers_after, hears_end, hears_more, hears_none}
 use Rattle.droid_wire_turns.proofs.Moments.{goes_as, goes_both, goes_moving, goes_none, moves_as}
-use Rattle.droid_wire_turns.proofs.Standing.{happened_last}
+use Rattle.droid_wire_turns.proofs.PeerSteps.{happened_last}
 use Rattle.droid_wire_turns.proofs.peer.Peer.answer_some.Goals as goal
 
 pub loop-init : goal.loop-init

@@ -1,6 +1,6 @@
-use Rattle.std.proofs.Common.{None, arith, false, refl, ◌∙◌, sym}
+use Rattle.std.proofs.Common.{None, arith, false, refl}
 use Rattle.droid_wire_turns.specs.declared.peer.Peer.{Peer}
-use Rattle.droid_wire_turns.proofs.Hearing.{new_peer}
+use Rattle.droid_wire_turns.proofs.Reads.{new_peer}
 use Rattle.droid_wire_turns.proofs.peer.Peer.new.Goals as goal
 
 pub returns : goal.returns

@@ -1,10 +1,10 @@
-use Rattle.std.proofs.Common.{◌≡◌, ◌++◌, [], None, Some, sym, ◌∙◌, refl, subst, arith}
+use Rattle.std.proofs.Common.{◌++◌, [], None, Some, sym, ◌∙◌, refl}
 use Rattle.std.proofs.lemmas.Bool.{false≢true}
 use Rattle.droid_wire_turns.specs.Events.{Read}
 use Rattle.droid_wire_turns.specs.Peers.{ByBytes, ByLeaving}
-use Rattle.droid_wire_turns.proofs.Hearing.{ReadsSo, reads_so_more, reads_so_none, takes_so}
+use Rattle.droid_wire_turns.proofs.Reads.{ReadsSo, reads_so_more, reads_so_none, takes_so}
 use Rattle.droid_wire_turns.proofs.Moments.{moves_as, moves_both, moves_none}
-use Rattle.droid_wire_turns.proofs.Standing.{happened_last}
+use Rattle.droid_wire_turns.proofs.PeerSteps.{happened_last}
 use Rattle.droid_wire_turns.proofs.peer.Peer.next_frame.Goals as goal
 
 pub loop-frame-init : goal.loop-frame-init

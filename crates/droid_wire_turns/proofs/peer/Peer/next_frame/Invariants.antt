@@ -1,7 +1,7 @@
 use Rattle.std.specs.Prelude.{◌≡◌, false, None}
 use Rattle.droid_wire_turns.specs.Peers.{IsWhole}
 use Rattle.droid_wire_turns.specs.Steps.{Moves}
-use Rattle.droid_wire_turns.proofs.Hearing.{ReadsSo}
+use Rattle.droid_wire_turns.proofs.Reads.{ReadsSo}
 use Rattle.droid_wire_turns.proofs.peer.Peer.next_frame.Given as goal
 
 abbrev pub invariant-loop-frame : goal.invariant-loop-frame

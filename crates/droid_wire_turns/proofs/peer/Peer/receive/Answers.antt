@@ -6,8 +6,8 @@ use Rattle.droid_wire_turns.specs.Events.{Ended, Read, Unread}
 use Rattle.droid_wire_turns.specs.Peers.{ByDrought, ByLeaving, Turns}
 use Rattle.droid_wire_turns.specs.Steps.{Happens}
 use Rattle.droid_wire_turns.specs.declared.departure.Departure.TheVariants as departures
-use Rattle.droid_wire_turns.proofs.Advancing.{turns_read, turns_still}
-use Rattle.droid_wire_turns.proofs.Hearing.{nothing_read, reads_broken, reads_end, reads_some, whole_lent}
+use Rattle.droid_wire_turns.proofs.ConnectionSteps.{turns_read, turns_still}
+use Rattle.droid_wire_turns.proofs.Reads.{nothing_read, reads_broken, reads_end, reads_some, whole_lent}
 use Rattle.droid_wire_turns.proofs.Moments.{moves_one}
 use Rattle.droid_wire_turns.proofs.peer.Peer.receive.Goals as goal
 

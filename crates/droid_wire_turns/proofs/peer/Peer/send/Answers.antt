@@ -1,10 +1,10 @@
-use Rattle.std.proofs.Common.{◌≡◌, ◌++◌, ◌∷◌, [], List, length, take, sym, ap, ◌∙◌, refl, subst, arith, inl, inr, length-drop}
+use Rattle.std.proofs.Common.{◌≡◌, ◌++◌, ◌∷◌, [], List, length, take, sym, ap, refl, subst, arith, inl, inr, length-drop}
 use Rattle.std.proofs.lemmas.List.{nil_from_length}
 use Rattle.droid_wire_turns.specs.Events.{Unwritten, Wrote}
 use Rattle.droid_wire_turns.specs.Steps.{Happened, Happens, Step}
 use Rattle.droid_wire_turns.proofs.Moments.{moves_as, moves_both, moves_none, moves_one}
-use Rattle.droid_wire_turns.proofs.Standing.{happened_here}
-use Rattle.droid_wire_turns.proofs.Telling.{SendsSo, quiet_unwritten, quiet_wrote, sends_more, sends_none, unwritten, wrote_none, wrote_some}
+use Rattle.droid_wire_turns.proofs.PeerSteps.{happened_here}
+use Rattle.droid_wire_turns.proofs.Writes.{SendsSo, quiet_unwritten, quiet_wrote, sends_more, sends_none, unwritten, wrote_none, wrote_some}
 use Rattle.droid_wire_turns.proofs.peer.Peer.send.Goals as goal
 
 pub loop-connections-init : goal.loop-connections-init

@@ -1,7 +1,7 @@
 use Rattle.std.specs.Prelude.{◌≡◌, ◌++◌, length}
 use Rattle.droid_wire_turns.specs.Peers.{IsWhole, unread}
 use Rattle.droid_wire_turns.specs.Steps.{Moves}
-use Rattle.droid_wire_turns.proofs.Telling.{SendsSo}
+use Rattle.droid_wire_turns.proofs.Writes.{SendsSo}
 use Rattle.droid_wire_turns.proofs.peer.Peer.send.Given as goal
 
 abbrev pub invariant-loop-connections : goal.invariant-loop-connections

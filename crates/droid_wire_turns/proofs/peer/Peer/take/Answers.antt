@@ -1,6 +1,6 @@
 use Rattle.std.proofs.Common.{◌≡◌, ◌-◌, ◌≤◌, None, List, ℕ, MatchOption, drop, length, subst, take}
 use Rattle.droid_frame_feed.specs.Feeding.{Brings, Fails, Waits}
-use Rattle.droid_wire_turns.proofs.Hearing.{all_fed, none_left, stops_on, takes_on, whole_fed}
+use Rattle.droid_wire_turns.proofs.Reads.{all_fed, none_left, stops_on, takes_on, whole_fed}
 use Rattle.droid_wire_turns.proofs.peer.Peer.take.Goals as goal
 
 pub returns-in-Ok-clause-whole : goal.returns-in-Ok-clause-whole

@@ -1,7 +1,7 @@
 use Rattle.std.proofs.Common.{◌∙◌, arith, subst, sym}
 use Rattle.droid_wire_turns.specs.Peers.{Sends}
 use Rattle.droid_wire_turns.proofs.Moments.{moves_as}
-use Rattle.droid_wire_turns.proofs.Telling.{departs_idle, departs_unwritten, tells_leaving}
+use Rattle.droid_wire_turns.proofs.Writes.{departs_idle, departs_unwritten, tells_leaving}
 use Rattle.droid_wire_turns.proofs.peer.Peer.tell.Goals as goal
 
 pub returns-then-not-send-clause-tells : goal.returns-then-not-send-clause-tells

@@ -1,5 +1,5 @@
 -- What the loop keeps of all connections, after some steps more.
-use Rattle.std.proofs.Common.{◌≡◌, ℕ, zero, suc, ◌+◌, ◌<◌, ◌≤◌, Bool, true, false, cond, eqb, List, [], ◌∷◌, ◌++◌, length, ◌⊎◌, Some, fold, refl, sym, ap, subst, ◌∙◌, append_assoc, arith, inl, inr}
+use Rattle.std.proofs.Common.{◌≡◌, ℕ, zero, suc, ◌+◌, ◌<◌, ◌≤◌, Bool, true, false, cond, eqb, List, [], ◌∷◌, ◌++◌, length, ◌⊎◌, Some, refl, sym, ap, subst, ◌∙◌, append_assoc, arith, inl, inr}
 use Rattle.std.specs.List.{AllByRecursion}
 use Rattle.std.proofs.lemmas.Bool.{cases_lt, eq-eqb, ne_eqb}
 use Rattle.std.proofs.lemmas.Bool.Decides.{eqb_tells}
@@ -8,14 +8,14 @@ use Rattle.std.proofs.lemmas.List.Sums.{fold-append}
 use Rattle.droid_wire_turns.specs.Departures.{Explains, IsServed, Serves}
 use Rattle.droid_wire_turns.specs.Events.{Event, Opened, NoneOpened, Read, Ended, Unread, Wrote, Unwritten, Closed, Told, Waited, Unwaited}
 use Rattle.droid_wire_turns.specs.Halls.{IsCalm, IsWithin, Keeps, one_at}
-use Rattle.droid_wire_turns.specs.Serving.{HasLeft, IsFair, IsOpenAfter, IsSeated}
-use Rattle.droid_wire_turns.specs.Steps.{Always, AreOfOthers, AtEach, Happened, Handles, Happens, IsOf, IsOfOther, IsTraffic, Step, bytes_read, bytes_written, came, closed, closed_by, handled, handled_in, numbers, opened, opened_by, turn_behind, turn_of}
+use Rattle.droid_wire_turns.specs.Turns.{HasLeft, IsFair, IsOpenAfter, IsSeated}
+use Rattle.droid_wire_turns.specs.Steps.{Always, AreOfOthers, Happened, Handles, Happens, IsOf, IsOfOther, IsTraffic, Step, bytes_read, bytes_written, came, closed, closed_by, handled, handled_in, numbers, opened, opened_by, turn_behind, turn_of}
 use Rattle.droid_wire_turns.specs.declared.departure.Departure.{Departure}
 use Rattle.droid_wire_turns.specs.declared.rules.Rules.{Rules}
-use Rattle.droid_wire_turns.proofs.Gathered.{Elsewhere, all_elsewhere, calm, came_elsewhere, handled_elsewhere, none_gathered, none_more, one_more, turn_more, turn_waited}
+use Rattle.droid_wire_turns.proofs.OwnSteps.{Elsewhere, all_elsewhere, calm, came_elsewhere, handled_elsewhere, none_gathered, none_more, one_more, turn_more, turn_waited}
 use Rattle.droid_wire_turns.proofs.Moments.{all_both, always_both, always_end, always_kept, always_one, each_both, each_free}
-use Rattle.droid_wire_turns.proofs.Standing.{happened_here, happened_then, serves_elsewhere}
-use Rattle.droid_wire_turns.proofs.Stepping.{serves_still}
+use Rattle.droid_wire_turns.proofs.PeerSteps.{happened_here, happened_then, serves_elsewhere}
+use Rattle.droid_wire_turns.proofs.ServesMore.{serves_still}
 
 -- ---- one connection
 

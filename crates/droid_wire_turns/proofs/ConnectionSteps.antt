@@ -1,6 +1,5 @@
 -- Steps of one connection, one after the other.
 use Rattle.std.proofs.Common.{◌≡◌, ℕ, ◌+◌, ◌-◌, ◌<◌, ◌≤◌, List, [], ◌∷◌, ◌++◌, length, Option, Some, None, refl, sym, ap, subst, ◌∙◌, append_assoc, arith}
-use Rattle.std.specs.List.{AllByRecursion}
 use Rattle.std.proofs.lemmas.List.{append-nil, length-append}
 use Rattle.droid_frame.specs.Frames.{frame_bytes}
 use Rattle.droid_frame.specs.types.frame.Frame.{Frame}
@@ -8,10 +7,10 @@ use Rattle.droid_frame.specs.types.reply.Reply.{Reply}
 use Rattle.droid_wire_turns.specs.Departures.{IsServed}
 use Rattle.droid_wire_turns.specs.Events.{Read}
 use Rattle.droid_wire_turns.specs.Peers.{Advances, InTurn, IsQuiet, IsRoom, Kept, Lends, Lending, Stands, Taking, Turns}
-use Rattle.droid_wire_turns.specs.Steps.{Always, Handles, Happens, IsTraffic, Step, bytes_read, came, handled, handled_in}
-use Rattle.droid_wire_turns.proofs.Gathered.{gathered, handled_here, none_more, one_more, read_here}
+use Rattle.droid_wire_turns.specs.Steps.{Handles, Happens, IsTraffic, Step, bytes_read, came, handled, handled_in}
+use Rattle.droid_wire_turns.proofs.OwnSteps.{gathered, handled_here, none_more, one_more, read_here}
 use Rattle.droid_wire_turns.proofs.Moments.{all_both, always_both, always_one}
-use Rattle.droid_wire_turns.proofs.Standing.{served}
+use Rattle.droid_wire_turns.proofs.PeerSteps.{served}
 
 -- ---- what is kept goes on
 

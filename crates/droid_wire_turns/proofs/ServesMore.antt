@@ -1,6 +1,6 @@
 -- What one step more does to what was served of a connection.
 use Rattle.std.proofs.Common.{◌≡◌, ℕ, ◌≤◌, List, [], ◌∷◌, ◌++◌, length, refl, sym, ap, subst, ◌∙◌, append_assoc, arith}
-use Rattle.std.specs.List.{AllByRecursion, flat_map}
+use Rattle.std.specs.List.{AllByRecursion}
 use Rattle.std.proofs.lemmas.List.{append-nil, length-append}
 use Rattle.droid_frame.specs.Frames.{frame_bytes}
 use Rattle.droid_frame.specs.Replies.{HasReplySpelling}
@@ -10,7 +10,7 @@ use Rattle.droid_frame.specs.types.frame.Frame.{Frame}
 use Rattle.droid_frame.specs.types.reply.Reply.{Reply}
 use Rattle.droid_wire_turns.specs.Departures.{Serves, held_bound, queue_bound}
 use Rattle.droid_wire_turns.specs.Steps.{Handles, Step, bytes_read, bytes_written, came, handled, handled_in, spelled_frames, spelled_replies, went}
-use Rattle.droid_wire_turns.proofs.Gathered.{handled_here, none_more, one_more}
+use Rattle.droid_wire_turns.proofs.OwnSteps.{handled_here, none_more, one_more}
 use Rattle.droid_wire_turns.proofs.Moments.{all_both}
 
 -- by other names

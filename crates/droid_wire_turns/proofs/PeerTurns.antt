@@ -1,21 +1,20 @@
 -- What is kept of a connection through a turn.
-use Rattle.std.proofs.Common.{◌≡◌, ℕ, zero, suc, ◌+◌, ◌-◌, ◌<◌, ◌≤◌, Bool, true, false, not, ◌&&◌, leb, List, [], ◌∷◌, ◌++◌, length, Option, Some, None, IsSome, is_none, refl, sym, ap, subst, ◌∙◌, append_assoc, arith, inl, inr, ◌⊎◌}
+use Rattle.std.proofs.Common.{◌≡◌, ℕ, zero, suc, ◌+◌, ◌<◌, ◌≤◌, Bool, true, false, eqb, leb, List, [], ◌∷◌, ◌++◌, length, Option, Some, None, IsSome, refl, sym, ap, subst, ◌∙◌, append_assoc, arith, inl, inr, ◌⊎◌}
 use Rattle.std.specs.List.{AllByRecursion}
 use Rattle.std.proofs.lemmas.Bool.{false≢true, leb-false}
 use Rattle.std.proofs.lemmas.List.{append-nil, length-append}
 use Rattle.droid_frame.specs.Streams.{BeginsNoFrame}
-use Rattle.droid_frame.specs.declared.stream.fault.FrameFault.{FrameFault}
-use Rattle.droid_wire_turns.specs.Departures.{Serves, StopsBy}
-use Rattle.droid_wire_turns.specs.Events.{Ended, Read, Told, Waited, Wrote}
+use Rattle.droid_wire_turns.specs.Departures.{Serves}
+use Rattle.droid_wire_turns.specs.Events.{Ended, Read, Waited, Wrote}
 use Rattle.droid_wire_turns.specs.Halls.{Heard, IsCalm, Rested, Served, SinceBytes, SinceDry, SinceFrames, SinceFull, SinceLeaving, Unheard}
-use Rattle.droid_wire_turns.specs.Peers.{Advances, ByBytes, ByDrought, ByFrames, ByLeaving, ByQueue, Hears, InTurn, IsLeft, IsQuiet, IsRoom, Kept, RanDry, Rests, Sends, Stands, Stays, is_hungry, is_over, is_over_for, keep, kept_of, unread}
-use Rattle.droid_wire_turns.specs.Serving.{HadShare, IsDrained, IsLeaving, IsSettled, WasFull}
-use Rattle.droid_wire_turns.specs.Steps.{Happened, Happens, IsTraffic, Step, bytes_read, came, handled, handled_in, turn_of}
+use Rattle.droid_wire_turns.specs.Peers.{ByBytes, ByDrought, ByFrames, ByLeaving, ByQueue, Hears, InTurn, IsLeft, IsQuiet, IsRoom, Kept, RanDry, Rests, Stands, Stays, is_hungry, is_over_for, kept_of, unread}
+use Rattle.droid_wire_turns.specs.Turns.{HadShare, IsLeaving, IsSettled, WasFull}
+use Rattle.droid_wire_turns.specs.Steps.{Happened, Happens, Step, bytes_read, came, handled, handled_in, turn_of}
 use Rattle.droid_wire_turns.specs.declared.departure.Departure.{Departure}
 use Rattle.droid_wire_turns.specs.declared.departure.Departure.TheVariants as departures
 use Rattle.droid_wire_turns.specs.declared.peer.Peer.{Peer}
-use Rattle.droid_wire_turns.proofs.Gathered.{Elsewhere, calm, came_elsewhere, handled_elsewhere, none_gathered, turn_more, turn_waited}
-use Rattle.droid_wire_turns.proofs.Standing.{happened_last, happened_then, serves_elsewhere, stands_elsewhere, stands_told, stands_waited, stops_then}
+use Rattle.droid_wire_turns.proofs.OwnSteps.{Elsewhere, calm, came_elsewhere, handled_elsewhere, none_gathered, turn_more, turn_waited}
+use Rattle.droid_wire_turns.proofs.PeerSteps.{happened_last, happened_then, serves_elsewhere, stands_elsewhere, stands_waited, stops_then}
 
 -- ---- steps of others
 
@@ -92,7 +91,7 @@ settled_more goes_on id steps turn more all settled = record {
     | inr other ↦ elim other [
       | inl full ↦ inr (inl full)
       | inr rest ↦ elim rest [
-        | inl leaving ↦ inr (inr (inl (leaving_more id steps more settled.held leaving)))
+        | inl leaving ↦ inr (inr (inl (leaving_more id steps more settled.held leaving.0, leaving.1)))
         | inr share ↦ inr (inr (inr (share.0, share_more id steps turn more (came_elsewhere id more all) (handled_elsewhere id more all) share.1)))
       ]
     ]
@@ -188,17 +187,21 @@ written_by : (id : ℕ) (steps turn : List Step) (kept : Kept) (queued : List �
 written_by id steps turn kept queued is (inl none) = inl (is ∙ none)
 written_by id steps turn kept queued is (inr took) = inr took
 
+some_waits : (waiting : ℕ) → eqb waiting 0 ≡ false → 0 < waiting
+some_waits zero over = absurd (false≢true (sym over))
+some_waits (suc waiting) over = omega arith
+
 -- it leaves, and something waits
-settled_leaving : (goes_on : Type 0) (id waiting : ℕ) (steps turn : List Step) (kept : Kept) (held queued : List ℕ) (why : Departure) → Serves id steps held queued → is_over_for waiting (Some why) ≡ false
+settled_leaving : (goes_on : Type 0) (id waiting : ℕ) (steps turn : List Step) (kept : Kept) (held queued : List ℕ) (why : Departure) → waiting ≡ length kept.queued → Serves id steps held queued → is_over_for waiting (Some why) ≡ false
     → (kept.queued ≡ []) ⊎ Happened (Wrote id []) turn → IsLeft id steps kept held queued (Some why) → IsSettled goes_on id steps turn
-settled_leaving goes_on id waiting steps turn kept held queued departures.Closed serves over written left =
-    record { held = held; queued = queued; serves = serves; written = written_by id steps turn kept queued left.2 written; read = inr (inr (inl (inl (left.0, left.1)))) }
-settled_leaving goes_on id waiting steps turn kept held queued (departures.Frame fault) serves over written left =
-    record { held = held; queued = queued; serves = serves; written = written_by id steps turn kept queued left.1 written; read = inr (inr (inl (inr (fault, left.0)))) }
-settled_leaving goes_on id waiting steps turn kept held queued departures.Memory serves over written left = absurd (false≢true (sym over))
-settled_leaving goes_on id waiting steps turn kept held queued departures.Write serves over written left = absurd left
-settled_leaving goes_on id waiting steps turn kept held queued departures.Idle serves over written left = absurd left
-settled_leaving goes_on id waiting steps turn kept held queued departures.Stopped serves over written left = absurd left
+settled_leaving goes_on id waiting steps turn kept held queued departures.Closed is serves over written left =
+    record { held = held; queued = queued; serves = serves; written = written_by id steps turn kept queued left.2 written; read = inr (inr (inl (inl (left.0, left.1), omega (arith, some_waits waiting over, is, ap length left.2)))) }
+settled_leaving goes_on id waiting steps turn kept held queued (departures.Frame fault) is serves over written left =
+    record { held = held; queued = queued; serves = serves; written = written_by id steps turn kept queued left.1 written; read = inr (inr (inl (inr (fault, left.0), omega (arith, some_waits waiting over, is, ap length left.1)))) }
+settled_leaving goes_on id waiting steps turn kept held queued departures.Memory is serves over written left = absurd (false≢true (sym over))
+settled_leaving goes_on id waiting steps turn kept held queued departures.Write is serves over written left = absurd left
+settled_leaving goes_on id waiting steps turn kept held queued departures.Idle is serves over written left = absurd left
+settled_leaving goes_on id waiting steps turn kept held queued departures.Stopped is serves over written left = absurd left
 
 hungry_by : (peer : Peer) → peer.leaving ≡ None → peer.drained ≡ false → leb (length peer.queue.bytes) 8388608 ≡ true → is_hungry peer ≡ true
 hungry_by peer stays dry fits = rw (stays, dry, fits) refl
@@ -247,7 +250,7 @@ settled_by : (peer : Peer) (now count : ℕ) (steps : List Step) (leaving : Opti
 settled_by peer now count steps None is stands left over written in_turn dry rested =
     settled_staying peer count steps stands.held stands.queued peer.drained (leb (length peer.queue.bytes) 8388608) stands.serves is refl refl written left.0 left.1 in_turn dry rested
 settled_by peer now count steps (Some why) is stands left over written in_turn dry rested =
-    settled_leaving (is_hungry peer ≡ true) peer.id (length peer.queue.bytes) steps (turn_of steps) (kept_of peer) stands.held stands.queued why stands.serves over written left
+    settled_leaving (is_hungry peer ≡ true) peer.id (length peer.queue.bytes) steps (turn_of steps) (kept_of peer) stands.held stands.queued why refl stands.serves over written left
 
 -- what writing leaves as it was
 pub record IsAsBefore (old new : Peer) : Type 0 where

@@ -1,19 +1,17 @@
 -- A connection is read, and its frames are handled.
-use Rattle.std.proofs.Common.{◌≡◌, ℕ, zero, suc, ◌+◌, ◌-◌, ◌<◌, ◌≤◌, true, false, min, List, [], ◌∷◌, ◌++◌, length, take, drop, MatchOption, Option, Some, None, IfNone, refl, sym, ap, subst, ◌∙◌, append_assoc, arith, inl}
-use Rattle.std.specs.List.{AllByRecursion}
+use Rattle.std.proofs.Common.{◌≡◌, ℕ, zero, suc, ◌+◌, ◌-◌, ◌<◌, ◌≤◌, true, List, [], ◌∷◌, ◌++◌, length, take, drop, MatchOption, Option, Some, None, IfNone, refl, sym, ap, subst, ◌∙◌, append_assoc, arith, inl}
 use Rattle.std.proofs.lemmas.List.{append-nil, drop-take, length-append, length-drop, length-take, take-append-drop}
 use Rattle.std.specs.declared.alloc.Global.{Global}
 use Rattle.std.specs.declared.vec.Vec.{Vec}
 use Rattle.droid_frame.specs.Frames.{frame_bytes}
 use Rattle.droid_frame.specs.Replies.{HasReplySpelling}
-use Rattle.droid_frame.specs.Streams.{BeginsNoFrame, IsReadable}
+use Rattle.droid_frame.specs.Streams.{BeginsNoFrame}
 use Rattle.droid_frame.specs.declared.stream.fault.FrameFault.{FrameFault}
 use Rattle.droid_frame.specs.declared.stream.fault.FrameFault.TheVariants as faults
 use Rattle.droid_frame.specs.types.frame.Frame.{Frame}
 use Rattle.droid_frame.specs.types.reply.Reply.{Reply}
 use Rattle.droid_frame_feed.specs.Feeding.{Brings, Fails, Waits}
 use Rattle.droid_frame_feed.specs.Held.{Held}
-use Rattle.droid_wire_queue.specs.Queued.{Queued}
 use Rattle.droid_wire_turns.specs.Departures.{held_bound}
 use Rattle.droid_wire_turns.specs.Events.{Ended, Event, Read, Unread}
 use Rattle.droid_wire_turns.specs.Peers.{Advances, EndsAs, HearsSo, IsNew, IsWhole, Kept, Lending, Lends, RanDry, Stands, Taking, Turns, keep, kept_of, unread}
@@ -21,11 +19,11 @@ use Rattle.droid_wire_turns.specs.Steps.{Goes, Handles, Happened, Happens, Moves
 use Rattle.droid_wire_turns.specs.declared.departure.Departure.{Departure}
 use Rattle.droid_wire_turns.specs.declared.departure.Departure.TheVariants as departures
 use Rattle.droid_wire_turns.specs.declared.peer.Peer.{Peer}
-use Rattle.droid_wire_turns.proofs.Advancing.{advances_both, advances_handled, advances_none, advances_one, taking_both, turns_both, turns_handled, turns_none, turns_read, turns_still}
-use Rattle.droid_wire_turns.proofs.Gathered.{read_here}
+use Rattle.droid_wire_turns.proofs.ConnectionSteps.{advances_both, advances_handled, advances_none, advances_one, taking_both, turns_both, turns_handled, turns_none, turns_still}
+use Rattle.droid_wire_turns.proofs.OwnSteps.{read_here}
 use Rattle.droid_wire_turns.proofs.Moments.{goes_both, goes_handling, goes_moving}
-use Rattle.droid_wire_turns.proofs.Standing.{happened_here, lends, served, stands_dry, stands_ended, stands_handled, stands_lost, stands_read, stands_unread, stops}
-use Rattle.droid_wire_turns.proofs.Stepping.{answer_bytes}
+use Rattle.droid_wire_turns.proofs.PeerSteps.{lends, served, stands_dry, stands_ended, stands_handled, stands_lost, stands_read, stands_unread, stops}
+use Rattle.droid_wire_turns.proofs.ServesMore.{answer_bytes}
 
 -- ---- lists
 

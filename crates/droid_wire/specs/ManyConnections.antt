@@ -9,7 +9,7 @@ use Rattle.droid_core.specs.Setting.{Setting}
 use Rattle.droid_core.specs.declared.service.Service.{Service}
 use Rattle.droid_wire_turns.specs.Chains.{GoesOver}
 use Rattle.droid_wire_turns.specs.Events.{Event}
-use Rattle.droid_wire_turns.specs.Serving.{ServesAll}
+use Rattle.droid_wire_turns.specs.Turns.{ServesAll}
 use Rattle.droid_wire_turns.specs.Steps.{Handles, Happens, Step, all_handled}
 use Rattle.droid_wire_turns.specs.declared.rules.Rules.{Rules}
 use Rattle.droid_wire_turns.specs.declared.served.Served.{Served}

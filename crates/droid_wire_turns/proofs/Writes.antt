@@ -1,18 +1,16 @@
 -- What waits for a connection is written.
-use Rattle.std.proofs.Common.{◌≡◌, ℕ, zero, suc, ◌-◌, ◌<◌, ◌≤◌, ◌==◌, true, false, List, [], ◌∷◌, ◌++◌, length, take, drop, Option, Some, None, refl, sym, ap, subst, ◌∙◌, arith, inl, inr, ◌⊎◌}
-use Rattle.std.specs.List.{AllByRecursion}
+use Rattle.std.proofs.Common.{◌≡◌, ℕ, zero, suc, ◌-◌, ◌<◌, ◌≤◌, ◌==◌, true, false, List, [], ◌∷◌, ◌++◌, length, take, drop, Option, Some, None, refl, sym, ap, subst, ◌∙◌, arith}
 use Rattle.std.proofs.lemmas.Bool.{eqb-true, false≢true}
 use Rattle.std.proofs.lemmas.List.{length-take, nil_from_length, take-append-drop}
-use Rattle.droid_frame.specs.declared.stream.fault.FrameFault.{FrameFault}
-use Rattle.droid_wire_turns.specs.Departures.{Explains, IsServed, Serves}
+use Rattle.droid_wire_turns.specs.Departures.{Explains}
 use Rattle.droid_wire_turns.specs.Events.{Unwritten, Wrote}
-use Rattle.droid_wire_turns.specs.Peers.{Advances, Departs, IsLeft, IsQuiet, Kept, Sends, Stands, Stays, Tells, is_over, is_over_for, keep, kept_of, unread}
-use Rattle.droid_wire_turns.specs.Steps.{Always, Happened, Happens, IsTraffic, Step, Times, times_of}
+use Rattle.droid_wire_turns.specs.Peers.{Advances, Departs, IsLeft, IsQuiet, Kept, Sends, Stands, Tells, is_over, is_over_for, keep, kept_of, unread}
+use Rattle.droid_wire_turns.specs.Steps.{Happened, Happens, Step, Times}
 use Rattle.droid_wire_turns.specs.declared.departure.Departure.{Departure}
 use Rattle.droid_wire_turns.specs.declared.departure.Departure.TheVariants as departures
 use Rattle.droid_wire_turns.specs.declared.peer.Peer.{Peer}
-use Rattle.droid_wire_turns.proofs.Advancing.{advances_both, advances_none, advances_one, quiet_both, quiet_none, quiet_one}
-use Rattle.droid_wire_turns.proofs.Standing.{happened_last, stands_full, stands_unwritten, stands_wrote}
+use Rattle.droid_wire_turns.proofs.ConnectionSteps.{advances_both, advances_none, advances_one, quiet_both, quiet_none, quiet_one}
+use Rattle.droid_wire_turns.proofs.PeerSteps.{happened_last, stands_full, stands_unwritten, stands_wrote}
 
 -- ---- writes
 

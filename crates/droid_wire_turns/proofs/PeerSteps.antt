@@ -1,5 +1,5 @@
 -- What is kept of a connection, after one step more.
-use Rattle.std.proofs.Common.{◌≡◌, ℕ, ◌+◌, ◌<◌, ◌≤◌, List, [], ◌∷◌, ◌++◌, length, Option, Some, None, Err, refl, sym, ap, subst, ◌∙◌, append_assoc, arith, inl, inr}
+use Rattle.std.proofs.Common.{◌≡◌, ℕ, ◌<◌, ◌≤◌, List, [], ◌∷◌, ◌++◌, length, Option, Some, None, Err, refl, sym, ap, subst, ◌∙◌, append_assoc, arith, inl, inr}
 use Rattle.std.specs.List.{AllByRecursion}
 use Rattle.std.proofs.lemmas.List.{append-nil, length-append}
 use Rattle.droid_frame.specs.Frames.{frame_bytes}
@@ -13,11 +13,11 @@ use Rattle.droid_frame_feed.specs.Feeding.{Fails, IsOfBytes, Refuses}
 use Rattle.droid_wire_turns.specs.Departures.{IsRefused, IsServed, Serves, StopsBy, held_bound}
 use Rattle.droid_wire_turns.specs.Events.{Event, Ended, Read, Told, Unread, Unwritten, Waited, Wrote}
 use Rattle.droid_wire_turns.specs.Peers.{EndsAs, IsLeft, Kept, Lends, Stands, keep}
-use Rattle.droid_wire_turns.specs.Steps.{Handles, Happened, Happens, Step, Times, bytes_read, bytes_written, handled_in, moves, times_behind, times_of}
+use Rattle.droid_wire_turns.specs.Steps.{Handles, Happened, Happens, Step, Times, bytes_read, bytes_written, handled_in, moves, times_behind}
 use Rattle.droid_wire_turns.specs.declared.departure.Departure.{Departure}
 use Rattle.droid_wire_turns.specs.declared.departure.Departure.TheVariants as departures
-use Rattle.droid_wire_turns.proofs.Gathered.{Elsewhere, came_elsewhere, handled_elsewhere, read_here, times_elsewhere, times_one, none_gathered, times_read, times_wrote, went_elsewhere, written_here}
-use Rattle.droid_wire_turns.proofs.Stepping.{answer_bytes, serves_as, serves_handled, serves_more, serves_same, serves_still}
+use Rattle.droid_wire_turns.proofs.OwnSteps.{Elsewhere, came_elsewhere, handled_elsewhere, read_here, times_elsewhere, times_one, none_gathered, times_read, times_wrote, went_elsewhere, written_here}
+use Rattle.droid_wire_turns.proofs.ServesMore.{answer_bytes, serves_as, serves_handled, serves_more, serves_same, serves_still}
 
 -- ---- events
 

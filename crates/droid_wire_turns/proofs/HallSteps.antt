@@ -1,5 +1,5 @@
 -- All open connections, after one of them had its part of a turn, after one came, and after one left.
-use Rattle.std.proofs.Common.{◌≡◌, ◌≢◌, ℕ, ◌+◌, ◌-◌, ◌<◌, ◌≤◌, Bool, true, cond, count_by, get_or, take, List, [], ◌∷◌, ◌++◌, length, Option, Some, None, fold, refl, sym, ap, subst, ◌∙◌, append_assoc, arith, inl, inr, ◌⊎◌}
+use Rattle.std.proofs.Common.{◌≡◌, ℕ, ◌+◌, ◌-◌, ◌<◌, ◌≤◌, Bool, true, cond, count_by, get_or, take, List, [], ◌∷◌, ◌++◌, length, Option, Some, None, fold, refl, sym, ap, subst, ◌∙◌, append_assoc, arith, inl, inr, ◌⊎◌}
 use Rattle.std.specs.List.{AllByRecursion}
 use Rattle.std.proofs.lemmas.List.{append-nil, length-append, take_more}
 use Rattle.std.proofs.lemmas.List.Sums.{fold-append, sum_by-append}
@@ -13,8 +13,8 @@ use Rattle.droid_wire_turns.specs.Departures.{IsServed, IsStopped, Serves, is_wa
 use Rattle.droid_wire_turns.specs.Events.{Event, Opened, NoneOpened, Read, Ended, Unread, Wrote, Unwritten, Closed, Told, Waited, Unwaited}
 use Rattle.droid_wire_turns.specs.Halls.{Admits, Heard, Holds, IsAtRest, IsCalm, IsPatient, IsWithin, Keeps, LeadsInTurn, LeadsOn, NoPeer, Served, TakesTurn, Unheard, one_at, times_among, times_in}
 use Rattle.droid_wire_turns.specs.Peers.{Departs, Hears, IsNew, IsQuiet, Kept, Stands, Stays, is_hungry, keep, kept_of}
-use Rattle.droid_wire_turns.specs.Serving.{AreAll, EndsBy, HasAdmitted, HasBegun, HasEnough, HasLeft, IsAll, IsFair, IsOpenAfter, IsReady, IsSettled, ServesAll, WereTaken}
-use Rattle.droid_wire_turns.specs.Steps.{AreOfOthers, Goes, Happened, Handles, Happens, IsOf, IsOfOther, IsTraffic, Moves, Step, Times, bytes_read, bytes_written, came, clock_behind, clock_of, closed, handled, handled_in, numbers, opened, opened_by, spelled_frames, spelled_replies, times_of, turn_behind, turn_of, went}
+use Rattle.droid_wire_turns.specs.Turns.{AreAll, EndsBy, HasAdmitted, HasBegun, HasEnough, HasLeft, IsAll, IsFair, IsOpenAfter, IsReady, IsSettled, ServesAll, WereTaken}
+use Rattle.droid_wire_turns.specs.Steps.{AreOfOthers, Goes, Happened, Handles, Happens, IsOf, IsOfOther, IsTraffic, Moves, Step, Times, bytes_read, bytes_written, came, clock_behind, clock_of, handled, handled_in, numbers, opened, opened_by, spelled_frames, spelled_replies, times_of, turn_behind, turn_of, went}
 use Rattle.droid_wire_turns.specs.declared.departure.Departure.{Departure}
 use Rattle.droid_wire_turns.specs.declared.departure.Departure.TheVariants as departures
 use Rattle.droid_wire_turns.specs.declared.hall.Hall.{Hall}
@@ -22,12 +22,12 @@ use Rattle.droid_wire_turns.specs.declared.peer.Peer.{Peer}
 use Rattle.droid_wire_turns.specs.declared.rules.Rules.{Rules}
 use Rattle.droid_wire_turns.specs.declared.served.Served.{Served as Ending}
 use Rattle.droid_wire_turns.specs.declared.served.Served.TheVariants as ways
-use Rattle.droid_wire_turns.proofs.Gathered.{Elsewhere, all_elsewhere, at_once, calm, clock_more, clock_told, closed_elsewhere, gathered, none_elsewhere, none_gathered, none_more, opened_elsewhere, times_now, times_one, times_opened, turn_more}
-use Rattle.droid_wire_turns.proofs.Keeping.{Leaves, cases_zero, keeps_as, keeps_closed, keeps_none, keeps_opened, keeps_start, keeps_told, keeps_traffic, keeps_unwaited, keeps_waited, lt_self, numbers_size, one_here, one_other}
+use Rattle.droid_wire_turns.proofs.OwnSteps.{Elsewhere, all_elsewhere, at_once, calm, clock_more, clock_told, closed_elsewhere, gathered, none_elsewhere, none_gathered, none_more, opened_elsewhere, times_now, times_one, times_opened, turn_more}
+use Rattle.droid_wire_turns.proofs.AllConnections.{Leaves, cases_zero, keeps_as, keeps_closed, keeps_none, keeps_opened, keeps_start, keeps_told, keeps_traffic, keeps_unwaited, keeps_waited, lt_self, numbers_size, one_here, one_other}
 use Rattle.droid_wire_turns.proofs.Moments.{all_as, all_both, all_first, all_last, always_end, goes_as, goes_both, goes_moving, moves_both, moves_event}
-use Rattle.droid_wire_turns.proofs.Standing.{happened_here, happened_then, stands_told}
-use Rattle.droid_wire_turns.proofs.Stepping.{serves_as}
-use Rattle.droid_wire_turns.proofs.Turning.{IsAsBefore, heard_by, heard_elsewhere, served_by, served_elsewhere, settled_as, unheard_elsewhere, unheard_waited}
+use Rattle.droid_wire_turns.proofs.PeerSteps.{happened_here, happened_then, stands_told}
+use Rattle.droid_wire_turns.proofs.ServesMore.{serves_as}
+use Rattle.droid_wire_turns.proofs.PeerTurns.{IsAsBefore, heard_by, heard_elsewhere, served_by, served_elsewhere, settled_as, unheard_elsewhere, unheard_waited}
 
 -- ---- which are open
 

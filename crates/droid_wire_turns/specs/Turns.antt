@@ -1,11 +1,10 @@
 -- What serving many connections in turns comes to (this project's own).
 use Rattle.std.specs.Prelude.{◌≡◌, ℕ, ◌+◌, ◌-◌, ◌<◌, ◌≤◌, ◌⊎◌, List, [], ◌∷◌, ◌++◌, Option, None, Some, length}
-use Rattle.std.specs.List.{AllByRecursion}
 use Rattle.droid_frame.specs.Streams.{BeginsNoFrame}
 use Rattle.droid_frame.specs.declared.stream.fault.FrameFault.{FrameFault}
 use Rattle.droid_wire_turns.specs.Departures.{Explains, IsServed, IsStopped, Serves, StopsBy}
 use Rattle.droid_wire_turns.specs.Events.{Opened, NoneOpened, Closed, Ended, Read, Told, Waited, Wrote}
-use Rattle.droid_wire_turns.specs.Steps.{Always, AreOfOthers, AtEach, Happened, Happens, Step, Times, came, closed, handled, numbers, opened, times_of, turn_of}
+use Rattle.droid_wire_turns.specs.Steps.{Always, AreOfOthers, AtEach, Happened, Happens, Step, came, closed, handled, numbers, opened, times_of, turn_of}
 use Rattle.droid_wire_turns.specs.declared.departure.Departure.{Departure}
 use Rattle.droid_wire_turns.specs.declared.rules.Rules.{Rules}
 use Rattle.droid_wire_turns.specs.declared.served.Served.{Served}
@@ -118,13 +117,14 @@ abbrev pub HadShare : ℕ → List Step → List Step → Type 0
 HadShare id steps turn = (length (handled id turn) ≡ 16) ⊎ ((4194304 ≤ length (came id turn)) ⊎ WasFull id steps turn)
 
 -- All that waits for it was written, or in this turn it took nothing more. It was read until nothing came; or more than
--- 8 MiB wait to be written to it; or it is leaving; or it had its share of the turn, and goes on at once.
+-- 8 MiB wait to be written to it; or it is leaving, and something waits; or it had its share of the turn, and goes on at
+-- once.
 pub record IsSettled (goes_on : Type 0) (id : ℕ) (steps turn : List Step) : Type 0 where
   pub held : List ℕ
   pub queued : List ℕ
   pub serves : Serves id steps held queued
   pub written : (queued ≡ []) ⊎ Happened (Wrote id []) turn
-  pub read : IsDrained id turn held ⊎ ((8388608 < length queued) ⊎ (IsLeaving id steps held ⊎ (goes_on × HadShare id steps turn)))
+  pub read : IsDrained id turn held ⊎ ((8388608 < length queued) ⊎ ((IsLeaving id steps held × (0 < length queued)) ⊎ (goes_on × HadShare id steps turn)))
 
 -- Where the loop waits for at most `limit` milliseconds: an open connection will not have been idle for too long by then,
 -- and is settled. If it is to go on, the loop does not wait.

@@ -6,13 +6,13 @@ use droid_wire_turns::Handler;
 
 /// A service that handles the frames of all connections, one after another.
 #[derive(Drop)]
-pub struct Answering {
+pub struct ServiceHandler {
     /// The service.
     pub service: Service,
 }
 
-impl Handler for Answering {
-    ghost use Rattle.droid_wire.specs.Answering.{IsAnswered};
+impl Handler for ServiceHandler {
+    ghost use Rattle.droid_wire.specs.OneAnswer.{IsAnswered};
 
     ghost handles = { λ old frame reply new. IsAnswered old.service frame reply new.service };
 
