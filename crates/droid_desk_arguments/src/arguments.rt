@@ -61,8 +61,7 @@ const ONE_AT_A_TIME: &str =
     "the options '--idle <SECONDS>', '--forever' and '--verbose' need '--at-once <N>'";
 
 /// The error for a number of connections beside no end.
-const NO_END: &str =
-    "the options '--forever' and '--connections <K>' cannot be used together";
+const NO_END: &str = "the options '--forever' and '--connections <K>' cannot be used together";
 
 /// The error for two registries.
 const TWO_REGISTRIES: &str =

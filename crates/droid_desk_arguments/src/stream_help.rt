@@ -37,8 +37,7 @@ pub const SERVE_PORT_HELP: &str = "Listen on this port of 127.0.0.1 (1 to 65535)
 
 pub const CONNECTIONS_HELP: &str = "Exit after this many connections (1 to 1000, default 1)";
 
-pub const AT_ONCE_HELP: &str =
-    "Serve up to this many connections at once, in turns (1 to 64)";
+pub const AT_ONCE_HELP: &str = "Serve up to this many connections at once, in turns (1 to 64)";
 
 pub const IDLE_HELP: &str =
     "With --at-once: close a connection that sends and takes nothing for so long (1 to 3600, default 60)";
