@@ -60,9 +60,13 @@ where
 
 /// Returns the rules that the options name.
 fn rules_of(options: ManyOptions) -> Rules {
+    let total = match options.connections {
+        Some(count) => Some(u64::from(count)),
+        None => None,
+    };
     Rules {
         seats: options.seats as usize,
-        total: options.connections.map(u64::from),
+        total,
         idle: u64::from(options.idle) * SECOND,
     }
 }
