@@ -1,0 +1,2 @@
+pub mod KeptPieces
+pub mod Nodes

@@ -1,0 +1,43 @@
+-- What reading a signature file gives. Running out of memory says nothing.
+use Rattle.std.specs.Prelude.{◌≡◌, ℕ, List, map, Result, Ok, Err, ⊤}
+use Rattle.droid_xml.specs.Documents.{IsDocument, HasProblem}
+use Rattle.droid_xml.specs.LineEnds.{with_line_feeds}
+use Rattle.droid_xml.specs.Pieces.{Part}
+use Rattle.droid_xml.specs.Views.{part, setting}
+use Rattle.droid_signature_records.specs.Records.{FileRecord}
+use Rattle.droid_signature_file.specs.Elements.{Node}
+use Rattle.droid_signature_file.specs.Signatures.{signature_file}
+use Rattle.droid_signature_file.specs.declared.fault.FileFault.{FileFault}
+use Rattle.droid_signature_file.specs.declared.fault.FileFault.TheVariants as faults
+use Rattle.droid_signature_file.specs.declared.fault.Stop.{Stop}
+use Rattle.droid_signature_file.specs.declared.fault.Stop.TheVariants as stops
+use Rattle.droid_signature_file.specs.declared.fault.Wrong.{Wrong}
+use Rattle.droid_signature_file.specs.declared.node.Node as code
+
+-- the element that a value stands for
+abbrev pub node_of : code.Node → Node
+node_of node = record { name = node.element.now.name.now; attributes = map setting node.element.now.attributes.items; inside = map part node.inside.now }
+
+-- what was returned, seen by view, is what the definition gives, unless memory ran out
+abbrev pub Stops : {A : Type 0} → Stop → Result A Wrong → Type 0
+Stops stops.Memory expected = ⊤
+Stops (stops.Wrong wrong) expected = expected ≡ Err wrong
+
+abbrev pub Gives : {X A : Type 0} → (X → A) → Result X Stop → Result A Wrong → Type 0
+Gives view (Ok x) expected = expected ≡ Ok (view x)
+Gives view (Err stop) expected = Stops stop expected
+
+-- the document of these bytes says this
+abbrev pub Says : List ℕ → Result FileRecord Wrong → Type 0
+Says bytes outcome = (parts : List Part) × IsDocument (with_line_feeds bytes) parts × (signature_file parts ≡ outcome)
+
+-- why a file is not read is true of its bytes
+abbrev pub FailsBy : List ℕ → FileFault → Type 0
+FailsBy bytes faults.Memory = ⊤
+FailsBy bytes (faults.Document problem line) = HasProblem (with_line_feeds bytes) problem line
+FailsBy bytes (faults.NotASignatureFile wrong) = Says bytes (Err wrong)
+
+-- the outcome of a signature file's bytes
+abbrev pub Reads : List ℕ → Result FileRecord FileFault → Type 0
+Reads bytes (Ok file) = Says bytes (Ok file)
+Reads bytes (Err fault) = FailsBy bytes fault

@@ -1,0 +1,176 @@
+//! Elements, and what stands directly in them.
+
+ghost use Rattle.std.specs.Prelude.{◌≡◌, ◌+◌, ◌<◌, ◌≤◌, ◌^◌, ◌++◌, ◌∷◌, [], IfOk, IfSome, MatchOption, OnOk, drop, filter, length, map, string_bytes};
+ghost use Rattle.std.specs.List.{position_or_len};
+ghost use Rattle.std.specs.Option.{option_map};
+ghost use Rattle.droid_xml.specs.Views.{part, tag};
+ghost use Rattle.droid_signature_file.specs.Elements as spec;
+ghost use Rattle.droid_signature_file.specs.Outcomes.{node_of};
+
+use droid_xml::{Element, Piece};
+use std::alloc::{AllocError, Global};
+
+/// An element among pieces.
+#[derive(Clone, Copy)]
+pub(crate) struct Node<'a> {
+    /// The element, as its start tag has it.
+    pub element: &'a Element<'a>,
+    /// The pieces between its tags.
+    pub inside: &'a [Piece<'a>],
+}
+
+impl<'a> Node<'a> {
+    /// Returns the value of the attribute of this name.
+    pub(crate) fn value(&self, name: &str) -> Option<&'a str>
+        ensures { option_map (λ value. value.now) result ≡ spec.value_of name.now (node_of self.now).attributes }
+    {
+        for attribute in self.element.attributes.as_slice() {
+            if attribute.name == name {
+                return Some(attribute.value.as_str());
+            }
+        }
+        None
+    }
+
+    /// Returns the elements of this name that stand directly in the element.
+    pub(crate) fn named(&self, alloc: Global, name: &str) -> Result<Vec<Node<'a>>, AllocError>
+        ensures { IfOk result (λ nodes. map node_of nodes.items ≡ spec.inside_named name.now (node_of self.now)) }
+    {
+        let mut nodes = Vec::new(alloc);
+        let mut rest = self.inside;
+        while let Some((node, behind)) = first_node(rest) {
+            add_named(&mut nodes, node, name)?;
+            rest = behind;
+        }
+        Ok(nodes)
+    }
+
+    /// Returns the text that stands directly in the element.
+    pub(crate) fn words(&self, alloc: Global) -> Result<String, AllocError>
+        ensures { IfOk result (λ words. string_bytes words ≡ spec.words_from 0 (node_of self.now).inside) }
+    {
+        let mut words = String::new(alloc);
+        let mut rest = self.inside;
+        while let Some((piece, behind)) = rest.split_first() {
+            add_word(&mut words, piece)?;
+            rest = past_element(piece, behind);
+        }
+        Ok(words)
+    }
+}
+
+/// Returns the first element that stands directly among the pieces, and the pieces behind it.
+pub(crate) fn first_node<'a>(pieces: &'a [Piece<'a>]) -> Option<(Node<'a>, &'a [Piece<'a>])>
+    ensures found { MatchOption result (spec.nodes_from 0 (map part pieces.entry.now) ≡ []) (λ found. spec.nodes_from 0 (map part pieces.entry.now) ≡ node_of found.0 ∷ spec.nodes_from 0 (map part found.1.now)) }
+    ensures shorter { IfSome result (λ found. length found.1.now < length pieces.entry.now) }
+{
+    let (piece, behind) = pieces[start_place(pieces)..].split_first()?;
+    let Piece::Start(element) = piece else {
+        return None;
+    };
+    let inside = inside_of(element, behind);
+    Some((Node { element, inside }, past_element(piece, behind)))
+}
+
+/// Returns how many pieces stand before the first that begins an element.
+fn start_place(pieces: &[Piece<'_>]) -> usize
+    ensures { result ≡ position_or_len spec.is_start (map part pieces.now) }
+{
+    for (place, piece) in pieces.iter().enumerate() {
+        if is_start(piece) {
+            return place;
+        }
+    }
+    pieces.len()
+}
+
+fn is_start(piece: &Piece<'_>) -> bool
+    ensures { result ≡ spec.is_start (part piece.now) }
+{
+    matches!(piece, Piece::Start(_))
+}
+
+/// Adds an element, if it has this name.
+fn add_named<'a>(nodes: &mut Vec<Node<'a>>, node: Node<'a>, name: &str) -> Result<(), AllocError>
+    ensures { OnOk result (map node_of nodes.new.items ≡ map node_of nodes.old.items ++ filter (spec.is_named name.now) (node_of node ∷ [])) }
+{
+    if node.element.name == name {
+        nodes.push(node)?;
+    }
+    Ok(())
+}
+
+/// Returns the pieces inside an element, out of those behind its start tag.
+fn inside_of<'a>(element: &Element<'_>, behind: &'a [Piece<'a>]) -> &'a [Piece<'a>]
+    ensures { map part result.now ≡ spec.inside_of (tag element.now) (map part behind.entry.now) }
+{
+    if element.is_empty {
+        return &[];
+    }
+    &behind[..inner_len(behind)]
+}
+
+/// Returns the pieces behind the element that a piece begins, out of those behind the piece. A piece that begins no element
+/// has all of them behind it.
+fn past_element<'a>(piece: &Piece<'_>, behind: &'a [Piece<'a>]) -> &'a [Piece<'a>]
+    ensures value { map part result.now ≡ drop (spec.len_of (part piece.now) (map part behind.entry.now)) (map part behind.entry.now) }
+    ensures few { length result.now ≤ length behind.entry.now }
+{
+    let own = own_len(piece, behind).min(behind.len());
+    &behind[own..]
+}
+
+/// Returns how many pieces belong to the element that a piece begins, behind that piece.
+fn own_len(piece: &Piece<'_>, behind: &[Piece<'_>]) -> usize
+    ensures { result ≡ spec.len_of (part piece.now) (map part behind.now) }
+{
+    match piece {
+        Piece::Start(element) => {
+            if element.is_empty {
+                0
+            } else {
+                inner_len(behind) + 1
+            }
+        }
+        _ => 0,
+    }
+}
+
+/// Returns how many pieces stand before the end tag of the element that they are in.
+fn inner_len(pieces: &[Piece<'_>]) -> usize
+    ensures value { result ≡ spec.inner_len 0 (map part pieces.now) }
+    ensures few { result ≤ length pieces.now }
+{
+    let mut depth = 0;
+    for (place, piece) in pieces.iter().enumerate() {
+        match deeper(depth, piece) {
+            Some(next) => depth = next,
+            None => return place,
+        }
+    }
+    pieces.len()
+}
+
+/// Returns how many elements are open behind a piece, where `depth` were before it, or `None` where it ends the element
+/// outside.
+fn deeper(depth: usize, piece: &Piece<'_>) -> Option<usize>
+    requires { depth + 1 < 2 ^ 64 }
+    ensures { result ≡ spec.deeper depth (part piece.now) }
+{
+    match piece {
+        Piece::Start(element) => Some(if element.is_empty { depth } else { depth + 1 }),
+        Piece::End(_) => depth.checked_sub(1),
+        _ => Some(depth),
+    }
+}
+
+/// Adds the text of a piece.
+fn add_word(words: &mut String, piece: &Piece<'_>) -> Result<(), AllocError>
+    ensures { OnOk result (string_bytes words.new ≡ string_bytes words.old ++ spec.word (part piece.now)) }
+{
+    match piece {
+        Piece::Text(text) | Piece::Data(text) => words.push_str(text),
+        Piece::Reference(c) => words.push(*c),
+        _ => Ok(()),
+    }
+}

@@ -1,0 +1,49 @@
+//! Numbers, and the white space around texts.
+
+ghost use Rattle.std.specs.Prelude.{◌≡◌};
+ghost use Rattle.std.specs.Option.{option_map};
+ghost use Rattle.droid_signature_file.specs.Outcomes.{Gives};
+ghost use Rattle.droid_signature_file.specs.Signatures as spec;
+
+use crate::fault::{Stop, Wrong};
+
+/// Returns the text without the white space at both ends.
+pub(crate) fn trimmed(text: &str) -> &str
+    ensures { result.now ≡ spec.trimmed text.now }
+{
+    text.trim_matches(|c| matches!(c, ' ' | '\t' | '\r' | '\n'))
+}
+
+/// Reads a number: one decimal digit or more, and less than 4,294,967,296.
+#[tactic(auto, unfolding(crate::specs::Signatures::number))]
+pub(crate) fn number(text: &str) -> Result<u32, Stop>
+    ensures { Gives (λ n. n) result (spec.number text.now) }
+{
+    if text.is_empty() || !text.bytes().all(|c| c.is_ascii_digit()) {
+        return Err(Stop::Wrong(Wrong::Number));
+    }
+    match text.parse() {
+        Ok(number) => Ok(number),
+        Err(_) => Err(Stop::Wrong(Wrong::Number)),
+    }
+}
+
+/// Reads a number that has to be there.
+pub(crate) fn wanted(value: Option<&str>) -> Result<u32, Stop>
+    ensures { Gives (λ n. n) result (spec.wanted (option_map (λ text. text.now) value.entry)) }
+{
+    match value {
+        Some(text) => number(trimmed(text)),
+        None => Err(Stop::Wrong(Wrong::Number)),
+    }
+}
+
+/// Reads a number that may be missing.
+pub(crate) fn optional(value: Option<&str>) -> Result<Option<u32>, Stop>
+    ensures { Gives (λ n. n) result (spec.optional (option_map (λ text. text.now) value.entry)) }
+{
+    match value {
+        Some(text) => Ok(Some(number(trimmed(text))?)),
+        None => Ok(None),
+    }
+}

@@ -1,0 +1,4 @@
+pub mod Choices
+pub mod Combinations
+pub mod PieceSets
+pub mod Formats

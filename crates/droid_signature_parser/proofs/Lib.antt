@@ -1,0 +1,4 @@
+pub mod FaultLemmas
+pub mod ItemFronts
+pub mod TermFronts
+pub mod BoundLemmas

@@ -1,0 +1,4 @@
+-- The terms that the code's values stand for.
+pub mod TermValues
+-- For proofs: what the steps of reading promise each other.
+pub mod TextFronts

@@ -1,0 +1,11 @@
+//! Reads the text of a DROID signature file's sequences and fragments: its terms, as `droid_signature_text` defines them.
+#![tactic(auto)]
+
+mod item_parser;
+mod parser;
+mod term;
+mod text_fault;
+
+pub use parser::read_text;
+pub use term::{TextItem, TextTerm};
+pub use text_fault::TextFault;

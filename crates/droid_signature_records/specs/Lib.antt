@@ -1,0 +1,2 @@
+-- What a signature file says.
+pub mod Records

@@ -1,0 +1,4 @@
+pub mod PatternSets
+pub mod Numbers
+pub mod RangeSets
+pub mod TermSets
