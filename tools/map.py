@@ -27,9 +27,8 @@ BELOW_HEADS = {
     "droid_profile_spec": ["droid_core_spec"],
     "droid_profile": ["droid_core_spec"],
     "droid_profile_csv": ["droid_core_spec", "droid_fixity_manifest"],
-    "droid_signature_text": ["droid_pronom_pattern"],
     "droid_signature_parser": ["droid_pronom_pattern"],
-    "droid_signature_meaning": ["droid_pronom_pattern", "droid_pronom_formats"],
+    "droid_signature_spec": ["droid_pronom_pattern", "droid_pronom_formats"],
     "droid_signature_patterns": ["droid_pronom_pattern", "droid_pronom_formats"],
     "droid_signature": ["droid_pronom_formats"],
     "droid_desk_folders": [

@@ -1,7 +1,7 @@
 -- The registry of a signature file, by what each of its signatures becomes.
 use Rattle.std.specs.Prelude.{◌≡◌, ◌<◌, ℕ, List, [], map, length, Option, Some, Result, Ok, Err, ⊤}
 use Rattle.std.specs.List.{fold}
-use Rattle.droid_signature_records.specs.Records.{FileRecord}
+use Rattle.droid_signature_spec.specs.Records.{FileRecord}
 use Rattle.droid_signature.specs.Drafts.{Draft, nothing}
 use Rattle.droid_signature.specs.Formats.{Kept, Keeping, keep_from}
 use Rattle.droid_signature.specs.Links.{extensions_of, priorities_from}

@@ -3,7 +3,7 @@ use Rattle.std.specs.Prelude.{ℕ, suc, ◌+◌, ◌&&◌, Bool, not, nat_lt, Li
 use Rattle.std.specs.List.{list_any}
 use Rattle.std.specs.Str.{bytes_eq}
 use Rattle.droid_pronom_formats.specs.RegistryFields.{is_name, is_note, is_puid}
-use Rattle.droid_signature_records.specs.Records.{FormatRecord}
+use Rattle.droid_signature_spec.specs.Records.{FormatRecord}
 use Rattle.droid_signature.specs.Drafts.{Draft, with_row, without}
 use Rattle.droid_signature.specs.Rows.{format_row}
 use Rattle.droid_signature.specs.declared.left_out.Item.TheVariants as items

@@ -1,7 +1,7 @@
 -- Which signatures the registry has, by what each signature of the file becomes.
 use Rattle.std.specs.Prelude.{ℕ, zero, suc, ◌+◌, ◌*◌, ◌==◌, ◌&&◌, Bool, not, nat_le, nat_lt, nat_eq, List, [], ◌∷◌, ◌++◌, length, map, Option, Some, None, Result, Ok, Err, if◌then◌else◌, ⊤}
 use Rattle.std.specs.List.{flat_map, fold, list_any}
-use Rattle.droid_signature_records.specs.Records.{FormatRecord, SignatureRecord}
+use Rattle.droid_signature_spec.specs.Records.{FormatRecord, SignatureRecord}
 use Rattle.droid_signature_patterns.specs.Choices.{AreTaken, IsReasonOf}
 use Rattle.droid_signature_patterns.specs.declared.choices.Choices.{Choices}
 use Rattle.droid_signature.specs.Drafts.{Draft, with_rows, without}

@@ -10,7 +10,7 @@ use crate::left_out::LeftOut;
 use crate::links::{push_extensions, push_priorities};
 use crate::outcomes::Outcomes;
 use crate::signatures::{leave_out_unnamed, push_signatures};
-use droid_signature_records::SignatureFile;
+use droid_signature_spec::SignatureFile;
 use std::alloc::{AllocError, AllocFailed, Global};
 
 /// The most bytes of a registry file.

@@ -8,7 +8,7 @@ ghost use Rattle.droid_signature.specs.Views.{draft_of};
 use crate::conversion::Taken;
 use crate::left_out::{Item, LeftOut, Why};
 use crate::rows::Rows;
-use droid_signature_records::FileFormat;
+use droid_signature_spec::FileFormat;
 use std::alloc::{AllocError, Global};
 
 /// A registry that is being made, and what it does not have.

@@ -8,7 +8,7 @@ use crate::draft::Draft;
 use crate::ids::Ids;
 use crate::left_out::{Item, Why};
 use droid_pronom_formats::is_format;
-use droid_signature_records::FileFormat;
+use droid_signature_spec::FileFormat;
 use std::alloc::{AllocError, Global};
 use std::collections::BTreeMap;
 

@@ -17,6 +17,6 @@ mod signatures;
 pub use conversion::{ConversionFault, Converted, Taken, convert};
 pub use droid_signature_file::{FileFault, Wrong, read};
 pub use droid_signature_patterns::Reason;
-pub use droid_signature_records::{FileFormat, SignatureFile, UnknownName, UnknownPart};
+pub use droid_signature_spec::{FileFormat, SignatureFile, UnknownName, UnknownPart};
 pub use droid_xml::Problem;
 pub use left_out::{Item, LeftOut, Why};

@@ -6,7 +6,7 @@ ghost use Rattle.droid_signature.specs.Signatures.{AreOutcomes, IsOutcome};
 use crate::ids::{Holder, Ids};
 use crate::left_out::Why;
 use droid_signature_patterns::{Choices, Reason, Stop, choices_of};
-use droid_signature_records::InternalSignature;
+use droid_signature_spec::InternalSignature;
 use std::alloc::{AllocError, Global};
 
 /// What a signature of the file becomes.

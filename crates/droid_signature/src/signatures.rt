@@ -10,7 +10,7 @@ use crate::kept::Kept;
 use crate::left_out::{Item, LeftOut, Why};
 use crate::outcomes::Outcomes;
 use droid_signature_patterns::Choices;
-use droid_signature_records::{FileFormat, InternalSignature};
+use droid_signature_spec::{FileFormat, InternalSignature};
 use std::alloc::{AllocError, Global};
 
 /// The most signatures of a registry.

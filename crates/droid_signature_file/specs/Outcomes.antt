@@ -4,7 +4,7 @@ use Rattle.droid_xml.specs.Documents.{IsDocument, HasProblem}
 use Rattle.droid_xml.specs.LineEnds.{with_line_feeds}
 use Rattle.droid_xml.specs.Pieces.{Part}
 use Rattle.droid_xml.specs.Views.{part, setting}
-use Rattle.droid_signature_records.specs.Records.{FileRecord}
+use Rattle.droid_signature_spec.specs.Records.{FileRecord}
 use Rattle.droid_signature_file.specs.Elements.{Node}
 use Rattle.droid_signature_file.specs.Signatures.{signature_file}
 use Rattle.droid_signature_file.specs.declared.fault.FileFault.{FileFault}

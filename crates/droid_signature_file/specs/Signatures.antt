@@ -8,11 +8,11 @@ use Rattle.droid_xml.specs.Pieces.{Part}
 use Rattle.droid_signature_file.specs.Elements.{Node, nodes_from, words_from, value_of, is_named, inside_named}
 use Rattle.droid_signature_file.specs.Tables.{meaningful}
 use Rattle.droid_signature_file.specs.Unknown.{Tally, tally}
-use Rattle.droid_signature_records.specs.Records.{ByteSequenceRecord, FileRecord, FormatRecord, SignatureRecord, SubSequenceRecord}
-use Rattle.droid_signature_records.specs.declared.subsequence.OffsetRange.{OffsetRange}
-use Rattle.droid_signature_records.specs.declared.subsequence.Fragment.{Fragment}
-use Rattle.droid_signature_records.specs.declared.sequence.Reference.{Reference}
-use Rattle.droid_signature_records.specs.declared.sequence.Reference.TheVariants.{Beginning, End, Other}
+use Rattle.droid_signature_spec.specs.Records.{ByteSequenceRecord, FileRecord, FormatRecord, SignatureRecord, SubSequenceRecord}
+use Rattle.droid_signature_spec.specs.declared.subsequence.OffsetRange.{OffsetRange}
+use Rattle.droid_signature_spec.specs.declared.subsequence.Fragment.{Fragment}
+use Rattle.droid_signature_spec.specs.declared.sequence.Reference.{Reference}
+use Rattle.droid_signature_spec.specs.declared.sequence.Reference.TheVariants.{Beginning, End, Other}
 use Rattle.droid_signature_file.specs.declared.fault.Wrong.{Wrong}
 use Rattle.droid_signature_file.specs.declared.fault.Wrong.TheVariants as wrongs
 

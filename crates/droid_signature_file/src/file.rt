@@ -11,7 +11,7 @@ use crate::node::{Node, first_node};
 use crate::pieces::pieces_of;
 use crate::signatures::signature;
 use crate::unknown::{Tally, count_unknown};
-use droid_signature_records::SignatureFile;
+use droid_signature_spec::SignatureFile;
 use droid_xml::{Fault, Piece, with_line_feeds};
 use std::alloc::Global;
 

@@ -10,7 +10,7 @@ use crate::node::Node;
 use crate::numbers::{number, trimmed, wanted};
 use crate::signatures::text_of;
 use droid_frame::Text;
-use droid_signature_records::FileFormat;
+use droid_signature_spec::FileFormat;
 use std::alloc::{AllocError, Global};
 
 /// Reads a `FileFormat`.

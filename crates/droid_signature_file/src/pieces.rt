@@ -1,10 +1,10 @@
 //! The pieces of a document that mean something.
 
-ghost use Rattle.std.specs.Prelude.{◌≡◌, List, map, IfOk, IfErr};
+ghost use Rattle.std.specs.Prelude.{◌≡◌, ◌++◌, List, map, IfOk, IfErr, OnOk};
 ghost use Rattle.droid_xml.specs.Documents.{IsDocument};
 ghost use Rattle.droid_xml.specs.Pieces.{Part};
-ghost use Rattle.droid_xml.specs.Views.{IsFaultOf, part};
-ghost use Rattle.droid_signature_file.specs.Tables.{meaningful};
+ghost use Rattle.droid_xml.specs.Views.{IsFaultOf, IsMemory, part};
+ghost use Rattle.droid_signature_file.specs.Tables.{kept_piece, meaningful};
 
 use crate::tables::{depth_behind, is_kept};
 use droid_xml::{Fault, Piece, Reader};
@@ -19,16 +19,26 @@ pub(crate) fn pieces_of(alloc: Global, text: &[u8]) -> Result<Vec<Piece<'_>>, Fa
     let mut pieces = Vec::new(alloc);
     let mut depth = 0;
     for _ in 0..u64::MAX {
-        let piece = match reader.next(alloc) {
-            Ok(Some(piece)) => piece,
+        match reader.next(alloc) {
+            Ok(Some(piece)) => {
+                let behind = depth_behind(depth, &piece);
+                add_kept(&mut pieces, depth, piece)?;
+                depth = behind;
+            }
             Ok(None) => return Ok(pieces),
             Err(fault) => return Err(fault),
-        };
-        let is_kept = is_kept(depth, &piece);
-        depth = depth_behind(depth, &piece);
-        if is_kept {
-            pieces.push(piece)?;
         }
     }
     Err(Fault::Memory)
+}
+
+/// Adds a piece, if it is kept where `depth` elements are open in a search table.
+fn add_kept<'a>(pieces: &mut Vec<Piece<'a>>, depth: u64, piece: Piece<'a>) -> Result<(), Fault>
+    ensures added { OnOk result (map part pieces.new.items ≡ map part pieces.old.items ++ kept_piece depth (part piece)) }
+    ensures fault { IfErr result IsMemory }
+{
+    if is_kept(depth, &piece) {
+        pieces.push(piece)?;
+    }
+    Ok(())
 }

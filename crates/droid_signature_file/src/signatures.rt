@@ -9,7 +9,7 @@ use crate::fault::{Stop, Wrong};
 use crate::node::Node;
 use crate::numbers::{optional, trimmed, wanted};
 use droid_frame::Text;
-use droid_signature_records::{
+use droid_signature_spec::{
     Fragment, InternalSignature, OffsetRange, Reference, SequenceRecord, SubSequence,
 };
 use std::alloc::{AllocError, Global};

@@ -6,7 +6,7 @@ ghost use Rattle.droid_signature_file.specs.Unknown as spec;
 
 use crate::kinds::{Kind, kind_outside};
 use droid_frame::Text;
-use droid_signature_records::{UnknownName, UnknownPart};
+use droid_signature_spec::{UnknownName, UnknownPart};
 use droid_xml::{Element, Piece};
 use std::alloc::{AllocError, Global};
 

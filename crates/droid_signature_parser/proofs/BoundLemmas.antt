@@ -9,9 +9,9 @@ use Rattle.droid_pronom_pattern.specs.PatternText.{IsPair, SpellsBytes, SpellsAl
 use Rattle.droid_pronom_pattern.specs.Fronts.{SpellsInBrackets}
 use Rattle.droid_pronom_pattern.proofs.TextLemmas.{first_mark, mark_between, bytes_have}
 use Rattle.droid_pronom_pattern.proofs.FrontLemmas as element
-use Rattle.droid_signature_text.specs.Terms.{Atom, Plain, Outside, Between, Quoted, AreBytes, number_after}
-use Rattle.droid_signature_text.specs.TermText.{AreBounds, IsQuotable}
-use Rattle.droid_signature_text.proofs.Numbers.{less_after}
+use Rattle.droid_signature_spec.specs.Terms.{Atom, Plain, Outside, Between, Quoted, AreBytes, number_after}
+use Rattle.droid_signature_spec.specs.TermText.{AreBounds, IsQuotable}
+use Rattle.droid_signature_spec.proofs.Numbers.{less_after}
 use Rattle.droid_signature_parser.specs.TextFronts.{InBrackets, InQuotes}
 use Rattle.droid_signature_parser.proofs.ItemFronts.{heads}
 

@@ -10,8 +10,8 @@ use Rattle.droid_pronom_pattern.specs.PatternText.{SpellsBytes, SpellsElement}
 use Rattle.droid_pronom_pattern.specs.Fronts.{SpellsInPair, SpellsInBraces, SpellsInBrackets}
 use Rattle.droid_pronom_pattern.proofs.TextLemmas.{first_mark, mark_between, bytes_have, pair_text, same_bytes}
 use Rattle.droid_pronom_pattern.proofs.FrontLemmas as element
-use Rattle.droid_signature_text.specs.Terms.{Atom, Plain, Outside, Between, Quoted}
-use Rattle.droid_signature_text.specs.TermText.{IsPlain, AreBounds, IsQuotable, SpellsAtom}
+use Rattle.droid_signature_spec.specs.Terms.{Atom, Plain, Outside, Between, Quoted}
+use Rattle.droid_signature_spec.specs.TermText.{IsPlain, AreBounds, IsQuotable, SpellsAtom}
 use Rattle.droid_signature_parser.specs.TextFronts.{IsOnlyFront, HasNoFront, InPair, InBraces, InBrackets, InQuotes}
 
 -- an item of a list is the first or a later one

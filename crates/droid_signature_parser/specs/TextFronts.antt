@@ -3,8 +3,8 @@ use Rattle.std.specs.Prelude.{◌≡◌, ℕ, ◌+◌, ◌≤◌, ◌<◌, ◌==
 use Rattle.std.specs.List.{AllByRecursion}
 use Rattle.droid_pronom_pattern.specs.PatternText.{SpellsBytes}
 use Rattle.droid_pronom_pattern.specs.Fronts.{SpellsInPair, SpellsInBraces, SpellsInBrackets}
-use Rattle.droid_signature_text.specs.Terms.{Atom, Plain, Outside, Between, Quoted}
-use Rattle.droid_signature_text.specs.TermText.{AreBounds, IsQuotable, SpellsAtoms, SpellsAlternatives}
+use Rattle.droid_signature_spec.specs.Terms.{Atom, Plain, Outside, Between, Quoted}
+use Rattle.droid_signature_spec.specs.TermText.{AreBounds, IsQuotable, SpellsAtoms, SpellsAlternatives}
 
 -- The text begins with this, spelled so, with this text after it, and with nothing else.
 pub record IsOnlyFront {X : Type 0} (Spells : List ℕ → X → Type 0) (text : List ℕ) (x : X) (rest : List ℕ) : Type 0 where

@@ -5,8 +5,8 @@ ghost use Rattle.std.specs.List.{list_all};
 ghost use Rattle.droid_pronom_pattern.specs.Patterns.{Element, Range, Except};
 ghost use Rattle.droid_pronom_pattern.specs.PatternText.{IsPair, IsNumber, SpellsAlternative};
 ghost use Rattle.droid_pronom_pattern.specs.Fronts.{SpellsInPair, SpellsInBraces, SpellsInBrackets};
-ghost use Rattle.droid_signature_text.specs.Terms.{Atom, Outside, Between, number_after};
-ghost use Rattle.droid_signature_text.specs.TermText.{AreBounds, SpellsAtom};
+ghost use Rattle.droid_signature_spec.specs.Terms.{Atom, Outside, Between, number_after};
+ghost use Rattle.droid_signature_spec.specs.TermText.{AreBounds, SpellsAtom};
 ghost use Rattle.droid_signature_parser.specs.TermValues.{atom_of};
 ghost use Rattle.droid_signature_parser.specs.TextFronts.{IsOnlyFront, HasNoFront, InPair, InBraces, InBrackets, InQuotes};
 

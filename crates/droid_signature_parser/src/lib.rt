@@ -1,4 +1,4 @@
-//! Reads the text of a DROID signature file's sequences and fragments: its terms, as `droid_signature_text` defines them.
+//! Reads the text of a DROID signature file's sequences and fragments: its terms, as `droid_signature_spec` defines them.
 #![tactic(auto)]
 
 mod item_parser;

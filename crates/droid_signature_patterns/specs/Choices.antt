@@ -5,8 +5,8 @@ use Rattle.droid_pronom_pattern.specs.Patterns.{Element}
 use Rattle.droid_pronom_formats.specs.Registry.{AnyOf}
 use Rattle.droid_pronom_formats.specs.declared.rows.ByteSequence.{ByteSequence}
 use Rattle.droid_pronom_formats.specs.declared.rows.Offsets.{Offsets}
-use Rattle.droid_signature_records.specs.Records.{ByteSequenceRecord, SignatureRecord}
-use Rattle.droid_signature_meaning.specs.Sequences.{AreChoicesOf, StandFor, choices, combinations}
+use Rattle.droid_signature_spec.specs.Records.{ByteSequenceRecord, SignatureRecord}
+use Rattle.droid_signature_spec.specs.Sequences.{AreChoicesOf, StandFor, choices, combinations}
 use Rattle.droid_signature_patterns.specs.Reasons.{IsReasonOfSequence}
 use Rattle.droid_signature_patterns.specs.Texts.{end_in_bytes, ends_in_byte}
 use Rattle.droid_signature_patterns.specs.Written.{written_all, written_each}

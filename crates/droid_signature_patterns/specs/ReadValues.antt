@@ -4,13 +4,13 @@ use Rattle.std.specs.List.{AllByRecursion}
 use Rattle.std.specs.declared.vec.Vec.{Vec}
 use Rattle.std.specs.declared.alloc.Global.{Global}
 use Rattle.droid_pronom_formats.specs.Registry.{AnyOf}
-use Rattle.droid_signature_records.specs.Records.{ByteSequenceRecord, SubSequenceRecord}
-use Rattle.droid_signature_meaning.specs.Meaning.{lowest}
-use Rattle.droid_signature_meaning.specs.Pieces.{ArePieces, IsPiece, Piece, Side, outermost_side}
-use Rattle.droid_signature_meaning.specs.Sequences.{IsAnchorOf}
+use Rattle.droid_signature_spec.specs.Records.{ByteSequenceRecord, SubSequenceRecord}
+use Rattle.droid_signature_spec.specs.Meaning.{lowest}
+use Rattle.droid_signature_spec.specs.Pieces.{ArePieces, IsPiece, Piece, Side, outermost_side}
+use Rattle.droid_signature_spec.specs.Sequences.{IsAnchorOf}
 use Rattle.droid_signature_parser.specs.TermValues.{term_of}
 use Rattle.droid_signature_parser.specs.declared.term.TextTerm.{TextTerm}
-use Rattle.droid_signature_text.specs.Expansions.{patterns_of}
+use Rattle.droid_signature_spec.specs.Expansions.{patterns_of}
 use Rattle.droid_signature_patterns.specs.Reasons.{AreExpandable}
 use Rattle.droid_signature_patterns.specs.declared.read_parts.ReadPart.{ReadPart}
 use Rattle.droid_signature_patterns.specs.declared.read_parts.ReadSequence.{ReadSequence}

@@ -3,16 +3,16 @@ use Rattle.std.specs.Prelude.{◌≡◌, ◌≢◌, ◌⊎◌, ℕ, suc, ◌<◌
 use Rattle.std.specs.List.{AllByRecursion}
 use Rattle.droid_pronom_pattern.specs.Patterns.{Element}
 use Rattle.droid_pronom_formats.specs.Registry.{AnyOf}
-use Rattle.droid_signature_records.specs.Records.{ByteSequenceRecord, SubSequenceRecord}
-use Rattle.droid_signature_records.specs.declared.subsequence.Fragment.{Fragment}
-use Rattle.droid_signature_records.specs.declared.subsequence.OffsetRange.{OffsetRange}
-use Rattle.droid_signature_records.specs.declared.sequence.Reference.TheVariants.{End, Other}
-use Rattle.droid_signature_text.specs.Expansions.{patterns_of}
-use Rattle.droid_signature_text.specs.Terms.{Atom, Plain, Outside, Between, Quoted, Term, One, OneOf}
-use Rattle.droid_signature_text.specs.TermText.{AreBounds, SpellsTerms}
-use Rattle.droid_signature_meaning.specs.Meaning.{TextMatches, lowest, outermost}
-use Rattle.droid_signature_meaning.specs.Pieces.{ArePieces, Piece}
-use Rattle.droid_signature_meaning.specs.Sequences.{ArePatternsOf}
+use Rattle.droid_signature_spec.specs.Records.{ByteSequenceRecord, SubSequenceRecord}
+use Rattle.droid_signature_spec.specs.declared.subsequence.Fragment.{Fragment}
+use Rattle.droid_signature_spec.specs.declared.subsequence.OffsetRange.{OffsetRange}
+use Rattle.droid_signature_spec.specs.declared.sequence.Reference.TheVariants.{End, Other}
+use Rattle.droid_signature_spec.specs.Expansions.{patterns_of}
+use Rattle.droid_signature_spec.specs.Terms.{Atom, Plain, Outside, Between, Quoted, Term, One, OneOf}
+use Rattle.droid_signature_spec.specs.TermText.{AreBounds, SpellsTerms}
+use Rattle.droid_signature_spec.specs.Meaning.{TextMatches, lowest, outermost}
+use Rattle.droid_signature_spec.specs.Pieces.{ArePieces, Piece}
+use Rattle.droid_signature_spec.specs.Sequences.{ArePatternsOf}
 use Rattle.droid_signature_parser.specs.TermValues.{term_of}
 use Rattle.droid_signature_parser.specs.declared.term.TextTerm.{TextTerm}
 use Rattle.std.specs.declared.vec.Vec.{Vec}

@@ -2,8 +2,8 @@
 use Rattle.std.specs.Prelude.{ℕ, ◌+◌, ◌/◌, ◌%◌, ◌==◌, nat_lt, List, [], ◌∷◌, ◌++◌, map, codes, decimal, if◌then◌else◌}
 use Rattle.std.specs.List.{flat_map}
 use Rattle.droid_pronom_pattern.specs.Patterns.{Element, Byte, AnyByte, Gap, OpenGap, Range, Except, Choice}
-use Rattle.droid_signature_text.specs.Expansions.{joined}
-use Rattle.droid_signature_meaning.specs.Pieces.{Side, gap_patterns}
+use Rattle.droid_signature_spec.specs.Expansions.{joined}
+use Rattle.droid_signature_spec.specs.Pieces.{Side, gap_patterns}
 use Rattle.droid_signature_patterns.specs.declared.part_texts.Side.{Side as WhichSide}
 use Rattle.droid_signature_patterns.specs.declared.part_texts.Side.TheVariants as which
 

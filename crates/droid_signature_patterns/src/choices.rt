@@ -10,7 +10,7 @@ use crate::pattern_texts::{MOST_PATTERNS, PatternTexts};
 use crate::reading::read_sequence;
 use crate::reason::{Reason, Stop};
 use droid_pronom_formats::Offsets;
-use droid_signature_records::{InternalSignature, SequenceRecord};
+use droid_signature_spec::{InternalSignature, SequenceRecord};
 use std::alloc::Global;
 
 /// Offsets, and the patterns any of which has to hit there.

@@ -1,11 +1,11 @@
 //! Offsets that a registry can hold.
 
 ghost use Rattle.std.specs.Prelude.{◌≡◌, ◌≤◌, Some, IfErr, IfOk};
-ghost use Rattle.droid_signature_meaning.specs.Meaning.{lowest};
+ghost use Rattle.droid_signature_spec.specs.Meaning.{lowest};
 ghost use Rattle.droid_signature_patterns.specs.Reasons.{IsReasonOfBounds, IsReasonOfLower};
 
 use crate::reason::Reason;
-use droid_signature_records::OffsetRange;
+use droid_signature_spec::OffsetRange;
 
 /// Returns the lower and the upper offset.
 pub(crate) fn bounds_of(offsets: OffsetRange) -> Result<(u16, u16), Reason>

@@ -1,7 +1,7 @@
 //! The texts of the patterns that stand for subsequences.
 
 ghost use Rattle.std.specs.Prelude.{◌≡◌, map};
-ghost use Rattle.droid_signature_meaning.specs.Pieces.{gap_patterns, outermost_side, piece_patterns, row_patterns};
+ghost use Rattle.droid_signature_spec.specs.Pieces.{gap_patterns, outermost_side, piece_patterns, row_patterns};
 ghost use Rattle.droid_signature_patterns.specs.Outcomes.{Becomes, BecomesFrom};
 ghost use Rattle.droid_signature_patterns.specs.ReadValues.{AreSound, CanBeWritten, IsSound, IsSoundSequence, piece_of, side_of};
 ghost use Rattle.droid_signature_patterns.specs.Texts.{joined};

@@ -1,11 +1,11 @@
 //! The positions of fragments and subsequences.
 
 ghost use Rattle.std.specs.Prelude.{◌≡◌, ◌<◌, ◌≤◌, IfErr, IfOk, length};
-ghost use Rattle.droid_signature_meaning.specs.Meaning.{outermost};
+ghost use Rattle.droid_signature_spec.specs.Meaning.{outermost};
 ghost use Rattle.droid_signature_patterns.specs.Reasons as spec;
 
 use crate::reason::Reason;
-use droid_signature_records::{Fragment, SubSequence};
+use droid_signature_spec::{Fragment, SubSequence};
 
 /// The most fragments on one side. This limit is the project's own.
 const MOST_FRAGMENTS: usize = 256;

@@ -1,8 +1,8 @@
 //! Ranges of several bytes, written out byte by byte.
 
 ghost use Rattle.std.specs.Prelude.{◌≡◌, ◌≤◌, ◌<◌, ◌++◌, length, take, drop, IfOk};
-ghost use Rattle.droid_signature_text.specs.TermText.{AreBounds};
-ghost use Rattle.droid_signature_text.specs.Expansions.{ranges, upward_from, up_to, range_before};
+ghost use Rattle.droid_signature_spec.specs.TermText.{AreBounds};
+ghost use Rattle.droid_signature_spec.specs.Expansions.{ranges, upward_from, up_to, range_before};
 ghost use Rattle.droid_signature_patterns.specs.Written.{with_front, written_each};
 ghost use Rattle.droid_signature_patterns.specs.Outcomes.{Becomes, BecomesFrom};
 

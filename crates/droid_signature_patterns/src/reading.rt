@@ -1,8 +1,8 @@
 //! Reads the texts of byte sequences, and checks what a registry asks of their offsets and positions.
 
 ghost use Rattle.std.specs.Prelude.{IfOk, MatchBool, map};
-ghost use Rattle.droid_signature_meaning.specs.Sequences.{IsAnchorOf};
-ghost use Rattle.droid_signature_meaning.specs.Pieces.{IsPiece, IsSide, AreSides};
+ghost use Rattle.droid_signature_spec.specs.Sequences.{IsAnchorOf};
+ghost use Rattle.droid_signature_spec.specs.Pieces.{IsPiece, IsSide, AreSides};
 ghost use Rattle.droid_signature_parser.specs.TermValues.{term_of};
 ghost use Rattle.droid_signature_patterns.specs.Outcomes.{IfLeftOut};
 ghost use Rattle.droid_signature_patterns.specs.Reasons as reasons;
@@ -15,7 +15,7 @@ use crate::read_parts::{ReadPart, ReadSequence, ReadSide};
 use crate::reason::{Reason, Stop};
 use droid_pronom_formats::{Anchor, Offsets};
 use droid_signature_parser::{TextFault, TextItem, TextTerm, read_text};
-use droid_signature_records::{Fragment, Reference, SequenceRecord, SubSequence};
+use droid_signature_spec::{Fragment, Reference, SequenceRecord, SubSequence};
 use std::alloc::Global;
 
 /// The most bytes of the bounds of a range. This limit is the project's own.

@@ -2,7 +2,7 @@
 
 ghost use Rattle.std.specs.Prelude.{◌≡◌, ◌++◌, IfOk, OnOk, map};
 ghost use Rattle.droid_signature_parser.specs.TermValues.{atom_of, term_of};
-ghost use Rattle.droid_signature_text.specs.Expansions.{patterns_of, patterns_of_atom, patterns_of_atoms, patterns_of_each, patterns_of_term, runs_outside, runs_of};
+ghost use Rattle.droid_signature_spec.specs.Expansions.{patterns_of, patterns_of_atom, patterns_of_atoms, patterns_of_each, patterns_of_term, runs_outside, runs_of};
 ghost use Rattle.droid_pronom_pattern.specs.Patterns.{Choice};
 ghost use Rattle.droid_signature_patterns.specs.Outcomes.{Becomes, BecomesFrom};
 ghost use Rattle.droid_signature_patterns.specs.Reasons.{AreExpandable, IsExpandable};

@@ -1,4 +1,0 @@
-pub mod Choices
-pub mod Combinations
-pub mod PieceSets
-pub mod Formats

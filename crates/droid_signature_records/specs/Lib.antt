@@ -1,2 +1,0 @@
--- What a signature file says.
-pub mod Records

@@ -1,0 +1,128 @@
+//! The whole file.
+
+ghost use Rattle.std.specs.Prelude.{◌≡◌, ◌++◌, ◌∷◌, [], OnOk, OnErr};
+
+use crate::format::FileFormat;
+use crate::signature::InternalSignature;
+use droid_frame::Text;
+use std::alloc::{AllocError, Global};
+use std::marker::Model;
+
+/// What carries a name that the reader does not know.
+#[derive(Clone, Copy, Debug, PartialEq, Eq)]
+pub enum UnknownPart {
+    Element,
+    Attribute,
+}
+
+/// The name of elements or attributes that the reader does not know, and how many there are.
+#[derive(Debug, Drop)]
+pub struct UnknownName {
+    pub part: UnknownPart,
+    pub name: Text,
+    pub count: u64,
+}
+
+/// A signature file, with its signatures and formats in the file's order.
+#[derive(Debug, Drop)]
+pub struct SignatureFile {
+    version: Text,
+    created: Text,
+    signatures: Vec<InternalSignature>,
+    formats: Vec<FileFormat>,
+    unknown: Vec<UnknownName>,
+    unlisted: u64,
+}
+
+impl Model for SignatureFile {
+    ghost use Rattle.droid_signature_spec.specs.Records.{FileRecord};
+
+    ghost Value = { FileRecord };
+
+    ghost view = { λ it. record { version = it.version; created = it.created; signatures = it.signatures.items; formats = it.formats.items; unknown = it.unknown.items; unlisted = it.unlisted } };
+}
+
+impl SignatureFile {
+    /// Makes a file without signatures and formats, from the attributes `Version` and `DateCreated`. One that is missing
+    /// is empty. Allocates nothing.
+    pub fn new(alloc: Global, version: Text, created: Text) -> SignatureFile
+        ensures { result ≡ record { version = version; created = created; signatures = []; formats = []; unknown = []; unlisted = 0 } }
+    {
+        SignatureFile {
+            version,
+            created,
+            signatures: Vec::new(alloc),
+            formats: Vec::new(alloc),
+            unknown: Vec::new(alloc),
+            unlisted: 0,
+        }
+    }
+
+    /// Appends a signature. When out of memory it fails, and nothing changes.
+    pub fn push_signature(&mut self, signature: InternalSignature) -> Result<(), AllocError>
+        ensures ok { OnOk result (self.new ≡ record self.old { signatures = self.old.signatures ++ signature ∷ [] }) }
+        ensures err { OnErr result (self.new ≡ self.old) }
+    {
+        self.signatures.push(signature)?;
+        Ok(())
+    }
+
+    /// Appends a format. When out of memory it fails, and nothing changes.
+    pub fn push_format(&mut self, format: FileFormat) -> Result<(), AllocError>
+        ensures ok { OnOk result (self.new ≡ record self.old { formats = self.old.formats ++ format ∷ [] }) }
+        ensures err { OnErr result (self.new ≡ self.old) }
+    {
+        self.formats.push(format)?;
+        Ok(())
+    }
+
+    /// Replaces the names that the reader does not know, and the number of elements and attributes with further such names.
+    pub fn set_unknown(&mut self, unknown: Vec<UnknownName>, unlisted: u64)
+        ensures { self.new ≡ record self.old { unknown = unknown.items; unlisted = unlisted } }
+    {
+        self.unknown = unknown;
+        self.unlisted = unlisted;
+    }
+
+    /// Returns the attribute `Version`.
+    pub fn version(&self) -> &str
+        ensures { result.now ≡ self.now.version }
+    {
+        self.version.as_str()
+    }
+
+    /// Returns the attribute `DateCreated`.
+    pub fn created(&self) -> &str
+        ensures { result.now ≡ self.now.created }
+    {
+        self.created.as_str()
+    }
+
+    /// Returns the signatures.
+    pub fn signatures(&self) -> &[InternalSignature]
+        ensures { result.now ≡ self.now.signatures }
+    {
+        self.signatures.as_slice()
+    }
+
+    /// Returns the formats.
+    pub fn formats(&self) -> &[FileFormat]
+        ensures { result.now ≡ self.now.formats }
+    {
+        self.formats.as_slice()
+    }
+
+    /// Returns the names that the reader does not know, each once.
+    pub fn unknown(&self) -> &[UnknownName]
+        ensures { result.now ≡ self.now.unknown }
+    {
+        self.unknown.as_slice()
+    }
+
+    /// Returns how many elements and attributes have a name that the reader does not know and that is not listed.
+    pub fn unlisted(&self) -> u64
+        ensures { result ≡ self.now.unlisted }
+    {
+        self.unlisted
+    }
+}

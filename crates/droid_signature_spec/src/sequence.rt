@@ -1,0 +1,68 @@
+//! Byte sequences of a signature.
+
+ghost use Rattle.std.specs.Prelude.{◌≡◌, ◌++◌, ◌∷◌, [], OnOk, OnErr};
+
+use crate::subsequence::SubSequence;
+use std::alloc::{AllocError, Global};
+use std::marker::Model;
+
+/// From where the offsets of a byte sequence count.
+#[derive(Clone, Copy, Debug, PartialEq, Eq)]
+pub enum Reference {
+    /// `BOFoffset`: the beginning of the file.
+    Beginning,
+    /// `EOFoffset`: the end of the file.
+    End,
+    /// Another text, or no such attribute.
+    Other,
+}
+
+/// The element `ByteSequence`, with its subsequences in the file's order.
+#[derive(Debug, Drop)]
+pub struct SequenceRecord {
+    reference: Reference,
+    parts: Vec<SubSequence>,
+}
+
+impl Model for SequenceRecord {
+    ghost use Rattle.droid_signature_spec.specs.Records.{ByteSequenceRecord};
+
+    ghost Value = { ByteSequenceRecord };
+
+    ghost view = { λ it. record { reference = it.reference; parts = it.parts.items } };
+}
+
+impl SequenceRecord {
+    /// Makes a byte sequence without subsequences. Allocates nothing.
+    pub fn new(alloc: Global, reference: Reference) -> SequenceRecord
+        ensures { result ≡ record { reference = reference; parts = [] } }
+    {
+        SequenceRecord {
+            reference,
+            parts: Vec::new(alloc),
+        }
+    }
+
+    /// Appends a subsequence. When out of memory it fails, and nothing changes.
+    pub fn push(&mut self, part: SubSequence) -> Result<(), AllocError>
+        ensures ok { OnOk result (self.new ≡ record self.old { parts = self.old.parts ++ part ∷ [] }) }
+        ensures err { OnErr result (self.new ≡ self.old) }
+    {
+        self.parts.push(part)?;
+        Ok(())
+    }
+
+    /// Returns from where the offsets count.
+    pub fn reference(&self) -> Reference
+        ensures { result ≡ self.now.reference }
+    {
+        self.reference
+    }
+
+    /// Returns the subsequences in the file's order.
+    pub fn parts(&self) -> &[SubSequence]
+        ensures { result.now ≡ self.now.parts }
+    {
+        self.parts.as_slice()
+    }
+}

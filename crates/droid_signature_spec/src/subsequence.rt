@@ -1,0 +1,121 @@
+//! Subsequences and their fragments.
+
+ghost use Rattle.std.specs.Prelude.{◌≡◌, ◌++◌, ◌∷◌, [], OnOk, OnErr};
+
+use droid_frame::Text;
+use std::alloc::{AllocError, Global};
+use std::marker::Model;
+
+/// Two offsets in bytes, as the attributes give them. An attribute that is missing is `None`.
+#[derive(Clone, Copy, Debug, PartialEq, Eq)]
+pub struct OffsetRange {
+    /// `SubSeqMinOffset` or `MinOffset`.
+    pub min: Option<u32>,
+    /// `SubSeqMaxOffset` or `MaxOffset`.
+    pub max: Option<u32>,
+}
+
+/// A fragment: bytes that lie on one side of a subsequence's `Sequence`.
+#[derive(Debug, Drop)]
+pub struct Fragment {
+    /// `Position`: 1 lies beside the `Sequence`, 2 beside 1, and so on.
+    pub position: u32,
+    /// How far away it lies.
+    pub offsets: OffsetRange,
+    /// The element's text.
+    pub text: Text,
+}
+
+/// A subsequence: its `Sequence`, and the fragments on both sides in the file's order.
+#[derive(Debug, Drop)]
+pub struct SubSequence {
+    position: u32,
+    offsets: OffsetRange,
+    text: Text,
+    left: Vec<Fragment>,
+    right: Vec<Fragment>,
+}
+
+impl Model for SubSequence {
+    ghost use Rattle.droid_signature_spec.specs.Records.{SubSequenceRecord};
+
+    ghost Value = { SubSequenceRecord };
+
+    ghost view = { λ it. record { position = it.position; offsets = it.offsets; text = it.text; left = it.left.items; right = it.right.items } };
+}
+
+impl SubSequence {
+    /// Makes a subsequence without fragments. `text` is that of its `Sequence`, and empty if there is none. Allocates
+    /// nothing.
+    pub fn new(alloc: Global, position: u32, offsets: OffsetRange, text: Text) -> SubSequence
+        ensures { result ≡ record { position = position; offsets = offsets; text = text; left = []; right = [] } }
+    {
+        SubSequence {
+            position,
+            offsets,
+            text,
+            left: Vec::new(alloc),
+            right: Vec::new(alloc),
+        }
+    }
+
+    /// Replaces the text of the `Sequence`.
+    pub fn set_text(&mut self, text: Text)
+        ensures { self.new ≡ record self.old { text = text } }
+    {
+        self.text = text;
+    }
+
+    /// Appends a left fragment. When out of memory it fails, and nothing changes.
+    pub fn push_left(&mut self, fragment: Fragment) -> Result<(), AllocError>
+        ensures ok { OnOk result (self.new ≡ record self.old { left = self.old.left ++ fragment ∷ [] }) }
+        ensures err { OnErr result (self.new ≡ self.old) }
+    {
+        self.left.push(fragment)?;
+        Ok(())
+    }
+
+    /// Appends a right fragment. When out of memory it fails, and nothing changes.
+    pub fn push_right(&mut self, fragment: Fragment) -> Result<(), AllocError>
+        ensures ok { OnOk result (self.new ≡ record self.old { right = self.old.right ++ fragment ∷ [] }) }
+        ensures err { OnErr result (self.new ≡ self.old) }
+    {
+        self.right.push(fragment)?;
+        Ok(())
+    }
+
+    /// Returns the attribute `Position`.
+    pub fn position(&self) -> u32
+        ensures { result ≡ self.now.position }
+    {
+        self.position
+    }
+
+    /// Returns `SubSeqMinOffset` and `SubSeqMaxOffset`.
+    pub fn offsets(&self) -> OffsetRange
+        ensures { result ≡ self.now.offsets }
+    {
+        self.offsets
+    }
+
+    /// Returns the text of the `Sequence`.
+    pub fn text(&self) -> &str
+        ensures { result.now ≡ self.now.text }
+    {
+        self.text.as_str()
+    }
+
+    /// Returns the left fragments in the file's order.
+    pub fn left(&self) -> &[Fragment]
+        ensures { result.now ≡ self.now.left }
+    {
+        self.left.as_slice()
+    }
+
+    /// Returns the right fragments in the file's order.
+    pub fn right(&self) -> &[Fragment]
+        ensures { result.now ≡ self.now.right }
+    {
+        self.right.as_slice()
+    }
+}

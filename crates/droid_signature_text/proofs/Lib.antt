@@ -1,4 +1,0 @@
-pub mod PatternSets
-pub mod Numbers
-pub mod RangeSets
-pub mod TermSets
