@@ -27,17 +27,21 @@ abbrev pub Gives : {X A : Type 0} → (X → A) → Result X Stop → Result A W
 Gives view (Ok x) expected = expected ≡ Ok (view x)
 Gives view (Err stop) expected = Stops stop expected
 
--- the document of these bytes says this
+-- the document of a text says this
 abbrev pub Says : List ℕ → Result FileRecord Wrong → Type 0
-Says bytes outcome = (parts : List Part) × IsDocument (with_line_feeds bytes) parts × (signature_file parts ≡ outcome)
+Says text outcome = (parts : List Part) × IsDocument text parts × (signature_file parts ≡ outcome)
 
--- why a file is not read is true of its bytes
+-- why a text is not read is true of it
 abbrev pub FailsBy : List ℕ → FileFault → Type 0
-FailsBy bytes faults.Memory = ⊤
-FailsBy bytes (faults.Document problem line) = HasProblem (with_line_feeds bytes) problem line
-FailsBy bytes (faults.NotASignatureFile wrong) = Says bytes (Err wrong)
+FailsBy text faults.Memory = ⊤
+FailsBy text (faults.Document problem line) = HasProblem text problem line
+FailsBy text (faults.NotASignatureFile wrong) = Says text (Err wrong)
+
+-- the outcome of a text whose line ends are line feeds
+abbrev pub ReadsText : List ℕ → Result FileRecord FileFault → Type 0
+ReadsText text (Ok file) = Says text (Ok file)
+ReadsText text (Err fault) = FailsBy text fault
 
 -- the outcome of a signature file's bytes
 abbrev pub Reads : List ℕ → Result FileRecord FileFault → Type 0
-Reads bytes (Ok file) = Says bytes (Ok file)
-Reads bytes (Err fault) = FailsBy bytes fault
+Reads bytes result = ReadsText (with_line_feeds bytes) result

@@ -1,9 +1,9 @@
 -- What the elements of a DROID signature file say (its format as The National Archives publishes it).
-use Rattle.std.specs.Prelude.{ℕ, ◌^◌, ◌&&◌, nat_lt, Bool, true, false, if◌then◌else◌, List, [], ◌∷◌, length, drop, reverse, map, codes, unwrap_or, Option, Some, None, Result, Ok, Err}
-use Rattle.std.specs.List.{prefix_len, flat_map}
-use Rattle.std.specs.Str.{all_ascii_digits, bytes_eq}
+use Rattle.std.specs.Prelude.{ℕ, ◌^◌, ◌-◌, ◌&&◌, nat_lt, Bool, if◌then◌else◌, List, [], ◌∷◌, length, drop, take, map, codes, unwrap_or, Option, Some, None, Result, Ok, Err}
+use Rattle.std.specs.Char.{is_ascii_digit, is_ascii_whitespace}
+use Rattle.std.specs.List.{prefix_len, suffix_len, list_all, flat_map}
+use Rattle.std.specs.Str.{bytes_eq}
 use Rattle.std.specs.Str.Parse.{digits_value}
-use Rattle.droid_xml.specs.Bytes.{is_space}
 use Rattle.droid_xml.specs.Pieces.{Part}
 use Rattle.droid_signature_file.specs.Elements.{Node, nodes_from, words_from, value_of, is_named, inside_named}
 use Rattle.droid_signature_file.specs.Tables.{meaningful}
@@ -11,6 +11,7 @@ use Rattle.droid_signature_file.specs.Unknown.{Tally, tally}
 use Rattle.droid_signature_spec.specs.Records.{ByteSequenceRecord, FileRecord, FormatRecord, SignatureRecord, SubSequenceRecord}
 use Rattle.droid_signature_spec.specs.declared.subsequence.OffsetRange.{OffsetRange}
 use Rattle.droid_signature_spec.specs.declared.subsequence.Fragment.{Fragment}
+use Rattle.droid_signature_spec.specs.declared.format.FormatAttributes.{FormatAttributes}
 use Rattle.droid_signature_spec.specs.declared.sequence.Reference.{Reference}
 use Rattle.droid_signature_spec.specs.declared.sequence.Reference.TheVariants.{Beginning, End, Other}
 use Rattle.droid_signature_file.specs.declared.fault.Wrong.{Wrong}
@@ -26,25 +27,34 @@ abbrev pub every : {A B : Type 0} → (A → Result B Wrong) → List A → Resu
 every read [] = Ok []
 every read (x ∷ xs) = read x >>= (λ y. every read xs >>= (λ ys. Ok (y ∷ ys)))
 
--- without the white space at both ends
+-- without the white space at the beginning, at the end, and at both: ASCII's, of which XML has all but the form feed
 abbrev pub trimmed_front : List ℕ → List ℕ
-trimmed_front text = drop (prefix_len is_space text) text
+trimmed_front text = drop (prefix_len is_ascii_whitespace text) text
+
+abbrev pub trimmed_back : List ℕ → List ℕ
+trimmed_back text = take (length text - suffix_len is_ascii_whitespace text) text
 
 abbrev pub trimmed : List ℕ → List ℕ
-trimmed text = reverse (trimmed_front (reverse (trimmed_front text)))
+trimmed text = trimmed_back (trimmed_front text)
 
--- a number: one decimal digit or more, and less than 2^32
+-- one decimal digit or more, and less than 2^32
+abbrev pub is_number : List ℕ → Bool
+is_number text = nat_lt 0 (length text) && list_all is_ascii_digit text && nat_lt (digits_value 10 text) (2 ^ 32)
+
+-- a number
 unfoldable pub number : List ℕ → Result ℕ Wrong
-number text =
-    if all_ascii_digits text && nat_lt 0 (length text) && nat_lt (digits_value 10 text) (2 ^ 32) then Ok (digits_value 10 text)
-    else Err wrongs.Number
+number text = if is_number text then Ok (digits_value 10 text) else Err wrongs.Number
 
 -- the value of an attribute, which may be missing
 abbrev pub attribute : List ℕ → Node → Option (List ℕ)
 attribute name element = value_of name element.attributes
 
+-- the text of an element
 abbrev pub text_of : Node → List ℕ
 text_of element = trimmed (words_from 0 element.inside)
+
+abbrev pub text : Node → Result (List ℕ) Wrong
+text element = Ok (text_of element)
 
 -- a number that has to be there
 abbrev pub wanted : Option (List ℕ) → Result ℕ Wrong
@@ -109,19 +119,32 @@ or_empty text = unwrap_or text []
 abbrev pub numbered : Node → Result ℕ Wrong
 numbered element = number (text_of element)
 
-unfoldable pub format : Node → Result FormatRecord Wrong
-format element = do
+-- the attributes of a FileFormat
+unfoldable pub attributes : Node → Result FormatAttributes Wrong
+attributes element = do
   id ← wanted (attribute (codes "ID") element)
-  signatures ← every numbered (inside_named (codes "InternalSignatureID") element)
-  priorities ← every numbered (inside_named (codes "HasPriorityOverFileFormatID") element)
   Ok (record {
     id = id;
     puid = attribute (codes "PUID") element;
     name = or_empty (attribute (codes "Name") element);
     version = or_empty (attribute (codes "Version") element);
-    mime = or_empty (attribute (codes "MIMEType") element);
+    mime = or_empty (attribute (codes "MIMEType") element)
+  })
+
+unfoldable pub format : Node → Result FormatRecord Wrong
+format element = do
+  it ← attributes element
+  signatures ← every numbered (inside_named (codes "InternalSignatureID") element)
+  extensions ← every text (inside_named (codes "Extension") element)
+  priorities ← every numbered (inside_named (codes "HasPriorityOverFileFormatID") element)
+  Ok (record {
+    id = it.id;
+    puid = it.puid;
+    name = it.name;
+    version = it.version;
+    mime = it.mime;
     signatures = signatures;
-    extensions = map text_of (inside_named (codes "Extension") element);
+    extensions = extensions;
     priorities = priorities
   })
 

@@ -1,9 +1,9 @@
 -- The names of elements and attributes that a signature file has beside those that are known here. What stands in an unknown
 -- element is not looked at.
-use Rattle.std.specs.Prelude.{ℕ, ◌+◌, ◌-◌, ◌^◌, min, ◌||◌, ◌&&◌, nat_lt, Bool, true, false, if◌then◌else◌, List, [], ◌∷◌, ◌++◌, length, codes, Option, Some, None}
-use Rattle.std.specs.List.{fold}
+use Rattle.std.specs.Prelude.{ℕ, zero, suc, ◌+◌, ◌-◌, ◌^◌, min, ◌||◌, ◌&&◌, nat_lt, Bool, true, false, if◌then◌else◌, List, [], ◌∷◌, ◌++◌, length, map, codes, Option, Some, None}
+use Rattle.std.specs.List.{fold, position_or_len}
 use Rattle.std.specs.Str.{bytes_eq}
-use Rattle.droid_xml.specs.Attributes.{Setting}
+use Rattle.droid_xml.specs.declared.attributes.Attribute.{Attribute}
 use Rattle.droid_xml.specs.Pieces.{Part, Start, End, Text, Data, Reference, Comment, Instruction}
 use Rattle.droid_xml.specs.Tags.{Tag}
 use Rattle.droid_signature_spec.specs.declared.file.UnknownName.{UnknownName}
@@ -67,32 +67,43 @@ same_part parts.Element parts.Attribute = false
 same_part parts.Attribute parts.Element = false
 same_part parts.Attribute parts.Attribute = true
 
--- one more of a name, if it is listed
-abbrev pub noted_in : UnknownPart → List ℕ → List UnknownName → Option (List UnknownName)
-noted_in part name [] = None
-noted_in part name (known ∷ names) =
-    if same_part known.part part && bytes_eq known.name name then Some (record known { count = capped (known.count + 1) } ∷ names)
-    else (elim (noted_in part name names) as (λ _. Option (List UnknownName)) [ | None ↦ None | Some more ↦ Some (known ∷ more) ])
+-- whether this is the name of such a part
+abbrev pub is_name : UnknownPart → List ℕ → UnknownName → Bool
+is_name part name known = same_part known.part part && bytes_eq known.name name
 
--- one more name: at its place, or as a new one, or beyond the first 64
+-- one more of it
+abbrev pub again : UnknownName → UnknownName
+again known = record known { count = capped (known.count + 1) }
+
+-- one more of the name at a place, counted from 0
+abbrev pub again_at : ℕ → List UnknownName → List UnknownName
+again_at place [] = []
+again_at zero (known ∷ names) = again known ∷ names
+again_at (suc place) (known ∷ names) = known ∷ again_at place names
+
+-- one more name that is not listed: as a new one, or beyond the first 64
 abbrev pub noted_new : UnknownPart → List ℕ → Tally → Tally
 noted_new part name found =
     if nat_lt (length found.names) 64 then record found { names = found.names ++ record { part = part; name = name; count = 1 } ∷ [] }
     else record found { unlisted = capped (found.unlisted + 1) }
 
-abbrev pub noted_by : Option (List UnknownName) → UnknownPart → List ℕ → Tally → Tally
-noted_by (Some names) part name found = record found { names = names }
-noted_by None part name found = noted_new part name found
+abbrev pub noted_at : ℕ → UnknownPart → List ℕ → Tally → Tally
+noted_at place part name found =
+    if nat_lt place (length found.names) then record found { names = again_at place found.names } else noted_new part name found
 
+-- one more name: at its place, or as a new one
 unfoldable pub noted : UnknownPart → List ℕ → Tally → Tally
-noted part name found = noted_by (noted_in part name found.names) part name found
+noted part name found = noted_at (position_or_len (is_name part name) found.names) part name found
 
--- the attributes of an element of a kind
-abbrev pub noted_attribute : Kind → Tally → Setting → Tally
-noted_attribute kind found setting = if has_attribute kind setting.name then found else noted parts.Attribute setting.name found
+-- the attributes of an element of a kind, by their names
+abbrev pub noted_attribute : Kind → Tally → List ℕ → Tally
+noted_attribute kind found name = if has_attribute kind name then found else noted parts.Attribute name found
 
-unfoldable pub noted_attributes : Kind → List Setting → Tally → Tally
-noted_attributes kind settings found = fold (noted_attribute kind) found settings
+unfoldable pub noted_attributes : Kind → List (List ℕ) → Tally → Tally
+noted_attributes kind names found = fold (noted_attribute kind) found names
+
+abbrev pub name_of : Attribute → List ℕ
+name_of attribute = attribute.name.now
 
 -- the kinds of the elements that are open, the innermost first; None is an unknown one
 abbrev pub kind_under : List (Option Kind) → List ℕ → Option Kind
@@ -100,32 +111,42 @@ kind_under [] name = kind_outside name
 kind_under (None ∷ open) name = None
 kind_under (Some kind ∷ open) name = kind_in kind name
 
--- what a start tag adds: an unknown name only where the element outside is known
-abbrev pub noted_tag : List (Option Kind) → Option Kind → Tag → Tally → Tally
-noted_tag open (Some kind) tag found = noted_attributes kind tag.attributes found
-noted_tag [] None tag found = found
-noted_tag (None ∷ open) None tag found = found
-noted_tag (Some kind ∷ open) None tag found = noted parts.Element tag.name found
+-- an unknown element counts only where the element outside is known
+abbrev pub noted_element : List (Option Kind) → List ℕ → Tally → Tally
+noted_element [] name found = found
+noted_element (None ∷ open) name found = found
+noted_element (Some kind ∷ open) name found = noted parts.Element name found
 
--- what is open behind a start tag
-abbrev pub opened : List (Option Kind) → Option Kind → Tag → List (Option Kind)
-opened open kind tag = if tag.is_empty then open else kind ∷ open
+-- the elements that are open, and what is counted so far
+pub record Counting : Type 0 where
+  pub open : List (Option Kind)
+  pub found : Tally
+
+-- what a start tag adds, by its kind
+abbrev pub noted_tag : Counting → Option Kind → Tag → Tally
+noted_tag so_far (Some kind) tag = noted_attributes kind (map (λ setting. setting.name) tag.attributes) so_far.found
+noted_tag so_far None tag = noted_element so_far.open tag.name so_far.found
+
+abbrev pub counted_tag : Counting → Tag → Counting
+counted_tag so_far tag = record {
+  open = if tag.is_empty then so_far.open else kind_under so_far.open tag.name ∷ so_far.open;
+  found = noted_tag so_far (kind_under so_far.open tag.name) tag
+}
 
 abbrev pub closed : List (Option Kind) → List (Option Kind)
 closed [] = []
 closed (kind ∷ open) = open
 
--- the names that are not known among pieces, behind those that are found already
-abbrev pub tally_from : List (Option Kind) → Tally → List Part → Tally
-tally_from open found [] = found
-tally_from open found (Start tag ∷ pieces) =
-    tally_from (opened open (kind_under open tag.name) tag) (noted_tag open (kind_under open tag.name) tag found) pieces
-tally_from open found (End name ∷ pieces) = tally_from (closed open) found pieces
-tally_from open found (Text text ∷ pieces) = tally_from open found pieces
-tally_from open found (Data text ∷ pieces) = tally_from open found pieces
-tally_from open found (Reference char ∷ pieces) = tally_from open found pieces
-tally_from open found (Comment text ∷ pieces) = tally_from open found pieces
-tally_from open found (Instruction target text ∷ pieces) = tally_from open found pieces
+-- one more piece
+abbrev pub counted : Counting → Part → Counting
+counted so_far (Start tag) = counted_tag so_far tag
+counted so_far (End name) = record so_far { open = closed so_far.open }
+counted so_far (Text text) = so_far
+counted so_far (Data text) = so_far
+counted so_far (Reference char) = so_far
+counted so_far (Comment text) = so_far
+counted so_far (Instruction target text) = so_far
 
+-- the names that are not known among pieces
 unfoldable pub tally : List Part → Tally
-tally pieces = tally_from [] (record { names = []; unlisted = 0 }) pieces
+tally pieces = (fold counted (record { open = []; found = record { names = []; unlisted = 0 } }) pieces).found

@@ -1,19 +1,20 @@
 //! A whole signature file.
 
-ghost use Rattle.std.specs.Prelude.{◌≡◌, List, map};
+ghost use Rattle.std.specs.Prelude.{◌≡◌, IfOk, List, map};
+ghost use Rattle.droid_xml.specs.LineEnds.{with_line_feeds};
 ghost use Rattle.droid_xml.specs.Views.{part};
-ghost use Rattle.droid_signature_file.specs.Outcomes.{Gives, Reads};
+ghost use Rattle.droid_signature_file.specs.Outcomes.{Gives, Reads, ReadsText, node_of};
 ghost use Rattle.droid_signature_file.specs.Signatures as spec;
 
 use crate::fault::{FileFault, Stop, Wrong};
-use crate::formats::{format, or_empty};
+use crate::formats::or_empty;
+use crate::from_node::read_all;
 use crate::node::{Node, first_node};
 use crate::pieces::pieces_of;
-use crate::signatures::signature;
-use crate::unknown::{Tally, count_unknown};
+use crate::tally::{Tally, tally};
 use droid_signature_spec::SignatureFile;
 use droid_xml::{Fault, Piece, with_line_feeds};
-use std::alloc::Global;
+use std::alloc::{AllocError, Global};
 
 /// Reads a signature file.
 ///
@@ -31,7 +32,9 @@ pub fn read(alloc: Global, bytes: &[u8]) -> Result<SignatureFile, FileFault>
 }
 
 /// Reads a signature file whose line ends are line feeds.
-fn read_text(alloc: Global, text: &[u8]) -> Result<SignatureFile, FileFault> {
+fn read_text(alloc: Global, text: &[u8]) -> Result<SignatureFile, FileFault>
+    ensures { ReadsText text.now result }
+{
     let pieces = match pieces_of(alloc, text) {
         Ok(pieces) => pieces,
         Err(Fault::Memory) => return Err(FileFault::Memory),
@@ -48,54 +51,53 @@ fn read_text(alloc: Global, text: &[u8]) -> Result<SignatureFile, FileFault> {
 
 /// Reads what the pieces of a document say.
 fn said<'a>(alloc: Global, pieces: &'a [Piece<'a>]) -> Result<SignatureFile, Stop>
-    ensures { Gives (λ file. file) result (spec.said (map part pieces.entry.now)) }
+    ensures { Gives (λ it. it) result (spec.said (map part pieces.entry.now)) }
 {
-    let tally = count_unknown(alloc, pieces)?;
-    match first_node(pieces) {
-        Some((root, _)) if root.element.name == "FFSignatureFile" => file(alloc, tally, &root),
-        _ => Err(Stop::Wrong(Wrong::Root)),
+    let Some((root, _)) = first_node(pieces) else {
+        return Err(Stop::Wrong(Wrong::Root));
+    };
+    if root.element.name != "FFSignatureFile" {
+        return Err(Stop::Wrong(Wrong::Root));
     }
-}
-
-/// Reads what the root of a signature file says.
-fn file(alloc: Global, tally: Tally, root: &Node<'_>) -> Result<SignatureFile, Stop> {
-    let version = or_empty(alloc, root.value("Version"))?;
-    let created = or_empty(alloc, root.value("DateCreated"))?;
-    let mut file = SignatureFile::new(alloc, version, created);
-    file.set_unknown(tally.names, tally.unlisted);
-    let collections = root.named(alloc, "InternalSignatureCollection")?;
-    for collection in collections.as_slice() {
-        push_signatures(alloc, &mut file, collection)?;
-    }
-    let collections = root.named(alloc, "FileFormatCollection")?;
-    for collection in collections.as_slice() {
-        push_formats(alloc, &mut file, collection)?;
-    }
+    let found = tally(alloc, pieces)?;
+    let file = file(alloc, found, &root)?;
     Ok(file)
 }
 
-/// Reads the signatures of a collection.
-fn push_signatures(
-    alloc: Global,
-    file: &mut SignatureFile,
-    collection: &Node<'_>,
-) -> Result<(), Stop> {
-    let nodes = collection.named(alloc, "InternalSignature")?;
-    for node in nodes.as_slice() {
-        file.push_signature(signature(alloc, node)?)?;
-    }
-    Ok(())
+/// Reads what the root of a signature file says.
+#[tactic(auto, unfolding(crate::specs::Signatures::file))]
+fn file(alloc: Global, found: Tally, root: &Node<'_>) -> Result<SignatureFile, Stop>
+    ensures { Gives (λ it. it) result (spec.file found (node_of root.now)) }
+{
+    let version = or_empty(alloc, root.value("Version"))?;
+    let created = or_empty(alloc, root.value("DateCreated"))?;
+    let signatures = collected(alloc, root, "InternalSignatureCollection", "InternalSignature")?;
+    let signatures = read_all(alloc, signatures.as_slice())?;
+    let formats = collected(alloc, root, "FileFormatCollection", "FileFormat")?;
+    let formats = read_all(alloc, formats.as_slice())?;
+    Ok(SignatureFile::new(
+        version,
+        created,
+        signatures,
+        formats,
+        found.names,
+        found.unlisted,
+    ))
 }
 
-/// Reads the formats of a collection.
-fn push_formats(
+/// Returns the elements of a name in all collections of another.
+fn collected<'a>(
     alloc: Global,
-    file: &mut SignatureFile,
-    collection: &Node<'_>,
-) -> Result<(), Stop> {
-    let nodes = collection.named(alloc, "FileFormat")?;
-    for node in nodes.as_slice() {
-        file.push_format(format(alloc, node)?)?;
+    root: &Node<'a>,
+    collection: &str,
+    name: &str,
+) -> Result<Vec<Node<'a>>, AllocError>
+    ensures { IfOk result (λ nodes. map node_of nodes.items ≡ spec.collected collection.now name.now (node_of root.now)) }
+{
+    let collections = root.named(alloc, collection)?;
+    let mut nodes = Vec::new(alloc);
+    for it in collections.as_slice() {
+        it.add_named_to(&mut nodes, name)?;
     }
-    Ok(())
+    Ok(nodes)
 }

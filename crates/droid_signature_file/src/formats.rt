@@ -6,58 +6,62 @@ ghost use Rattle.droid_signature_file.specs.Outcomes.{Gives, node_of};
 ghost use Rattle.droid_signature_file.specs.Signatures as spec;
 
 use crate::fault::Stop;
+use crate::from_node::{FromNode, read_each};
 use crate::node::Node;
-use crate::numbers::{number, trimmed, wanted};
-use crate::signatures::text_of;
+use crate::numbers::wanted;
 use droid_frame::Text;
-use droid_signature_spec::FileFormat;
+use droid_signature_spec::{FileFormat, FormatAttributes};
 use std::alloc::{AllocError, Global};
 
-/// Reads a `FileFormat`.
-#[tactic(auto, unfolding(crate::specs::Signatures::format))]
-pub(crate) fn format(alloc: Global, node: &Node<'_>) -> Result<FileFormat, Stop>
-    ensures { Gives (λ it. it) result (spec.format (node_of node.now)) }
-{
-    let mut format = attributes(alloc, node)?;
-    let signatures = node.named(alloc, "InternalSignatureID")?;
-    for node in signatures.as_slice() {
-        format.push_signature(numbered(alloc, node)?)?;
+impl FromNode for FileFormat {
+    ghost says = { spec.format };
+
+    /// Reads a `FileFormat`.
+    #[tactic(auto, unfolding(crate::specs::Signatures::format))]
+    fn from_node(alloc: Global, node: &Node<'_>) -> Result<Self, Stop> {
+        let attributes = attributes(alloc, node)?;
+        let signatures = read_each(alloc, node, "InternalSignatureID")?;
+        let extensions = read_each(alloc, node, "Extension")?;
+        let priorities = read_each(alloc, node, "HasPriorityOverFileFormatID")?;
+        Ok(FileFormat::new(attributes, signatures, extensions, priorities))
     }
-    let priorities = node.named(alloc, "HasPriorityOverFileFormatID")?;
-    for node in priorities.as_slice() {
-        format.push_priority(numbered(alloc, node)?)?;
-    }
-    let extensions = node.named(alloc, "Extension")?;
-    for node in extensions.as_slice() {
-        format.push_extension(text_of(alloc, node)?)?;
-    }
-    Ok(format)
 }
 
-/// Makes a format of the attributes of its element.
-fn attributes(alloc: Global, node: &Node<'_>) -> Result<FileFormat, Stop> {
+/// Reads the attributes of a `FileFormat`.
+#[tactic(auto, unfolding(crate::specs::Signatures::attributes))]
+fn attributes(alloc: Global, node: &Node<'_>) -> Result<FormatAttributes, Stop>
+    ensures { Gives (λ it. it) result (spec.attributes (node_of node.now)) }
+{
     let id = wanted(node.value("ID"))?;
-    let puid = match node.value("PUID") {
-        Some(puid) => Some(Text::copy_of(alloc, puid)?),
-        None => None,
-    };
+    let puid = if_there(alloc, node.value("PUID"))?;
     let name = or_empty(alloc, node.value("Name"))?;
     let version = or_empty(alloc, node.value("Version"))?;
     let mime = or_empty(alloc, node.value("MIMEType"))?;
-    Ok(FileFormat::new(alloc, id, puid, name, version, mime))
+    Ok(FormatAttributes {
+        id,
+        puid,
+        name,
+        version,
+        mime,
+    })
+}
+
+/// Copies the value of an attribute, if it is there.
+fn if_there(alloc: Global, value: Option<&str>) -> Result<Option<Text>, AllocError>
+    ensures { IfOk result (λ text. text ≡ option_map (λ text. text.now) value.entry) }
+{
+    match value {
+        Some(text) => Ok(Some(Text::copy_of(alloc, text)?)),
+        None => Ok(None),
+    }
 }
 
 /// Copies the value of an attribute. One that is missing is empty.
 pub(crate) fn or_empty(alloc: Global, value: Option<&str>) -> Result<Text, AllocError>
     ensures { IfOk result (λ text. text ≡ spec.or_empty (option_map (λ text. text.now) value.entry)) }
 {
-    Text::copy_of(alloc, value.unwrap_or(""))
-}
-
-/// Reads the number that is an element's text.
-fn numbered(alloc: Global, node: &Node<'_>) -> Result<u32, Stop>
-    ensures { Gives (λ n. n) result (spec.numbered (node_of node.now)) }
-{
-    let words = node.words(alloc)?;
-    number(trimmed(words.as_str()))
+    match value {
+        Some(text) => Text::copy_of(alloc, text),
+        None => Text::copy_of(alloc, ""),
+    }
 }

@@ -6,13 +6,15 @@
 mod fault;
 mod file;
 mod formats;
+mod from_node;
 mod kinds;
 mod node;
 mod numbers;
 mod pieces;
 mod signatures;
 mod tables;
-mod unknown;
+mod tally;
+mod words;
 
 pub use fault::{FileFault, Wrong};
 pub use file::read;

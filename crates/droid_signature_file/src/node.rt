@@ -37,12 +37,24 @@ impl<'a> Node<'a> {
         ensures { IfOk result (λ nodes. map node_of nodes.items ≡ spec.inside_named name.now (node_of self.now)) }
     {
         let mut nodes = Vec::new(alloc);
+        self.add_named_to(&mut nodes, name)?;
+        Ok(nodes)
+    }
+
+    /// Adds the elements of this name that stand directly in the element.
+    pub(crate) fn add_named_to(
+        &self,
+        nodes: &mut Vec<Node<'a>>,
+        name: &str,
+    ) -> Result<(), AllocError>
+        ensures { OnOk result (map node_of nodes.new.items ≡ map node_of nodes.old.items ++ spec.inside_named name.now (node_of self.now)) }
+    {
         let mut rest = self.inside;
         while let Some((node, behind)) = first_node(rest) {
-            add_named(&mut nodes, node, name)?;
+            add_named(nodes, node, name)?;
             rest = behind;
         }
-        Ok(nodes)
+        Ok(())
     }
 
     /// Returns the text that stands directly in the element.
@@ -74,10 +86,11 @@ pub(crate) fn first_node<'a>(pieces: &'a [Piece<'a>]) -> Option<(Node<'a>, &'a [
 
 /// Returns how many pieces stand before the first that begins an element.
 fn start_place(pieces: &[Piece<'_>]) -> usize
-    ensures { result ≡ position_or_len spec.is_start (map part pieces.now) }
+    ensures value { result ≡ position_or_len spec.is_start (map part pieces.now) }
+    ensures few { result ≤ length pieces.now }
 {
-    for (place, piece) in pieces.iter().enumerate() {
-        if is_start(piece) {
+    for place in 0..pieces.len() {
+        if is_start(&pieces[place]) {
             return place;
         }
     }
@@ -142,8 +155,8 @@ fn inner_len(pieces: &[Piece<'_>]) -> usize
     ensures few { result ≤ length pieces.now }
 {
     let mut depth = 0;
-    for (place, piece) in pieces.iter().enumerate() {
-        match deeper(depth, piece) {
+    for place in 0..pieces.len() {
+        match deeper(depth, &pieces[place]) {
             Some(next) => depth = next,
             None => return place,
         }

@@ -1,6 +1,8 @@
 //! Numbers, and the white space around texts.
 
 ghost use Rattle.std.specs.Prelude.{◌≡◌};
+ghost use Rattle.std.specs.Char.{is_ascii_digit};
+ghost use Rattle.std.specs.List.{list_all};
 ghost use Rattle.std.specs.Option.{option_map};
 ghost use Rattle.droid_signature_file.specs.Outcomes.{Gives};
 ghost use Rattle.droid_signature_file.specs.Signatures as spec;
@@ -11,7 +13,7 @@ use crate::fault::{Stop, Wrong};
 pub(crate) fn trimmed(text: &str) -> &str
     ensures { result.now ≡ spec.trimmed text.now }
 {
-    text.trim_matches(|c| matches!(c, ' ' | '\t' | '\r' | '\n'))
+    text.trim_ascii()
 }
 
 /// Reads a number: one decimal digit or more, and less than 4,294,967,296.
@@ -19,13 +21,20 @@ pub(crate) fn trimmed(text: &str) -> &str
 pub(crate) fn number(text: &str) -> Result<u32, Stop>
     ensures { Gives (λ n. n) result (spec.number text.now) }
 {
-    if text.is_empty() || !text.bytes().all(|c| c.is_ascii_digit()) {
+    if text.is_empty() || !are_digits(text.as_bytes()) {
         return Err(Stop::Wrong(Wrong::Number));
     }
-    match text.parse() {
+    match text.parse::<u32>() {
         Ok(number) => Ok(number),
         Err(_) => Err(Stop::Wrong(Wrong::Number)),
     }
+}
+
+/// Returns whether all bytes are decimal digits.
+fn are_digits(text: &[u8]) -> bool
+    ensures { result ≡ list_all is_ascii_digit text.now }
+{
+    text.iter().all(|c| c.is_ascii_digit())
 }
 
 /// Reads a number that has to be there.

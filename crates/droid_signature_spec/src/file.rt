@@ -1,11 +1,10 @@
 //! The whole file.
 
-ghost use Rattle.std.specs.Prelude.{◌≡◌, ◌++◌, ◌∷◌, [], OnOk, OnErr};
+ghost use Rattle.std.specs.Prelude.{◌≡◌};
 
 use crate::format::FileFormat;
 use crate::signature::InternalSignature;
 use droid_frame::Text;
-use std::alloc::{AllocError, Global};
 use std::marker::Model;
 
 /// What carries a name that the reader does not know.
@@ -43,45 +42,27 @@ impl Model for SignatureFile {
 }
 
 impl SignatureFile {
-    /// Makes a file without signatures and formats, from the attributes `Version` and `DateCreated`. One that is missing
-    /// is empty. Allocates nothing.
-    pub fn new(alloc: Global, version: Text, created: Text) -> SignatureFile
-        ensures { result ≡ record { version = version; created = created; signatures = []; formats = []; unknown = []; unlisted = 0 } }
+    /// Makes a file of its attributes `Version` and `DateCreated`, its signatures and formats in the file's order, the names
+    /// that the reader does not know, and the number of elements and attributes with further such names. An attribute that is
+    /// missing is empty. Allocates nothing.
+    pub fn new(
+        version: Text,
+        created: Text,
+        signatures: Vec<InternalSignature>,
+        formats: Vec<FileFormat>,
+        unknown: Vec<UnknownName>,
+        unlisted: u64,
+    ) -> SignatureFile
+        ensures { result ≡ record { version = version; created = created; signatures = signatures.items; formats = formats.items; unknown = unknown.items; unlisted = unlisted } }
     {
         SignatureFile {
             version,
             created,
-            signatures: Vec::new(alloc),
-            formats: Vec::new(alloc),
-            unknown: Vec::new(alloc),
-            unlisted: 0,
+            signatures,
+            formats,
+            unknown,
+            unlisted,
         }
-    }
-
-    /// Appends a signature. When out of memory it fails, and nothing changes.
-    pub fn push_signature(&mut self, signature: InternalSignature) -> Result<(), AllocError>
-        ensures ok { OnOk result (self.new ≡ record self.old { signatures = self.old.signatures ++ signature ∷ [] }) }
-        ensures err { OnErr result (self.new ≡ self.old) }
-    {
-        self.signatures.push(signature)?;
-        Ok(())
-    }
-
-    /// Appends a format. When out of memory it fails, and nothing changes.
-    pub fn push_format(&mut self, format: FileFormat) -> Result<(), AllocError>
-        ensures ok { OnOk result (self.new ≡ record self.old { formats = self.old.formats ++ format ∷ [] }) }
-        ensures err { OnErr result (self.new ≡ self.old) }
-    {
-        self.formats.push(format)?;
-        Ok(())
-    }
-
-    /// Replaces the names that the reader does not know, and the number of elements and attributes with further such names.
-    pub fn set_unknown(&mut self, unknown: Vec<UnknownName>, unlisted: u64)
-        ensures { self.new ≡ record self.old { unknown = unknown.items; unlisted = unlisted } }
-    {
-        self.unknown = unknown;
-        self.unlisted = unlisted;
     }
 
     /// Returns the attribute `Version`.

@@ -1,22 +1,27 @@
 //! Formats.
 
-ghost use Rattle.std.specs.Prelude.{◌≡◌, ◌++◌, ◌∷◌, [], OnOk, OnErr};
+ghost use Rattle.std.specs.Prelude.{◌≡◌};
 ghost use Rattle.std.specs.Option.{option_copied};
 
-use droid_frame::{Text, Texts};
-use std::alloc::{AllocError, Global};
+use droid_frame::Text;
 use std::marker::Model;
+
+/// The attributes of the element `FileFormat`. A name, version or media type that is missing is empty.
+#[derive(Debug, Drop)]
+pub struct FormatAttributes {
+    pub id: u32,
+    pub puid: Option<Text>,
+    pub name: Text,
+    pub version: Text,
+    pub mime: Text,
+}
 
 /// The element `FileFormat`, with its signatures, extensions and priorities in the file's order.
 #[derive(Debug, Drop)]
 pub struct FileFormat {
-    id: u32,
-    puid: Option<Text>,
-    name: Text,
-    version: Text,
-    mime: Text,
+    attributes: FormatAttributes,
     signatures: Vec<u32>,
-    extensions: Texts,
+    extensions: Vec<Text>,
     priorities: Vec<u32>,
 }
 
@@ -25,93 +30,61 @@ impl Model for FileFormat {
 
     ghost Value = { FormatRecord };
 
-    ghost view = { λ it. record { id = it.id; puid = it.puid; name = it.name; version = it.version; mime = it.mime; signatures = it.signatures.items; extensions = it.extensions; priorities = it.priorities.items } };
+    ghost view = { λ it. record { id = it.attributes.id; puid = it.attributes.puid; name = it.attributes.name; version = it.attributes.version; mime = it.attributes.mime; signatures = it.signatures.items; extensions = it.extensions.items; priorities = it.priorities.items } };
 }
 
 impl FileFormat {
-    /// Makes a format from its attributes, without signatures, extensions and priorities. A name, version or media type
-    /// that is missing is empty. Allocates nothing.
+    /// Makes a format of its attributes, the IDs of its signatures, its extensions, and the IDs of the formats over which it
+    /// has priority. Allocates nothing.
     pub fn new(
-        alloc: Global,
-        id: u32,
-        puid: Option<Text>,
-        name: Text,
-        version: Text,
-        mime: Text,
+        attributes: FormatAttributes,
+        signatures: Vec<u32>,
+        extensions: Vec<Text>,
+        priorities: Vec<u32>,
     ) -> FileFormat
-        ensures { result ≡ record { id = id; puid = puid; name = name; version = version; mime = mime; signatures = []; extensions = []; priorities = [] } }
+        ensures { result ≡ record { id = attributes.id; puid = attributes.puid; name = attributes.name; version = attributes.version; mime = attributes.mime; signatures = signatures.items; extensions = extensions.items; priorities = priorities.items } }
     {
         FileFormat {
-            id,
-            puid,
-            name,
-            version,
-            mime,
-            signatures: Vec::new(alloc),
-            extensions: Texts::new(alloc),
-            priorities: Vec::new(alloc),
+            attributes,
+            signatures,
+            extensions,
+            priorities,
         }
-    }
-
-    /// Appends the ID of a signature. When out of memory it fails, and nothing changes.
-    pub fn push_signature(&mut self, id: u32) -> Result<(), AllocError>
-        ensures ok { OnOk result (self.new ≡ record self.old { signatures = self.old.signatures ++ id ∷ [] }) }
-        ensures err { OnErr result (self.new ≡ self.old) }
-    {
-        self.signatures.push(id)?;
-        Ok(())
-    }
-
-    /// Appends an extension. When out of memory it fails, and nothing changes.
-    pub fn push_extension(&mut self, extension: Text) -> Result<(), AllocError>
-        ensures ok { OnOk result (self.new ≡ record self.old { extensions = self.old.extensions ++ extension ∷ [] }) }
-        ensures err { OnErr result (self.new ≡ self.old) }
-    {
-        self.extensions.push(extension)
-    }
-
-    /// Appends the ID of a format over which this one has priority. When out of memory it fails, and nothing changes.
-    pub fn push_priority(&mut self, id: u32) -> Result<(), AllocError>
-        ensures ok { OnOk result (self.new ≡ record self.old { priorities = self.old.priorities ++ id ∷ [] }) }
-        ensures err { OnErr result (self.new ≡ self.old) }
-    {
-        self.priorities.push(id)?;
-        Ok(())
     }
 
     /// Returns the attribute `ID`.
     pub fn id(&self) -> u32
         ensures { result ≡ self.now.id }
     {
-        self.id
+        self.attributes.id
     }
 
     /// Returns the attribute `PUID`, if there is one.
     pub fn puid(&self) -> Option<&Text>
         ensures { option_copied result ≡ self.now.puid }
     {
-        self.puid.as_ref()
+        self.attributes.puid.as_ref()
     }
 
     /// Returns the attribute `Name`.
     pub fn name(&self) -> &str
         ensures { result.now ≡ self.now.name }
     {
-        self.name.as_str()
+        self.attributes.name.as_str()
     }
 
     /// Returns the attribute `Version`.
     pub fn version(&self) -> &str
         ensures { result.now ≡ self.now.version }
     {
-        self.version.as_str()
+        self.attributes.version.as_str()
     }
 
     /// Returns the attribute `MIMEType`.
     pub fn mime(&self) -> &str
         ensures { result.now ≡ self.now.mime }
     {
-        self.mime.as_str()
+        self.attributes.mime.as_str()
     }
 
     /// Returns the IDs of the format's signatures.

@@ -12,7 +12,7 @@ mod signature;
 mod subsequence;
 
 pub use file::{SignatureFile, UnknownName, UnknownPart};
-pub use format::FileFormat;
+pub use format::{FileFormat, FormatAttributes};
 pub use sequence::{Reference, SequenceRecord};
 pub use signature::InternalSignature;
 pub use subsequence::{Fragment, OffsetRange, SubSequence};

@@ -1,9 +1,8 @@
 //! Byte sequences of a signature.
 
-ghost use Rattle.std.specs.Prelude.{◌≡◌, ◌++◌, ◌∷◌, [], OnOk, OnErr};
+ghost use Rattle.std.specs.Prelude.{◌≡◌};
 
 use crate::subsequence::SubSequence;
-use std::alloc::{AllocError, Global};
 use std::marker::Model;
 
 /// From where the offsets of a byte sequence count.
@@ -33,23 +32,11 @@ impl Model for SequenceRecord {
 }
 
 impl SequenceRecord {
-    /// Makes a byte sequence without subsequences. Allocates nothing.
-    pub fn new(alloc: Global, reference: Reference) -> SequenceRecord
-        ensures { result ≡ record { reference = reference; parts = [] } }
+    /// Makes a byte sequence of its subsequences, in the file's order. Allocates nothing.
+    pub fn new(reference: Reference, parts: Vec<SubSequence>) -> SequenceRecord
+        ensures { result ≡ record { reference = reference; parts = parts.items } }
     {
-        SequenceRecord {
-            reference,
-            parts: Vec::new(alloc),
-        }
-    }
-
-    /// Appends a subsequence. When out of memory it fails, and nothing changes.
-    pub fn push(&mut self, part: SubSequence) -> Result<(), AllocError>
-        ensures ok { OnOk result (self.new ≡ record self.old { parts = self.old.parts ++ part ∷ [] }) }
-        ensures err { OnErr result (self.new ≡ self.old) }
-    {
-        self.parts.push(part)?;
-        Ok(())
+        SequenceRecord { reference, parts }
     }
 
     /// Returns from where the offsets count.

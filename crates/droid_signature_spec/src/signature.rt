@@ -1,9 +1,8 @@
 //! Signatures.
 
-ghost use Rattle.std.specs.Prelude.{◌≡◌, ◌++◌, ◌∷◌, [], OnOk, OnErr};
+ghost use Rattle.std.specs.Prelude.{◌≡◌};
 
 use crate::sequence::SequenceRecord;
-use std::alloc::{AllocError, Global};
 use std::marker::Model;
 
 /// The element `InternalSignature`, with its byte sequences in the file's order.
@@ -22,23 +21,11 @@ impl Model for InternalSignature {
 }
 
 impl InternalSignature {
-    /// Makes a signature without byte sequences. Allocates nothing.
-    pub fn new(alloc: Global, id: u32) -> InternalSignature
-        ensures { result ≡ record { id = id; sequences = [] } }
+    /// Makes a signature of its byte sequences, in the file's order. Allocates nothing.
+    pub fn new(id: u32, sequences: Vec<SequenceRecord>) -> InternalSignature
+        ensures { result ≡ record { id = id; sequences = sequences.items } }
     {
-        InternalSignature {
-            id,
-            sequences: Vec::new(alloc),
-        }
-    }
-
-    /// Appends a byte sequence. When out of memory it fails, and nothing changes.
-    pub fn push(&mut self, sequence: SequenceRecord) -> Result<(), AllocError>
-        ensures ok { OnOk result (self.new ≡ record self.old { sequences = self.old.sequences ++ sequence ∷ [] }) }
-        ensures err { OnErr result (self.new ≡ self.old) }
-    {
-        self.sequences.push(sequence)?;
-        Ok(())
+        InternalSignature { id, sequences }
     }
 
     /// Returns the attribute `ID`.

@@ -1,9 +1,8 @@
 //! Subsequences and their fragments.
 
-ghost use Rattle.std.specs.Prelude.{◌≡◌, ◌++◌, ◌∷◌, [], OnOk, OnErr};
+ghost use Rattle.std.specs.Prelude.{◌≡◌};
 
 use droid_frame::Text;
-use std::alloc::{AllocError, Global};
 use std::marker::Model;
 
 /// Two offsets in bytes, as the attributes give them. An attribute that is missing is `None`.
@@ -45,43 +44,24 @@ impl Model for SubSequence {
 }
 
 impl SubSequence {
-    /// Makes a subsequence without fragments. `text` is that of its `Sequence`, and empty if there is none. Allocates
+    /// Makes a subsequence of its attributes, the text of its `Sequence`, and its fragments in the file's order. Allocates
     /// nothing.
-    pub fn new(alloc: Global, position: u32, offsets: OffsetRange, text: Text) -> SubSequence
-        ensures { result ≡ record { position = position; offsets = offsets; text = text; left = []; right = [] } }
+    pub fn new(
+        position: u32,
+        offsets: OffsetRange,
+        text: Text,
+        left: Vec<Fragment>,
+        right: Vec<Fragment>,
+    ) -> SubSequence
+        ensures { result ≡ record { position = position; offsets = offsets; text = text; left = left.items; right = right.items } }
     {
         SubSequence {
             position,
             offsets,
             text,
-            left: Vec::new(alloc),
-            right: Vec::new(alloc),
+            left,
+            right,
         }
-    }
-
-    /// Replaces the text of the `Sequence`.
-    pub fn set_text(&mut self, text: Text)
-        ensures { self.new ≡ record self.old { text = text } }
-    {
-        self.text = text;
-    }
-
-    /// Appends a left fragment. When out of memory it fails, and nothing changes.
-    pub fn push_left(&mut self, fragment: Fragment) -> Result<(), AllocError>
-        ensures ok { OnOk result (self.new ≡ record self.old { left = self.old.left ++ fragment ∷ [] }) }
-        ensures err { OnErr result (self.new ≡ self.old) }
-    {
-        self.left.push(fragment)?;
-        Ok(())
-    }
-
-    /// Appends a right fragment. When out of memory it fails, and nothing changes.
-    pub fn push_right(&mut self, fragment: Fragment) -> Result<(), AllocError>
-        ensures ok { OnOk result (self.new ≡ record self.old { right = self.old.right ++ fragment ∷ [] }) }
-        ensures err { OnErr result (self.new ≡ self.old) }
-    {
-        self.right.push(fragment)?;
-        Ok(())
     }
 
     /// Returns the attribute `Position`.

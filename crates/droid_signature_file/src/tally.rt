@@ -1,0 +1,210 @@
+//! Counts the names that are not known.
+
+ghost use Rattle.std.specs.Prelude.{◌≡◌, ◌<◌, ◌≤◌, List, map, length, IfOk, OnOk};
+ghost use Rattle.std.specs.List.{position_or_len};
+ghost use Rattle.droid_xml.specs.Views.{part, tag};
+ghost use Rattle.droid_signature_file.specs.Unknown as spec;
+
+use crate::kinds::{Kind, kind_outside};
+use droid_frame::Text;
+use droid_signature_spec::{UnknownName, UnknownPart};
+use droid_xml::{Attribute, Element, Piece};
+use std::alloc::{AllocError, Global};
+use std::marker::Model;
+
+/// How many names are listed.
+const MOST_NAMES: usize = 64;
+
+/// The names that are not known, and how many came beyond those that are listed.
+#[derive(Drop)]
+pub(crate) struct Tally {
+    pub names: Vec<UnknownName>,
+    pub unlisted: u64,
+}
+
+impl Model for Tally {
+    ghost use Rattle.droid_signature_file.specs.Unknown as spec;
+
+    ghost Value = { spec.Tally };
+
+    ghost view = { λ it. record { names = it.names.items; unlisted = it.unlisted } };
+}
+
+/// Counts the unknown elements and attributes among the pieces of a document. What stands in an unknown element is not
+/// looked at.
+#[tactic(auto, unfolding(crate::specs::Unknown::tally))]
+pub(crate) fn tally(alloc: Global, pieces: &[Piece<'_>]) -> Result<Tally, AllocError>
+    ensures { IfOk result (λ found. found ≡ spec.tally (map part pieces.now)) }
+{
+    let mut counting = Counting {
+        open: Vec::new(alloc),
+        found: Tally {
+            names: Vec::new(alloc),
+            unlisted: 0,
+        },
+    };
+    for piece in pieces {
+        counting.count(alloc, piece)?;
+    }
+    let Counting { found, .. } = counting;
+    Ok(found)
+}
+
+/// The elements that are open, the innermost last, and what is counted so far.
+#[derive(Drop)]
+struct Counting {
+    open: Vec<Option<Kind>>,
+    found: Tally,
+}
+
+impl Model for Counting {
+    ghost use Rattle.std.specs.Prelude.{reverse};
+    ghost use Rattle.droid_signature_file.specs.Unknown as spec;
+
+    ghost Value = { spec.Counting };
+
+    ghost view = { λ it. record { open = reverse it.open.items; found = it.found } };
+}
+
+impl Counting {
+    /// Counts what a piece has that is not known.
+    fn count(&mut self, alloc: Global, piece: &Piece<'_>) -> Result<(), AllocError>
+        ensures { OnOk result (self.new ≡ spec.counted self.old (part piece.now)) }
+    {
+        match piece {
+            Piece::Start(element) => self.count_tag(alloc, element),
+            Piece::End(_) => {
+                self.close();
+                Ok(())
+            }
+            _ => Ok(()),
+        }
+    }
+
+    /// Closes the innermost element.
+    fn close(&mut self)
+        ensures { self.new ≡ record self.old { open = spec.closed self.old.open } }
+    {
+        let _ = self.open.pop();
+    }
+
+    /// Counts what a start tag has that is not known, and opens its element.
+    fn count_tag(&mut self, alloc: Global, element: &Element<'_>) -> Result<(), AllocError>
+        ensures { OnOk result (self.new ≡ spec.counted_tag self.old (tag element.now)) }
+    {
+        let kind = self.kind_of(element.name);
+        match kind {
+            Some(kind) => self.found.note_attributes(alloc, kind, element.attributes.as_slice())?,
+            None => self.note_element(alloc, element.name)?,
+        }
+        if !element.is_empty {
+            self.open.push(kind)?;
+        }
+        Ok(())
+    }
+
+    /// Counts an unknown element, unless the element outside is unknown too.
+    fn note_element(&mut self, alloc: Global, name: &str) -> Result<(), AllocError>
+        ensures { OnOk result (self.new ≡ record self.old { found = spec.noted_element self.old.open name.now self.old.found }) }
+    {
+        match self.open.last() {
+            Some(Some(_)) => self.found.note(alloc, UnknownPart::Element, name),
+            _ => Ok(()),
+        }
+    }
+
+    /// Returns the kind of an element of this name in the innermost element.
+    fn kind_of(&self, name: &str) -> Option<Kind>
+        ensures { result ≡ spec.kind_under self.now.open name.now }
+    {
+        match self.open.last() {
+            None => kind_outside(name),
+            Some(None) => None,
+            Some(Some(outer)) => outer.of_inner(name),
+        }
+    }
+}
+
+impl Tally {
+    /// Counts the attributes that an element of a kind is not known to have.
+    #[tactic(auto, unfolding(crate::specs::Unknown::noted_attributes))]
+    fn note_attributes(
+        &mut self,
+        alloc: Global,
+        kind: Kind,
+        attributes: &[Attribute<'_>],
+    ) -> Result<(), AllocError>
+        ensures { OnOk result (self.new ≡ spec.noted_attributes kind (map spec.name_of attributes.now) self.old) }
+    {
+        for attribute in attributes {
+            self.note_attribute(alloc, kind, attribute.name)?;
+        }
+        Ok(())
+    }
+
+    fn note_attribute(
+        &mut self,
+        alloc: Global,
+        kind: Kind,
+        name: &str,
+    ) -> Result<(), AllocError>
+        ensures { OnOk result (self.new ≡ spec.noted_attribute kind self.old name.now) }
+    {
+        if kind.has_attribute(name) {
+            return Ok(());
+        }
+        self.note(alloc, UnknownPart::Attribute, name)
+    }
+
+    /// Counts a name: at its place, as a new one, or beyond those that are listed.
+    #[tactic(auto, unfolding(crate::specs::Unknown::noted))]
+    fn note(&mut self, alloc: Global, part: UnknownPart, name: &str) -> Result<(), AllocError>
+        ensures { OnOk result (self.new ≡ spec.noted part name.now self.old) }
+    {
+        let place = self.place_of(part, name);
+        if place < self.names.len() {
+            self.count_again(place);
+            return Ok(());
+        }
+        if self.names.len() >= MOST_NAMES {
+            self.unlisted = self.unlisted.saturating_add(1);
+            return Ok(());
+        }
+        let name = Text::copy_of(alloc, name)?;
+        self.names.push(UnknownName {
+            part,
+            name,
+            count: 1,
+        })?;
+        Ok(())
+    }
+
+    /// Returns the place of a name, or how many names there are, if it is not among them.
+    fn place_of(&self, part: UnknownPart, name: &str) -> usize
+        ensures value { result ≡ position_or_len (spec.is_name part name.now) self.now.names }
+        ensures few { result ≤ length self.now.names }
+    {
+        for place in 0..self.names.len() {
+            if is_name(&self.names[place], part, name) {
+                return place;
+            }
+        }
+        self.names.len()
+    }
+
+    /// Counts the name at a place once more.
+    fn count_again(&mut self, place: usize)
+        requires { place < length self.old.names }
+        ensures { self.new ≡ record self.old { names = spec.again_at place self.old.names } }
+    {
+        let known = &mut self.names[place];
+        known.count = known.count.saturating_add(1);
+    }
+}
+
+/// Returns whether this is the name of such a part.
+fn is_name(known: &UnknownName, part: UnknownPart, name: &str) -> bool
+    ensures { result ≡ spec.is_name part name.now known.now }
+{
+    known.part == part && known.name.as_str() == name
+}
