@@ -1,13 +1,10 @@
 -- The pieces that are kept of those read so far.
-use Rattle.std.proofs.Common.{◌≡◌, ◌++◌, ℕ, List, [], ◌∷◌, map, refl, sym, ap, ◌∙◌, append_assoc, append-nil}
-use Rattle.std.specs.Prelude.{Option, Some, None, Ok, Err}
-use Rattle.droid_xml.specs.Documents.{IsDocument, Place, next_at}
-use Rattle.droid_xml.specs.Outcomes.{Fails}
-use Rattle.droid_xml.specs.Pieces.{Part}
-use Rattle.droid_xml.specs.Views.{IsFaultOf}
-use Rattle.droid_xml.specs.declared.problem.Fault.{Fault}
-use Rattle.droid_xml.proofs.Reading.{HasRead, begun, fault_told, read_more, read_whole}
-use Rattle.droid_signature_file.specs.Tables.{depth_after, depth_behind, is_kept, kept_piece, meaningful}
+use Rattle.std.proofs.Common.{◌≡◌, ◌≤◌, ◌+◌, ◌++◌, ℕ, zero, suc, Bool, true, false, List, [], ◌∷◌, refl, sym, ap, ◌∙◌, append_assoc, append-nil, arith}
+use Rattle.std.specs.Prelude.{Option, Some, None, Ok, Err, if◌then◌else◌}
+use Rattle.droid_xml.specs.Documents.{IsDocument, Place, next_at, start_of}
+use Rattle.droid_xml.specs.Pieces.{Part, Start, End, Text, Data, Reference, Comment, Instruction}
+use Rattle.droid_xml.proofs.Reading.{HasRead, begun, read_more, read_whole}
+use Rattle.droid_signature_file.specs.Tables.{depth_after, depth_behind, is_table, kept_piece, meaningful}
 
 -- one more piece
 pub meaningful_more : (depth : ℕ) (parts : List Part) (part : Part) → meaningful depth (parts ++ part ∷ []) ≡ meaningful depth parts ++ kept_piece (depth_after depth parts) part
@@ -35,3 +32,37 @@ kept_more text kept depth place behind part has is = record {
   kept_of = rw (has.kept_of, has.depth_of) (sym (meaningful_more 0 has.parts part));
   depth_of = rw has.depth_of (sym (depth_more 0 has.parts part))
 }
+
+pub kept_whole : (text : List ℕ) (kept : List Part) (depth : ℕ) (place : Place) → HasKept text kept depth place → next_at place ≡ Ok None
+    → (parts : List Part) × IsDocument text parts × (kept ≡ meaningful 0 parts)
+kept_whole text kept depth place has is = (has.parts, read_whole text has.parts place has.read is, has.kept_of)
+
+-- nothing is kept yet
+pub none_kept : (text : List ℕ) (first : Place) → start_of text ≡ Ok first → HasKept text [] 0 first
+none_kept text first is = record { parts = []; read = begun text first is; kept_of = refl; depth_of = refl }
+
+-- a piece opens one element at most
+pub next_depth : (depth : ℕ) (part : Part) → depth_behind depth part ≤ depth + 1
+next_depth zero (Start tag) = if_first tag.is_empty (is_table tag.name)
+  where
+    if_first : (a b : Bool) → (if a then 0 else if b then 1 else 0) ≤ 1
+    if_first true b = omega arith
+    if_first false true = omega arith
+    if_first false false = omega arith
+next_depth (suc depth) (Start tag) = if_next tag.is_empty
+  where
+    if_next : (a : Bool) → (if a then suc depth else suc (suc depth)) ≤ suc depth + 1
+    if_next true = omega arith
+    if_next false = omega arith
+next_depth zero (End name) = omega arith
+next_depth (suc depth) (End name) = omega arith
+next_depth zero (Text text) = omega arith
+next_depth zero (Data text) = omega arith
+next_depth zero (Reference char) = omega arith
+next_depth zero (Comment text) = omega arith
+next_depth zero (Instruction target text) = omega arith
+next_depth (suc depth) (Text text) = omega arith
+next_depth (suc depth) (Data text) = omega arith
+next_depth (suc depth) (Reference char) = omega arith
+next_depth (suc depth) (Comment text) = omega arith
+next_depth (suc depth) (Instruction target text) = omega arith

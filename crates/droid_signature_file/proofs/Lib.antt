@@ -1,2 +1,4 @@
+pub mod Every
 pub mod KeptPieces
+pub mod Loops
 pub mod Nodes

@@ -1,5 +1,5 @@
 -- The elements and the text that stand directly in an element, from the pieces of an XML document.
-use Rattle.std.specs.Prelude.{ℕ, zero, suc, ◌++◌, Bool, true, false, if◌then◌else◌, List, [], ◌∷◌, take, filter, Option, Some, None}
+use Rattle.std.specs.Prelude.{ℕ, zero, suc, ◌+◌, ◌++◌, Bool, true, false, not, if◌then◌else◌, List, [], ◌∷◌, take, filter, Option, Some, None}
 use Rattle.std.specs.Char.{encode_utf8}
 use Rattle.std.specs.Str.{bytes_eq}
 use Rattle.droid_xml.specs.Attributes.{Setting}
@@ -49,24 +49,25 @@ is_start (Reference char) = false
 is_start (Comment text) = false
 is_start (Instruction target text) = false
 
+-- whether a piece begins an element that an end tag ends
+abbrev pub opens : Part → Bool
+opens (Start tag) = not tag.is_empty
+opens (End name) = false
+opens (Text text) = false
+opens (Data text) = false
+opens (Reference char) = false
+opens (Comment text) = false
+opens (Instruction target text) = false
+
 -- the pieces inside the element of a tag, out of those behind the tag
 abbrev pub inside_of : Tag → List Part → List Part
 inside_of tag parts = if tag.is_empty then [] else take (inner_len 0 parts) parts
 
--- how many pieces behind a tag belong to its element: those inside and its end tag
-abbrev pub own_len : Tag → List Part → ℕ
-own_len tag parts = if tag.is_empty then 0 else suc (inner_len 0 parts)
-
--- how many pieces belong to the element that a piece begins, behind that piece
+-- how many pieces belong to the element that a piece begins, behind that piece: those inside and its end tag
 abbrev pub len_of : Part → List Part → ℕ
-len_of (Start tag) parts = own_len tag parts
-len_of (End name) parts = 0
-len_of (Text text) parts = 0
-len_of (Data text) parts = 0
-len_of (Reference char) parts = 0
-len_of (Comment text) parts = 0
-len_of (Instruction target text) parts = 0
+len_of part parts = if opens part then inner_len 0 parts + 1 else 0
 
+-- an element, by its tag and the pieces behind it
 abbrev pub node : Tag → List Part → Node
 node tag parts = record { name = tag.name; attributes = tag.attributes; inside = inside_of tag parts }
 
@@ -74,7 +75,7 @@ node tag parts = record { name = tag.name; attributes = tag.attributes; inside =
 abbrev pub nodes_from : ℕ → List Part → List Node
 nodes_from skip [] = []
 nodes_from (suc skip) (part ∷ parts) = nodes_from skip parts
-nodes_from zero (part ∷ parts) = choose (tag_of part) (λ tag. node tag parts ∷ nodes_from (own_len tag parts) parts) (nodes_from zero parts)
+nodes_from zero (part ∷ parts) = choose (tag_of part) (λ tag. node tag parts ∷ nodes_from (len_of part parts) parts) (nodes_from zero parts)
 
 -- the text of a piece
 abbrev pub word : Part → List ℕ

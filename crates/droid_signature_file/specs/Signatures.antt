@@ -22,10 +22,15 @@ abbrev pub ◌>>=◌ : {A B : Type 0} → Result A Wrong → (A → Result B Wro
 (Ok x) >>= next = next x
 (Err wrong) >>= next = Err wrong
 
+-- one in front of others
+abbrev pub every_with : {B : Type 0} → B → Result (List B) Wrong → Result (List B) Wrong
+every_with y (Ok ys) = Ok (y ∷ ys)
+every_with y (Err wrong) = Err wrong
+
 -- each in order, or the first that is wrong
 abbrev pub every : {A B : Type 0} → (A → Result B Wrong) → List A → Result (List B) Wrong
 every read [] = Ok []
-every read (x ∷ xs) = read x >>= (λ y. every read xs >>= (λ ys. Ok (y ∷ ys)))
+every read (x ∷ xs) = read x >>= (λ y. every_with y (every read xs))
 
 -- without the white space at the beginning, at the end, and at both: ASCII's, of which XML has all but the form feed
 abbrev pub trimmed_front : List ℕ → List ℕ

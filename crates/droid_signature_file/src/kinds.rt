@@ -1,6 +1,7 @@
 //! The elements and attributes that a signature file is known to have.
 
-ghost use Rattle.std.specs.Prelude.{◌≡◌};
+ghost use Rattle.std.specs.Prelude.{◌≡◌, Some, None, if◌then◌else◌};
+ghost use Rattle.std.specs.Str.{bytes_eq};
 ghost use Rattle.droid_signature_file.specs.Unknown as known;
 
 /// A known element, by what may stand in it.
@@ -77,10 +78,13 @@ impl Kind {
 }
 
 /// Returns the kind, if the name is the wanted one.
-fn only(name: &str, wanted: &str, kind: Kind) -> Option<Kind> {
+fn only(name: &str, wanted: &str, kind: Kind) -> Option<Kind>
+    ensures { result ≡ (if bytes_eq name.now wanted.now then Some kind else None) }
+{
     if name == wanted { Some(kind) } else { None }
 }
 
+/// Returns the kind of an element in the root.
 fn collection(name: &str) -> Option<Kind>
     ensures { result ≡ known.kind_in Kind.Root name.now }
 {
@@ -93,6 +97,7 @@ fn collection(name: &str) -> Option<Kind>
     }
 }
 
+/// Returns the kind of an element in a `SubSequence`.
 fn run_or_fragment(name: &str) -> Option<Kind>
     ensures { result ≡ known.kind_in Kind.SubSequence name.now }
 {
@@ -105,6 +110,7 @@ fn run_or_fragment(name: &str) -> Option<Kind>
     }
 }
 
+/// Returns the kind of an element in a `FileFormat`.
 fn word_of_format(name: &str) -> Option<Kind>
     ensures { result ≡ known.kind_in Kind.Format name.now }
 {

@@ -3,11 +3,11 @@
 ghost use Rattle.std.specs.Prelude.{◌≡◌, ◌+◌, ◌<◌, ◌≤◌, ◌^◌, ◌++◌, ◌∷◌, [], IfOk, IfSome, MatchOption, OnOk, drop, filter, length, map, string_bytes};
 ghost use Rattle.std.specs.List.{position_or_len};
 ghost use Rattle.std.specs.Option.{option_map};
-ghost use Rattle.droid_xml.specs.Views.{part, tag};
+ghost use Rattle.droid_xml.specs.Views.{part, setting, tag};
 ghost use Rattle.droid_signature_file.specs.Elements as spec;
 ghost use Rattle.droid_signature_file.specs.Outcomes.{node_of};
 
-use droid_xml::{Element, Piece};
+use droid_xml::{Attribute, Element, Piece};
 use std::alloc::{AllocError, Global};
 
 /// An element among pieces.
@@ -24,12 +24,7 @@ impl<'a> Node<'a> {
     pub(crate) fn value(&self, name: &str) -> Option<&'a str>
         ensures { option_map (λ value. value.now) result ≡ spec.value_of name.now (node_of self.now).attributes }
     {
-        for attribute in self.element.attributes.as_slice() {
-            if attribute.name == name {
-                return Some(attribute.value.as_str());
-            }
-        }
-        None
+        value_of(self.element.attributes.as_slice(), name)
     }
 
     /// Returns the elements of this name that stand directly in the element.
@@ -71,17 +66,40 @@ impl<'a> Node<'a> {
     }
 }
 
+/// Returns the value of the attribute of this name.
+fn value_of<'a>(attributes: &'a [Attribute<'a>], name: &str) -> Option<&'a str>
+    ensures { option_map (λ value. value.now) result ≡ spec.value_of name.now (map setting attributes.entry.now) }
+{
+    for attribute in attributes {
+        if attribute.name == name {
+            return Some(attribute.value.as_str());
+        }
+    }
+    None
+}
+
 /// Returns the first element that stands directly among the pieces, and the pieces behind it.
 pub(crate) fn first_node<'a>(pieces: &'a [Piece<'a>]) -> Option<(Node<'a>, &'a [Piece<'a>])>
     ensures found { MatchOption result (spec.nodes_from 0 (map part pieces.entry.now) ≡ []) (λ found. spec.nodes_from 0 (map part pieces.entry.now) ≡ node_of found.0 ∷ spec.nodes_from 0 (map part found.1.now)) }
     ensures shorter { IfSome result (λ found. length found.1.now < length pieces.entry.now) }
 {
-    let (piece, behind) = pieces[start_place(pieces)..].split_first()?;
-    let Piece::Start(element) = piece else {
-        return None;
-    };
+    let place = start_place(pieces);
+    let (piece, behind) = pieces[place..].split_first()?;
+    let element = element_of(piece)?;
     let inside = inside_of(element, behind);
-    Some((Node { element, inside }, past_element(piece, behind)))
+    let rest = past_element(piece, behind);
+    Some((Node { element, inside }, rest))
+}
+
+/// Returns the element that a piece begins.
+fn element_of<'a>(piece: &'a Piece<'a>) -> Option<&'a Element<'a>>
+    ensures { option_map (λ element. tag element.now) result ≡ spec.tag_of (part piece.entry.now) }
+{
+    match piece {
+        Piece::Start(element) => Some(element),
+        Piece::End(_) | Piece::Text(_) | Piece::Data(_) | Piece::Reference(_) => None,
+        Piece::Comment(_) | Piece::Instruction(_, _) => None,
+    }
 }
 
 /// Returns how many pieces stand before the first that begins an element.
@@ -97,10 +115,15 @@ fn start_place(pieces: &[Piece<'_>]) -> usize
     pieces.len()
 }
 
+/// Returns whether a piece begins an element.
 fn is_start(piece: &Piece<'_>) -> bool
     ensures { result ≡ spec.is_start (part piece.now) }
 {
-    matches!(piece, Piece::Start(_))
+    match piece {
+        Piece::Start(_) => true,
+        Piece::End(_) | Piece::Text(_) | Piece::Data(_) | Piece::Reference(_) => false,
+        Piece::Comment(_) | Piece::Instruction(_, _) => false,
+    }
 }
 
 /// Adds an element, if it has this name.
@@ -129,24 +152,33 @@ fn past_element<'a>(piece: &Piece<'_>, behind: &'a [Piece<'a>]) -> &'a [Piece<'a
     ensures value { map part result.now ≡ drop (spec.len_of (part piece.now) (map part behind.entry.now)) (map part behind.entry.now) }
     ensures few { length result.now ≤ length behind.entry.now }
 {
-    let own = own_len(piece, behind).min(behind.len());
-    &behind[own..]
+    if opens(piece) {
+        return past_end(behind);
+    }
+    behind
 }
 
-/// Returns how many pieces belong to the element that a piece begins, behind that piece.
-fn own_len(piece: &Piece<'_>, behind: &[Piece<'_>]) -> usize
-    ensures { result ≡ spec.len_of (part piece.now) (map part behind.now) }
+/// Returns whether a piece begins an element that an end tag ends.
+fn opens(piece: &Piece<'_>) -> bool
+    ensures { result ≡ spec.opens (part piece.now) }
 {
     match piece {
-        Piece::Start(element) => {
-            if element.is_empty {
-                0
-            } else {
-                inner_len(behind) + 1
-            }
-        }
-        _ => 0,
+        Piece::Start(element) => !element.is_empty,
+        Piece::End(_) | Piece::Text(_) | Piece::Data(_) | Piece::Reference(_) => false,
+        Piece::Comment(_) | Piece::Instruction(_, _) => false,
     }
+}
+
+/// Returns the pieces behind the end tag of the element that the pieces are in.
+fn past_end<'a>(pieces: &'a [Piece<'a>]) -> &'a [Piece<'a>]
+    ensures value { map part result.now ≡ drop (spec.inner_len 0 (map part pieces.entry.now) + 1) (map part pieces.entry.now) }
+    ensures few { length result.now ≤ length pieces.entry.now }
+{
+    let inner = inner_len(pieces);
+    if inner >= pieces.len() {
+        return &[];
+    }
+    &pieces[inner + 1..]
 }
 
 /// Returns how many pieces stand before the end tag of the element that they are in.
@@ -173,7 +205,8 @@ fn deeper(depth: usize, piece: &Piece<'_>) -> Option<usize>
     match piece {
         Piece::Start(element) => Some(if element.is_empty { depth } else { depth + 1 }),
         Piece::End(_) => depth.checked_sub(1),
-        _ => Some(depth),
+        Piece::Text(_) | Piece::Data(_) | Piece::Reference(_) => Some(depth),
+        Piece::Comment(_) | Piece::Instruction(_, _) => Some(depth),
     }
 }
 
@@ -182,8 +215,9 @@ fn add_word(words: &mut String, piece: &Piece<'_>) -> Result<(), AllocError>
     ensures { OnOk result (string_bytes words.new ≡ string_bytes words.old ++ spec.word (part piece.now)) }
 {
     match piece {
-        Piece::Text(text) | Piece::Data(text) => words.push_str(text),
+        Piece::Text(text) => words.push_str(text),
+        Piece::Data(text) => words.push_str(text),
         Piece::Reference(c) => words.push(*c),
-        _ => Ok(()),
+        Piece::Start(_) | Piece::End(_) | Piece::Comment(_) | Piece::Instruction(_, _) => Ok(()),
     }
 }

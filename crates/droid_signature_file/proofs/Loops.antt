@@ -1,0 +1,99 @@
+-- Loops over the attributes of an element, and over pieces.
+use Rattle.std.proofs.Common.{◌≡◌, ℕ, zero, suc, ◌+◌, ◌<◌, ◌≤◌, Bool, true, false, List, [], ◌∷◌, ◌++◌, length, drop, take, get_or, map, reverse, refl, sym, ap, ◌∙◌, drop-cons, add-one, arith}
+use Rattle.std.specs.Prelude.{Option, Some, None, cond, not, if◌then◌else◌}
+use Rattle.std.specs.List.{fold, position_or_len}
+use Rattle.std.proofs.lemmas.List.{reverse-append}
+use Rattle.std.proofs.lemmas.List.Sums.{fold_more}
+use Rattle.std.specs.Str.{bytes_eq}
+use Rattle.droid_xml.specs.Bytes.{choose}
+use Rattle.droid_xml.specs.Pieces.{Part, Start, End, Text, Data, Reference, Comment, Instruction}
+use Rattle.droid_xml.specs.Views.{part, setting}
+use Rattle.droid_xml.specs.declared.attributes.Attribute.{Attribute}
+use Rattle.droid_xml.specs.declared.pieces.Piece.{Piece}
+use Rattle.droid_signature_file.specs.Elements.{deeper, inner_len, is_start, value_of}
+
+-- the item at a place, and those behind it
+pub cell : {A B : Type 0} (f : A → B) (all : List A) (place : ℕ) (one : A) → place < length all → map f (drop place all) ≡ f (get_or all place one) ∷ map f (drop (place + 1) all)
+cell {A} f all place one inside = let parts : drop place all ≡ get_or all place one ∷ drop (place + 1) all = rw (add-one, drop-cons all place one) refl in ap (map f) parts
+
+-- this attribute has another name
+pub value_goes_on : (name : List ℕ) (all : List Attribute) (place : ℕ) (one : Attribute) (whole : Option (List ℕ)) → place < length all → bytes_eq (setting (get_or all place one)).name name ≡ false
+    → value_of name (map setting (drop place all)) ≡ whole → value_of name (map setting (drop (place + 1) all)) ≡ whole
+value_goes_on name all place one whole inside fails so_far =
+    sym (ap (λ (is : Bool). if is then Some (setting (get_or all place one)).value else value_of name (map setting (drop (place + 1) all))) fails)
+    ∙ (sym (ap (value_of name) (cell setting all place one inside)) ∙ so_far)
+
+-- this one has it
+pub value_found : (name : List ℕ) (all : List Attribute) (place : ℕ) (one : Attribute) (whole : Option (List ℕ)) → place < length all → bytes_eq (setting (get_or all place one)).name name ≡ true
+    → value_of name (map setting (drop place all)) ≡ whole → Some (setting (get_or all place one)).value ≡ whole
+value_found name all place one whole inside passes so_far =
+    sym (ap (λ (is : Bool). if is then Some (setting (get_or all place one)).value else value_of name (map setting (drop (place + 1) all))) passes)
+    ∙ (sym (ap (value_of name) (cell setting all place one inside)) ∙ so_far)
+
+-- no attribute is left
+pub value_nowhere : (name : List ℕ) (all : List Attribute) (place : ℕ) (whole : Option (List ℕ)) → drop place all ≡ [] → value_of name (map setting (drop place all)) ≡ whole → None ≡ whole
+value_nowhere name all place whole past so_far = sym (ap (λ (rest : List Attribute). value_of name (map setting rest)) past) ∙ so_far
+
+-- the first place that passes, by the item at a place
+place_by : {A : Type 0} (test : A → Bool) (x : A) (rest : List A) (is : Bool) → test x ≡ is → position_or_len test (x ∷ rest) ≡ cond (not is) (1 + position_or_len test rest) 0
+place_by test x rest is tested = ap (λ (b : Bool). cond (not b) (1 + position_or_len test rest) 0) tested
+
+pub place_goes_on : {A B : Type 0} (f : A → B) (test : B → Bool) (all : List A) (place : ℕ) (one : A) (whole : ℕ) → place < length all → test (f (get_or all place one)) ≡ false
+    → place + position_or_len test (map f (drop place all)) ≡ whole → (place + 1) + position_or_len test (map f (drop (place + 1) all)) ≡ whole
+place_goes_on f test all place one whole inside fails so_far =
+    omega (arith, ap (position_or_len test) (cell f all place one inside), place_by test (f (get_or all place one)) (map f (drop (place + 1) all)) false fails, so_far)
+
+pub place_found : {A B : Type 0} (f : A → B) (test : B → Bool) (all : List A) (place : ℕ) (one : A) (whole : ℕ) → place < length all → test (f (get_or all place one)) ≡ true
+    → place + position_or_len test (map f (drop place all)) ≡ whole → place ≡ whole
+place_found f test all place one whole inside passes so_far =
+    omega (arith, ap (position_or_len test) (cell f all place one inside), place_by test (f (get_or all place one)) (map f (drop (place + 1) all)) true passes, so_far)
+
+pub place_nowhere : {A B : Type 0} (f : A → B) (test : B → Bool) (all : List A) (place : ℕ) (whole : ℕ) → drop place all ≡ []
+    → place + position_or_len test (map f (drop place all)) ≡ whole → place ≡ whole
+place_nowhere {A} f test all place whole past so_far = omega (arith, ap (λ (rest : List A). position_or_len test (map f rest)) past, so_far)
+
+-- one more piece inside an element, or its end tag
+inner_by : (depth : ℕ) (piece : Part) (rest : List Part) (next : Option ℕ) → deeper depth piece ≡ next → inner_len depth (piece ∷ rest) ≡ choose next (λ d. suc (inner_len d rest)) 0
+inner_by depth piece rest next is = ap (λ (o : Option ℕ). choose o (λ d. suc (inner_len d rest)) 0) is
+
+pub inner_goes_on : (all : List Piece) (place : ℕ) (one : Piece) (depth next whole : ℕ) → place < length all → deeper depth (part (get_or all place one)) ≡ Some next
+    → place + inner_len depth (map part (drop place all)) ≡ whole → (place + 1) + inner_len next (map part (drop (place + 1) all)) ≡ whole
+inner_goes_on all place one depth next whole inside is so_far =
+    omega (arith, ap (inner_len depth) (cell part all place one inside), inner_by depth (part (get_or all place one)) (map part (drop (place + 1) all)) (Some next) is, so_far)
+
+pub inner_ends : (all : List Piece) (place : ℕ) (one : Piece) (depth whole : ℕ) → place < length all → deeper depth (part (get_or all place one)) ≡ None
+    → place + inner_len depth (map part (drop place all)) ≡ whole → place ≡ whole
+inner_ends all place one depth whole inside is so_far =
+    omega (arith, ap (inner_len depth) (cell part all place one inside), inner_by depth (part (get_or all place one)) (map part (drop (place + 1) all)) None is, so_far)
+
+pub inner_whole : (all : List Piece) (place depth whole : ℕ) → drop place all ≡ [] → place + inner_len depth (map part (drop place all)) ≡ whole → place ≡ whole
+inner_whole all place depth whole past so_far = omega (arith, ap (λ (rest : List Piece). inner_len depth (map part rest)) past, so_far)
+
+-- a piece opens one element at most
+pub deeper_by_one : (depth : ℕ) (piece : Part) (next : ℕ) → deeper depth piece ≡ Some next → next ≤ depth + 1
+deeper_by_one depth (Start tag) next is = by_test tag.is_empty next is
+  where
+    by_test : (b : Bool) (n : ℕ) → Some (if b then depth else suc depth) ≡ Some n → n ≤ depth + 1
+    by_test true n e = let same : depth ≡ n = cc in omega (arith, same)
+    by_test false n e = let same : suc depth ≡ n = cc in omega (arith, same)
+deeper_by_one zero (End name) next is = absurd cc
+deeper_by_one (suc depth) (End name) next is = let same : depth ≡ next = cc in omega (arith, same)
+deeper_by_one depth (Text text) next is = let same : depth ≡ next = cc in omega (arith, same)
+deeper_by_one depth (Data text) next is = let same : depth ≡ next = cc in omega (arith, same)
+deeper_by_one depth (Reference char) next is = let same : depth ≡ next = cc in omega (arith, same)
+deeper_by_one depth (Comment text) next is = let same : depth ≡ next = cc in omega (arith, same)
+deeper_by_one depth (Instruction target text) next is = let same : depth ≡ next = cc in omega (arith, same)
+
+-- a fold over what items are seen as
+fold_map : {A B Y : Type 0} (f : Y → B → Y) (g : A → B) (a : Y) (xs : List A) → fold f a (map g xs) ≡ fold (λ y x. f y (g x)) a xs
+fold_map f g a [] = refl
+fold_map f g a (x ∷ xs) = fold_map f g (f a (g x)) xs
+
+pub fold_more_of : {A B Y : Type 0} (f : Y → B → Y) (g : A → B) (a : Y) (xs : List A) (i : ℕ) (d : A) → i < length xs
+    → fold f a (map g (take (i + 1) xs)) ≡ f (fold f a (map g (take i xs))) (g (get_or xs i d))
+fold_more_of {A} {B} {Y} f g a xs i d inside =
+    fold_map f g a (take (i + 1) xs) ∙ (fold_more (λ y x. f y (g x)) a xs i d inside ∙ ap (λ (y : Y). f y (g (get_or xs i d))) (sym (fold_map f g a (take i xs))))
+
+-- the last item is the first from the other end
+pub reverse_push : {A : Type 0} (xs : List A) (x : A) → reverse (xs ++ x ∷ []) ≡ x ∷ reverse xs
+reverse_push xs x = reverse-append xs (x ∷ [])
