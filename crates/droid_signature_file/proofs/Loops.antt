@@ -1,8 +1,9 @@
 -- Loops over the attributes of an element, and over pieces.
 use Rattle.std.proofs.Common.{◌≡◌, ℕ, zero, suc, ◌+◌, ◌<◌, ◌≤◌, Bool, true, false, List, [], ◌∷◌, ◌++◌, length, drop, take, get_or, map, reverse, refl, sym, ap, ◌∙◌, drop-cons, add-one, arith}
-use Rattle.std.specs.Prelude.{Option, Some, None, cond, not, if◌then◌else◌}
+use Rattle.std.specs.Prelude.{◌-◌, Option, Some, None, cond, not, slice_get, if◌then◌else◌}
 use Rattle.std.specs.List.{fold, position_or_len}
-use Rattle.std.proofs.lemmas.List.{reverse-append}
+use Rattle.std.proofs.lemmas.List.{get_or_push, length-append, reverse-append, reverse-reverse}
+use Rattle.std.proofs.lemmas.Option.{slice_get-get_or}
 use Rattle.std.proofs.lemmas.List.Sums.{fold_more}
 use Rattle.std.specs.Str.{bytes_eq}
 use Rattle.droid_xml.specs.Bytes.{choose}
@@ -10,7 +11,9 @@ use Rattle.droid_xml.specs.Pieces.{Part, Start, End, Text, Data, Reference, Comm
 use Rattle.droid_xml.specs.Views.{part, setting}
 use Rattle.droid_xml.specs.declared.attributes.Attribute.{Attribute}
 use Rattle.droid_xml.specs.declared.pieces.Piece.{Piece}
-use Rattle.droid_signature_file.specs.Elements.{deeper, inner_len, is_start, value_of}
+use Rattle.droid_signature_file.specs.Elements.{deeper, inner_len, value_of}
+use Rattle.droid_signature_file.specs.Unknown.{innermost}
+use Rattle.droid_signature_file.specs.declared.kinds.Kind.{Kind}
 
 -- the item at a place, and those behind it
 pub cell : {A B : Type 0} (f : A → B) (all : List A) (place : ℕ) (one : A) → place < length all → map f (drop place all) ≡ f (get_or all place one) ∷ map f (drop (place + 1) all)
@@ -97,3 +100,16 @@ fold_more_of {A} {B} {Y} f g a xs i d inside =
 -- the last item is the first from the other end
 pub reverse_push : {A : Type 0} (xs : List A) (x : A) → reverse (xs ++ x ∷ []) ≡ x ∷ reverse xs
 reverse_push xs x = reverse-append xs (x ∷ [])
+
+-- the last of those that are open is the innermost
+of_reversed : (xs : List (Option Kind)) → slice_get (reverse xs) (length (reverse xs) - 1) ≡ innermost xs
+of_reversed [] = refl
+of_reversed (x ∷ xs) =
+    let split : reverse (x ∷ xs) ≡ reverse xs ++ x ∷ [] = reverse-append (x ∷ []) xs in
+    let long : length (reverse xs ++ x ∷ []) ≡ length (reverse xs) + 1 = length-append (reverse xs) (x ∷ []) in
+    rw split
+    (slice_get-get_or (reverse xs ++ x ∷ []) (length (reverse xs ++ x ∷ []) - 1) x (omega (arith, long))
+    ∙ ap Some (get_or_push (reverse xs) x x (length (reverse xs ++ x ∷ []) - 1) (omega (arith, long))))
+
+pub innermost_last : (xs : List (Option Kind)) → slice_get xs (length xs - 1) ≡ innermost (reverse xs)
+innermost_last xs = sym (ap (λ (ys : List (Option Kind)). slice_get ys (length ys - 1)) (reverse-reverse xs)) ∙ of_reversed (reverse xs)

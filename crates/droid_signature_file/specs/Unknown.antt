@@ -105,17 +105,28 @@ noted_attributes kind names found = fold (noted_attribute kind) found names
 abbrev pub name_of : Attribute → List ℕ
 name_of attribute = attribute.name.now
 
--- the kinds of the elements that are open, the innermost first; None is an unknown one
+-- of the elements that are open, the innermost first: its kind. None is an unknown one
+abbrev pub innermost : List (Option Kind) → Option (Option Kind)
+innermost [] = None
+innermost (kind ∷ open) = Some kind
+
+-- the kind of an element of this name, by the one that it stands in
+abbrev pub kind_by : Option (Option Kind) → List ℕ → Option Kind
+kind_by None name = kind_outside name
+kind_by (Some None) name = None
+kind_by (Some (Some kind)) name = kind_in kind name
+
 abbrev pub kind_under : List (Option Kind) → List ℕ → Option Kind
-kind_under [] name = kind_outside name
-kind_under (None ∷ open) name = None
-kind_under (Some kind ∷ open) name = kind_in kind name
+kind_under open name = kind_by (innermost open) name
 
 -- an unknown element counts only where the element outside is known
+abbrev pub noted_by : Option (Option Kind) → List ℕ → Tally → Tally
+noted_by None name found = found
+noted_by (Some None) name found = found
+noted_by (Some (Some kind)) name found = noted parts.Element name found
+
 abbrev pub noted_element : List (Option Kind) → List ℕ → Tally → Tally
-noted_element [] name found = found
-noted_element (None ∷ open) name found = found
-noted_element (Some kind ∷ open) name found = noted parts.Element name found
+noted_element open name found = noted_by (innermost open) name found
 
 -- the elements that are open, and what is counted so far
 pub record Counting : Type 0 where

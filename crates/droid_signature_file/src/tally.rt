@@ -82,6 +82,7 @@ impl Counting {
     }
 
     /// Closes the innermost element.
+    #[tactic(auto, using(crate::proofs::Loops::reverse_push))]
     fn close(&mut self)
         ensures { self.new ≡ record self.old { open = spec.closed self.old.open } }
     {
@@ -89,6 +90,7 @@ impl Counting {
     }
 
     /// Counts what a start tag has that is not known, and opens its element.
+    #[tactic(auto, using(crate::proofs::Loops::reverse_push))]
     fn count_tag(&mut self, alloc: Global, element: &Element<'_>) -> Result<(), AllocError>
         ensures { OnOk result (self.new ≡ spec.counted_tag self.old (tag element.now)) }
     {
@@ -107,9 +109,9 @@ impl Counting {
     fn note_element(&mut self, alloc: Global, name: &str) -> Result<(), AllocError>
         ensures { OnOk result (self.new ≡ record self.old { found = spec.noted_element self.old.open name.now self.old.found }) }
     {
-        match self.open.last() {
+        match self.innermost() {
             Some(Some(_)) => self.found.note(alloc, UnknownPart::Element, name),
-            _ => Ok(()),
+            Some(None) | None => Ok(()),
         }
     }
 
@@ -117,11 +119,19 @@ impl Counting {
     fn kind_of(&self, name: &str) -> Option<Kind>
         ensures { result ≡ spec.kind_under self.now.open name.now }
     {
-        match self.open.last() {
+        match self.innermost() {
             None => kind_outside(name),
             Some(None) => None,
             Some(Some(outer)) => outer.of_inner(name),
         }
+    }
+
+    /// Returns the kind of the innermost element.
+    #[tactic(auto, using(crate::proofs::Loops::innermost_last))]
+    fn innermost(&self) -> Option<Option<Kind>>
+        ensures { result ≡ spec.innermost self.now.open }
+    {
+        self.open.last().copied()
     }
 }
 

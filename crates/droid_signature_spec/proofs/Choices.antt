@@ -39,13 +39,13 @@ first_choices low high [] file scan_limit = (λ none. absurd none, λ (m : Match
 first_choices low high (es ∷ patterns) file scan_limit =
     let more = first_choices low high patterns file scan_limit in (
       λ h. ⊎_elim
-      (λ (one : HitsFromStart (record { offsets = record { anchor = Bof; min = low; max = high }; pattern = es }) file scan_limit).
+          (λ (one : HitsFromStart (record { offsets = record { anchor = Bof; min = low; max = high }; pattern = es }) file scan_limit).
           record { offset = one.offset; count = one.count; from_low = one.from_min; to_high = one.to_max; inside = one.inside; matched = inl one.matched })
-      (λ other. let m : MatchesFirst (MatchesAny patterns) low high file scan_limit = more.0 other in
+          (λ other. let m : MatchesFirst (MatchesAny patterns) low high file scan_limit = more.0 other in
           record { offset = m.offset; count = m.count; from_low = m.from_low; to_high = m.to_high; inside = m.inside; matched = inr m.matched }) h,
       λ (m : MatchesFirst (MatchesAny (es ∷ patterns)) low high file scan_limit). ⊎_elim
-      (λ one. inl (record { offset = m.offset; count = m.count; from_min = m.from_low; to_max = m.to_high; inside = m.inside; matched = one }))
-      (λ other. inr (more.1 (record { offset = m.offset; count = m.count; from_low = m.from_low; to_high = m.to_high; inside = m.inside; matched = other }))) m.matched,
+          (λ one. inl (record { offset = m.offset; count = m.count; from_min = m.from_low; to_max = m.to_high; inside = m.inside; matched = one }))
+          (λ other. inr (more.1 (record { offset = m.offset; count = m.count; from_low = m.from_low; to_high = m.to_high; inside = m.inside; matched = other }))) m.matched,
     )
 
 last_choices : (low high : ℕ) (patterns : List (List Element)) (file : List ℕ) (scan_limit : ℕ)
@@ -54,13 +54,13 @@ last_choices low high [] file scan_limit = (λ none. absurd none, λ (m : Matche
 last_choices low high (es ∷ patterns) file scan_limit =
     let more = last_choices low high patterns file scan_limit in (
       λ h. ⊎_elim
-      (λ (one : HitsFromEnd (record { offsets = record { anchor = Eof; min = low; max = high }; pattern = es }) file scan_limit).
+          (λ (one : HitsFromEnd (record { offsets = record { anchor = Eof; min = low; max = high }; pattern = es }) file scan_limit).
           record { offset = one.offset; count = one.count; from_low = one.from_min; to_high = one.to_max; inside = one.inside; matched = inl one.matched })
-      (λ other. let m : MatchesLast (MatchesAny patterns) low high file scan_limit = more.0 other in
+          (λ other. let m : MatchesLast (MatchesAny patterns) low high file scan_limit = more.0 other in
           record { offset = m.offset; count = m.count; from_low = m.from_low; to_high = m.to_high; inside = m.inside; matched = inr m.matched }) h,
       λ (m : MatchesLast (MatchesAny (es ∷ patterns)) low high file scan_limit). ⊎_elim
-      (λ one. inl (record { offset = m.offset; count = m.count; from_min = m.from_low; to_max = m.to_high; inside = m.inside; matched = one }))
-      (λ other. inr (more.1 (record { offset = m.offset; count = m.count; from_low = m.from_low; to_high = m.to_high; inside = m.inside; matched = other }))) m.matched,
+          (λ one. inl (record { offset = m.offset; count = m.count; from_min = m.from_low; to_max = m.to_high; inside = m.inside; matched = one }))
+          (λ other. inr (more.1 (record { offset = m.offset; count = m.count; from_low = m.from_low; to_high = m.to_high; inside = m.inside; matched = other }))) m.matched,
     )
 
 -- an upper offset that is there
@@ -72,11 +72,18 @@ by_first : (part : SubSequenceRecord) (further : List SubSequenceRecord) (low hi
     → MatchesFirst (MatchesAny patterns) low high file scan_limit ↔ HitsFirst part further file scan_limit
 by_first part further low high patterns file scan_limit bottom is says = (
   λ (m : MatchesFirst (MatchesAny patterns) low high file scan_limit). record {
-    offset = m.offset; count = m.count; within = (rw (sym bottom) m.from_low, (top part.offsets.max high m.offset is).1 m.to_high); inside = m.inside;
+    offset = m.offset;
+    count = m.count;
+    within = (rw (sym bottom) m.from_low, (top part.offsets.max high m.offset is).1 m.to_high);
+    inside = m.inside;
     matched = (says (take m.count (drop m.offset file))).0 m.matched;
   },
   λ (m : HitsFirst part further file scan_limit). record {
-    offset = m.offset; count = m.count; from_low = rw bottom m.within.0; to_high = (top part.offsets.max high m.offset is).0 m.within.1; inside = m.inside;
+    offset = m.offset;
+    count = m.count;
+    from_low = rw bottom m.within.0;
+    to_high = (top part.offsets.max high m.offset is).0 m.within.1;
+    inside = m.inside;
     matched = (says (take m.count (drop m.offset file))).1 m.matched;
   },
 )
@@ -86,11 +93,18 @@ by_last : (part : SubSequenceRecord) (low high : ℕ) (patterns : List (List Ele
     → MatchesLast (MatchesAny patterns) low high file scan_limit ↔ HitsLast part file scan_limit
 by_last part low high patterns file scan_limit bottom is says = (
   λ (m : MatchesLast (MatchesAny patterns) low high file scan_limit). record {
-    offset = m.offset; count = m.count; within = (rw (sym bottom) m.from_low, (top part.offsets.max high m.offset is).1 m.to_high); inside = m.inside;
+    offset = m.offset;
+    count = m.count;
+    within = (rw (sym bottom) m.from_low, (top part.offsets.max high m.offset is).1 m.to_high);
+    inside = m.inside;
     matched = (says (take m.count (drop (length file - (m.offset + m.count)) file))).0 m.matched;
   },
   λ (m : HitsLast part file scan_limit). record {
-    offset = m.offset; count = m.count; from_low = rw bottom m.within.0; to_high = (top part.offsets.max high m.offset is).0 m.within.1; inside = m.inside;
+    offset = m.offset;
+    count = m.count;
+    from_low = rw bottom m.within.0;
+    to_high = (top part.offsets.max high m.offset is).0 m.within.1;
+    inside = m.inside;
     matched = (says (take m.count (drop (length file - (m.offset + m.count)) file))).1 m.matched;
   },
 )

@@ -61,8 +61,8 @@ any_behind first (s ∷ seconds) bytes =
     let here = Lang-append first s bytes in
     let more = any_behind first seconds bytes in (
       λ h. ⊎_elim
-      (λ one. let (front, back, is, a, b) = here.0 one in (front, back, is, a, inl b))
-      (λ other. let (front, back, is, a, b) = more.0 other in (front, back, is, a, inr b)) h,
+          (λ one. let (front, back, is, a, b) = here.0 one in (front, back, is, a, inl b))
+          (λ other. let (front, back, is, a, b) = more.0 other in (front, back, is, a, inr b)) h,
       λ (front, back, is, a, b). ⊎_elim (λ one. inl (here.1 (front, back, is, a, one))) (λ other. inr (more.1 (front, back, is, a, other))) b,
     )
 
@@ -74,8 +74,8 @@ any_joined (f ∷ firsts) seconds bytes =
     let here = any_behind f seconds bytes in
     let more = any_joined firsts seconds bytes in (
       λ h. ⊎_elim
-      (λ one. let (front, back, is, a, b) = here.0 one in (front, back, is, inl a, b))
-      (λ other. let (front, back, is, a, b) = more.0 other in (front, back, is, inr a, b)) (split.0 h),
+          (λ one. let (front, back, is, a, b) = here.0 one in (front, back, is, inl a, b))
+          (λ other. let (front, back, is, a, b) = more.0 other in (front, back, is, inr a, b)) (split.0 h),
       λ (front, back, is, a, b). split.1 (⊎_elim (λ one. inl (here.1 (front, back, is, one, b))) (λ other. inr (more.1 (front, back, is, other, b))) a),
     )
 
@@ -86,8 +86,8 @@ upward_has n (suc count) x =
     let more = upward_has (suc n) count x in (
       to more,
       λ (low, high). ⊎_elim
-      (λ above. let (k, below, is) = more.1 (omega arith, omega arith) in (suc k, omega arith, is))
-      (λ same. let first : n ≡ x = omega arith in (0, omega arith, first)) (cases_lt n x),
+          (λ above. let (k, below, is) = more.1 (omega arith, omega arith) in (suc k, omega arith, is))
+          (λ same. let first : n ≡ x = omega arith in (0, omega arith, first)) (cases_lt n x),
     )
   where
     to : (Contains (upward (suc n) count) x ↔ ((suc n ≤ x) × (x < suc n + count))) → Contains (n ∷ upward (suc n) count) x → (n ≤ x) × (x < n + suc count)
@@ -103,6 +103,7 @@ singles_have (b ∷ bs) bytes = let more = singles_have bs bytes in (to more, fr
         → (x : ℕ) × (bytes ≡ x ∷ []) × Contains (b ∷ bs) x
     to more (zero, below, is) = (b, sym is, (0, omega arith, refl))
     to more (suc k, below, is) = let (x, e, (j, under, there)) = more.0 (k, omega arith, is) in (x, e, (suc j, omega arith, there))
+
     from : (Contains (map (λ b. b ∷ []) bs) bytes ↔ ((x : ℕ) × (bytes ≡ x ∷ []) × Contains bs x)) → ((x : ℕ) × (bytes ≡ x ∷ []) × Contains (b ∷ bs) x)
         → Contains ((b ∷ []) ∷ map (λ b. b ∷ []) bs) bytes
     from more (x, e, (zero, below, is)) = (0, omega arith, ap (λ y. y ∷ []) is ∙ sym e)

@@ -136,8 +136,8 @@ further_match [] (piece ∷ pieces) are bytes = absurd are
 further_match (part ∷ parts) [] are bytes = absurd are
 further_match (part ∷ parts) (piece ∷ pieces) (is, are) bytes =
     let open_gap : ArePatternsOf (λ gap. lowest part.offsets ≤ length gap) ((OpenGap piece.least ∷ []) ∷ []) = λ gap.
-        let here = one_element (OpenGap piece.least) gap in
-        (λ h. rw (sym is.least) (here.0 h), λ h. here.1 (rw is.least h)) in
+    let here = one_element (OpenGap piece.least) gap in
+    (λ h. rw (sym is.least) (here.0 h), λ h. here.1 (rw is.least h)) in
     turn_patterns (λ gap. lowest part.offsets ≤ length gap) (InTurn (PartMatches part) (FurtherMatch parts)) ((OpenGap piece.least ∷ []) ∷ []) (joined (piece_patterns piece) (further_patterns pieces)) open_gap
     (turn_patterns (PartMatches part) (FurtherMatch parts) (piece_patterns piece) (further_patterns pieces) (piece_match part piece is) (further_match parts pieces are)) bytes
 

@@ -64,7 +64,6 @@ fronted_nil b [] none = absurd none
 fronted_nil b (es ∷ patterns) (inl one) = Byte-nil b es one
 fronted_nil b (es ∷ patterns) (inr other) = fronted_nil b patterns other
 
-
 between_where : (t : Bool) (low end count y : ℕ) (bytes : List ℕ) → (t ≡ true → low < end) → (t ≡ false → end ≤ low)
     → MatchesAny (if t then (Range low (end - 1) ∷ any_bytes count) ∷ [] else []) (y ∷ bytes) ↔ ((low ≤ y) × (y < end) × (length bytes ≡ count) × AreBytes bytes)
 between_where true low end count y bytes holds fails =
@@ -107,10 +106,10 @@ no_less (l ∷ low) (y ∷ bytes) n all =
     let above_head = between (l + 1) 256 (length low) y bytes in
     let more = no_less low bytes (256 * n + l) all.1 in (
       λ h. ⊎_elim
-      (λ a. let (same, rest) = same_head.0 a in let (long, bs, order) = more.0 rest in (omega arith, (omega arith, bs), rw same order))
-      (λ b. let (from, to, long, bs) = above_head.0 b in
-      let order = less_after low bytes (256 * n + l) (256 * n + y) (sym long) all.1 (omega arith) in
-      (omega arith, (to, bs), omega arith)) (split.0 h),
+          (λ a. let (same, rest) = same_head.0 a in let (long, bs, order) = more.0 rest in (omega arith, (omega arith, bs), rw same order))
+          (λ b. let (from, to, long, bs) = above_head.0 b in
+          let order = less_after low bytes (256 * n + l) (256 * n + y) (sym long) all.1 (omega arith) in
+          (omega arith, (to, bs), omega arith)) (split.0 h),
       λ (long, bs, order).
           let byte : y < 256 = bs.0 in
           let tail : length bytes ≡ length low = omega arith in
@@ -140,10 +139,10 @@ no_more (l ∷ high) (y ∷ bytes) n all =
     let below_head = between 0 l (length high) y bytes in
     let more = no_more high bytes (256 * n + l) all.1 in (
       λ h. ⊎_elim
-      (λ b. let (from, to, long, bs) = below_head.0 b in
-      let order = less_after bytes high (256 * n + y) (256 * n + l) long bs (omega arith) in
-      (omega arith, (omega arith, bs), omega arith))
-      (λ a. let (same, rest) = same_head.0 a in let (long, bs, order) = more.0 rest in (omega arith, (omega arith, bs), rw same order)) (split.0 h),
+          (λ b. let (from, to, long, bs) = below_head.0 b in
+          let order = less_after bytes high (256 * n + y) (256 * n + l) long bs (omega arith) in
+          (omega arith, (omega arith, bs), omega arith))
+          (λ a. let (same, rest) = same_head.0 a in let (long, bs, order) = more.0 rest in (omega arith, (omega arith, bs), rw same order)) (split.0 h),
       λ (long, bs, order).
           let byte : y < 256 = bs.0 in
           let tail : length bytes ≡ length high = omega arith in
@@ -183,9 +182,9 @@ ranges_where true l h low high (y ∷ bytes) n holds fails same ls hs ordered mo
     )
 ranges_where false l h low high [] n holds fails same ls hs ordered more = (
   λ w. ⊎_elim
-  (λ v. ⊎_elim (λ a. fronted_nil l (upward_from low) a) (λ b. between_nil (l + 1) h (length low) b) ((any_append (with_byte l (upward_from low)) (range_before (l + 1) h (length low)) []).0 v))
-  (λ c. fronted_nil h (up_to high) c)
-  ((any_append (with_byte l (upward_from low) ++ range_before (l + 1) h (length low)) (with_byte h (up_to high)) []).0 w),
+      (λ v. ⊎_elim (λ a. fronted_nil l (upward_from low) a) (λ b. between_nil (l + 1) h (length low) b) ((any_append (with_byte l (upward_from low)) (range_before (l + 1) h (length low)) []).0 v))
+      (λ c. fronted_nil h (up_to high) c)
+      ((any_append (with_byte l (upward_from low) ++ range_before (l + 1) h (length low)) (with_byte h (up_to high)) []).0 w),
   λ (long, bs, a, b). absurd (omega arith),
 )
 ranges_where false l h low high (y ∷ bytes) n holds fails same ls hs ordered more =
@@ -200,17 +199,17 @@ ranges_where false l h low high (y ∷ bytes) n holds fails same ls hs ordered m
     let from_low = no_less low bytes (256 * n + l) ls.1 in
     let to_high = no_more high bytes (256 * n + h) hs.1 in (
       λ w. ⊎_elim
-      (λ v. ⊎_elim
-      (λ one. let (head, rest) = as_low.0 one in let (long, bs, order) = from_low.0 rest in
-      let top = less_after bytes high (256 * n + l) (256 * n + h) (omega arith) bs (omega arith) in
-      (omega arith, (omega arith, bs), rw head order, rw head (omega arith)))
-      (λ one. let (from, to, long, bs) = amid.0 one in
-      let bottom = less_after low bytes (256 * n + l) (256 * n + y) (sym long) ls.1 (omega arith) in
-      let top = less_after bytes high (256 * n + y) (256 * n + h) (omega arith) bs (omega arith) in
-      (omega arith, (omega arith, bs), omega arith, omega arith)) (inner.0 v))
-      (λ one. let (head, rest) = as_high.0 one in let (long, bs, order) = to_high.0 rest in
-      let bottom = less_after low bytes (256 * n + l) (256 * n + h) (omega arith) ls.1 (omega arith) in
-      (omega arith, (omega arith, bs), rw head (omega arith), rw head order)) (outer.0 w),
+          (λ v. ⊎_elim
+          (λ one. let (head, rest) = as_low.0 one in let (long, bs, order) = from_low.0 rest in
+          let top = less_after bytes high (256 * n + l) (256 * n + h) (omega arith) bs (omega arith) in
+          (omega arith, (omega arith, bs), rw head order, rw head (omega arith)))
+          (λ one. let (from, to, long, bs) = amid.0 one in
+          let bottom = less_after low bytes (256 * n + l) (256 * n + y) (sym long) ls.1 (omega arith) in
+          let top = less_after bytes high (256 * n + y) (256 * n + h) (omega arith) bs (omega arith) in
+          (omega arith, (omega arith, bs), omega arith, omega arith)) (inner.0 v))
+          (λ one. let (head, rest) = as_high.0 one in let (long, bs, order) = to_high.0 rest in
+          let bottom = less_after low bytes (256 * n + l) (256 * n + h) (omega arith) ls.1 (omega arith) in
+          (omega arith, (omega arith, bs), rw head (omega arith), rw head order)) (outer.0 w),
       λ (long, bs, a, b).
           let tail : length bytes ≡ length low = omega arith in
           let tail' : length bytes ≡ length high = omega arith in

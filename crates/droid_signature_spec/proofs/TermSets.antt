@@ -20,15 +20,18 @@ spelled_bytes (b ∷ bytes) text (h, l, rest, e, pair, spelled) =
 -- the bytes outside a range
 outside_has : (low high : ℕ) (bytes : List ℕ) → low < 256 → high < 256 → Contains (runs_outside low high) bytes ↔ AtomMatches (Outside low high) bytes
 outside_has low high bytes small small' =
-    let all = singles_have (upward 0 low ++ upward (high + 1) (255 - high)) bytes in
-    (
+    let all = singles_have (upward 0 low ++ upward (high + 1) (255 - high)) bytes in (
       λ h. let (x, e, c) = all.0 h in ⊎_elim
-      (λ a. let (from, to) = (upward_has 0 low x).0 a in (x, e, omega arith, inl (omega arith)))
-      (λ b. let (from, to) = (upward_has (high + 1) (255 - high) x).0 b in (x, e, omega arith, inr (omega arith)))
-      (Contains-append_cases (upward 0 low) (upward (high + 1) (255 - high)) x c),
-      λ (x, e, byte, side). all.1 (x, e, ⊎_elim
-      (λ a. Contains-append_left (upward 0 low) (upward (high + 1) (255 - high)) x ((upward_has 0 low x).1 (omega arith, omega arith)))
-      (λ b. Contains-append_right (upward 0 low) (upward (high + 1) (255 - high)) x ((upward_has (high + 1) (255 - high) x).1 (omega arith, omega arith))) side),
+          (λ a. let (from, to) = (upward_has 0 low x).0 a in (x, e, omega arith, inl (omega arith)))
+          (λ b. let (from, to) = (upward_has (high + 1) (255 - high) x).0 b in (x, e, omega arith, inr (omega arith)))
+          (Contains-append_cases (upward 0 low) (upward (high + 1) (255 - high)) x c),
+      λ (x, e, byte, side). all.1 (
+        x,
+        e,
+        ⊎_elim
+            (λ a. Contains-append_left (upward 0 low) (upward (high + 1) (255 - high)) x ((upward_has 0 low x).1 (omega arith, omega arith)))
+            (λ b. Contains-append_right (upward 0 low) (upward (high + 1) (255 - high)) x ((upward_has (high + 1) (255 - high) x).1 (omega arith, omega arith))) side,
+      ),
     )
 
 -- bytes one after another

@@ -15,7 +15,7 @@ pub enum UnknownPart {
 }
 
 /// The name of elements or attributes that the reader does not know, and how many there are.
-#[derive(Debug, Drop)]
+#[derive(Drop)]
 pub struct UnknownName {
     pub part: UnknownPart,
     pub name: Text,
@@ -23,7 +23,7 @@ pub struct UnknownName {
 }
 
 /// A signature file, with its signatures and formats in the file's order.
-#[derive(Debug, Drop)]
+#[derive(Drop)]
 pub struct SignatureFile {
     version: Text,
     created: Text,

@@ -7,7 +7,7 @@ use droid_frame::Text;
 use std::marker::Model;
 
 /// The attributes of the element `FileFormat`. A name, version or media type that is missing is empty.
-#[derive(Debug, Drop)]
+#[derive(Drop)]
 pub struct FormatAttributes {
     pub id: u32,
     pub puid: Option<Text>,
@@ -17,7 +17,7 @@ pub struct FormatAttributes {
 }
 
 /// The element `FileFormat`, with its signatures, extensions and priorities in the file's order.
-#[derive(Debug, Drop)]
+#[derive(Drop)]
 pub struct FileFormat {
     attributes: FormatAttributes,
     signatures: Vec<u32>,

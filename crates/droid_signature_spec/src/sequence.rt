@@ -17,7 +17,7 @@ pub enum Reference {
 }
 
 /// The element `ByteSequence`, with its subsequences in the file's order.
-#[derive(Debug, Drop)]
+#[derive(Drop)]
 pub struct SequenceRecord {
     reference: Reference,
     parts: Vec<SubSequence>,

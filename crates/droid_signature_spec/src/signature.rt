@@ -6,7 +6,7 @@ use crate::sequence::SequenceRecord;
 use std::marker::Model;
 
 /// The element `InternalSignature`, with its byte sequences in the file's order.
-#[derive(Debug, Drop)]
+#[derive(Drop)]
 pub struct InternalSignature {
     id: u32,
     sequences: Vec<SequenceRecord>,

@@ -15,7 +15,7 @@ pub struct OffsetRange {
 }
 
 /// A fragment: bytes that lie on one side of a subsequence's `Sequence`.
-#[derive(Debug, Drop)]
+#[derive(Drop)]
 pub struct Fragment {
     /// `Position`: 1 lies beside the `Sequence`, 2 beside 1, and so on.
     pub position: u32,
@@ -26,7 +26,7 @@ pub struct Fragment {
 }
 
 /// A subsequence: its `Sequence`, and the fragments on both sides in the file's order.
-#[derive(Debug, Drop)]
+#[derive(Drop)]
 pub struct SubSequence {
     position: u32,
     offsets: OffsetRange,
