@@ -1,5 +1,5 @@
 -- Loops over the attributes of an element, and over pieces.
-use Rattle.std.proofs.Common.{◌≡◌, ℕ, zero, suc, ◌+◌, ◌<◌, ◌≤◌, Bool, true, false, List, [], ◌∷◌, ◌++◌, length, drop, take, get_or, map, reverse, refl, sym, ap, ◌∙◌, drop-cons, add-one, arith}
+use Rattle.std.proofs.Common.{◌≡◌, ℕ, zero, suc, ◌+◌, ◌<◌, ◌≤◌, Bool, true, false, List, [], ◌∷◌, ◌++◌, length, drop, take, get_or, set, map, reverse, refl, sym, ap, ◌∙◌, drop-cons, add-one, arith}
 use Rattle.std.specs.Prelude.{◌-◌, Option, Some, None, cond, not, slice_get, if◌then◌else◌}
 use Rattle.std.specs.List.{fold, position_or_len}
 use Rattle.std.proofs.lemmas.List.{get_or_push, length-append, reverse-append, reverse-reverse}
@@ -12,12 +12,16 @@ use Rattle.droid_xml.specs.Views.{part, setting}
 use Rattle.droid_xml.specs.declared.attributes.Attribute.{Attribute}
 use Rattle.droid_xml.specs.declared.pieces.Piece.{Piece}
 use Rattle.droid_signature_file.specs.Elements.{deeper, inner_len, value_of}
-use Rattle.droid_signature_file.specs.Unknown.{innermost}
+use Rattle.droid_signature_file.specs.Unknown.{again, again_at, innermost}
+use Rattle.droid_signature_spec.specs.declared.file.UnknownName.{UnknownName}
 use Rattle.droid_signature_file.specs.declared.kinds.Kind.{Kind}
 
 -- the item at a place, and those behind it
+pub here : {A : Type 0} (all : List A) (place : ℕ) (one : A) → place < length all → drop place all ≡ get_or all place one ∷ drop (place + 1) all
+here all place one inside = rw (add-one, drop-cons all place one) refl
+
 pub cell : {A B : Type 0} (f : A → B) (all : List A) (place : ℕ) (one : A) → place < length all → map f (drop place all) ≡ f (get_or all place one) ∷ map f (drop (place + 1) all)
-cell {A} f all place one inside = let parts : drop place all ≡ get_or all place one ∷ drop (place + 1) all = rw (add-one, drop-cons all place one) refl in ap (map f) parts
+cell f all place one inside = ap (map f) (here all place one inside)
 
 -- this attribute has another name
 pub value_goes_on : (name : List ℕ) (all : List Attribute) (place : ℕ) (one : Attribute) (whole : Option (List ℕ)) → place < length all → bytes_eq (setting (get_or all place one)).name name ≡ false
@@ -37,23 +41,20 @@ value_found name all place one whole inside passes so_far =
 pub value_nowhere : (name : List ℕ) (all : List Attribute) (place : ℕ) (whole : Option (List ℕ)) → drop place all ≡ [] → value_of name (map setting (drop place all)) ≡ whole → None ≡ whole
 value_nowhere name all place whole past so_far = sym (ap (λ (rest : List Attribute). value_of name (map setting rest)) past) ∙ so_far
 
--- the first place that passes, by the item at a place
+-- the first place that passes, by the first item
 place_by : {A : Type 0} (test : A → Bool) (x : A) (rest : List A) (is : Bool) → test x ≡ is → position_or_len test (x ∷ rest) ≡ cond (not is) (1 + position_or_len test rest) 0
 place_by test x rest is tested = ap (λ (b : Bool). cond (not b) (1 + position_or_len test rest) 0) tested
 
-pub place_goes_on : {A B : Type 0} (f : A → B) (test : B → Bool) (all : List A) (place : ℕ) (one : A) (whole : ℕ) → place < length all → test (f (get_or all place one)) ≡ false
-    → place + position_or_len test (map f (drop place all)) ≡ whole → (place + 1) + position_or_len test (map f (drop (place + 1) all)) ≡ whole
-place_goes_on f test all place one whole inside fails so_far =
-    omega (arith, ap (position_or_len test) (cell f all place one inside), place_by test (f (get_or all place one)) (map f (drop (place + 1) all)) false fails, so_far)
+pub goes_on : {A : Type 0} (test : A → Bool) (left rest : List A) (x : A) (place whole : ℕ) → left ≡ x ∷ rest → test x ≡ false
+    → place + position_or_len test left ≡ whole → (place + 1) + position_or_len test rest ≡ whole
+goes_on test left rest x place whole is fails so_far = omega (arith, ap (position_or_len test) is, place_by test x rest false fails, so_far)
 
-pub place_found : {A B : Type 0} (f : A → B) (test : B → Bool) (all : List A) (place : ℕ) (one : A) (whole : ℕ) → place < length all → test (f (get_or all place one)) ≡ true
-    → place + position_or_len test (map f (drop place all)) ≡ whole → place ≡ whole
-place_found f test all place one whole inside passes so_far =
-    omega (arith, ap (position_or_len test) (cell f all place one inside), place_by test (f (get_or all place one)) (map f (drop (place + 1) all)) true passes, so_far)
+pub found : {A : Type 0} (test : A → Bool) (left rest : List A) (x : A) (place whole : ℕ) → left ≡ x ∷ rest → test x ≡ true
+    → place + position_or_len test left ≡ whole → place ≡ whole
+found test left rest x place whole is passes so_far = omega (arith, ap (position_or_len test) is, place_by test x rest true passes, so_far)
 
-pub place_nowhere : {A B : Type 0} (f : A → B) (test : B → Bool) (all : List A) (place : ℕ) (whole : ℕ) → drop place all ≡ []
-    → place + position_or_len test (map f (drop place all)) ≡ whole → place ≡ whole
-place_nowhere {A} f test all place whole past so_far = omega (arith, ap (λ (rest : List A). position_or_len test (map f rest)) past, so_far)
+pub nowhere : {A : Type 0} (test : A → Bool) (left : List A) (place whole : ℕ) → left ≡ [] → place + position_or_len test left ≡ whole → place ≡ whole
+nowhere test left place whole is so_far = omega (arith, ap (position_or_len test) is, so_far)
 
 -- one more piece inside an element, or its end tag
 inner_by : (depth : ℕ) (piece : Part) (rest : List Part) (next : Option ℕ) → deeper depth piece ≡ next → inner_len depth (piece ∷ rest) ≡ choose next (λ d. suc (inner_len d rest)) 0
@@ -113,3 +114,9 @@ of_reversed (x ∷ xs) =
 
 pub innermost_last : (xs : List (Option Kind)) → slice_get xs (length xs - 1) ≡ innermost (reverse xs)
 innermost_last xs = sym (ap (λ (ys : List (Option Kind)). slice_get ys (length ys - 1)) (reverse-reverse xs)) ∙ of_reversed (reverse xs)
+
+-- one more of the name at a place
+pub again_set : (place : ℕ) (names : List UnknownName) (d : UnknownName) → place < length names → again_at place names ≡ set names place (again (get_or names place d))
+again_set place [] d inside = absurd (omega arith)
+again_set zero (known ∷ names) d inside = refl
+again_set (suc place) (known ∷ names) d inside = ap (λ (more : List UnknownName). known ∷ more) (again_set place names d (omega arith))

@@ -17,11 +17,13 @@ pub(crate) fn trimmed(text: &str) -> &str
 }
 
 /// Reads a number: one decimal digit or more, and less than 4,294,967,296.
-#[tactic(auto, unfolding(crate::specs::Signatures::number))]
 pub(crate) fn number(text: &str) -> Result<u32, Stop>
     ensures { Gives (λ n. n) result (spec.number text.now) }
 {
-    if text.is_empty() || !are_digits(text.as_bytes()) {
+    if text.is_empty() {
+        return Err(Stop::Wrong(Wrong::Number));
+    }
+    if !are_digits(text.as_bytes()) {
         return Err(Stop::Wrong(Wrong::Number));
     }
     match text.parse::<u32>() {
