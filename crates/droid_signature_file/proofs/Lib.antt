@@ -2,4 +2,4 @@ pub mod Every
 pub mod KeptPieces
 pub mod Loops
 pub mod Nodes
-pub mod Numbers
+pub mod NumberForms

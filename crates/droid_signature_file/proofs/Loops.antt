@@ -120,3 +120,8 @@ pub again_set : (place : ℕ) (names : List UnknownName) (d : UnknownName) → p
 again_set place [] d inside = absurd (omega arith)
 again_set zero (known ∷ names) d inside = refl
 again_set (suc place) (known ∷ names) d inside = ap (λ (more : List UnknownName). known ∷ more) (again_set place names d (omega arith))
+
+-- a list without items
+pub no_length : {A : Type 0} (xs : List A) → length xs ≡ 0 → xs ≡ []
+no_length [] none = refl
+no_length (x ∷ xs) none = absurd (omega (arith, none))

@@ -1,9 +1,10 @@
 -- What reading a signature file gives. Running out of memory says nothing.
-use Rattle.std.specs.Prelude.{◌≡◌, ℕ, List, map, Result, Ok, Err, ⊤}
+use Rattle.std.specs.Prelude.{◌≡◌, ℕ, List, ◌++◌, map, Option, Some, None, Result, Ok, Err, ⊤}
 use Rattle.droid_xml.specs.Documents.{IsDocument, HasProblem}
 use Rattle.droid_xml.specs.LineEnds.{with_line_feeds}
 use Rattle.droid_xml.specs.Pieces.{Part}
 use Rattle.droid_xml.specs.Views.{part, setting}
+use Rattle.droid_xml.specs.declared.pieces.Piece.{Piece}
 use Rattle.droid_signature_spec.specs.Records.{FileRecord}
 use Rattle.droid_signature_file.specs.Elements.{Node}
 use Rattle.droid_signature_file.specs.Signatures.{signature_file}
@@ -26,6 +27,22 @@ Stops (stops.Wrong wrong) expected = expected ≡ Err wrong
 abbrev pub Gives : {X A : Type 0} → (X → A) → Result X Stop → Result A Wrong → Type 0
 Gives view (Ok x) expected = expected ≡ Ok (view x)
 Gives view (Err stop) expected = Stops stop expected
+
+-- what is read already, in front of what the rest says
+abbrev pub after : {B : Type 0} → List B → Result (List B) Wrong → Result (List B) Wrong
+after front (Ok more) = Ok (front ++ more)
+after front (Err wrong) = Err wrong
+
+-- a call that adds what is read adds what the definition gives
+abbrev pub Adds : {X B : Type 0} → Result X Stop → List B → List B → Result (List B) Wrong → Type 0
+Adds (Ok done) old new expected = after old expected ≡ Ok new
+Adds (Err stop) old new expected = Stops stop expected
+
+-- a call that adds what one element says goes on behind that element; `of` is what the definition gives for pieces
+abbrev pub Steps : {X B : Type 0} → (X → List Piece) → Result (Option X) Stop → List B → List B → (List Piece → Result (List B) Wrong) → List Piece → Type 0
+Steps view (Ok None) old new of pieces = after old (of pieces) ≡ Ok new
+Steps view (Ok (Some behind)) old new of pieces = after old (of pieces) ≡ after new (of (view behind))
+Steps view (Err stop) old new of pieces = Stops stop (of pieces)
 
 -- the document of a text says this
 abbrev pub Says : List ℕ → Result FileRecord Wrong → Type 0

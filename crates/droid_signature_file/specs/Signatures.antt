@@ -85,17 +85,23 @@ fragment element = do
   range ← offsets (codes "MinOffset") (codes "MaxOffset") element
   Ok (record { position = position; offsets = range; text = text_of element })
 
--- the one Sequence of a SubSequence
-abbrev pub only_sequence : List Node → Result (List ℕ) Wrong
-only_sequence [] = Err wrongs.Sequence
-only_sequence (element ∷ []) = Ok (text_of element)
-only_sequence (element ∷ other ∷ more) = Err wrongs.Sequence
+-- the one text
+abbrev pub only : List (List ℕ) → Result (List ℕ) Wrong
+only [] = Err wrongs.Sequence
+only (text ∷ []) = Ok text
+only (text ∷ other ∷ more) = Err wrongs.Sequence
+
+-- the text of the one Sequence of a SubSequence
+unfoldable pub only_sequence : Node → Result (List ℕ) Wrong
+only_sequence element = do
+  texts ← every text (inside_named (codes "Sequence") element)
+  only texts
 
 unfoldable pub sub_sequence : Node → Result SubSequenceRecord Wrong
 sub_sequence element = do
   position ← wanted (attribute (codes "Position") element)
   range ← offsets (codes "SubSeqMinOffset") (codes "SubSeqMaxOffset") element
-  text ← only_sequence (inside_named (codes "Sequence") element)
+  text ← only_sequence element
   left ← every fragment (inside_named (codes "LeftFragment") element)
   right ← every fragment (inside_named (codes "RightFragment") element)
   Ok (record { position = position; offsets = range; text = text; left = left; right = right })

@@ -108,7 +108,7 @@ name_of attribute = attribute.name.now
 -- of the elements that are open, the innermost first: its kind. None is an unknown one
 abbrev pub innermost : List (Option Kind) → Option (Option Kind)
 innermost [] = None
-innermost (kind ∷ open) = Some kind
+innermost (kind ∷ others) = Some kind
 
 -- the kind of an element of this name, by the one that it stands in
 abbrev pub kind_by : Option (Option Kind) → List ℕ → Option Kind
@@ -117,7 +117,7 @@ kind_by (Some None) name = None
 kind_by (Some (Some kind)) name = kind_in kind name
 
 abbrev pub kind_under : List (Option Kind) → List ℕ → Option Kind
-kind_under open name = kind_by (innermost open) name
+kind_under stack name = kind_by (innermost stack) name
 
 -- an unknown element counts only where the element outside is known
 abbrev pub noted_by : Option (Option Kind) → List ℕ → Tally → Tally
@@ -126,32 +126,32 @@ noted_by (Some None) name found = found
 noted_by (Some (Some kind)) name found = noted parts.Element name found
 
 abbrev pub noted_element : List (Option Kind) → List ℕ → Tally → Tally
-noted_element open name found = noted_by (innermost open) name found
+noted_element stack name found = noted_by (innermost stack) name found
 
 -- the elements that are open, and what is counted so far
 pub record Counting : Type 0 where
-  pub open : List (Option Kind)
+  pub stack : List (Option Kind)
   pub found : Tally
 
 -- what a start tag adds, by its kind
 abbrev pub noted_tag : Counting → Option Kind → Tag → Tally
 noted_tag so_far (Some kind) tag = noted_attributes kind (map (λ setting. setting.name) tag.attributes) so_far.found
-noted_tag so_far None tag = noted_element so_far.open tag.name so_far.found
+noted_tag so_far None tag = noted_element so_far.stack tag.name so_far.found
 
 abbrev pub counted_tag : Counting → Tag → Counting
 counted_tag so_far tag = record {
-  open = if tag.is_empty then so_far.open else kind_under so_far.open tag.name ∷ so_far.open;
-  found = noted_tag so_far (kind_under so_far.open tag.name) tag
+  stack = if tag.is_empty then so_far.stack else kind_under so_far.stack tag.name ∷ so_far.stack;
+  found = noted_tag so_far (kind_under so_far.stack tag.name) tag
 }
 
 abbrev pub closed : List (Option Kind) → List (Option Kind)
 closed [] = []
-closed (kind ∷ open) = open
+closed (kind ∷ others) = others
 
 -- one more piece
 abbrev pub counted : Counting → Part → Counting
 counted so_far (Start tag) = counted_tag so_far tag
-counted so_far (End name) = record so_far { open = closed so_far.open }
+counted so_far (End name) = record so_far { stack = closed so_far.stack }
 counted so_far (Text text) = so_far
 counted so_far (Data text) = so_far
 counted so_far (Reference char) = so_far
@@ -160,4 +160,4 @@ counted so_far (Instruction target text) = so_far
 
 -- the names that are not known among pieces
 unfoldable pub tally : List Part → Tally
-tally pieces = (fold counted (record { open = []; found = record { names = []; unlisted = 0 } }) pieces).found
+tally pieces = (fold counted (record { stack = []; found = record { names = []; unlisted = 0 } }) pieces).found

@@ -1,6 +1,6 @@
 //! A whole signature file.
 
-ghost use Rattle.std.specs.Prelude.{◌≡◌, IfOk, List, map};
+ghost use Rattle.std.specs.Prelude.{map};
 ghost use Rattle.droid_xml.specs.LineEnds.{with_line_feeds};
 ghost use Rattle.droid_xml.specs.Views.{part};
 ghost use Rattle.droid_signature_file.specs.Outcomes.{Gives, Reads, ReadsText, node_of};
@@ -8,13 +8,13 @@ ghost use Rattle.droid_signature_file.specs.Signatures as spec;
 
 use crate::fault::{FileFault, Stop, Wrong};
 use crate::formats::or_empty;
-use crate::from_node::read_all;
+use crate::from_node::read_collected;
 use crate::node::{Node, first_node};
 use crate::pieces::pieces_of;
-use crate::tally::{Tally, tally};
+use crate::tally::{Tally, unknown_names};
 use droid_signature_spec::SignatureFile;
 use droid_xml::{Fault, Piece, with_line_feeds};
-use std::alloc::{AllocError, Global};
+use std::alloc::Global;
 
 /// Reads a signature file.
 ///
@@ -50,7 +50,7 @@ fn read_text(alloc: Global, text: &[u8]) -> Result<SignatureFile, FileFault>
 }
 
 /// Reads what the pieces of a document say.
-fn said<'a>(alloc: Global, pieces: &'a [Piece<'a>]) -> Result<SignatureFile, Stop>
+fn said(alloc: Global, pieces: &[Piece<'_>]) -> Result<SignatureFile, Stop>
     ensures { Gives (λ it. it) result (spec.said (map part pieces.entry.now)) }
 {
     let Some((root, _)) = first_node(pieces) else {
@@ -59,22 +59,25 @@ fn said<'a>(alloc: Global, pieces: &'a [Piece<'a>]) -> Result<SignatureFile, Sto
     if root.element.name != "FFSignatureFile" {
         return Err(Stop::Wrong(Wrong::Root));
     }
-    let found = tally(alloc, pieces)?;
+    let found = unknown_names(alloc, pieces)?;
     let file = file(alloc, found, &root)?;
     Ok(file)
 }
 
 /// Reads what the root of a signature file says.
 #[tactic(auto, unfolding(crate::specs::Signatures::file))]
-fn file(alloc: Global, found: Tally, root: &Node<'_>) -> Result<SignatureFile, Stop>
+fn file(alloc: Global, found: Tally, root: &Node<'_, '_>) -> Result<SignatureFile, Stop>
     ensures { Gives (λ it. it) result (spec.file found (node_of root.now)) }
 {
     let version = or_empty(alloc, root.value("Version"))?;
     let created = or_empty(alloc, root.value("DateCreated"))?;
-    let signatures = collected(alloc, root, "InternalSignatureCollection", "InternalSignature")?;
-    let signatures = read_all(alloc, signatures.as_slice())?;
-    let formats = collected(alloc, root, "FileFormatCollection", "FileFormat")?;
-    let formats = read_all(alloc, formats.as_slice())?;
+    let signatures = read_collected(
+        alloc,
+        root,
+        "InternalSignatureCollection",
+        "InternalSignature",
+    )?;
+    let formats = read_collected(alloc, root, "FileFormatCollection", "FileFormat")?;
     Ok(SignatureFile::new(
         version,
         created,
@@ -83,21 +86,4 @@ fn file(alloc: Global, found: Tally, root: &Node<'_>) -> Result<SignatureFile, S
         found.names,
         found.unlisted,
     ))
-}
-
-/// Returns the elements of a name in all collections of another.
-fn collected<'a>(
-    alloc: Global,
-    root: &Node<'a>,
-    collection: &str,
-    name: &str,
-) -> Result<Vec<Node<'a>>, AllocError>
-    ensures { IfOk result (λ nodes. map node_of nodes.items ≡ spec.collected collection.now name.now (node_of root.now)) }
-{
-    let collections = root.named(alloc, collection)?;
-    let mut nodes = Vec::new(alloc);
-    for it in collections.as_slice() {
-        it.add_named_to(&mut nodes, name)?;
-    }
-    Ok(nodes)
 }

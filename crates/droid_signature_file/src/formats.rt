@@ -18,7 +18,7 @@ impl FromNode for FileFormat {
 
     /// Reads a `FileFormat`.
     #[tactic(auto, unfolding(crate::specs::Signatures::format))]
-    fn from_node(alloc: Global, node: &Node<'_>) -> Result<Self, Stop> {
+    fn from_node(alloc: Global, node: &Node<'_, '_>) -> Result<Self, Stop> {
         let attributes = attributes(alloc, node)?;
         let signatures = read_each(alloc, node, "InternalSignatureID")?;
         let extensions = read_each(alloc, node, "Extension")?;
@@ -29,7 +29,7 @@ impl FromNode for FileFormat {
 
 /// Reads the attributes of a `FileFormat`.
 #[tactic(auto, unfolding(crate::specs::Signatures::attributes))]
-fn attributes(alloc: Global, node: &Node<'_>) -> Result<FormatAttributes, Stop>
+fn attributes(alloc: Global, node: &Node<'_, '_>) -> Result<FormatAttributes, Stop>
     ensures { Gives (λ it. it) result (spec.attributes (node_of node.now)) }
 {
     let id = wanted(node.value("ID"))?;

@@ -1,6 +1,6 @@
 //! Elements, and what stands directly in them.
 
-ghost use Rattle.std.specs.Prelude.{◌≡◌, ◌+◌, ◌<◌, ◌≤◌, ◌^◌, ◌++◌, ◌∷◌, [], IfOk, IfSome, MatchOption, OnOk, drop, filter, length, map, string_bytes};
+ghost use Rattle.std.specs.Prelude.{◌≡◌, ◌+◌, ◌<◌, ◌≤◌, ◌^◌, ◌++◌, ◌∷◌, [], IfOk, IfSome, MatchOption, OnOk, drop, length, map, string_bytes};
 ghost use Rattle.std.specs.List.{position_or_len};
 ghost use Rattle.std.specs.Option.{option_map};
 ghost use Rattle.droid_xml.specs.Views.{part, setting, tag};
@@ -12,44 +12,19 @@ use std::alloc::{AllocError, Global};
 
 /// An element among pieces.
 #[derive(Clone, Copy)]
-pub(crate) struct Node<'a> {
+pub(crate) struct Node<'a, 'b> {
     /// The element, as its start tag has it.
-    pub element: &'a Element<'a>,
+    pub element: &'a Element<'b>,
     /// The pieces between its tags.
-    pub inside: &'a [Piece<'a>],
+    pub inside: &'a [Piece<'b>],
 }
 
-impl<'a> Node<'a> {
+impl<'a, 'b> Node<'a, 'b> {
     /// Returns the value of the attribute of this name.
     pub(crate) fn value(&self, name: &str) -> Option<&'a str>
         ensures { option_map (λ value. value.now) result ≡ spec.value_of name.now (node_of self.now).attributes }
     {
         value_of(self.element.attributes.as_slice(), name)
-    }
-
-    /// Returns the elements of this name that stand directly in the element.
-    pub(crate) fn named(&self, alloc: Global, name: &str) -> Result<Vec<Node<'a>>, AllocError>
-        ensures { IfOk result (λ nodes. map node_of nodes.items ≡ spec.inside_named name.now (node_of self.now)) }
-    {
-        let mut nodes = Vec::new(alloc);
-        self.add_named_to(&mut nodes, name)?;
-        Ok(nodes)
-    }
-
-    /// Adds the elements of this name that stand directly in the element.
-    pub(crate) fn add_named_to(
-        &self,
-        nodes: &mut Vec<Node<'a>>,
-        name: &str,
-    ) -> Result<(), AllocError>
-        ensures { OnOk result (map node_of nodes.new.items ≡ map node_of nodes.old.items ++ spec.inside_named name.now (node_of self.now)) }
-    {
-        let mut rest = self.inside;
-        while let Some((node, behind)) = first_node(rest) {
-            add_named(nodes, node, name)?;
-            rest = behind;
-        }
-        Ok(())
     }
 
     /// Returns the text that stands directly in the element.
@@ -67,7 +42,7 @@ impl<'a> Node<'a> {
 }
 
 /// Returns the value of the attribute of this name.
-fn value_of<'a>(attributes: &'a [Attribute<'a>], name: &str) -> Option<&'a str>
+fn value_of<'a>(attributes: &'a [Attribute<'_>], name: &str) -> Option<&'a str>
     ensures { option_map (λ value. value.now) result ≡ spec.value_of name.now (map setting attributes.entry.now) }
 {
     for attribute in attributes {
@@ -79,7 +54,9 @@ fn value_of<'a>(attributes: &'a [Attribute<'a>], name: &str) -> Option<&'a str>
 }
 
 /// Returns the first element that stands directly among the pieces, and the pieces behind it.
-pub(crate) fn first_node<'a>(pieces: &'a [Piece<'a>]) -> Option<(Node<'a>, &'a [Piece<'a>])>
+pub(crate) fn first_node<'a, 'b>(
+    pieces: &'a [Piece<'b>],
+) -> Option<(Node<'a, 'b>, &'a [Piece<'b>])>
     ensures found { MatchOption result (spec.nodes_from 0 (map part pieces.entry.now) ≡ []) (λ found. spec.nodes_from 0 (map part pieces.entry.now) ≡ node_of found.0 ∷ spec.nodes_from 0 (map part found.1.now)) }
     ensures shorter { IfSome result (λ found. length found.1.now < length pieces.entry.now) }
 {
@@ -92,7 +69,7 @@ pub(crate) fn first_node<'a>(pieces: &'a [Piece<'a>]) -> Option<(Node<'a>, &'a [
 }
 
 /// Returns the element that a piece begins.
-fn element_of<'a>(piece: &'a Piece<'a>) -> Option<&'a Element<'a>>
+fn element_of<'a, 'b>(piece: &'a Piece<'b>) -> Option<&'a Element<'b>>
     ensures { option_map (λ element. tag element.now) result ≡ spec.tag_of (part piece.entry.now) }
 {
     match piece {
@@ -126,18 +103,8 @@ fn is_start(piece: &Piece<'_>) -> bool
     }
 }
 
-/// Adds an element, if it has this name.
-fn add_named<'a>(nodes: &mut Vec<Node<'a>>, node: Node<'a>, name: &str) -> Result<(), AllocError>
-    ensures { OnOk result (map node_of nodes.new.items ≡ map node_of nodes.old.items ++ filter (spec.is_named name.now) (node_of node ∷ [])) }
-{
-    if node.element.name == name {
-        nodes.push(node)?;
-    }
-    Ok(())
-}
-
 /// Returns the pieces inside an element, out of those behind its start tag.
-fn inside_of<'a>(element: &Element<'_>, behind: &'a [Piece<'a>]) -> &'a [Piece<'a>]
+fn inside_of<'a, 'b>(element: &Element<'_>, behind: &'a [Piece<'b>]) -> &'a [Piece<'b>]
     ensures { map part result.now ≡ spec.inside_of (tag element.now) (map part behind.entry.now) }
 {
     if element.is_empty {
@@ -148,7 +115,7 @@ fn inside_of<'a>(element: &Element<'_>, behind: &'a [Piece<'a>]) -> &'a [Piece<'
 
 /// Returns the pieces behind the element that a piece begins, out of those behind the piece. A piece that begins no element
 /// has all of them behind it.
-fn past_element<'a>(piece: &Piece<'_>, behind: &'a [Piece<'a>]) -> &'a [Piece<'a>]
+fn past_element<'a, 'b>(piece: &Piece<'_>, behind: &'a [Piece<'b>]) -> &'a [Piece<'b>]
     ensures value { map part result.now ≡ drop (spec.len_of (part piece.now) (map part behind.entry.now)) (map part behind.entry.now) }
     ensures few { length result.now ≤ length behind.entry.now }
 {
@@ -170,7 +137,7 @@ fn opens(piece: &Piece<'_>) -> bool
 }
 
 /// Returns the pieces behind the end tag of the element that the pieces are in.
-fn past_end<'a>(pieces: &'a [Piece<'a>]) -> &'a [Piece<'a>]
+fn past_end<'a, 'b>(pieces: &'a [Piece<'b>]) -> &'a [Piece<'b>]
     ensures value { map part result.now ≡ drop (spec.inner_len 0 (map part pieces.entry.now) + 1) (map part pieces.entry.now) }
     ensures few { length result.now ≤ length pieces.entry.now }
 {

@@ -34,7 +34,7 @@ pub(crate) fn pieces_of(alloc: Global, text: &[u8]) -> Result<Vec<Piece<'_>>, Fa
 
 /// Adds a piece, if it is kept where `depth` elements are open in a search table.
 fn add_kept<'a>(pieces: &mut Vec<Piece<'a>>, depth: u64, piece: Piece<'a>) -> Result<(), Fault>
-    ensures added { OnOk result (map part pieces.new.items ≡ map part pieces.old.items ++ kept_piece depth (part piece)) }
+    ensures added { OnOk result (map part pieces.new.items ≡ map part pieces.old.items ++ kept_piece depth (part piece.entry)) }
     ensures fault { IfErr result IsMemory }
 {
     if is_kept(depth, &piece) {

@@ -1,6 +1,6 @@
 //! Signatures, with their byte sequences, subsequences and fragments.
 
-ghost use Rattle.std.specs.Prelude.{◌≡◌, codes};
+ghost use Rattle.std.specs.Prelude.{◌≡◌};
 ghost use Rattle.std.specs.Option.{option_map};
 ghost use Rattle.droid_signature_file.specs.Outcomes.{Gives, node_of};
 ghost use Rattle.droid_signature_file.specs.Signatures as spec;
@@ -20,7 +20,7 @@ impl FromNode for InternalSignature {
 
     /// Reads an `InternalSignature`.
     #[tactic(auto, unfolding(crate::specs::Signatures::signature))]
-    fn from_node(alloc: Global, node: &Node<'_>) -> Result<Self, Stop> {
+    fn from_node(alloc: Global, node: &Node<'_, '_>) -> Result<Self, Stop> {
         let id = wanted(node.value("ID"))?;
         let sequences = read_each(alloc, node, "ByteSequence")?;
         Ok(InternalSignature::new(id, sequences))
@@ -32,7 +32,7 @@ impl FromNode for SequenceRecord {
 
     /// Reads a `ByteSequence`.
     #[tactic(auto, unfolding(crate::specs::Signatures::byte_sequence))]
-    fn from_node(alloc: Global, node: &Node<'_>) -> Result<Self, Stop> {
+    fn from_node(alloc: Global, node: &Node<'_, '_>) -> Result<Self, Stop> {
         let reference = reference(node.value("Reference"));
         let parts = read_each(alloc, node, "SubSequence")?;
         Ok(SequenceRecord::new(reference, parts))
@@ -60,7 +60,7 @@ impl FromNode for SubSequence {
 
     /// Reads a `SubSequence`.
     #[tactic(auto, unfolding(crate::specs::Signatures::sub_sequence))]
-    fn from_node(alloc: Global, node: &Node<'_>) -> Result<Self, Stop> {
+    fn from_node(alloc: Global, node: &Node<'_, '_>) -> Result<Self, Stop> {
         let position = wanted(node.value("Position"))?;
         let range = offsets(node, "SubSeqMinOffset", "SubSeqMaxOffset")?;
         let text = only_sequence(alloc, node)?;
@@ -71,13 +71,26 @@ impl FromNode for SubSequence {
 }
 
 /// Reads the text of the one `Sequence` of a `SubSequence`.
-fn only_sequence(alloc: Global, node: &Node<'_>) -> Result<Text, Stop>
-    ensures { Gives (λ text. text) result (spec.only_sequence (spec.inside_named (codes "Sequence") (node_of node.now))) }
+#[tactic(auto, unfolding(crate::specs::Signatures::only_sequence))]
+fn only_sequence(alloc: Global, node: &Node<'_, '_>) -> Result<Text, Stop>
+    ensures { Gives (λ text. text) result (spec.only_sequence (node_of node.now)) }
 {
-    let nodes = node.named(alloc, "Sequence")?;
-    match nodes.as_slice() {
-        [only] => Text::from_node(alloc, only),
-        _ => Err(Stop::Wrong(Wrong::Sequence)),
+    let texts = read_each(alloc, node, "Sequence")?;
+    let text = only(texts)?;
+    Ok(text)
+}
+
+/// Returns the one text.
+fn only(texts: Vec<Text>) -> Result<Text, Stop>
+    ensures { Gives (λ text. text) result (spec.only texts.items) }
+{
+    let mut texts = texts;
+    if texts.len() != 1 {
+        return Err(Stop::Wrong(Wrong::Sequence));
+    }
+    match texts.pop() {
+        Some(text) => Ok(text),
+        None => Err(Stop::Wrong(Wrong::Sequence)),
     }
 }
 
@@ -86,7 +99,7 @@ impl FromNode for Fragment {
 
     /// Reads a `LeftFragment` or a `RightFragment`.
     #[tactic(auto, unfolding(crate::specs::Signatures::fragment))]
-    fn from_node(alloc: Global, node: &Node<'_>) -> Result<Self, Stop> {
+    fn from_node(alloc: Global, node: &Node<'_, '_>) -> Result<Self, Stop> {
         let position = wanted(node.value("Position"))?;
         let offsets = offsets(node, "MinOffset", "MaxOffset")?;
         let text = Text::from_node(alloc, node)?;
@@ -100,7 +113,7 @@ impl FromNode for Fragment {
 
 /// Reads two offsets, by the names of their attributes.
 #[tactic(auto, unfolding(crate::specs::Signatures::offsets))]
-fn offsets(node: &Node<'_>, min: &str, max: &str) -> Result<OffsetRange, Stop>
+fn offsets(node: &Node<'_, '_>, min: &str, max: &str) -> Result<OffsetRange, Stop>
     ensures { Gives (λ it. it) result (spec.offsets min.now max.now (node_of node.now)) }
 {
     let min = optional(node.value(min))?;

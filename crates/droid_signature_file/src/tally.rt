@@ -33,11 +33,11 @@ impl Model for Tally {
 /// Counts the unknown elements and attributes among the pieces of a document. What stands in an unknown element is not
 /// looked at.
 #[tactic(auto, unfolding(crate::specs::Unknown::tally))]
-pub(crate) fn tally(alloc: Global, pieces: &[Piece<'_>]) -> Result<Tally, AllocError>
+pub(crate) fn unknown_names(alloc: Global, pieces: &[Piece<'_>]) -> Result<Tally, AllocError>
     ensures { IfOk result (λ found. found ≡ spec.tally (map part pieces.now)) }
 {
     let mut counting = Counting {
-        open: Vec::new(alloc),
+        stack: Vec::new(alloc),
         found: Tally {
             names: Vec::new(alloc),
             unlisted: 0,
@@ -53,7 +53,7 @@ pub(crate) fn tally(alloc: Global, pieces: &[Piece<'_>]) -> Result<Tally, AllocE
 /// The elements that are open, the innermost last, and what is counted so far.
 #[derive(Drop)]
 struct Counting {
-    open: Vec<Option<Kind>>,
+    stack: Vec<Option<Kind>>,
     found: Tally,
 }
 
@@ -63,7 +63,7 @@ impl Model for Counting {
 
     ghost Value = { spec.Counting };
 
-    ghost view = { λ it. record { open = reverse it.open.items; found = it.found } };
+    ghost view = { λ it. record { stack = reverse it.stack.items; found = it.found } };
 }
 
 impl Counting {
@@ -84,9 +84,9 @@ impl Counting {
     /// Closes the innermost element.
     #[tactic(auto, using(crate::proofs::Loops::reverse_push))]
     fn close(&mut self)
-        ensures { self.new ≡ record self.old { open = spec.closed self.old.open } }
+        ensures { self.new ≡ record self.old { stack = spec.closed self.old.stack } }
     {
-        let _ = self.open.pop();
+        let _ = self.stack.pop();
     }
 
     /// Counts what a start tag has that is not known, and opens its element.
@@ -100,14 +100,14 @@ impl Counting {
             None => self.note_element(alloc, element.name)?,
         }
         if !element.is_empty {
-            self.open.push(kind)?;
+            self.stack.push(kind)?;
         }
         Ok(())
     }
 
     /// Counts an unknown element, unless the element outside is unknown too.
     fn note_element(&mut self, alloc: Global, name: &str) -> Result<(), AllocError>
-        ensures { OnOk result (self.new ≡ record self.old { found = spec.noted_element self.old.open name.now self.old.found }) }
+        ensures { OnOk result (self.new ≡ record self.old { found = spec.noted_element self.old.stack name.now self.old.found }) }
     {
         match self.innermost() {
             Some(Some(_)) => self.found.note(alloc, UnknownPart::Element, name),
@@ -117,7 +117,7 @@ impl Counting {
 
     /// Returns the kind of an element of this name in the innermost element.
     fn kind_of(&self, name: &str) -> Option<Kind>
-        ensures { result ≡ spec.kind_under self.now.open name.now }
+        ensures { result ≡ spec.kind_under self.now.stack name.now }
     {
         match self.innermost() {
             None => kind_outside(name),
@@ -129,9 +129,9 @@ impl Counting {
     /// Returns the kind of the innermost element.
     #[tactic(auto, using(crate::proofs::Loops::innermost_last))]
     fn innermost(&self) -> Option<Option<Kind>>
-        ensures { result ≡ spec.innermost self.now.open }
+        ensures { result ≡ spec.innermost self.now.stack }
     {
-        self.open.last().copied()
+        self.stack.last().copied()
     }
 }
 

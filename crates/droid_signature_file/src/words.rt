@@ -14,7 +14,7 @@ impl FromNode for Text {
     ghost says = { spec.text };
 
     /// Returns the text of an element, without the white space at both ends.
-    fn from_node(alloc: Global, node: &Node<'_>) -> Result<Self, Stop> {
+    fn from_node(alloc: Global, node: &Node<'_, '_>) -> Result<Self, Stop> {
         let words = node.words(alloc)?;
         let text = Text::copy_of(alloc, trimmed(words.as_str()))?;
         Ok(text)
@@ -25,7 +25,7 @@ impl FromNode for u32 {
     ghost says = { spec.numbered };
 
     /// Reads the number that is an element's text.
-    fn from_node(alloc: Global, node: &Node<'_>) -> Result<Self, Stop> {
+    fn from_node(alloc: Global, node: &Node<'_, '_>) -> Result<Self, Stop> {
         let words = node.words(alloc)?;
         number(trimmed(words.as_str()))
     }

@@ -128,3 +128,7 @@ nothing_quoted body none (Between low high) h = h
 pub some_length : (xs : List ℕ) → (xs ≡ [] → ⊥) → 0 < length xs
 some_length [] some = absurd (some refl)
 some_length (x ∷ xs) some = omega arith
+
+pub no_length : (xs : List ℕ) → length xs ≡ 0 → xs ≡ []
+no_length [] none = refl
+no_length (x ∷ xs) none = absurd (omega (arith, none))

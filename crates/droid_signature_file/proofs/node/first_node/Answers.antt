@@ -3,13 +3,14 @@ use Rattle.std.proofs.Common.{◌≡◌, ◌∷◌, [], ℕ, List, drop, length,
 use Rattle.std.proofs.lemmas.List.{take_rest}
 use Rattle.droid_xml.specs.Views.{part, tag}
 use Rattle.droid_xml.specs.declared.pieces.Piece.{Piece}
+use Rattle.droid_signature_file.proofs.Loops.{no_length}
 use Rattle.droid_signature_file.proofs.Nodes.{begins, element_at, first_in, has_tag, none_in}
 use Rattle.droid_signature_file.proofs.node.first_node.Goals as goal
 
 pub returns-in_err-piece-clause-found : goal.returns-in_err-piece-clause-found
 returns-in_err-piece-clause-found c =
     let all = c.args.pieces.entry.now in
-    none_in all (ap (λ (n : ℕ). drop n all) (sym c.start_place-place.ensures.value) ∙ (sym (take_rest all c.start_place-place.result) ∙ c.in_err-piece.ensures.cases))
+    none_in all (ap (λ (n : ℕ). drop n all) (sym c.start_place-place.ensures.value) ∙ (sym (take_rest all c.start_place-place.result) ∙ no_length _ c.in_err-piece.ensures.cases))
 
 pub returns-in_err-element-clause-found : goal.returns-in_err-element-clause-found
 returns-in_err-element-clause-found c =

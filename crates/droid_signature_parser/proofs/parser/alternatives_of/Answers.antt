@@ -2,6 +2,7 @@
 use Rattle.std.proofs.Common.{◌∷◌, [], ℕ, map, ap, ◌∙◌}
 use Rattle.std.proofs.lemmas.List.{map-append}
 use Rattle.droid_signature_parser.specs.TermValues.{atom_of}
+use Rattle.droid_signature_parser.proofs.BoundLemmas.{no_length}
 use Rattle.droid_signature_parser.proofs.FaultLemmas.{passed_on}
 use Rattle.droid_signature_parser.proofs.TermFronts.{alternatives_bad, alternatives_end, alternatives_next, alternatives_only, alternatives_open, is_bar}
 use Rattle.droid_signature_parser.proofs.parser.alternatives_of.Goals as goal
@@ -15,7 +16,7 @@ pub returns-in_err-stop-clause-bad : goal.returns-in_err-stop-clause-bad
 returns-in_err-stop-clause-bad c = λ _ all end h.
     let none = rw c.in_err-stop.ensures.ok_part at c.split_first.ensures.cases in
     alternatives_open c.args.text.now (map (λ items. map atom_of items.items) c.loop-alternatives.alternatives.items) c.loop-alternatives.rest.now c.in_ok-items.after.now (map atom_of c.in_ok-items.items.items)
-    (record { spelled = c.in_ok-items.ensures.spelled; some = c.in_ok-items.ensures.some; only = c.in_ok-items.ensures.only }) none c.loop-alternatives.invariant all end h
+    (record { spelled = c.in_ok-items.ensures.spelled; some = c.in_ok-items.ensures.some; only = c.in_ok-items.ensures.only }) (no_length c.in_ok-items.after.now none) c.loop-alternatives.invariant all end h
 
 pub returns-then-stop-eq41-clause-spelled : goal.returns-then-stop-eq41-clause-spelled
 returns-then-stop-eq41-clause-spelled c =

@@ -22,7 +22,7 @@ pub returns-then-is_empty-clause-bad : goal.returns-then-is_empty-clause-bad
 returns-then-is_empty-clause-bad c = λ _ all end h some.
     let both = items_only c.args.text.now (map atom_of c.loop-alloc.items.items) c.loop-alloc.rest.now (sym c.loop-alloc-test.ensures) c.loop-alloc.invariant all end h in
     let zero : vec_len c.loop-alloc.items ≡ 0 = eqb-true (vec_len c.loop-alloc.items) 0 (sym c.if-is_empty.ensures) in
-    omega (arith, ap length both.0, length-map atom_of c.loop-alloc.items.items, c.loop-alloc.items.ok)
+    omega (arith, ap length both.0, length-map c.loop-alloc.items.items atom_of, c.loop-alloc.items.ok)
 
 pub returns-clause-spelled : goal.returns-clause-spelled
 returns-clause-spelled c = items_end c.args.text.now (map atom_of c.loop-alloc.items.items) c.loop-alloc.rest.now (sym c.loop-alloc-test.ensures) c.loop-alloc.invariant

@@ -3,6 +3,7 @@ use Rattle.std.proofs.Common.{◌∷◌, [], ◌++◌, ℕ, List, drop, length, 
 use Rattle.droid_xml.specs.Views.{part}
 use Rattle.droid_xml.specs.declared.pieces.Piece.{Piece}
 use Rattle.droid_signature_file.specs.Elements.{len_of, word, words_from}
+use Rattle.droid_signature_file.proofs.Loops.{no_length}
 use Rattle.droid_signature_file.proofs.Nodes.{words_first}
 use Rattle.droid_signature_file.proofs.node.Node.words.Goals as goal
 
@@ -22,4 +23,4 @@ loop-piece-smaller c = omega (arith, c.past_element.ensures.few, ap length c.in-
 pub returns : goal.returns
 returns c =
     let so_far = string_bytes c.loop-piece.words in
-    sym (append-nil so_far) ∙ (ap (λ (rest : List Piece). so_far ++ words_from 0 (map part rest)) (sym c.in_default.ensures.cases) ∙ c.loop-piece.invariant)
+    sym (append-nil so_far) ∙ (ap (λ (rest : List Piece). so_far ++ words_from 0 (map part rest)) (sym (no_length c.loop-piece.rest.now c.in_default.ensures.cases)) ∙ c.loop-piece.invariant)

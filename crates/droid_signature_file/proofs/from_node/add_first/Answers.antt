@@ -1,0 +1,32 @@
+-- The first element, one that is wrong, and none.
+use Rattle.std.proofs.Common.{◌∷◌, [], ◌++◌, List, filter, map, subst, sym, ap, ◌∙◌, append-nil}
+use Rattle.std.specs.Prelude.{Ok}
+use Rattle.droid_xml.specs.Views.{part}
+use Rattle.droid_signature_file.specs.Elements.{Node, is_named, nodes_from}
+use Rattle.droid_signature_file.specs.Outcomes.{Stops, after, node_of}
+use Rattle.droid_signature_file.specs.Signatures.{every}
+use Rattle.droid_signature_file.proofs.Every.{first_passes, part_read, stops_front}
+use Rattle.droid_signature_file.proofs.from_node.add_first.Goals as goal
+
+pub returns-in-None-clause-added : goal.returns-in-None-clause-added
+returns-in-None-clause-added g c =
+    ap (λ (nodes : List Node). after c.args.all.old.items (every g.T.FromNode.says (filter (is_named c.args.name.now) nodes))) c.in-None.ensures.found
+    ∙ ap Ok (append-nil c.args.all.old.items)
+
+pub returns-in-Some-in-Ok-clause-added : goal.returns-in-Some-in-Ok-clause-added
+returns-in-Some-in-Ok-clause-added g c =
+    let says = g.T.FromNode.says in
+    let test = is_named c.args.name.now in
+    let one = node_of c.in-Some.one in
+    let more = nodes_from 0 (map part c.in-Some.behind.now) in
+    ap (λ (nodes : List Node). after c.args.all.old.items (every says nodes)) (ap (filter test) c.in-Some.ensures.found ∙ first_passes test one more)
+    ∙ part_read says (filter test (one ∷ [])) (filter test more) c.args.all.old.items c.add_named.new.all.items c.in-Ok.ensures
+
+pub returns-in-Some-in-Err-clause-added : goal.returns-in-Some-in-Err-clause-added
+returns-in-Some-in-Err-clause-added g c =
+    let says = g.T.FromNode.says in
+    let test = is_named c.args.name.now in
+    let one = node_of c.in-Some.one in
+    let more = nodes_from 0 (map part c.in-Some.behind.now) in
+    subst (λ (nodes : List Node). Stops c.in-Err.stop (every says nodes)) (sym (ap (filter test) c.in-Some.ensures.found ∙ first_passes test one more))
+    (stops_front c.in-Err.stop says (filter test (one ∷ [])) (filter test more) c.in-Err.ensures)
