@@ -36,23 +36,23 @@ pub(crate) fn read_each<T: FromNode>(
     ensures { Gives (λ all. all.items) result (every T.says (inside_named name.now (node_of node.now))) }
 {
     let mut all = Vec::new(alloc);
-    match add_each(alloc, &mut all, node, name) {
+    match add_each(alloc, &mut all, node.inside, name) {
         Ok(()) => Ok(all),
         Err(stop) => Err(stop),
     }
 }
 
-/// Adds the elements of a name that stand directly in an element.
+/// Adds the elements of a name that stand directly among the pieces.
 fn add_each<T: FromNode>(
     alloc: Global,
     all: &mut Vec<T>,
-    node: &Node<'_, '_>,
+    pieces: &[Piece<'_>],
     name: &str,
 ) -> Result<(), Stop>
-    ensures { Adds result all.old.items all.new.items (every T.says (inside_named name.now (node_of node.now))) }
+    ensures { Adds result all.old.items all.new.items (every T.says (filter (is_named name.now) (nodes_from 0 (map part pieces.now)))) }
 {
-    let mut rest = node.inside;
-    loop {
+    let mut rest = pieces;
+    'elements: loop {
         match add_first(alloc, all, rest, name) {
             Ok(Some(behind)) => rest = behind,
             Ok(None) => return Ok(()),
@@ -112,11 +112,27 @@ pub(crate) fn read_collected<T: FromNode>(
     ensures { Gives (λ all. all.items) result (every T.says (collected collection.now name.now (node_of root.now))) }
 {
     let mut all = Vec::new(alloc);
-    let mut rest = root.inside;
-    loop {
-        match add_first_inside(alloc, &mut all, rest, collection, name) {
+    match add_collected(alloc, &mut all, root.inside, collection, name) {
+        Ok(()) => Ok(all),
+        Err(stop) => Err(stop),
+    }
+}
+
+/// Adds the elements of a name that stand directly in the elements of another name among the pieces.
+fn add_collected<T: FromNode>(
+    alloc: Global,
+    all: &mut Vec<T>,
+    pieces: &[Piece<'_>],
+    collection: &str,
+    name: &str,
+) -> Result<(), Stop>
+    ensures { Adds result all.old.items all.new.items (every T.says (flat_map (inside_named name.now) (filter (is_named collection.now) (nodes_from 0 (map part pieces.now))))) }
+{
+    let mut rest = pieces;
+    'elements: loop {
+        match add_first_inside(alloc, all, rest, collection, name) {
             Ok(Some(behind)) => rest = behind,
-            Ok(None) => return Ok(all),
+            Ok(None) => return Ok(()),
             Err(stop) => return Err(stop),
         }
     }
@@ -156,5 +172,5 @@ fn add_inside<T: FromNode>(
     if it.element.name != collection {
         return Ok(());
     }
-    add_each(alloc, all, it, name)
+    add_each(alloc, all, it.inside, name)
 }

@@ -1,14 +1,14 @@
 use Rattle.std.proofs.Common.{◌≡◌, filter, length, map}
 use Rattle.droid_xml.specs.Views.{part}
-use Rattle.droid_signature_file.specs.Elements.{inside_named, is_named, nodes_from}
-use Rattle.droid_signature_file.specs.Outcomes.{after, node_of}
+use Rattle.droid_signature_file.specs.Elements.{is_named, nodes_from}
+use Rattle.droid_signature_file.specs.Outcomes.{after}
 use Rattle.droid_signature_file.specs.Signatures.{every}
 use Rattle.droid_signature_file.proofs.from_node.add_each.Given as goal
 
 -- what is read so far stands in front of what the rest says
-abbrev pub invariant-loop-all : goal.invariant-loop-all
-invariant-loop-all g l =
-    after l.all.items (every g.T.FromNode.says (filter (is_named l.name) (nodes_from 0 (map part l.rest)))) ≡ after l.fn.all.items (every g.T.FromNode.says (inside_named l.name (node_of l.node)))
+abbrev pub invariant-elements : goal.invariant-elements
+invariant-elements g l =
+    after l.all.items (every g.T.FromNode.says (filter (is_named l.name) (nodes_from 0 (map part l.rest)))) ≡ after l.fn.all.items (every g.T.FromNode.says (filter (is_named l.name) (nodes_from 0 (map part l.pieces))))
 
-abbrev pub decreases-loop-all : goal.decreases-loop-all
-decreases-loop-all g l = length l.rest
+abbrev pub decreases-elements : goal.decreases-elements
+decreases-elements g l = length l.rest
