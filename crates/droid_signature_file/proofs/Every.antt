@@ -32,32 +32,34 @@ one_wrong read x wrong rest is = rw is refl
 pub nothing_more : {B : Type 0} (front new : List B) → after front (Ok []) ≡ Ok new → front ≡ new
 nothing_more front new is = let same : front ++ [] ≡ new = cc in sym (append-nil front) ∙ same
 
+part_by : {A B : Type 0} (read : A → Result B Wrong) (x : A) (xs ys : List A) (old new : List B) (r : Result B Wrong) → read x ≡ r
+    → ((front : List B) → after front (every read xs) ≡ Ok new → after front (every read (xs ++ ys)) ≡ after new (every read ys))
+    → after old (every read (x ∷ xs)) ≡ Ok new → after old (every read (x ∷ (xs ++ ys))) ≡ after new (every read ys)
+part_by read x xs ys old new (Ok y) found step is = one_more read old x y (xs ++ ys) found ∙ step (old ++ y ∷ []) (sym (one_more read old x y xs found) ∙ is)
+part_by read x xs ys old new (Err wrong) found step is = let no : Ok new ≡ Err wrong = sym is ∙ ap (after old) (one_wrong read x wrong xs found) in absurd cc
+
 -- a part is read, and what stands behind it
 pub part_read : {A B : Type 0} (read : A → Result B Wrong) (xs ys : List A) (old new : List B) → after old (every read xs) ≡ Ok new
     → after old (every read (xs ++ ys)) ≡ after new (every read ys)
 part_read {A} {B} read [] ys old new is = ap (λ (front : List B). after front (every read ys)) (nothing_more old new is)
-part_read {A} {B} read (x ∷ xs) ys old new is = by (read x) refl
-  where
-    by : (r : Result B Wrong) → read x ≡ r → after old (every read (x ∷ (xs ++ ys))) ≡ after new (every read ys)
-    by (Ok y) found =
-        one_more read old x y (xs ++ ys) found ∙ part_read read xs ys (old ++ y ∷ []) new (sym (one_more read old x y xs found) ∙ is)
-    by (Err wrong) found = let bad : after old (every read (x ∷ xs)) ≡ Err wrong = ap (after old) (one_wrong read x wrong xs found) in absurd (let no : Ok new ≡ Err wrong = sym is ∙ bad in cc)
+part_read {A} {B} read (x ∷ xs) ys old new is = part_by read x xs ys old new (read x) refl (λ (front : List B) h. part_read read xs ys front new h) is
 
 with_wrong : {B : Type 0} (y : B) (r : Result (List B) Wrong) (wrong : Wrong) → every_with y r ≡ Err wrong → r ≡ Err wrong
 with_wrong y (Ok ys) wrong is = absurd cc
 with_wrong y (Err other) wrong is = is
 
+wrong_by : {A B : Type 0} (read : A → Result B Wrong) (x : A) (xs ys : List A) (wrong : Wrong) (r : Result B Wrong) → read x ≡ r
+    → (every read xs ≡ Err wrong → every read (xs ++ ys) ≡ Err wrong) → every read (x ∷ xs) ≡ Err wrong → every read (x ∷ (xs ++ ys)) ≡ Err wrong
+wrong_by read x xs ys wrong (Ok y) found step is =
+    let rest : every_with y (every read xs) ≡ Err wrong = rw found at is in
+    let more : every read (xs ++ ys) ≡ Err wrong = step (with_wrong y (every read xs) wrong rest) in
+    rw (found, more) refl
+wrong_by read x xs ys wrong (Err other) found step is = one_wrong read x other (xs ++ ys) found ∙ (sym (one_wrong read x other xs found) ∙ is)
+
 -- a part is wrong
 pub part_wrong : {A B : Type 0} (read : A → Result B Wrong) (xs ys : List A) (wrong : Wrong) → every read xs ≡ Err wrong → every read (xs ++ ys) ≡ Err wrong
 part_wrong read [] ys wrong is = absurd cc
-part_wrong {A} {B} read (x ∷ xs) ys wrong is = by (read x) refl
-  where
-    by : (r : Result B Wrong) → read x ≡ r → every read (x ∷ (xs ++ ys)) ≡ Err wrong
-    by (Ok y) found =
-        let rest : every_with y (every read xs) ≡ Err wrong = rw found at is in
-        let more : every read (xs ++ ys) ≡ Err wrong = part_wrong read xs ys wrong (with_wrong y (every read xs) wrong rest) in
-        rw (found, more) refl
-    by (Err other) found = let same : Err other ≡ Err wrong = sym (one_wrong read x other xs found) ∙ is in one_wrong read x other (xs ++ ys) found ∙ same
+part_wrong read (x ∷ xs) ys wrong is = wrong_by read x xs ys wrong (read x) refl (λ h. part_wrong read xs ys wrong h) is
 
 after_wrong : {B : Type 0} (old : List B) (r : Result (List B) Wrong) (wrong : Wrong) → Err wrong ≡ after old r → r ≡ Err wrong
 after_wrong old (Ok ys) wrong is = absurd cc

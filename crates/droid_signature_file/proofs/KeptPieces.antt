@@ -1,9 +1,12 @@
 -- The pieces that are kept of those read so far.
 use Rattle.std.proofs.Common.{◌≡◌, ◌≤◌, ◌+◌, ◌++◌, ℕ, zero, suc, Bool, true, false, List, [], ◌∷◌, refl, sym, ap, ◌∙◌, append_assoc, append-nil, arith}
-use Rattle.std.specs.Prelude.{Option, Some, None, Ok, Err, if◌then◌else◌}
+use Rattle.std.specs.Prelude.{Option, Some, None, Result, Ok, Err, if◌then◌else◌}
 use Rattle.droid_xml.specs.Documents.{IsDocument, Place, next_at, start_of}
 use Rattle.droid_xml.specs.Pieces.{Part, Start, End, Text, Data, Reference, Comment, Instruction}
 use Rattle.droid_xml.proofs.Reading.{HasRead, begun, read_more, read_whole}
+use Rattle.droid_signature_spec.specs.Records.{FileRecord}
+use Rattle.droid_signature_file.specs.Signatures.{said, signature_file}
+use Rattle.droid_signature_file.specs.declared.fault.Wrong.{Wrong}
 use Rattle.droid_signature_file.specs.Tables.{depth_after, depth_behind, is_table, kept_piece, meaningful}
 
 -- one more piece
@@ -66,3 +69,8 @@ next_depth (suc depth) (Data text) = omega arith
 next_depth (suc depth) (Reference char) = omega arith
 next_depth (suc depth) (Comment text) = omega arith
 next_depth (suc depth) (Instruction target text) = omega arith
+
+-- what the kept pieces say is what the document says
+pub says_file : (parts kept : List Part) (outcome : Result FileRecord Wrong) → kept ≡ meaningful 0 parts → said kept ≡ outcome → signature_file parts ≡ outcome
+unfolding signature_file
+says_file parts kept outcome is told = ap said (sym is) ∙ told

@@ -6,13 +6,14 @@ use Rattle.std.proofs.lemmas.List.{get_or_push, length-append, reverse-append, r
 use Rattle.std.proofs.lemmas.Option.{slice_get-get_or}
 use Rattle.std.proofs.lemmas.List.Sums.{fold_more}
 use Rattle.std.specs.Str.{bytes_eq}
+use Rattle.droid_xml.specs.Attributes.{Setting}
 use Rattle.droid_xml.specs.Bytes.{choose}
 use Rattle.droid_xml.specs.Pieces.{Part, Start, End, Text, Data, Reference, Comment, Instruction}
 use Rattle.droid_xml.specs.Views.{part, setting}
 use Rattle.droid_xml.specs.declared.attributes.Attribute.{Attribute}
 use Rattle.droid_xml.specs.declared.pieces.Piece.{Piece}
 use Rattle.droid_signature_file.specs.Elements.{deeper, inner_len, value_of}
-use Rattle.droid_signature_file.specs.Unknown.{again, again_at, innermost}
+use Rattle.droid_signature_file.specs.Unknown.{again, again_at, innermost, name_of}
 use Rattle.droid_signature_spec.specs.declared.file.UnknownName.{UnknownName}
 use Rattle.droid_signature_file.specs.declared.kinds.Kind.{Kind}
 
@@ -125,3 +126,8 @@ again_set (suc place) (known ∷ names) d inside = ap (λ (more : List UnknownNa
 pub no_length : {A : Type 0} (xs : List A) → length xs ≡ 0 → xs ≡ []
 no_length [] none = refl
 no_length (x ∷ xs) none = absurd (omega (arith, none))
+
+-- the names of attributes
+pub names_of : (attributes : List Attribute) → map (λ (it : Setting). it.name) (map setting attributes) ≡ map name_of attributes
+names_of [] = refl
+names_of (a ∷ attributes) = ap (λ (names : List (List ℕ)). name_of a ∷ names) (names_of attributes)

@@ -1,10 +1,10 @@
 -- What is a number, and what is none.
-use Rattle.std.proofs.Common.{◌≡◌, ℕ, ◌<◌, ◌≤◌, ◌^◌, Bool, true, false, List, length, refl, arith}
-use Rattle.std.specs.Prelude.{◌&&◌, nat_lt, Ok, Err}
+use Rattle.std.proofs.Common.{◌≡◌, ℕ, zero, suc, ◌<◌, ◌≤◌, ◌^◌, Bool, true, false, List, length, refl, arith, rules, ⊎_elim}
+use Rattle.std.specs.Prelude.{◌&&◌, ◌==◌, nat_lt, Ok, Err}
 use Rattle.std.specs.Char.{is_ascii_digit}
 use Rattle.std.specs.List.{list_all}
 use Rattle.std.specs.Str.Parse.{digits_value}
-use Rattle.std.proofs.lemmas.Bool.{and_from, le-ltb, lt-ltb}
+use Rattle.std.proofs.lemmas.Bool.{and_from, cases_order, false≢true, le-ltb, lt-ltb}
 use Rattle.std.proofs.lemmas.Str.Parse.{IsNumeralModel, numerals_by_value}
 use Rattle.droid_signature_file.specs.Signatures.{is_number, number}
 use Rattle.droid_signature_file.specs.declared.fault.Wrong.TheVariants as wrongs
@@ -48,3 +48,13 @@ pub large_not_read : (text : List ℕ) → 2 ^ 32 ≤ digits_value 10 text → n
 large_not_read text large =
     not_read text
     (second_false (nat_lt 0 (length text) && list_all is_ascii_digit text) (nat_lt (digits_value 10 text) (2 ^ 32)) (le-ltb (digits_value 10 text) (2 ^ 32) large))
+
+pub unfit_not_read : (text : List ℕ) → 0 < length text → ((0 < length text) × (digits_value 10 text < 2 ^ 32) → ⊥) → number text ≡ Err wrongs.Number
+unfit_not_read text some unfit =
+    ⊎_elim (λ same. large_not_read text (omega (arith, same)))
+    (λ other. ⊎_elim (λ small. absurd (unfit (some, small))) (λ large. large_not_read text (omega (arith, large))) other)
+    (cases_order (digits_value 10 text) (2 ^ 32))
+
+pub some_by : (n : ℕ) → false ≡ (n == 0) → 0 < n
+some_by zero is = absurd (false≢true is)
+some_by (suc n) is = omega arith

@@ -4,7 +4,6 @@ use Rattle.droid_xml.specs.Documents.{IsDocument, HasProblem}
 use Rattle.droid_xml.specs.LineEnds.{with_line_feeds}
 use Rattle.droid_xml.specs.Pieces.{Part}
 use Rattle.droid_xml.specs.Views.{part, setting}
-use Rattle.droid_xml.specs.declared.pieces.Piece.{Piece}
 use Rattle.droid_signature_spec.specs.Records.{FileRecord}
 use Rattle.droid_signature_file.specs.Elements.{Node}
 use Rattle.droid_signature_file.specs.Signatures.{signature_file}
@@ -38,11 +37,11 @@ abbrev pub Adds : {X B : Type 0} → Result X Stop → List B → List B → Res
 Adds (Ok done) old new expected = after old expected ≡ Ok new
 Adds (Err stop) old new expected = Stops stop expected
 
--- a call that adds what one element says goes on behind that element; `of` is what the definition gives for pieces
-abbrev pub Steps : {X B : Type 0} → (X → List Piece) → Result (Option X) Stop → List B → List B → (List Piece → Result (List B) Wrong) → List Piece → Type 0
-Steps view (Ok None) old new of pieces = after old (of pieces) ≡ Ok new
-Steps view (Ok (Some behind)) old new of pieces = after old (of pieces) ≡ after new (of (view behind))
-Steps view (Err stop) old new of pieces = Stops stop (of pieces)
+-- a call that adds what one element says goes on behind it; `of` is what the definition gives from a place on
+abbrev pub Steps : {B : Type 0} → Result (Option ℕ) Stop → List B → List B → (ℕ → Result (List B) Wrong) → ℕ → Type 0
+Steps (Ok None) old new of at = after old (of at) ≡ Ok new
+Steps (Ok (Some next)) old new of at = after old (of at) ≡ after new (of next)
+Steps (Err stop) old new of at = Stops stop (of at)
 
 -- the document of a text says this
 abbrev pub Says : List ℕ → Result FileRecord Wrong → Type 0

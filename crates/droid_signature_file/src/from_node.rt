@@ -1,6 +1,6 @@
 //! What elements are read as.
 
-ghost use Rattle.std.specs.Prelude.{◌∷◌, ◌<◌, [], filter, length, map, IfOk, IfSome};
+ghost use Rattle.std.specs.Prelude.{◌∷◌, ◌<◌, ◌≤◌, [], drop, filter, length, map, IfOk, IfSome};
 ghost use Rattle.std.specs.List.{flat_map};
 ghost use Rattle.droid_xml.specs.Views.{part};
 ghost use Rattle.droid_signature_file.specs.Elements.{inside_named, is_named, nodes_from};
@@ -51,31 +51,33 @@ fn add_each<T: FromNode>(
 ) -> Result<(), Stop>
     ensures { Adds result all.old.items all.new.items (every T.says (filter (is_named name.now) (nodes_from 0 (map part pieces.now)))) }
 {
-    let mut rest = pieces;
+    let mut at = 0;
     'elements: loop {
-        match add_first(alloc, all, rest, name) {
-            Ok(Some(behind)) => rest = behind,
+        match add_next(alloc, all, pieces, at, name) {
+            Ok(Some(next)) => at = next,
             Ok(None) => return Ok(()),
             Err(stop) => return Err(stop),
         }
     }
 }
 
-/// Adds the first element that stands directly among the pieces, if it has this name. Returns the pieces behind it, or `None`
-/// if there is no element.
-fn add_first<'a, 'b, T: FromNode>(
+/// Adds the next element that stands directly among the pieces from a place on, if it has this name. Returns the place behind
+/// it, or `None` if there is no element.
+fn add_next<T: FromNode>(
     alloc: Global,
     all: &mut Vec<T>,
-    pieces: &'a [Piece<'b>],
+    pieces: &[Piece<'_>],
+    at: usize,
     name: &str,
-) -> Result<Option<&'a [Piece<'b>]>, Stop>
-    ensures added { Steps (λ behind. behind.now) result all.old.items all.new.items (λ pieces. every T.says (filter (is_named name.now) (nodes_from 0 (map part pieces)))) pieces.entry.now }
-    ensures shorter { IfOk result (λ behind. IfSome behind (λ behind. length behind.now < length pieces.entry.now)) }
+) -> Result<Option<usize>, Stop>
+    requires { at ≤ length pieces.now }
+    ensures added { Steps result all.old.items all.new.items (λ at. every T.says (filter (is_named name.now) (nodes_from 0 (map part (drop at pieces.now))))) at }
+    ensures later { IfOk result (λ next. IfSome next (λ next. (at < next) × (next ≤ length pieces.now))) }
 {
-    match first_node(pieces) {
+    match first_node(&pieces[at..]) {
         None => Ok(None),
-        Some((one, behind)) => match add_named(alloc, all, &one, name) {
-            Ok(()) => Ok(Some(behind)),
+        Some((one, len)) => match add_named(alloc, all, &one, name) {
+            Ok(()) => Ok(Some(at + len)),
             Err(stop) => Err(stop),
         },
     }
@@ -128,32 +130,34 @@ fn add_collected<T: FromNode>(
 ) -> Result<(), Stop>
     ensures { Adds result all.old.items all.new.items (every T.says (flat_map (inside_named name.now) (filter (is_named collection.now) (nodes_from 0 (map part pieces.now))))) }
 {
-    let mut rest = pieces;
+    let mut at = 0;
     'elements: loop {
-        match add_first_inside(alloc, all, rest, collection, name) {
-            Ok(Some(behind)) => rest = behind,
+        match add_next_inside(alloc, all, pieces, at, collection, name) {
+            Ok(Some(next)) => at = next,
             Ok(None) => return Ok(()),
             Err(stop) => return Err(stop),
         }
     }
 }
 
-/// Adds the elements of a name that stand directly in the first element that stands directly among the pieces, if that has
-/// the name of a collection. Returns the pieces behind it, or `None` if there is no element.
-fn add_first_inside<'a, 'b, T: FromNode>(
+/// Adds the elements of a name that stand directly in the next element that stands directly among the pieces from a place on,
+/// if that has the name of a collection. Returns the place behind it, or `None` if there is no element.
+fn add_next_inside<T: FromNode>(
     alloc: Global,
     all: &mut Vec<T>,
-    pieces: &'a [Piece<'b>],
+    pieces: &[Piece<'_>],
+    at: usize,
     collection: &str,
     name: &str,
-) -> Result<Option<&'a [Piece<'b>]>, Stop>
-    ensures added { Steps (λ behind. behind.now) result all.old.items all.new.items (λ pieces. every T.says (flat_map (inside_named name.now) (filter (is_named collection.now) (nodes_from 0 (map part pieces))))) pieces.entry.now }
-    ensures shorter { IfOk result (λ behind. IfSome behind (λ behind. length behind.now < length pieces.entry.now)) }
+) -> Result<Option<usize>, Stop>
+    requires { at ≤ length pieces.now }
+    ensures added { Steps result all.old.items all.new.items (λ at. every T.says (flat_map (inside_named name.now) (filter (is_named collection.now) (nodes_from 0 (map part (drop at pieces.now)))))) at }
+    ensures later { IfOk result (λ next. IfSome next (λ next. (at < next) × (next ≤ length pieces.now))) }
 {
-    match first_node(pieces) {
+    match first_node(&pieces[at..]) {
         None => Ok(None),
-        Some((it, behind)) => match add_inside(alloc, all, &it, collection, name) {
-            Ok(()) => Ok(Some(behind)),
+        Some((it, len)) => match add_inside(alloc, all, &it, collection, name) {
+            Ok(()) => Ok(Some(at + len)),
             Err(stop) => Err(stop),
         },
     }

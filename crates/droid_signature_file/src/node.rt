@@ -31,14 +31,23 @@ impl<'a, 'b> Node<'a, 'b> {
     pub(crate) fn words(&self, alloc: Global) -> Result<String, AllocError>
         ensures { IfOk result (λ words. string_bytes words ≡ spec.words_from 0 (node_of self.now).inside) }
     {
-        let mut words = String::new(alloc);
-        let mut rest = self.inside;
-        while let Some((piece, behind)) = rest.split_first() {
-            add_word(&mut words, piece)?;
-            rest = past_element(piece, behind);
-        }
-        Ok(words)
+        words_of(alloc, self.inside)
     }
+}
+
+/// Returns the text that stands directly among the pieces.
+fn words_of(alloc: Global, pieces: &[Piece<'_>]) -> Result<String, AllocError>
+    ensures { IfOk result (λ words. string_bytes words ≡ spec.words_from 0 (map part pieces.now)) }
+{
+    let mut words = String::new(alloc);
+    let mut at = 0;
+    'parts: while at < pieces.len() {
+        let piece = &pieces[at];
+        add_word(&mut words, piece)?;
+        let own = len_of(piece, &pieces[at + 1..]);
+        at += 1 + own;
+    }
+    Ok(words)
 }
 
 /// Returns the value of the attribute of this name.
@@ -53,19 +62,18 @@ fn value_of<'a>(attributes: &'a [Attribute<'_>], name: &str) -> Option<&'a str>
     None
 }
 
-/// Returns the first element that stands directly among the pieces, and the pieces behind it.
-pub(crate) fn first_node<'a, 'b>(
-    pieces: &'a [Piece<'b>],
-) -> Option<(Node<'a, 'b>, &'a [Piece<'b>])>
-    ensures found { MatchOption result (spec.nodes_from 0 (map part pieces.entry.now) ≡ []) (λ found. spec.nodes_from 0 (map part pieces.entry.now) ≡ node_of found.0 ∷ spec.nodes_from 0 (map part found.1.now)) }
-    ensures shorter { IfSome result (λ found. length found.1.now < length pieces.entry.now) }
+/// Returns the first element that stands directly among the pieces, and the place behind it.
+pub(crate) fn first_node<'a, 'b>(pieces: &'a [Piece<'b>]) -> Option<(Node<'a, 'b>, usize)>
+    ensures found { MatchOption result (spec.nodes_from 0 (map part pieces.entry.now) ≡ []) (λ found. spec.nodes_from 0 (map part pieces.entry.now) ≡ node_of found.0 ∷ spec.nodes_from 0 (map part (drop found.1 pieces.entry.now))) }
+    ensures some { IfSome result (λ found. 0 < found.1) }
+    ensures inside { IfSome result (λ found. found.1 ≤ length pieces.entry.now) }
 {
     let place = start_place(pieces);
     let (piece, behind) = pieces[place..].split_first()?;
     let element = element_of(piece)?;
     let inside = inside_of(element, behind);
-    let rest = past_element(piece, behind);
-    Some((Node { element, inside }, rest))
+    let own = len_of(piece, behind);
+    Some((Node { element, inside }, place + 1 + own))
 }
 
 /// Returns the element that a piece begins.
@@ -113,16 +121,19 @@ fn inside_of<'a, 'b>(element: &Element<'_>, behind: &'a [Piece<'b>]) -> &'a [Pie
     &behind[..inner_len(behind)]
 }
 
-/// Returns the pieces behind the element that a piece begins, out of those behind the piece. A piece that begins no element
-/// has all of them behind it.
-fn past_element<'a, 'b>(piece: &Piece<'_>, behind: &'a [Piece<'b>]) -> &'a [Piece<'b>]
-    ensures value { map part result.now ≡ drop (spec.len_of (part piece.now) (map part behind.entry.now)) (map part behind.entry.now) }
-    ensures few { length result.now ≤ length behind.entry.now }
+/// Returns how many of the pieces behind a piece belong to the element that it begins. A piece that begins no element has none.
+fn len_of(piece: &Piece<'_>, behind: &[Piece<'_>]) -> usize
+    ensures value { drop result behind.now ≡ drop (spec.len_of (part piece.now) (map part behind.now)) behind.now }
+    ensures few { result ≤ length behind.now }
 {
-    if opens(piece) {
-        return past_end(behind);
+    if !opens(piece) {
+        return 0;
     }
-    behind
+    let inner = inner_len(behind);
+    if inner >= behind.len() {
+        return inner;
+    }
+    inner + 1
 }
 
 /// Returns whether a piece begins an element that an end tag ends.
@@ -134,18 +145,6 @@ fn opens(piece: &Piece<'_>) -> bool
         Piece::End(_) | Piece::Text(_) | Piece::Data(_) | Piece::Reference(_) => false,
         Piece::Comment(_) | Piece::Instruction(_, _) => false,
     }
-}
-
-/// Returns the pieces behind the end tag of the element that the pieces are in.
-fn past_end<'a, 'b>(pieces: &'a [Piece<'b>]) -> &'a [Piece<'b>]
-    ensures value { map part result.now ≡ drop (spec.inner_len 0 (map part pieces.entry.now) + 1) (map part pieces.entry.now) }
-    ensures few { length result.now ≤ length pieces.entry.now }
-{
-    let inner = inner_len(pieces);
-    if inner >= pieces.len() {
-        return &[];
-    }
-    &pieces[inner + 1..]
 }
 
 /// Returns how many pieces stand before the end tag of the element that they are in.

@@ -95,14 +95,27 @@ impl Counting {
         ensures { OnOk result (self.new ≡ spec.counted_tag self.old (tag element.now)) }
     {
         let kind = self.kind_of(element.name);
-        match kind {
-            Some(kind) => self.found.note_attributes(alloc, kind, element.attributes.as_slice())?,
-            None => self.note_element(alloc, element.name)?,
-        }
+        self.note_tag(alloc, kind, element)?;
         if !element.is_empty {
             self.stack.push(kind)?;
         }
         Ok(())
+    }
+
+    /// Counts what a start tag of a kind has that is not known.
+    #[tactic(auto, using(crate::proofs::Loops::names_of))]
+    fn note_tag(
+        &mut self,
+        alloc: Global,
+        kind: Option<Kind>,
+        element: &Element<'_>,
+    ) -> Result<(), AllocError>
+        ensures { OnOk result (self.new ≡ record self.old { found = spec.noted_tag self.old kind (tag element.now) }) }
+    {
+        match kind {
+            Some(kind) => self.found.note_attributes(alloc, kind, element.attributes.as_slice()),
+            None => self.note_element(alloc, element.name),
+        }
     }
 
     /// Counts an unknown element, unless the element outside is unknown too.
@@ -171,9 +184,9 @@ impl Tally {
     fn note(&mut self, alloc: Global, part: UnknownPart, name: &str) -> Result<(), AllocError>
         ensures { OnOk result (self.new ≡ spec.noted part name.now self.old) }
     {
-        let place = self.place_of(part, name);
+        let place = place_of(self.names.as_slice(), part, name);
         if place < self.names.len() {
-            self.count_again(place);
+            count_again(self.names.as_mut_slice(), place);
             return Ok(());
         }
         if self.names.len() >= MOST_NAMES {
@@ -188,28 +201,28 @@ impl Tally {
         })?;
         Ok(())
     }
+}
 
-    /// Returns the place of a name, or how many names there are, if it is not among them.
-    fn place_of(&self, part: UnknownPart, name: &str) -> usize
-        ensures value { result ≡ position_or_len (spec.is_name part name.now) self.now.names }
-        ensures few { result ≤ length self.now.names }
-    {
-        for place in 0..self.names.len() {
-            if is_name(&self.names[place], part, name) {
-                return place;
-            }
+/// Returns the place of a name, or how many names there are, if it is not among them.
+fn place_of(names: &[UnknownName], part: UnknownPart, name: &str) -> usize
+    ensures value { result ≡ position_or_len (spec.is_name part name.now) names.now }
+    ensures few { result ≤ length names.now }
+{
+    for place in 0..names.len() {
+        if is_name(&names[place], part, name) {
+            return place;
         }
-        self.names.len()
     }
+    names.len()
+}
 
-    /// Counts the name at a place once more.
-    fn count_again(&mut self, place: usize)
-        requires { place < length self.old.names }
-        ensures { self.new ≡ record self.old { names = spec.again_at place self.old.names } }
-    {
-        let known = &mut self.names[place];
-        known.count = known.count.saturating_add(1);
-    }
+/// Counts the name at a place once more.
+fn count_again(names: &mut [UnknownName], place: usize)
+    requires { place < length names.old }
+    ensures { names.new ≡ spec.again_at place names.old }
+{
+    let known = &mut names[place];
+    known.count = known.count.saturating_add(1);
 }
 
 /// Returns whether this is the name of such a part.

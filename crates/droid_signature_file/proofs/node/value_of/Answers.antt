@@ -9,15 +9,15 @@ use Rattle.droid_signature_file.proofs.node.value_of.Goals as goal
 
 pub returns-then-eq : goal.returns-then-eq
 returns-then-eq c =
-    let found = value_found c.args.name.now c.args.attributes.entry.now c.loop-attribute.attribute-index c.attribute-item.result _ (omega arith)
+    let found = value_found c.args.name.now c.args.attributes.now c.loop-attribute.attribute-index c.attribute-item.result _ (omega arith)
     (ap (λ (a : Attribute). bytes_eq (setting a).name c.args.name.now) (sym c.attribute-item.is) ∙ (sym c.eq.ensures ∙ c.if-eq.true)) c.loop-attribute.invariant in
-    ap Some (c.as_str.ensures ∙ ap (λ (a : Attribute). (setting a).value) c.attribute-item.is) ∙ found
+    ap Some (c.as_str.ensures.value ∙ ap (λ (a : Attribute). (setting a).value) c.attribute-item.is) ∙ found
 
 pub loop-attribute-preserved : goal.loop-attribute-preserved
 loop-attribute-preserved c =
-    value_goes_on c.args.name.now c.args.attributes.entry.now c.loop-attribute.attribute-index c.attribute-item.result _ (omega arith)
+    value_goes_on c.args.name.now c.args.attributes.now c.loop-attribute.attribute-index c.attribute-item.result _ (omega arith)
     (ap (λ (a : Attribute). bytes_eq (setting a).name c.args.name.now) (sym c.attribute-item.is) ∙ (sym c.eq.ensures ∙ c.if-eq.false)) c.loop-attribute.invariant
 
 pub returns : goal.returns
 returns c =
-    value_nowhere c.args.name.now c.args.attributes.entry.now c.loop-attribute.attribute-index _ (drop_all c.loop-attribute.attribute-index c.args.attributes.entry.now (omega arith)) c.loop-attribute.invariant
+    value_nowhere c.args.name.now c.args.attributes.now c.loop-attribute.attribute-index _ (drop_all c.loop-attribute.attribute-index c.args.attributes.now (omega arith)) c.loop-attribute.invariant

@@ -20,4 +20,4 @@ loop-preserved c =
     let step = rw c.in-Ok-Some.field-0-is at c.in-Ok-Some.ensures in
     let more = kept_more c.args.text.now (map part c.loop.pieces.items) c.loop.depth (place c.loop.reader) (place c.next.new.self) (part c.in-Ok-Some.piece) c.loop.invariant.0 step in
     let deeper = next_depth c.loop.depth (part c.in-Ok-Some.piece) in
-    (rw (c.in_ok-add_kept.ensures.added, c.depth_behind-behind.ensures) more, omega (arith, c.depth_behind-behind.ensures, c.loop.invariant.1))
+    (rw (c.in_ok-add_kept-in-Ok-Some.ensures.added, c.depth_behind-behind.ensures) more, omega (arith, c.depth_behind-behind.ensures, c.loop.invariant.1))
