@@ -15,7 +15,7 @@ returns-then-not-are_digits c = others_not_read c.args.text.now (rw c.as_bytes.e
 pub returns-in-Ok : goal.returns-in-Ok
 returns-in-Ok c =
     let digits = rw c.as_bytes.ensures.value at (sym c.if-not-are_digits.ensures) in
-    let parsed = parse_digits own 32 c.args.text.now (Ok c.in-Ok.number) c.in-Ok.ensures.value.0 digits in
+    let parsed = rw c.in-Ok.is at (parse_digits own 32 c.args.text.now c.parse.result c.parse.ensures.value.0 digits) in
     is_read c.args.text.now parsed.0.0 digits parsed.0.1 ∙ ap Ok (sym parsed.1)
 
 pub returns-in-Err : goal.returns-in-Err
