@@ -33,7 +33,7 @@ kept_more text kept depth place behind part has is = record {
   parts = has.parts ++ part ∷ [];
   read = read_more text has.parts part place behind has.read is;
   kept_of = rw (has.kept_of, has.depth_of) (sym (meaningful_more 0 has.parts part));
-  depth_of = rw has.depth_of (sym (depth_more 0 has.parts part))
+  depth_of = rw has.depth_of (sym (depth_more 0 has.parts part));
 }
 
 pub kept_whole : (text : List ℕ) (kept : List Part) (depth : ℕ) (place : Place) → HasKept text kept depth place → next_at place ≡ Ok None

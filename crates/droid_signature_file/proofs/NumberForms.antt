@@ -24,8 +24,8 @@ pub is_read : (text : List ℕ) → 0 < length text → list_all is_ascii_digit 
 unfolding number
 is_read text some digits small =
     let test : is_number text ≡ true =
-        and_from (nat_lt 0 (length text) && list_all is_ascii_digit text) (nat_lt (digits_value 10 text) (2 ^ 32))
-        (and_from (nat_lt 0 (length text)) (list_all is_ascii_digit text) (lt-ltb 0 (length text) some) digits) (lt-ltb (digits_value 10 text) (2 ^ 32) small) in
+    and_from (nat_lt 0 (length text) && list_all is_ascii_digit text) (nat_lt (digits_value 10 text) (2 ^ 32))
+    (and_from (nat_lt 0 (length text)) (list_all is_ascii_digit text) (lt-ltb 0 (length text) some) digits) (lt-ltb (digits_value 10 text) (2 ^ 32) small) in
     rw test refl
 
 not_read : (text : List ℕ) → is_number text ≡ false → number text ≡ Err wrongs.Number

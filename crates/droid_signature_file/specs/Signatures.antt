@@ -139,7 +139,7 @@ attributes element = do
     puid = attribute (codes "PUID") element;
     name = or_empty (attribute (codes "Name") element);
     version = or_empty (attribute (codes "Version") element);
-    mime = or_empty (attribute (codes "MIMEType") element)
+    mime = or_empty (attribute (codes "MIMEType") element);
   })
 
 unfoldable pub format : Node → Result FormatRecord Wrong
@@ -156,7 +156,7 @@ format element = do
     mime = it.mime;
     signatures = signatures;
     extensions = extensions;
-    priorities = priorities
+    priorities = priorities;
   })
 
 -- the elements of one name in all collections of another
@@ -174,7 +174,7 @@ file strange root = do
     signatures = signatures;
     formats = formats;
     unknown = strange.names;
-    unlisted = strange.unlisted
+    unlisted = strange.unlisted;
   })
 
 -- the root of a document is its only element

@@ -141,7 +141,7 @@ noted_tag so_far None tag = noted_element so_far.stack tag.name so_far.found
 abbrev pub counted_tag : Counting → Tag → Counting
 counted_tag so_far tag = record {
   stack = if tag.is_empty then so_far.stack else kind_under so_far.stack tag.name ∷ so_far.stack;
-  found = noted_tag so_far (kind_under so_far.stack tag.name) tag
+  found = noted_tag so_far (kind_under so_far.stack tag.name) tag;
 }
 
 abbrev pub closed : List (Option Kind) → List (Option Kind)

@@ -114,7 +114,10 @@ fn run_or_fragment(name: &str) -> Option<Kind>
 fn word_of_format(name: &str) -> Option<Kind>
     ensures { result ≡ known.kind_in Kind.Format name.now }
 {
-    if name == "InternalSignatureID" || name == "Extension" || name == "HasPriorityOverFileFormatID" {
+    if name == "InternalSignatureID"
+        || name == "Extension"
+        || name == "HasPriorityOverFileFormatID"
+    {
         Some(Kind::Word)
     } else {
         None

@@ -113,7 +113,9 @@ impl Counting {
         ensures { OnOk result (self.new ≡ record self.old { found = spec.noted_tag self.old kind (tag element.now) }) }
     {
         match kind {
-            Some(kind) => self.found.note_attributes(alloc, kind, element.attributes.as_slice()),
+            Some(kind) => self
+                .found
+                .note_attributes(alloc, kind, element.attributes.as_slice()),
             None => self.note_element(alloc, element.name),
         }
     }
@@ -165,12 +167,7 @@ impl Tally {
         Ok(())
     }
 
-    fn note_attribute(
-        &mut self,
-        alloc: Global,
-        kind: Kind,
-        name: &str,
-    ) -> Result<(), AllocError>
+    fn note_attribute(&mut self, alloc: Global, kind: Kind, name: &str) -> Result<(), AllocError>
         ensures { OnOk result (self.new ≡ spec.noted_attribute kind self.old name.now) }
     {
         if kind.has_attribute(name) {

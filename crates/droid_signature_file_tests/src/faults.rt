@@ -26,9 +26,18 @@ const fn problem(text: &'static str, problem: Problem, line: usize) -> Row {
 const ROWS: &[Row] = &[
     wrong("<SignatureFile/>", Wrong::Root),
     wrong("<a><FFSignatureFile/></a>", Wrong::Root),
-    wrong("<FFSignatureFile><FileFormatCollection><FileFormat/></FileFormatCollection></FFSignatureFile>", Wrong::Number),
-    wrong("<FFSignatureFile><FileFormatCollection><FileFormat ID='+1'/></FileFormatCollection></FFSignatureFile>", Wrong::Number),
-    wrong("<FFSignatureFile><FileFormatCollection><FileFormat ID='4294967296'/></FileFormatCollection></FFSignatureFile>", Wrong::Number),
+    wrong(
+        "<FFSignatureFile><FileFormatCollection><FileFormat/></FileFormatCollection></FFSignatureFile>",
+        Wrong::Number,
+    ),
+    wrong(
+        "<FFSignatureFile><FileFormatCollection><FileFormat ID='+1'/></FileFormatCollection></FFSignatureFile>",
+        Wrong::Number,
+    ),
+    wrong(
+        "<FFSignatureFile><FileFormatCollection><FileFormat ID='4294967296'/></FileFormatCollection></FFSignatureFile>",
+        Wrong::Number,
+    ),
     wrong(
         "<FFSignatureFile><InternalSignatureCollection><InternalSignature ID='1'><ByteSequence><SubSequence Position='1'/></ByteSequence></InternalSignature></InternalSignatureCollection></FFSignatureFile>",
         Wrong::Sequence,
@@ -37,7 +46,11 @@ const ROWS: &[Row] = &[
         "<FFSignatureFile><InternalSignatureCollection><InternalSignature ID='1'><ByteSequence><SubSequence Position='1'><Sequence>61</Sequence><Sequence>62</Sequence></SubSequence></ByteSequence></InternalSignature></InternalSignatureCollection></FFSignatureFile>",
         Wrong::Sequence,
     ),
-    problem("<FFSignatureFile>\r\n<a>\r</FFSignatureFile>", Problem::NotWellFormed, 3),
+    problem(
+        "<FFSignatureFile>\r\n<a>\r</FFSignatureFile>",
+        Problem::NotWellFormed,
+        3,
+    ),
     problem("<!DOCTYPE a>\n<FFSignatureFile/>", Problem::Doctype, 1),
 ];
 

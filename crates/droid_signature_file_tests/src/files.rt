@@ -26,7 +26,9 @@ fn has_its_parts(part: &SubSequence) -> bool {
     }
     let sequence = part.position() == 1 && part.text() == "616263";
     let offsets = part.offsets().min == Some(0) && part.offsets().max == Some(4);
-    let first = left[0].position == 1 && left[0].text.as_str() == "60" && left[0].offsets.max.is_none();
+    let first = left[0].position == 1
+        && left[0].text.as_str() == "60"
+        && left[0].offsets.max.is_none();
     let second = left[1].position == 2 && left[1].text.as_str() == "5F";
     let behind = right[0].text.as_str() == "64" && right[0].offsets.max == Some(3);
     sequence && offsets && first && second && behind

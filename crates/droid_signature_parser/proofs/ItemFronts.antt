@@ -78,8 +78,8 @@ opens_brackets after (Outside low high) front rest text (from, to, is, first, se
   33 ∷ (from ++ (58 ∷ to)),
   after_open 91 93 after front (33 ∷ (from ++ (58 ∷ to))) rest is text,
   λ h. ⊎_elim (λ e. absurd (omega arith))
-  (parts_lack from to 58 93 (bytes_lack from (low ∷ []) 93 first (omega arith)) (bytes_lack to (high ∷ []) 93 second (omega arith)) (λ e. absurd (omega arith)))
-  (contains_cons 33 93 (from ++ (58 ∷ to)) h),
+      (parts_lack from to 58 93 (bytes_lack from (low ∷ []) 93 first (omega arith)) (bytes_lack to (high ∷ []) 93 second (omega arith)) (λ e. absurd (omega arith)))
+      (contains_cons 33 93 (from ++ (58 ∷ to)) h),
   (from, to, refl, first, second, ordered, some),
 )
 opens_brackets after (Between low high) front rest text (from, to, is, first, second, bounds) = (

@@ -29,7 +29,7 @@ returns-clause-found c =
     let whole = sym (take_rest all c.start_place-place.result) ∙ c.in_ok-piece.ensures.cases.0 in
     let cut = ap (λ (n : ℕ). drop n all) (sym c.start_place-place.ensures.value) ∙ whole in
     let rest = drop-map part (len_of (part piece) (map part behind)) behind
-        ∙ ap (map part) (sym c.len_of-own.ensures.value ∙ sym (past all behind piece c.start_place-place.result c.len_of-own.result (c.start_place-place.result + 1 + c.len_of-own.result) whole (omega arith))) in
+    ∙ ap (map part) (sym c.len_of-own.ensures.value ∙ sym (past all behind piece c.start_place-place.result c.len_of-own.result (c.start_place-place.result + 1 + c.len_of-own.result) whole (omega arith))) in
     first_in all behind piece cut
     ∙ (element_at (part piece) element (map part behind) (sym c.in_ok-element.ensures)
     ∙ (ap (λ (parts : List Part). node element (map part behind) ∷ nodes_from 0 parts) rest ∙ rw c.inside_of-inside.ensures refl))

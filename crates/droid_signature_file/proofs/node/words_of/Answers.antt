@@ -10,9 +10,11 @@ use Rattle.droid_signature_file.proofs.node.words_of.Goals as goal
 pub parts-preserved : goal.parts-preserved
 parts-preserved c =
     let all = c.args.pieces.now in
-    let rest = take_rest all (c.parts.at + 1) in
-    (words_step all _ c.parts.at c.len_of-own.result _ c.index-pieces-at.result (string_bytes c.parts.words) _ _ (omega arith) rest c.index-pieces-at.is c.len_of-own.ensures.value (omega arith)
-    c.in_ok-add_word.ensures c.parts.invariant.0, omega (arith, c.len_of-own.ensures.few, ap length rest, length-drop (c.parts.at + 1) all))
+    let rest = take_rest all (c.parts.at + 1) in (
+      words_step all _ c.parts.at c.len_of-own.result _ c.index-pieces-at.result (string_bytes c.parts.words) _ _ (omega arith) rest c.index-pieces-at.is c.len_of-own.ensures.value (omega arith)
+          c.in_ok-add_word.ensures c.parts.invariant.0,
+      omega (arith, c.len_of-own.ensures.few, ap length rest, length-drop (c.parts.at + 1) all),
+    )
 
 pub returns : goal.returns
 returns c =
