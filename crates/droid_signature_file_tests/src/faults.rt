@@ -9,49 +9,49 @@ struct Row {
     fault: FileFault,
 }
 
-const fn wrong(text: &'static str, wrong: Wrong) -> Row {
-    Row {
-        text,
-        fault: FileFault::NotASignatureFile(wrong),
-    }
-}
-
-const fn problem(text: &'static str, problem: Problem, line: usize) -> Row {
-    Row {
-        text,
-        fault: FileFault::Document { problem, line },
-    }
-}
-
 const ROWS: &[Row] = &[
-    wrong("<SignatureFile/>", Wrong::Root),
-    wrong("<a><FFSignatureFile/></a>", Wrong::Root),
-    wrong(
-        "<FFSignatureFile><FileFormatCollection><FileFormat/></FileFormatCollection></FFSignatureFile>",
-        Wrong::Number,
-    ),
-    wrong(
-        "<FFSignatureFile><FileFormatCollection><FileFormat ID='+1'/></FileFormatCollection></FFSignatureFile>",
-        Wrong::Number,
-    ),
-    wrong(
-        "<FFSignatureFile><FileFormatCollection><FileFormat ID='4294967296'/></FileFormatCollection></FFSignatureFile>",
-        Wrong::Number,
-    ),
-    wrong(
-        "<FFSignatureFile><InternalSignatureCollection><InternalSignature ID='1'><ByteSequence><SubSequence Position='1'/></ByteSequence></InternalSignature></InternalSignatureCollection></FFSignatureFile>",
-        Wrong::Sequence,
-    ),
-    wrong(
-        "<FFSignatureFile><InternalSignatureCollection><InternalSignature ID='1'><ByteSequence><SubSequence Position='1'><Sequence>61</Sequence><Sequence>62</Sequence></SubSequence></ByteSequence></InternalSignature></InternalSignatureCollection></FFSignatureFile>",
-        Wrong::Sequence,
-    ),
-    problem(
-        "<FFSignatureFile>\r\n<a>\r</FFSignatureFile>",
-        Problem::NotWellFormed,
-        3,
-    ),
-    problem("<!DOCTYPE a>\n<FFSignatureFile/>", Problem::Doctype, 1),
+    Row {
+        text: "<SignatureFile/>",
+        fault: FileFault::NotASignatureFile(Wrong::Root),
+    },
+    Row {
+        text: "<a><FFSignatureFile/></a>",
+        fault: FileFault::NotASignatureFile(Wrong::Root),
+    },
+    Row {
+        text: "<FFSignatureFile><FileFormatCollection><FileFormat/></FileFormatCollection></FFSignatureFile>",
+        fault: FileFault::NotASignatureFile(Wrong::Number),
+    },
+    Row {
+        text: "<FFSignatureFile><FileFormatCollection><FileFormat ID='+1'/></FileFormatCollection></FFSignatureFile>",
+        fault: FileFault::NotASignatureFile(Wrong::Number),
+    },
+    Row {
+        text: "<FFSignatureFile><FileFormatCollection><FileFormat ID='4294967296'/></FileFormatCollection></FFSignatureFile>",
+        fault: FileFault::NotASignatureFile(Wrong::Number),
+    },
+    Row {
+        text: "<FFSignatureFile><InternalSignatureCollection><InternalSignature ID='1'><ByteSequence><SubSequence Position='1'/></ByteSequence></InternalSignature></InternalSignatureCollection></FFSignatureFile>",
+        fault: FileFault::NotASignatureFile(Wrong::Sequence),
+    },
+    Row {
+        text: "<FFSignatureFile><InternalSignatureCollection><InternalSignature ID='1'><ByteSequence><SubSequence Position='1'><Sequence>61</Sequence><Sequence>62</Sequence></SubSequence></ByteSequence></InternalSignature></InternalSignatureCollection></FFSignatureFile>",
+        fault: FileFault::NotASignatureFile(Wrong::Sequence),
+    },
+    Row {
+        text: "<FFSignatureFile>\r\n<a>\r</FFSignatureFile>",
+        fault: FileFault::Document {
+            problem: Problem::NotWellFormed,
+            line: 3,
+        },
+    },
+    Row {
+        text: "<!DOCTYPE a>\n<FFSignatureFile/>",
+        fault: FileFault::Document {
+            problem: Problem::Doctype,
+            line: 1,
+        },
+    },
 ];
 
 #[test]
