@@ -1,22 +1,21 @@
 -- Texts of patterns, any of which has to match.
-use Rattle.std.specs.Prelude.{ℕ, zero, suc, ◌≤◌, ◌==◌, ◌&&◌, Bool, true, false, not, List, [], ◌∷◌, ◌++◌, length, map}
-use Rattle.std.specs.List.{AllByRecursion}
+use Rattle.std.specs.Prelude.{ℕ, ◌*◌, ◌==◌, ◌&&◌, zero, suc, Bool, true, false, not, List, [], ◌∷◌, ◌++◌, length, map}
 
 -- each text of the first list with each of the second behind it
 abbrev pub joined : List (List ℕ) → List (List ℕ) → List (List ℕ)
 joined [] seconds = []
 joined (first ∷ firsts) seconds = map (λ second. first ++ second) seconds ++ joined firsts seconds
 
+-- of levels that stand one behind the other, a text of each
+abbrev pub joined_all : List (List (List ℕ)) → List (List ℕ)
+joined_all [] = [] ∷ []
+joined_all (level ∷ levels) = joined level (joined_all levels)
+
 -- the text at a place, counted from 0
 abbrev pub text_at : ℕ → List (List ℕ) → List ℕ
 text_at place [] = []
 text_at zero (text ∷ texts) = text
 text_at (suc place) (text ∷ texts) = text_at place texts
-
--- at most 64 texts of at most 4,096 bytes each
-pub record AreSmall (texts : List (List ℕ)) : Type 0 where
-  pub few : length texts ≤ 64
-  pub short : AllByRecursion (λ text. length text ≤ 4096) texts
 
 -- whether a text is not empty and does not end in a gap: a gap ends in `}` or `*`, and no other element does
 abbrev pub ends_in_byte : List ℕ → Bool

@@ -59,3 +59,7 @@ side_patterns which.Right side = joined (gap_patterns side.least side.most) side
 abbrev pub level_patterns : WhichSide → ℕ → List Side → List (List Element)
 level_patterns from position [] = []
 level_patterns from position (side ∷ sides) = (if side.position == position then side_patterns from side else []) ++ level_patterns from position sides
+
+-- patterns as texts, behind a text
+abbrev pub behind : List ℕ → List (List Element) → List (List ℕ)
+behind front patterns = map (λ es. front ++ written_all es) patterns

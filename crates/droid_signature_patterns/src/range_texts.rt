@@ -1,85 +1,88 @@
 //! Ranges of several bytes, written out byte by byte.
 
-ghost use Rattle.std.specs.Prelude.{◌≡◌, ◌≤◌, ◌<◌, ◌++◌, length, take, drop, IfOk};
+ghost use Rattle.std.specs.Prelude.{◌≡◌, ◌≤◌, ◌<◌, ◌++◌, length, map, IfOk, OnOk};
 ghost use Rattle.droid_signature_spec.specs.TermText.{AreBounds};
 ghost use Rattle.droid_signature_spec.specs.Expansions.{ranges, upward_from, up_to, range_before};
-ghost use Rattle.droid_signature_patterns.specs.Written.{with_front, written_each};
-ghost use Rattle.droid_signature_patterns.specs.Outcomes.{Becomes, BecomesFrom};
+ghost use Rattle.droid_signature_patterns.specs.Written.{behind, written_each};
 
-use crate::element_texts::{push_bytes, push_range};
+use crate::element_texts::{push_byte, push_range};
 use crate::pattern_texts::PatternTexts;
-use crate::reason::Stop;
-use std::alloc::Global;
+use std::alloc::{AllocError, Global};
 
-/// Returns the texts of the bytes from one bound to the other, of at most 16 bytes each.
-pub(crate) fn range_texts(alloc: Global, low: &[u8], high: &[u8]) -> Result<PatternTexts, Stop>
-    requires bounds { AreBounds low.now high.now }
-    requires short { length low.now ≤ 16 }
-    ensures { BecomesFrom result (written_each (ranges low.now high.now)) }
+/// Returns the texts of the bytes from one bound to the other.
+pub(crate) fn range_texts(
+    alloc: Global,
+    low: &[u8],
+    high: &[u8],
+) -> Result<PatternTexts, AllocError>
+    requires { length low.now ≡ length high.now }
+    ensures { IfOk result (λ texts. texts ≡ written_each (ranges low.now high.now)) }
 {
     let mut texts = PatternTexts::new(alloc);
-    let same = same_len(low, high);
-    if same == low.len() {
-        texts.add(bytes_text(alloc, low)?)?;
-        return Ok(texts);
-    }
-    add_upward(alloc, &mut texts, low, same)?;
-    let next = u16::from(low[same]) + 1;
-    add_between(alloc, &mut texts, &low[..same], next, u16::from(high[same]), low.len() - same - 1)?;
-    add_up_to(alloc, &mut texts, high, same)?;
+    add_ranges(alloc, &mut texts, b"", low, high)?;
     Ok(texts)
 }
 
-/// Returns how many bytes at the beginning are the same.
-fn same_len(low: &[u8], high: &[u8]) -> usize
+/// Adds the texts of the bytes from one bound to the other, behind a text.
+fn add_ranges(
+    alloc: Global,
+    texts: &mut PatternTexts,
+    front: &[u8],
+    low: &[u8],
+    high: &[u8],
+) -> Result<(), AllocError>
     requires { length low.now ≡ length high.now }
-    ensures few { result ≤ length low.now }
-    ensures same { take result low.now ≡ take result high.now }
+    ensures { OnOk result (texts.new ≡ texts.old ++ behind front.now (ranges low.now high.now)) }
 {
-    for place in 0..low.len() {
-        if low[place] != high[place] {
-            return place;
-        }
+    let (Some((l, low)), Some((h, high))) = (low.split_first(), high.split_first()) else {
+        return texts.add(Vec::from_slice(alloc, front)?);
+    };
+    let lower = with_byte(alloc, front, *l)?;
+    if l == h {
+        return add_ranges(alloc, texts, lower.as_slice(), low, high);
     }
-    low.len()
+    add_upward(alloc, texts, lower.as_slice(), low)?;
+    add_between(alloc, texts, front, u16::from(*l) + 1, u16::from(*h), low.len())?;
+    let upper = with_byte(alloc, front, *h)?;
+    add_up_to(alloc, texts, upper.as_slice(), high)
 }
 
-/// Adds the texts of bytes that begin as the lower bound up to the byte at `same`, and are no less.
+/// Adds the texts of bytes that are no less than these, behind a text.
 fn add_upward(
     alloc: Global,
     texts: &mut PatternTexts,
+    front: &[u8],
     low: &[u8],
-    same: usize,
-) -> Result<(), Stop>
-    requires { same < length low.now }
-    ensures { Becomes result texts.new (texts.old ++ with_front (take (same + 1) low.now) (upward_from (drop (same + 1) low.now))) }
+) -> Result<(), AllocError>
+    ensures { OnOk result (texts.new ≡ texts.old ++ behind front.now (upward_from low.now)) }
 {
-    texts.add(bytes_text(alloc, low)?)?;
-    for back in 0..low.len() - same - 1 {
-        let place = low.len() - 1 - back;
-        add_between(alloc, texts, &low[..place], u16::from(low[place]) + 1, 256, back)?;
-    }
-    Ok(())
+    let Some((l, low)) = low.split_first() else {
+        return texts.add(Vec::from_slice(alloc, front)?);
+    };
+    let lower = with_byte(alloc, front, *l)?;
+    add_upward(alloc, texts, lower.as_slice(), low)?;
+    add_between(alloc, texts, front, u16::from(*l) + 1, 256, low.len())
 }
 
-/// Adds the texts of bytes that begin as the upper bound up to the byte at `same`, and are no more.
+/// Adds the texts of bytes that are no more than these, behind a text.
 fn add_up_to(
     alloc: Global,
     texts: &mut PatternTexts,
+    front: &[u8],
     high: &[u8],
-    same: usize,
-) -> Result<(), Stop>
-    requires { same < length high.now }
-    ensures { Becomes result texts.new (texts.old ++ with_front (take (same + 1) high.now) (up_to (drop (same + 1) high.now))) }
+) -> Result<(), AllocError>
+    ensures { OnOk result (texts.new ≡ texts.old ++ behind front.now (up_to high.now)) }
 {
-    for place in same + 1..high.len() {
-        add_between(alloc, texts, &high[..place], 0, u16::from(high[place]), high.len() - place - 1)?;
-    }
-    texts.add(bytes_text(alloc, high)?)
+    let Some((h, high)) = high.split_first() else {
+        return texts.add(Vec::from_slice(alloc, front)?);
+    };
+    add_between(alloc, texts, front, 0, u16::from(*h), high.len())?;
+    let upper = with_byte(alloc, front, *h)?;
+    add_up_to(alloc, texts, upper.as_slice(), high)
 }
 
-/// Adds the text of these bytes, a byte from `low` on and less than `end`, and `count` bytes behind it. Adds nothing if there
-/// is no such byte.
+/// Adds the text of a byte from `low` on and less than `end`, and `count` bytes behind it, behind a text. Adds nothing if
+/// there is no such byte.
 fn add_between(
     alloc: Global,
     texts: &mut PatternTexts,
@@ -87,14 +90,14 @@ fn add_between(
     low: u16,
     end: u16,
     count: usize,
-) -> Result<(), Stop>
+) -> Result<(), AllocError>
     requires { end ≤ 256 }
-    ensures { Becomes result texts.new (texts.old ++ with_front front.now (range_before low end count)) }
+    ensures { OnOk result (texts.new ≡ texts.old ++ behind front.now (range_before low end count)) }
 {
     if low >= end {
         return Ok(());
     }
-    let mut text = bytes_text(alloc, front)?;
+    let mut text = Vec::from_slice(alloc, front)?;
     push_range(&mut text, low as u8, (end - 1) as u8)?;
     for _ in 0..count {
         push_range(&mut text, 0, 255)?;
@@ -102,9 +105,11 @@ fn add_between(
     texts.add(text)
 }
 
-/// Returns the text of bytes.
-fn bytes_text(alloc: Global, bytes: &[u8]) -> Result<Vec<u8>, Stop> {
-    let mut text = Vec::new(alloc);
-    push_bytes(&mut text, bytes)?;
+/// Copies a text and appends a byte to it.
+fn with_byte(alloc: Global, front: &[u8], byte: u8) -> Result<Vec<u8>, AllocError>
+    ensures { IfOk result (λ text. text.items ≡ front.now ++ pair byte) }
+{
+    let mut text = Vec::from_slice(alloc, front)?;
+    push_byte(&mut text, byte)?;
     Ok(text)
 }

@@ -1,57 +1,58 @@
-//! The texts of the patterns that stand for the text of a sequence or a fragment.
+//! The texts of the patterns that stand for the text of a sequence or a fragment: a level for each of its terms.
 
-ghost use Rattle.std.specs.Prelude.{◌≡◌, ◌++◌, IfOk, OnOk, map};
+ghost use Rattle.std.specs.Prelude.{◌≡◌, ◌++◌, ◌∷◌, [], IfOk, OnOk, MatchOption, None, Some, map};
 ghost use Rattle.droid_signature_parser.specs.TermValues.{atom_of, term_of};
-ghost use Rattle.droid_signature_spec.specs.Expansions.{patterns_of, patterns_of_atom, patterns_of_atoms, patterns_of_each, patterns_of_term, runs_outside, runs_of};
+ghost use Rattle.droid_signature_spec.specs.Expansions.{patterns_of_atom, patterns_of_atoms, patterns_of_each, patterns_of_term, run_of, runs_of, runs_outside};
 ghost use Rattle.droid_pronom_pattern.specs.Patterns.{Choice};
-ghost use Rattle.droid_signature_patterns.specs.Outcomes.{Becomes, BecomesFrom};
-ghost use Rattle.droid_signature_patterns.specs.Reasons.{AreExpandable, IsExpandable};
-ghost use Rattle.droid_signature_patterns.specs.Texts.{joined};
-ghost use Rattle.droid_signature_patterns.specs.Written.{written, written_each};
+ghost use Rattle.droid_signature_patterns.specs.Outcomes.{Becomes, BecomesFrom, IfLeftOut};
+ghost use Rattle.droid_signature_patterns.specs.Reasons.{AreExpandable, IsExpandable, IsExpandableTerm, IsLongTerm};
+ghost use Rattle.droid_signature_patterns.specs.Written.{level_of, written, written_each};
 
 use crate::element_texts::{push_byte, push_bytes, push_except, push_gap, push_range};
+use crate::levels::Levels;
 use crate::pattern_texts::PatternTexts;
 use crate::range_texts::range_texts;
 use crate::reason::Stop;
 use droid_signature_parser::{TextItem, TextTerm};
 use std::alloc::{AllocError, Global};
 
-/// Appends the patterns that stand for terms.
-pub(crate) fn append_terms(
+/// Appends a level for each term.
+pub(crate) fn push_terms(
     alloc: Global,
-    texts: &mut PatternTexts,
+    levels: &mut Levels,
     terms: &[TextTerm],
 ) -> Result<(), Stop>
     requires { AreExpandable (map term_of terms.now) }
-    ensures { Becomes result texts.new (joined texts.old (written_each (patterns_of (map term_of terms.now)))) }
+    ensures ok { OnOk result (levels.new ≡ levels.old ++ map (λ term. level_of (term_of term)) terms.now) }
+    ensures err { IfLeftOut result (λ reason. AnyOf (λ term. IsLongTerm (term_of term) reason) terms.now) }
 {
     for term in terms {
-        match term {
-            TextTerm::One(item) => append_item(alloc, texts, item)?,
-            TextTerm::OneOf(alternatives) => {
-                append_choice(alloc, texts, alternatives.as_slice())?;
-            }
-        }
+        let level = match term {
+            TextTerm::One(item) => item_texts(alloc, item)?,
+            TextTerm::OneOf(alternatives) => choice_texts(alloc, alternatives.as_slice())?,
+        };
+        levels.push(level)?;
     }
     Ok(())
 }
 
-/// Appends an item.
-fn append_item(alloc: Global, texts: &mut PatternTexts, item: &TextItem) -> Result<(), Stop>
+/// Returns the texts of the patterns that stand for an item.
+fn item_texts(alloc: Global, item: &TextItem) -> Result<PatternTexts, AllocError>
     requires { IsExpandable (atom_of item.now) }
-    ensures { Becomes result texts.new (joined texts.old (written_each (patterns_of_atom (atom_of item.now)))) }
+    ensures { IfOk result (λ texts. texts ≡ written_each (patterns_of_atom (atom_of item.now))) }
 {
     if let TextItem::Between { low, high } = item {
-        let ranges = range_texts(alloc, low.as_slice(), high.as_slice())?;
-        return texts.append_each(alloc, &ranges);
+        return range_texts(alloc, low.as_slice(), high.as_slice());
     }
     let mut text = Vec::new(alloc);
     push_item(&mut text, item)?;
-    texts.append(text.as_slice())
+    PatternTexts::one(alloc, text)
 }
 
 /// Appends the text of an item that one pattern stands for: any but a range of several bytes.
-fn push_item(text: &mut Vec<u8>, item: &TextItem) -> Result<(), AllocError> {
+fn push_item(text: &mut Vec<u8>, item: &TextItem) -> Result<(), AllocError>
+    ensures { OnOk result (text.new.items ≡ text.old.items ++ one_text (atom_of item.now)) }
+{
     match item {
         TextItem::Byte(byte) => push_byte(text, *byte),
         TextItem::AnyByte => text.extend_from_slice(b"??"),
@@ -80,60 +81,34 @@ fn push_outside(text: &mut Vec<u8>, low: u8, high: u8) -> Result<(), AllocError>
     Ok(())
 }
 
-/// Appends one of several lists of items.
-fn append_choice(
-    alloc: Global,
-    texts: &mut PatternTexts,
-    alternatives: &[Vec<TextItem>],
-) -> Result<(), Stop> {
+/// Returns the texts of the patterns that stand for one of several lists of items.
+fn choice_texts(alloc: Global, alternatives: &[Vec<TextItem>]) -> Result<PatternTexts, Stop>
+    requires { IsExpandableTerm (OneOf (map (λ items. map atom_of items.items) alternatives.now)) }
+    ensures ok { IfOk result (λ texts. texts ≡ level_of (OneOf (map (λ items. map atom_of items.items) alternatives.now))) }
+    ensures err { IfLeftOut result (IsLongTerm (OneOf (map (λ items. map atom_of items.items) alternatives.now))) }
+{
     if let Some(text) = runs_text(alloc, alternatives)? {
-        return texts.append(text.as_slice());
+        let texts = PatternTexts::one(alloc, text)?;
+        return Ok(texts);
     }
     let mut choice = PatternTexts::new(alloc);
     for items in alternatives {
         let alternative = items_texts(alloc, items.as_slice())?;
         choice.add_all(alternative)?;
     }
-    texts.append_each(alloc, &choice)
+    Ok(choice)
 }
 
 /// Returns the texts of the patterns that stand for items.
 fn items_texts(alloc: Global, items: &[TextItem]) -> Result<PatternTexts, Stop>
+    requires { AllByRecursion IsExpandable (map atom_of items.now) }
     ensures { BecomesFrom result (written_each (patterns_of_atoms (map atom_of items.now))) }
 {
-    let mut texts = PatternTexts::with_empty(alloc)?;
+    let mut levels = Levels::new(alloc);
     for item in items {
-        append_item(alloc, &mut texts, item)?;
+        let level = item_texts(alloc, item)?;
+        levels.push(level)?;
     }
+    let texts = levels.expanded(alloc)?;
     Ok(texts)
-}
-
-/// Returns the text of alternatives, if each of them is a run of bytes.
-fn runs_text(
-    alloc: Global,
-    alternatives: &[Vec<TextItem>],
-) -> Result<Option<Vec<u8>>, AllocError> {
-    let mut text = Vec::new(alloc);
-    let mut mark = b'(';
-    for items in alternatives {
-        text.push(mark)?;
-        if !push_run(&mut text, items.as_slice())? {
-            return Ok(None);
-        }
-        mark = b'|';
-    }
-    text.push(b')')?;
-    Ok(Some(text))
-}
-
-/// Appends the bytes of items. Returns whether they are one run of bytes.
-fn push_run(text: &mut Vec<u8>, items: &[TextItem]) -> Result<bool, AllocError> {
-    for item in items {
-        match item {
-            TextItem::Byte(byte) => push_byte(text, *byte)?,
-            TextItem::Quoted(bytes) => push_bytes(text, bytes.as_slice())?,
-            _ => return Ok(false),
-        }
-    }
-    Ok(true)
 }
