@@ -38,7 +38,7 @@ SHARED = ["droid_frame_shaky", "droid_frame_vectors", "droid_pronom_sample"]
 # the kit's libraries that are named as std or a module of it: only a line tells that one of them is meant
 AS_IN_STD = {"std", "core", "io", "os", "libc", "bytes"}
 # `rt` sums up the sources of a crate once for each path to it, at every call
-MOST_PATHS = 1750
+MOST_PATHS = 1500
 MOST_LIBRARIES = 52
 # each costs the gate a check of its crate
 MOST_EDITS = 45

@@ -1,11 +1,11 @@
 -- What the end of a stream says of the program's ending.
 use Rattle.std.proofs.Common.{◌≡◌, ℕ, cond, eqb, List, [], Option, Some, None, Result, Ok, Err, IfSome, ap, ◌∙◌}
 use Rattle.std.specs.Prelude.{IsErrOf, IsErrAnd}
-use Rattle.droid_core.specs.declared.service.Service.{Service}
+use Rattle.droid_wire.specs.core_types.service.Service.{Service}
 use Rattle.droid_desk_service.specs.declared.ending.Ending.TheVariants.{Stream}
 use Rattle.droid_desk_service.specs.Streams.{ConnectionGives, StreamEndsAs, stream_ending_of, stream_turns}
-use Rattle.droid_core.specs.Histories.{History}
-use Rattle.droid_core.specs.Setting.{Setting}
+use Rattle.droid_wire.specs.Histories.{History}
+use Rattle.droid_wire.specs.Setting.{Setting}
 use Rattle.std.specs.Io.KnownBytes.{prepend_known}
 use Rattle.std.specs.Io.Buffered.{reader_buffer, reader_capacity, reader_inner, reader_remaining}
 use Rattle.std.specs.declared.io.buffered.BufReader.{BufReader}

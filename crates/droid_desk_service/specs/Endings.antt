@@ -6,10 +6,10 @@ use Rattle.droid_desk_service.specs.declared.ending.Ending.{Ending}
 use Rattle.droid_desk_service.specs.declared.ending.Ending.TheVariants.{Done, Registry, NoService, Script, Stream, Send, Socket, BadLine}
 use Rattle.droid_lines_script.specs.declared.script_fault.ScriptFault.{ScriptFault}
 use Rattle.droid_lines_script.specs.declared.script_fault.ScriptFault.TheVariants.{TooLong, Read, Memory, Write}
-use Rattle.droid_core.specs.declared.service.Service.{Service}
-use Rattle.droid_core.specs.Identified.{IsOf}
-use Rattle.droid_core.specs.Limits.{Limits}
-use Rattle.droid_core.specs.Setting.{Setting}
+use Rattle.droid_wire.specs.core_types.service.Service.{Service}
+use Rattle.droid_wire.specs.Identified.{IsOf}
+use Rattle.droid_wire.specs.Limits.{Limits}
+use Rattle.droid_wire.specs.Setting.{Setting}
 use Rattle.droid_lines.specs.Lines.{lines_of}
 use Rattle.droid_lines.specs.declared.tally.Tally.{Tally}
 use Rattle.droid_pronom.specs.Registry.{Contents}

@@ -5,9 +5,9 @@ ghost use Rattle.droid_frame.specs.Seen.{IsSound, ReportsFault};
 ghost use Rattle.droid_desk_service.specs.Fresh.{IsMadeOf, IsMadeWith, IsNoService, IsNotMadeOf};
 
 use crate::ending::Ending;
-use droid_core::{Limits, Service};
 use droid_frame::SteadyRead;
 use droid_pronom::{Registry, RegistryFault};
+use droid_wire::{Limits, Service};
 use std::alloc::Global;
 
 /// The limits of the program's service.

@@ -4,11 +4,11 @@ use crate::ended::Ended;
 use crate::ending::Ending;
 use crate::fresh::service_with;
 use crate::sample::sample_registry;
-use droid_core::Service;
 use droid_desk_arguments::RegistrySource;
 use droid_frame::Noted;
 use droid_pronom::Registry;
 use droid_pronom_common::common_registry;
+use droid_wire::Service;
 use std::fs::{self, Files, OpenFile};
 use std::io::ErrorKind;
 

@@ -21,7 +21,7 @@ use droid_tree::{Tree, Watcher};
 /// Profiles a tree: gives the recipient a record for each folder and file, in order. Returns whether nothing was
 /// skipped, symbolic links aside.
 ///
-/// Takes entries in order, reads their files eight at a time, and hands their records out. Holds 1,024 entries, the
+/// Takes entries in order, reads their files eight at a time, and hands their records out. Holds 8,192 entries, the
 /// entries of one folder, the paths of the folders that wait, and 1.5 MiB for lanes.
 pub fn profile<T: Tree, W: Watcher, R: Recipient>(
     profiler: &mut Profiler<T, W, R>,

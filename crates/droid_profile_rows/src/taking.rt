@@ -14,7 +14,7 @@ use droid_tree::Tree;
 use std::alloc::Global;
 
 /// How many entries and folders are taken for one batch.
-const TAKEN: usize = 1_024;
+const TAKEN: usize = 8_192;
 
 /// Takes the next entries of a tree. Returns whether something is left.
 pub fn take_rows<T: Tree>(

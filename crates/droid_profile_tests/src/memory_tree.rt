@@ -21,6 +21,10 @@ pub struct MemoryTree<'a> {
     pub read: u64,
     /// The path of a file whose place another file takes once its folder was listed.
     pub exchanged: Option<&'a str>,
+    /// How many reads were asked for.
+    pub reads: u64,
+    /// The index of the read that is refused.
+    pub refused: Option<u64>,
 }
 
 impl<'a> MemoryTree<'a> {
@@ -29,6 +33,8 @@ impl<'a> MemoryTree<'a> {
             rows,
             read: 0,
             exchanged: None,
+            reads: 0,
+            refused: None,
         }
     }
 }
@@ -65,6 +71,11 @@ impl Tree for MemoryTree<'_> {
         ensures unread { IfErr result (λ fault. fault ≡ faults.Unreadable → Unit {0}) }
         ensures exchanged { IfErr result (λ fault. fault ≡ faults.Changed → Unit {0}) }
     {
+        let place = self.reads;
+        self.reads = place.wrapping_add(1);
+        if self.refused == Some(place) {
+            return Err(TreeFault::Unreadable);
+        }
         if inode_now(self.exchanged, path, entry.inode) != entry.inode {
             return Err(TreeFault::Changed);
         }

@@ -80,21 +80,11 @@ struct Seen {
     csv: Memory,
 }
 
-fn profile_seen(
-    alloc: Global,
-    registry: &Registry,
-    rows: &[Row],
-    exchanged: Option<&str>,
-    hash: HashKind,
-) -> Seen {
+fn profile_seen(alloc: Global, registry: &Registry, tree: MemoryTree, hash: HashKind) -> Seen {
     let none: Option<Memory> = None;
     let mut profiler = Profiler {
         alloc,
-        tree: MemoryTree {
-            rows,
-            read: 0,
-            exchanged,
-        },
+        tree,
         watcher: NotingWatcher::new(alloc),
         recipient: CsvRecipient::new(alloc, registry, memory(alloc), none),
     };
@@ -118,7 +108,9 @@ fn profile_seen(
 }
 
 fn is_as_expected(alloc: Global, registry: &Registry, case: &Case) -> bool {
-    let got = profile_seen(alloc, registry, case.0, case.1, HashKind::Md5);
+    let mut tree = MemoryTree::of(case.0);
+    tree.exchanged = case.1;
+    let got = profile_seen(alloc, registry, tree, HashKind::Md5);
     got.ended == Ok(case.3)
         && got.watcher.skipped.as_slice() == case.2
         && got.watcher.folders == case.4
@@ -140,7 +132,7 @@ fn skipped(rt: HostRuntime) -> Result<(), Fail> {
 fn names_of_255_and_256_bytes(rt: HostRuntime) -> Result<(), Fail> {
     let alloc = rt.alloc();
     let registry = Registry::parse(alloc, SAMPLE.as_bytes())?;
-    let got = profile_seen(alloc, &registry, &LONG_NAMES, None, HashKind::Md5);
+    let got = profile_seen(alloc, &registry, MemoryTree::of(&LONG_NAMES), HashKind::Md5);
     assert!(rt; got.ended == Ok(false) && got.watcher.folders == 1);
     assert!(rt; got.watcher.count == 1 && got.watcher.skipped.len() == 266);
     Ok(())
@@ -168,7 +160,7 @@ fn hashes(rt: HostRuntime) -> Result<(), Fail> {
     let alloc = rt.alloc();
     let registry = Registry::parse(alloc, SAMPLE.as_bytes())?;
     for (hash, column, digest) in &HASHES {
-        let got = profile_seen(alloc, &registry, &ABC, None, *hash);
+        let got = profile_seen(alloc, &registry, MemoryTree::of(&ABC), *hash);
         let text = std::str::from_utf8(got.csv.stream.as_slice())?;
         assert!(rt; text.contains(column) && text.contains(digest), "{column}");
     }
@@ -199,7 +191,7 @@ const FRONTS: [&str; 6] = [
 fn orders(rt: HostRuntime) -> Result<(), Fail> {
     let alloc = rt.alloc();
     let registry = Registry::parse(alloc, SAMPLE.as_bytes())?;
-    let got = profile_seen(alloc, &registry, &UNORDERED, None, HashKind::Md5);
+    let got = profile_seen(alloc, &registry, MemoryTree::of(&UNORDERED), HashKind::Md5);
     let mut text = std::str::from_utf8(got.csv.stream.as_slice())?;
     for front in &FRONTS {
         let Some((_, rest)) = text.split_once(*front) else {
@@ -207,5 +199,46 @@ fn orders(rt: HostRuntime) -> Result<(), Fail> {
         };
         text = rest;
     }
+    Ok(())
+}
+
+/// Profiles a file that takes two reads and one that takes one, with one of these reads refused. Returns whether the file
+/// of that read is skipped and the other one has its row; and if so, whether it is the longer one.
+fn longer_is_lost(alloc: Global, registry: &Registry, long: &[u8], refused: u64) -> Option<bool> {
+    let rows: [Row; 2] = [
+        ("", b"long", EntryKind::File, long.len() as u64, Some(long)),
+        ("", b"short", EntryKind::File, 1, Some(b"a")),
+    ];
+    let mut tree = MemoryTree::of(&rows);
+    tree.refused = Some(refused);
+    let got = profile_seen(alloc, registry, tree, HashKind::Md5);
+    if got.ended != Ok(false) || got.watcher.files != 1 {
+        return None;
+    }
+    let rows = count_of_lines(got.csv.stream.as_slice());
+    match got.watcher.skipped.as_slice() {
+        b"/long unreadable\n" if rows == 2 => Some(true),
+        b"/short unreadable\n" if rows == 2 => Some(false),
+        _ => None,
+    }
+}
+
+fn count_of_lines(text: &[u8]) -> usize {
+    text.iter().filter(|byte| **byte == b'\n').count()
+}
+
+#[test]
+fn each_read_refused(rt: HostRuntime) -> Result<(), Fail> {
+    let alloc = rt.alloc();
+    let registry = Registry::parse(alloc, SAMPLE.as_bytes())?;
+    let long = vec![in alloc; b'x'; 70_000]?;
+    let mut lost = 0_u32;
+    for refused in 0..3_u64 {
+        let Some(is_long) = longer_is_lost(alloc, &registry, long.as_slice(), refused) else {
+            return Err(Fail::from("a refused read"));
+        };
+        lost = lost.wrapping_add(u32::from(is_long));
+    }
+    assert!(rt; lost == 2);
     Ok(())
 }

@@ -1,3 +1,10 @@
+-- What a service stands for, re-exported.
+pub use Rattle.droid_core.specs.Histories
+pub use Rattle.droid_core.specs.Identified
+pub use Rattle.droid_core.specs.Limits
+pub use Rattle.droid_core.specs.Setting
+pub use Rattle.droid_core.specs.Standing
+pub use Rattle.droid_core.specs.declared as core_types
 -- A client's core: what it keeps, and its steps.
 pub use Rattle.droid_wire_client.specs.Cores
 pub mod Desks

@@ -1,8 +1,8 @@
 -- So many connections came, and one service went on over them.
 use Rattle.std.proofs.Common.{◌≡◌, ◌+◌, ◌*◌, ◌≤◌}
-use Rattle.droid_core.specs.Standing.{StandsFor, limits_of, registry_of}
-use Rattle.droid_core.specs.Histories.{History}
-use Rattle.droid_core.specs.Setting.{Setting}
+use Rattle.droid_wire.specs.Standing.{StandsFor, limits_of, registry_of}
+use Rattle.droid_wire.specs.Histories.{History}
+use Rattle.droid_wire.specs.Setting.{Setting}
 use Rattle.droid_wire.specs.Serving.{GoesOnFrom}
 use Rattle.droid_desk_service.proofs.connections.serve_connections.Given as goal
 
