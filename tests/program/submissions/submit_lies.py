@@ -52,7 +52,7 @@ class Lies(WithSmallTree):
 class OfFiles(Lies):
     def test_other_hash_when_a_file_is_finished(self):
         skipped = b"".join(b"skipped: " + path + OTHER_HASH for path in (b"/a.bin", b"/z.bin", b"/sub/b.txt"))
-        for hash, due in (("md5", (5, skipped + b"skipped in all: 3\n")), ("sha256", (5, skipped + b"left out in all: 3\n")), ("none", (0, b""))):
+        for hash, due in (("md5", (5, skipped + b"skipped in all: 3\n")), ("sha256", (5, skipped + b"skipped in all: 3\n")), ("none", (0, b""))):
             self.assertEqual(self.submitted(other_hash, "--hash", hash)[:2], due, hash)
 
     def test_other_hash_of_an_empty_file(self):
